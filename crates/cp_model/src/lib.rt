@@ -1,0 +1,8 @@
+//! The types of a Concurrent Pascal text, and the definitions that everything else is proved against.
+//!
+//! The types have no behaviour: tokens (`token`), the syntax tree (`tree`). The definitions stand in `specs/`.
+//! docs/language.md and docs/meaning.md tell them in words, each beside the name of its file.
+#![tactic(auto)]
+
+pub mod token;
+pub mod tree;
