@@ -23,19 +23,19 @@ pub enum Constant {
     Named(Identifier),
 }
 
-/// A type where it is written. An enumeration and a system type stand in definitions alone.
+/// A type where it is written. An enumeration and a system type stand in definitions alone, each behind its name.
 #[cycle(types)]
 #[derive(Debug, Drop)]
-pub enum Type {
+pub enum TypeExpression {
     Named(Identifier),
     Subrange(Constant, Constant),
     /// The index types are one or more. `array [a, b] of t` means `array [a] of array [b] of t`.
     Array {
         at: usize,
-        indices: Vec<Type>,
-        element: Box<Type>,
+        indices: Vec<TypeExpression>,
+        element: Box<TypeExpression>,
     },
-    Record { at: usize, fields: Vec<Fields> },
+    Record { at: usize, groups: Vec<Fields> },
 }
 
 /// Fields of one type, or variables of one type.
@@ -43,7 +43,7 @@ pub enum Type {
 #[derive(Debug, Drop)]
 pub struct Fields {
     pub names: Vec<Identifier>,
-    pub of: Type,
+    pub of: TypeExpression,
 }
 
 /// An operator between two operands.
@@ -222,7 +222,7 @@ pub struct Routine {
     pub name: Identifier,
     pub parameters: Vec<Parameters>,
     /// The type of its result, where it is a function.
-    pub result: Option<Identifier>,
+    pub result_type: Option<Identifier>,
     pub variables: Vec<Fields>,
     pub body: Body,
 }
@@ -248,7 +248,7 @@ pub struct System {
 /// What a type definition gives its name to.
 #[derive(Debug, Drop)]
 pub enum Defined {
-    Type(Type),
+    Written(TypeExpression),
     Enumeration(Vec<Identifier>),
     System(System),
 }
