@@ -1,2 +1,4 @@
 pub mod Syntax
 pub mod View
+pub mod Characters
+pub mod Spelling
