@@ -2,3 +2,8 @@ pub mod Syntax
 pub mod View
 pub mod Characters
 pub mod Spelling
+pub mod Languages
+pub mod GrammarExpressions
+pub mod GrammarTypes
+pub mod GrammarStatements
+pub mod Grammar
