@@ -4,5 +4,6 @@
 //! docs/language.md and docs/meaning.md tell them in words, each beside the name of its file.
 #![tactic(auto)]
 
+pub mod rules;
 pub mod token;
 pub mod tree;
