@@ -7,3 +7,12 @@ pub mod GrammarExpressions
 pub mod GrammarTypes
 pub mod GrammarStatements
 pub mod Grammar
+pub mod RulesJudged
+pub mod RulesEnvironment
+pub mod RulesNames
+pub mod RulesExpressions
+pub mod RulesTypes
+pub mod RulesStatements
+pub mod RulesNeeds
+pub mod RulesDeclarations
+pub mod Rules

@@ -179,3 +179,47 @@ pub enum Position {
     ComponentVariable,
     RoutineVariable,
 }
+
+/// An array that is indexed.
+#[derive(Clone, Copy, Debug, PartialEq, Eq)]
+pub struct ArrayPart {
+    pub index: usize,
+    pub element: usize,
+    pub access: Access,
+}
+
+/// What an argument has to meet.
+#[derive(Clone, Copy, Debug, PartialEq, Eq)]
+pub enum Want {
+    /// To agree with a parameter.
+    Parameter(ParameterRow),
+    /// To be a simple value.
+    Simple,
+    /// To be an integer.
+    Integer,
+    /// To be a variable of base char.
+    CharVariable,
+    /// To be a variable of type queue.
+    QueueVariable,
+}
+
+/// What a call gives.
+#[derive(Clone, Copy, Debug, PartialEq, Eq)]
+pub enum Gives {
+    Nothing,
+    /// A value of this type.
+    Value(usize),
+    /// A value of its argument's base type.
+    ArgumentBase,
+}
+
+/// How the first name of an expression is judged.
+#[derive(Clone, Copy, Debug, PartialEq, Eq)]
+pub enum Mode {
+    /// As a value.
+    Value,
+    /// As what should be a variable: its sort is no rule of a value's.
+    Variable,
+    /// As the argument that may be a queue.
+    Queue,
+}
