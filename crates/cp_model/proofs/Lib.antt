@@ -1,0 +1,10 @@
+pub mod Orders
+pub mod Frame
+pub mod Footprint
+pub mod Quiet
+pub mod Commute
+pub mod Theorem
+pub mod Reach
+pub mod Keeps
+pub mod Machines
+pub mod Views
