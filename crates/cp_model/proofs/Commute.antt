@@ -12,13 +12,13 @@ use Rattle.cp_model.specs.Step.{step_of}
 use Rattle.cp_model.specs.States.{Free, HeldBy, Holder, Setup, State, Unset, configuration, context, is_set, is_started, processes, set_status, with_at, with_configuration}
 use Rattle.cp_model.specs.Gates.{apply_effect, enter, made_ready, make_ready, pass_on, pass_to, set_gate, start_process}
 use Rattle.cp_model.specs.Turns.{Kernel, Kind, NoStep, Private, after_step, if_kernel, if_private, kernel_step, kind, kind_of, private_step, step}
+use Rattle.cp_model.specs.Invariant.{IsBlocked}
 use Rattle.cp_model.specs.Parts.{is_own}
 use Rattle.cp_model.proofs.Frame.{IsClosed, mix}
 use Rattle.cp_model.proofs.Footprint.{ContinuationIn, mixed, moved_to, step_same}
 use Rattle.cp_model.proofs.Quiet.{Quietly, private_is_quiet}
 
 -- ---- whose a location is
-
 
 abbrev pub is_foreign : ℕ → Owner → Bool
 is_foreign p o = not (is_own p o)
@@ -124,18 +124,13 @@ kind_private (Faulted n) k h = absurd (Prim.grind arith)
 
 -- ---- what every machine keeps
 
-abbrev pub IsStopped : Status → Type 0
-IsStopped (Asking m) = Unit {0}
-IsStopped (Delayed m q) = Unit {0}
-IsStopped _ = ⊥
-
 pub record MayCommute (s : State) : Type 0 where
   -- what a private process names is its own
   pub own : (p : ℕ) → kind s p ≡ Private → IsClosed (is_own p) s.store × ContinuationIn (is_own p) (s.continuation p)
   -- what a process of the kernel names is no other process's
   pub others : (p q : ℕ) → p ≢ q → kind s q ≡ Kernel → IsClosed (is_foreign p) s.store × ContinuationIn (is_foreign p) (s.continuation q)
   -- who asks or is delayed is in a monitor
-  pub held : (p : ℕ) → IsStopped (s.status p) → holds_gate (s.continuation p) ≡ true
+  pub blocked : (p : ℕ) → IsBlocked (s.status p) → holds_gate (s.continuation p) ≡ true
 
 module _ (setup : Setup) where
 
@@ -525,9 +520,9 @@ module _ (setup : Setup) where
   OtherAt s p = Other setup (kind_of (s.status p) (s.continuation p))
 
   abbrev HeldAt : State → ℕ → Type 0
-  HeldAt s p = IsStopped (s.status p) → holds_gate (s.continuation p) ≡ true
+  HeldAt s p = IsBlocked (s.status p) → holds_gate (s.continuation p) ≡ true
 
-  ready_other : (x : Status) (k : List Task) → Other setup (kind_of x k) → (IsStopped x → holds_gate k ≡ true) → Other setup (kind_of (made_ready x) k)
+  ready_other : (x : Status) (k : List Task) → Other setup (kind_of x k) → (IsBlocked x → holds_gate k ≡ true) → Other setup (kind_of (made_ready x) k)
   ready_other Unstarted k o h = tt
   ready_other Fresh k o h = tt
   ready_other Ready k o h = o
@@ -583,7 +578,7 @@ module _ (setup : Setup) where
       go (Delayed m l) = o
       go (Faulted n) = o
 
-  stepped_other : (p q : ℕ) (s : State) (o : StepResult) → p ≢ q → OtherAt s p → HeldAt s p → OtherAt (after_step s q o) p
+  pub stepped_other : (p q : ℕ) (s : State) (o : StepResult) → p ≢ q → OtherAt s p → HeldAt s p → OtherAt (after_step s q o) p
   stepped_other p q s (Fault n) d a h = set_other p q (Faulted n) s d a
   stepped_other p q s (Gives (u, e)) d a h =
       effect_other p q e (with_configuration s q u) d (rw (differ q p (λ f. d (sym f))) a) (rw (differ q p (λ f. d (sym f))) h)
@@ -614,7 +609,7 @@ module _ (setup : Setup) where
       other k h o f =
           ap (λ x. kernel_step setup x q) (no_private_step setup p s k h o)
           ∙ sym (ap (λ x. private_step setup x p) (in_kernel s f) ∙ no_private_step setup p (step setup s q) (kind (step setup s q) p) refl
-              (stepped_other p q s (outcome setup s q) d (subst (λ x. Other setup x) (sym h) o) (g.held p)) ∙ sym (in_kernel s f))
+              (stepped_other p q s (outcome setup s q) d (subst (λ x. Other setup x) (sym h) o) (g.blocked p)) ∙ sym (in_kernel s f))
       both : kind s p ≡ Private → kind s q ≡ Kernel → kernel_step setup (private_step setup s p) q ≡ private_step setup (kernel_step setup s q) p
       both h f =
           let c = kind_private (s.status p) (s.continuation p) h in

@@ -26,7 +26,8 @@ use Rattle.cp_model.specs.StatementSteps.{chosen_arm, execute, for_step, is_past
 use Rattle.cp_model.specs.Step.{run_task, step_of, take_action}
 use Rattle.cp_model.specs.States.{is_set, is_started, processes}
 use Rattle.cp_model.specs.Start.{start}
-use Rattle.cp_model.proofs.Frame.{EnvironmentIn, FrameIn, IfGives, IsClosed, PlaceIn, anything, forget_mix, get_mix, mix, place_in, place_same, put_mix, then_gives, value_same}
+use Rattle.cp_model.specs.Invariant.{EnvironmentIn, FrameIn, TaskIn}
+use Rattle.cp_model.proofs.Frame.{IfGives, IsClosed, PlaceIn, anything, forget_mix, get_mix, mix, place_in, place_same, put_mix, then_gives, value_same}
 
 -- ---- writes in reach
 
@@ -136,15 +137,6 @@ returns_same t b config env k h = go env.frame h
     go (Some f) h = by_result f f.routine.result h
 
 -- ---- what is left in reach
-
-abbrev pub TaskIn : (Owner → Bool) → Task → Type 0
-TaskIn t (Do s env) = EnvironmentIn t env
-TaskIn t (WhileTest now e s env) = EnvironmentIn t env
-TaskIn t (RepeatTest now s e env) = EnvironmentIn t env
-TaskIn t (ForNext v down n last s env) = EnvironmentIn t env
-TaskIn t (EndCall env gate) = EnvironmentIn t env
-TaskIn t (EndBody gate) = Unit {0}
-TaskIn t EndProcess = Unit {0}
 
 abbrev pub ContinuationIn : (Owner → Bool) → List Task → Type 0
 ContinuationIn t [] = Unit {0}

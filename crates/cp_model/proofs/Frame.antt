@@ -14,6 +14,7 @@ use Rattle.cp_model.specs.Places.{Place, element_place, ordinal_of, place_of_mea
 use Rattle.cp_model.specs.Operators.{Clock, integer_result, realtime, standard_function}
 use Rattle.cp_model.specs.Expressions.{first_argument, name_of, place, value}
 use Rattle.cp_model.specs.Start.{start}
+use Rattle.cp_model.specs.Invariant.{EnvironmentIn, FrameIn}
 
 -- ---- stores that agree on some owners' locations
 
@@ -23,7 +24,7 @@ mix t a b l = if t l.owner then a l else b l
 
 -- what is at a location that passes points to locations that pass
 pub record IsClosed (t : Owner → Bool) (a : Store) : Type 0 where
-  pub refers : (l k : Location) → t l.owner ≡ true → a l ≡ Reference k → t k.owner ≡ true
+  pub references : (l k : Location) → t l.owner ≡ true → a l ≡ Reference k → t k.owner ≡ true
   pub classes : (l k : Location) → t l.owner ≡ true → a l ≡ ClassRight k → t k.owner ≡ true
 
 pub get_mix : (t : Owner → Bool) (a b : Store) (l : Location) → t l.owner ≡ true → mix t a b l ≡ a l
@@ -65,14 +66,6 @@ forget_mix t o a b h = λ i k. go k (same_owner o k.owner) refl i
     go k false e = refl
 
 -- ---- scopes in reach
-
-abbrev pub FrameIn : (Owner → Bool) → Option Frame → Type 0
-FrameIn t None = Unit {0}
-FrameIn t (Some f) = t f.owner ≡ true
-
-pub record EnvironmentIn (t : Owner → Bool) (env : Environment) : Type 0 where
-  pub component : t env.component.owner ≡ true
-  pub frame : FrameIn t env.frame
 
 abbrev pub MeaningIn : (Owner → Bool) → Meaning → Type 0
 MeaningIn t (IsVariable l v) = t l.owner ≡ true
@@ -116,7 +109,7 @@ then_same Q o (Fault n) f g e h k = ap (λ x. and_then x f) e
 then_same Q o (Gives y) f g e h k = ap (λ x. and_then x f) e ∙ k y h
 
 referred_in : (t : Owner → Bool) (a : Store) (l : Location) (v : Value) → IsClosed t a → t l.owner ≡ true → a l ≡ v → t (referent l v).owner ≡ true
-referred_in t a l (Reference k) c h e = c.refers l k h e
+referred_in t a l (Reference k) c h e = c.references l k h e
 referred_in t a l Absent c h e = h
 referred_in t a l (Ordinal n) c h e = h
 referred_in t a l (QueueHolds w) c h e = h

@@ -27,14 +27,16 @@ use Rattle.cp_model.specs.StatementSteps.{chosen_arm, execute, for_step, is_past
 use Rattle.cp_model.specs.Step.{run_task, step_of, take_action}
 use Rattle.cp_model.specs.States.{is_in}
 use Rattle.cp_model.specs.Start.{start}
-use Rattle.cp_model.proofs.Frame.{EnvironmentIn, FrameIn, IfGives, IsClosed, PlaceIn, anything, place_in, then_gives}
+use Rattle.cp_model.specs.Reach.{in_reach}
+use Rattle.cp_model.specs.Invariant.{ContinuationInvariant, EnvironmentIn, FrameIn, FramesInvariant, IsActivation, IsFrameOf, StoreInvariant, TasksInReach}
+use Rattle.cp_model.proofs.Frame.{IfGives, IsClosed, PlaceIn, anything, place_in, then_gives}
 use Rattle.cp_model.proofs.Footprint.{FoundIn, call_in_in}
 use Rattle.cp_model.proofs.Commute.{result}
-use Rattle.cp_model.proofs.Reach.{AllKeep, AllPlain, ContinuationInvariant, FramesInvariant, IsActivation, IsFrameOf, IsPlain, StoreInvariant, TasksInReach, before_keeps, before_ok, forget_no_new, forget_ok, forgotten, frames_keep, in_reach, is_closed, ok_keeps, parts_plain, puts_no_new, puts_ok, same_owner_of, writes_keep}
+use Rattle.cp_model.proofs.Reach.{AllKeep, AllPlain, IsPlain, before_keeps, before_ok, forget_no_new, forget_ok, forgotten, frames_keep, is_closed, ok_keeps, parts_plain, puts_no_new, puts_ok, same_owner_of, writes_keep}
 
 -- what a started process has left
 pub record StartOk (r : ℕ) (k : List Task) : Type 0 where
-  pub items : TasksInReach r k
+  pub tasks : TasksInReach r k
   pub deep : depth k ≡ 0
   pub frames : (st : Store) → FramesInvariant r st k
 
@@ -61,12 +63,12 @@ NoMark _ = Unit {0}
 
 tail_ok : (p : ℕ) (st : Store) (i : Task) (k : List Task) → NoMark i → ContinuationInvariant p st (i ∷ k) → ContinuationInvariant p st k
 tail_ok p st (EndCall env gate) k n o = absurd n
-tail_ok p st (Do s env) k n o = record { items = o.items.1; frames = o.frames; beyond = o.beyond }
-tail_ok p st (WhileTest now e s env) k n o = record { items = o.items.1; frames = o.frames; beyond = o.beyond }
-tail_ok p st (RepeatTest now s e env) k n o = record { items = o.items.1; frames = o.frames; beyond = o.beyond }
-tail_ok p st (ForNext v down x last s env) k n o = record { items = o.items.1; frames = o.frames; beyond = o.beyond }
-tail_ok p st (EndBody gate) k n o = record { items = o.items.1; frames = o.frames; beyond = o.beyond }
-tail_ok p st EndProcess k n o = record { items = o.items.1; frames = o.frames; beyond = o.beyond }
+tail_ok p st (Do s env) k n o = record { tasks = o.tasks.1; frames = o.frames; beyond = o.beyond }
+tail_ok p st (WhileTest now e s env) k n o = record { tasks = o.tasks.1; frames = o.frames; beyond = o.beyond }
+tail_ok p st (RepeatTest now s e env) k n o = record { tasks = o.tasks.1; frames = o.frames; beyond = o.beyond }
+tail_ok p st (ForNext v down x last s env) k n o = record { tasks = o.tasks.1; frames = o.frames; beyond = o.beyond }
+tail_ok p st (EndBody gate) k n o = record { tasks = o.tasks.1; frames = o.frames; beyond = o.beyond }
+tail_ok p st EndProcess k n o = record { tasks = o.tasks.1; frames = o.frames; beyond = o.beyond }
 
 -- the innermost call's end
 abbrev EndOk : ℕ → Store → Option (Environment × Option ℕ × List Task) → Type 0
@@ -93,13 +95,13 @@ answer_ok p st v (i ∷ k) o = go i o
   where
     in_stat : (s : Statement) (env : Environment) (f : Found Statement) → ContinuationInvariant p st (Do s env ∷ k) → ContinuationInvariant p st (elim (in_context (λ y. Do y env) f) as (λ x. List Task) [ None ↦ Do s env ∷ k | Some g ↦ g.1 ∷ k ])
     in_stat s env None o = o
-    in_stat s env (Some g) o = record { items = o.items; frames = o.frames; beyond = o.beyond }
+    in_stat s env (Some g) o = record { tasks = o.tasks; frames = o.frames; beyond = o.beyond }
     in_loop : (now e : Expression) (s : Statement) (env : Environment) (f : Found Expression) → ContinuationInvariant p st (WhileTest now e s env ∷ k) → ContinuationInvariant p st (elim (in_context (λ y. WhileTest y e s env) f) as (λ x. List Task) [ None ↦ WhileTest now e s env ∷ k | Some g ↦ g.1 ∷ k ])
     in_loop now e s env None o = o
-    in_loop now e s env (Some g) o = record { items = o.items; frames = o.frames; beyond = o.beyond }
+    in_loop now e s env (Some g) o = record { tasks = o.tasks; frames = o.frames; beyond = o.beyond }
     in_until : (now : Expression) (s : Statement) (e : Expression) (env : Environment) (f : Found Expression) → ContinuationInvariant p st (RepeatTest now s e env ∷ k) → ContinuationInvariant p st (elim (in_context (λ y. RepeatTest y s e env) f) as (λ x. List Task) [ None ↦ RepeatTest now s e env ∷ k | Some g ↦ g.1 ∷ k ])
     in_until now s e env None o = o
-    in_until now s e env (Some g) o = record { items = o.items; frames = o.frames; beyond = o.beyond }
+    in_until now s e env (Some g) o = record { tasks = o.tasks; frames = o.frames; beyond = o.beyond }
     go : (i : Task) → ContinuationInvariant p st (i ∷ k) → ContinuationInvariant p st (elim (call_in_task v i) as (λ x. List Task) [ None ↦ i ∷ k | Some f ↦ f.1 ∷ k ])
     go (Do s env) o = in_stat s env (call_in_statement env v s) o
     go (WhileTest now e s env) o = in_loop now e s env (first_call env v now) o
@@ -113,7 +115,7 @@ answer_ok p st v (i ∷ k) o = go i o
 
 forget_frame : (p : ℕ) (st : Store) (env : Environment) (gate : Option ℕ) (k : List Task) (o : Owner) → o ≡ OfActivation p (depth k) → ContinuationInvariant p st (EndCall env gate ∷ k) → ContinuationInvariant p (forget o st) k
 forget_frame p st env gate k o h ok = record {
-    items = ok.items.1; frames = frames_keep p st (forget o st) k (forget_no_new o st) ok.frames.1;
+    tasks = ok.tasks.1; frames = frames_keep p st (forget o st) k (forget_no_new o st) ok.frames.1;
     beyond = λ l j d n e f. go l j d (nat_eq d (depth k)) refl n e f }
   where
     go : (l j : Location) (d : ℕ) (b : Bool) → nat_eq d (depth k) ≡ b → depth k ≤ d → l.owner ≡ OfActivation p d → forget o st l ≡ Reference j → ⊥
@@ -205,7 +207,7 @@ module _ (w : Context) (config : Configuration) (s : StoreInvariant config.store
   statement_after env k d (MoreExpressions e es) o l = procedure_after env k (name_of d) e o l
 
   again_ok : (env : Environment) (k : List Task) (v : Name) (down : Bool) (n last : ℤ) (x : Statement) → EnvironmentIn (in_reach w.process (gates_of k)) env → ContinuationInvariant w.process config.store k → ContinuationInvariant w.process config.store (push x env (ForNext v down n last x env ∷ k))
-  again_ok env k v down n last x h o = before_ok w.process config.store x env (ForNext v down n last x env ∷ k) h (record { items = (h, o.items); frames = o.frames; beyond = o.beyond })
+  again_ok env k v down n last x h o = before_ok w.process config.store x env (ForNext v down n last x env ∷ k) h (record { tasks = (h, o.tasks); frames = o.frames; beyond = o.beyond })
 
   counted_after : (env : Environment) (k : List Task) (v : Name) (down : Bool) (n last : ℤ) (x : Statement) → EnvironmentIn (in_reach w.process (gates_of k)) env → ContinuationInvariant w.process config.store k → IfGives (After w.process) (for_step w config env k v down n last x)
   counted_after env k v down n last x h o =
@@ -276,13 +278,13 @@ module _ (w : Context) (config : Configuration) (s : StoreInvariant config.store
   start_ok r x env h f =
       let in_scope : (ms : List ℕ) → EnvironmentIn (in_reach r ms) env = λ ms. record { component = rw h (eq-eqb r r refl); frame = subst (λ y. FrameIn (in_reach r ms) y) (sym f) tt } in
       before_keeps (StartOk r) env
-        (λ y k o. record { items = (in_scope _, o.items); deep = o.deep; frames = o.frames })
-        (λ a b y k o. record { items = (in_scope _, o.items); deep = o.deep; frames = o.frames })
-        (λ a b y k o. record { items = (in_scope _, o.items); deep = o.deep; frames = o.frames })
-        x (EndProcess ∷ []) (record { items = (tt, tt); deep = refl; frames = λ st. tt })
+        (λ y k o. record { tasks = (in_scope _, o.tasks); deep = o.deep; frames = o.frames })
+        (λ a b y k o. record { tasks = (in_scope _, o.tasks); deep = o.deep; frames = o.frames })
+        (λ a b y k o. record { tasks = (in_scope _, o.tasks); deep = o.deep; frames = o.frames })
+        x (EndProcess ∷ []) (record { tasks = (tt, tt); deep = refl; frames = λ st. tt })
 
   body_ok : (x : Statement) (env : Environment) (gate : Option ℕ) (k : List Task) → EnvironmentIn (in_reach w.process (gates_of (EndBody gate ∷ k))) env → ContinuationInvariant w.process config.store k → ContinuationInvariant w.process config.store (push x env (EndBody gate ∷ k))
-  body_ok x env gate k h o = before_ok w.process config.store x env (EndBody gate ∷ k) h (record { items = (tt, o.items); frames = o.frames; beyond = o.beyond })
+  body_ok x env gate k h o = before_ok w.process config.store x env (EndBody gate ∷ k) h (record { tasks = (tt, o.tasks); frames = o.frames; beyond = o.beyond })
 
   in_first : (m : ℕ) (ms : List ℕ) → is_in m (m ∷ ms) ≡ true
   in_first m ms = rw (eq-eqb m m refl) refl
@@ -325,7 +327,7 @@ module _ (w : Context) (config : Configuration) (s : StoreInvariant config.store
       no_class : false ≡ true → ⊥
       no_class x = Prim.grind arith
 
-  -- ---- items
+  -- ---- tasks
 
   stat_after : (x : Statement) (env : Environment) (k : List Task) → EnvironmentIn (in_reach w.process (gates_of k)) env → ContinuationInvariant w.process config.store k → ContinuationInvariant w.process config.store config.continuation → IfGives (After w.process) (execute w config env k x)
   stat_after Nothing env k h o l = goes_on k config.transcript Own tt o
@@ -333,7 +335,7 @@ module _ (w : Context) (config : Configuration) (s : StoreInvariant config.store
   stat_after (While e x) env k h o l = goes_on k config.transcript Own tt o
   stat_after (Repeat x e) env k h o l = goes_on k config.transcript Own tt o
   stat_after (Cycle x) env k h o l =
-      goes_on _ config.transcript Own tt (before_ok w.process config.store x env (Do (Cycle x) env ∷ k) h (record { items = (h, o.items); frames = o.frames; beyond = o.beyond }))
+      goes_on _ config.transcript Own tt (before_ok w.process config.store x env (Do (Cycle x) env ∷ k) h (record { tasks = (h, o.tasks); frames = o.frames; beyond = o.beyond }))
   stat_after (Assign d e) env k h o l =
       then_after (place w.clock env config.store d) _ (λ at. then_after (value w.clock env config.store e) _ (λ v. then_store at.at at.type v _ (λ ws g. stored k config.consumed config.transcript ws g o)))
   stat_after (Perform d arguments) env k h o l = statement_after env k d arguments o l
@@ -357,20 +359,20 @@ module _ (w : Context) (config : Configuration) (s : StoreInvariant config.store
       go (Some n) = init_after n.system.sort env k arguments n refl h o
 
   act_after : (i : Task) (k : List Task) → ContinuationInvariant w.process config.store (i ∷ k) → ContinuationInvariant w.process config.store config.continuation → IfGives (After w.process) (run_task w config i k)
-  act_after (Do x env) k o l = stat_after x env k o.items.0 (tail_ok w.process config.store (Do x env) k tt o) l
+  act_after (Do x env) k o l = stat_after x env k o.tasks.0 (tail_ok w.process config.store (Do x env) k tt o) l
   act_after (WhileTest now e x env) k o l = then_after (value w.clock env config.store now) _ (λ v. go (is_true v))
     where
       go : (b : Bool) → After w.process (record config { continuation = if b then push x env (WhileTest e e x env ∷ k) else k }, Own)
-      go true = goes_on _ config.transcript Own tt (before_ok w.process config.store x env (WhileTest e e x env ∷ k) o.items.0 (record { items = (o.items.0, o.items.1); frames = o.frames; beyond = o.beyond }))
+      go true = goes_on _ config.transcript Own tt (before_ok w.process config.store x env (WhileTest e e x env ∷ k) o.tasks.0 (record { tasks = (o.tasks.0, o.tasks.1); frames = o.frames; beyond = o.beyond }))
       go false = goes_on k config.transcript Own tt (tail_ok w.process config.store (WhileTest now e x env) k tt o)
   act_after (RepeatTest now x e env) k o l = then_after (value w.clock env config.store now) _ (λ v. go (is_true v))
     where
       go : (b : Bool) → After w.process (record config { continuation = if b then k else push x env (RepeatTest e x e env ∷ k) }, Own)
       go true = goes_on k config.transcript Own tt (tail_ok w.process config.store (RepeatTest now x e env) k tt o)
-      go false = goes_on _ config.transcript Own tt (before_ok w.process config.store x env (RepeatTest e x e env ∷ k) o.items.0 (record { items = (o.items.0, o.items.1); frames = o.frames; beyond = o.beyond }))
+      go false = goes_on _ config.transcript Own tt (before_ok w.process config.store x env (RepeatTest e x e env ∷ k) o.tasks.0 (record { tasks = (o.tasks.0, o.tasks.1); frames = o.frames; beyond = o.beyond }))
   act_after (ForNext v down n last x env) k o l =
       if_after (same_integer n last) _ _ (goes_on k config.transcript Own tt (tail_ok w.process config.store (ForNext v down n last x env) k tt o))
-        (counted_after env k v down (next_counter down n) last x o.items.0 (tail_ok w.process config.store (ForNext v down n last x env) k tt o))
+        (counted_after env k v down (next_counter down n) last x o.tasks.0 (tail_ok w.process config.store (ForNext v down n last x env) k tt o))
   act_after (EndCall env gate) k o l =
       then_gives (RunOk w.process) (After w.process) (returns config env k) _ (returns_ok w.process config env gate k s o) (λ x y. record { store = y.store; ok = y.ok; effect = go x.continuation gate })
     where
@@ -398,11 +400,11 @@ CallWrites t o (x ∷ ws) = CallWrite t o x.0 x.1 × CallWrites t o ws
 
 -- what refers, did before or is of the new activation and in the caller's reach
 record NewRefs (t : Owner → Bool) (o : Owner) (st st' : Store) : Type 0 where
-  refers : (l j : Location) → st' l ≡ Reference j → (st l ≡ Reference j) ⊎ ((l.owner ≡ o) × (t j.owner ≡ true))
+  references : (l j : Location) → st' l ≡ Reference j → (st l ≡ Reference j) ⊎ ((l.owner ≡ o) × (t j.owner ≡ true))
   classes : (l j : Location) → st' l ≡ ClassRight j → st l ≡ ClassRight j
 
 put_new : (t : Owner → Bool) (o : Owner) (st : Store) (l : Location) (v : Value) → CallWrite t o l v → NewRefs t o st (put l v st)
-put_new t o st l v h = record { refers = λ k j e. go k j (same_location l k) refl e; classes = λ k j e. at k j (same_location l k) e }
+put_new t o st l v h = record { references = λ k j e. go k j (same_location l k) refl e; classes = λ k j e. at k j (same_location l k) e }
   where
     ref : (k j : Location) (x : Value) → CallWrite t o l x → l.owner ≡ k.owner → x ≡ Reference j → (k.owner ≡ o) × (t j.owner ≡ true)
     ref k j (Reference i) h f e = (sym f ∙ h.0, ap (λ (y : Location). t y.owner) (sym (ap (referent i) e)) ∙ h.1)
@@ -428,11 +430,11 @@ put_new t o st l v h = record { refers = λ k j e. go k j (same_location l k) re
     at k j false e = e
 
 puts_new : (t : Owner → Bool) (o : Owner) (ws : Writes) (st : Store) → CallWrites t o ws → NewRefs t o st (put_all ws st)
-puts_new t o [] st h = record { refers = λ l j e. inl e; classes = λ l j e. e }
+puts_new t o [] st h = record { references = λ l j e. inl e; classes = λ l j e. e }
 puts_new t o (x ∷ ws) st h =
     let a = put_new t o st x.0 x.1 h.0 in
     let b = puts_new t o ws (put x.0 x.1 st) h.1 in
-    record { refers = λ l j e. elim (b.refers l j e) [ inl f ↦ a.refers l j f | inr f ↦ inr f ]; classes = λ l j e. a.classes l j (b.classes l j e) }
+    record { references = λ l j e. elim (b.references l j e) [ inl f ↦ a.references l j f | inr f ↦ inr f ]; classes = λ l j e. a.classes l j (b.classes l j e) }
 
 zip_new : (t : Owner → Bool) (o : Owner) (at : Location) (ps : List Leaf) (vs : List Value) → at.owner ≡ o
     → CallWrites t o (zip (map (λ leaf. under at leaf.0) ps) (map (λ x. Ordinal (ordinal_in x)) vs))
@@ -468,7 +470,7 @@ bind_new t one at (q ∷ qs) (MoreExpressions e es) h =
 frames_below : (p n : ℕ) (t : Owner → Bool) (st st' : Store) (k : List Task) → NewRefs t (OfActivation p n) st st' → depth k ≤ n → FramesInvariant p st k → FramesInvariant p st' k
 frames_below p n t st st' [] r d h = tt
 frames_below p n t st st' (EndCall env gate ∷ k) r d h =
-    (record { frame = h.0.frame; refers = λ l j o e. elim (r.refers l j e) [ inl f ↦ h.0.refers l j o f | inr f ↦ absurd (differs (same_depth (sym o ∙ f.0))) ] },
+    (record { frame = h.0.frame; references = λ l j o e. elim (r.references l j e) [ inl f ↦ h.0.references l j o f | inr f ↦ absurd (differs (same_depth (sym o ∙ f.0))) ] },
      frames_below p n t st st' k r (Prim.omega arith) h.1)
   where
     depth_of : Owner → ℕ
@@ -490,10 +492,10 @@ call_ok : (p : ℕ) (st st' : Store) (k : List Task) (env : Environment) (gate :
     → IsFrameOf env.frame (OfActivation p (depth k)) → EnvironmentIn (in_reach p (gates_of (EndCall env gate ∷ k))) env → ContinuationInvariant p st k → ContinuationInvariant p st' (push x env (EndCall env gate ∷ k))
 call_ok p st st' k env gate x r f h o =
     before_ok p st' x env (EndCall env gate ∷ k) h (record {
-      items = (h, o.items);
-      frames = (record { frame = f; refers = λ l j e g. elim (r.refers l j g) [ inl y ↦ absurd (forgotten (OfActivation p (depth k)) st l j e y) | inr y ↦ y.1 ] },
+      tasks = (h, o.tasks);
+      frames = (record { frame = f; references = λ l j e g. elim (r.references l j g) [ inl y ↦ absurd (forgotten (OfActivation p (depth k)) st l j e y) | inr y ↦ y.1 ] },
         frames_below p (depth k) (in_reach p (gates_of k)) (forget (OfActivation p (depth k)) st) st' k r (Prim.omega arith) (frames_keep p st (forget (OfActivation p (depth k)) st) k (forget_no_new (OfActivation p (depth k)) st) o.frames));
-      beyond = λ l j d n e g. elim (r.refers l j g) [
+      beyond = λ l j d n e g. elim (r.references l j g) [
           inl y ↦ o.beyond l j d (less n) e (forget_no_new (OfActivation p (depth k)) st l j y)
         | inr y ↦ clash n (ap depth_of (sym e ∙ y.0)) ] })
   where
@@ -525,11 +527,11 @@ starts_new t at (v ∷ vs) = starts_new_one t at v.0 (leaves v.1.type) (starting
 
 new_then : (t : Owner → Bool) (o : Owner) (a b c : Store) → NewRefs t o a b → NewRefs t o b c → NewRefs t o a c
 new_then t o a b c f g = record {
-  refers = λ l j e. elim (g.refers l j e) [ inl x ↦ f.refers l j x | inr x ↦ inr x ]; classes = λ l j e. f.classes l j (g.classes l j e) }
+  references = λ l j e. elim (g.references l j e) [ inl x ↦ f.references l j x | inr x ↦ inr x ]; classes = λ l j e. f.classes l j (g.classes l j e) }
 
 new_store_ok : (t : Owner → Bool) (q d : ℕ) (a b : Store) → NewRefs t (OfActivation q d) a b → StoreInvariant a → StoreInvariant b
 new_store_ok t q d a b n s = record {
-    refers = λ l j e. elim (n.refers l j e) [ inl x ↦ s.refers l j x | inr x ↦ subst (λ y. IsActivation y) (sym x.0) tt ];
+    references = λ l j e. elim (n.references l j e) [ inl x ↦ s.references l j x | inr x ↦ subst (λ y. IsActivation y) (sym x.0) tt ];
     classes = λ l j e. s.classes l j (n.classes l j e) }
 
 module _ (w : Context) (config : Configuration) (s : StoreInvariant config.store) where
@@ -603,7 +605,7 @@ ActionOk p st (Acts i k) = ContinuationInvariant p st (i ∷ k)
 
 action_ok : (p : ℕ) (st : Store) (k : List Task) → ContinuationInvariant p st k → ActionOk p st (action k)
 action_ok p st [] o = tt
-action_ok p st (i ∷ k) o = go (call_in_task (Literal 0) i) (call_in_in (in_reach p (gates_of (i ∷ k))) (Literal 0) i o.items.0)
+action_ok p st (i ∷ k) o = go (call_in_task (Literal 0) i) (call_in_in (in_reach p (gates_of (i ∷ k))) (Literal 0) i o.tasks.0)
   where
     ProcOk : Option UserCall → Type 0
     ProcOk None = Unit {0}
@@ -612,7 +614,7 @@ action_ok p st (i ∷ k) o = go (call_in_task (Literal 0) i) (call_in_in (in_rea
     in_do d arguments env None h o = tt
     in_do d arguments env (Some c) h o = (h, o)
     procedure : (i : Task) → ContinuationInvariant p st (i ∷ k) → ProcOk (procedure_call i)
-    procedure (Do (Perform d arguments) env) o = in_do d arguments env (callee env d) o.items.0 (tail_ok p st (Do (Perform d arguments) env) k tt o)
+    procedure (Do (Perform d arguments) env) o = in_do d arguments env (callee env d) o.tasks.0 (tail_ok p st (Do (Perform d arguments) env) k tt o)
     procedure _ o = tt
     by_procedure : (u : Option UserCall) → ProcOk u → ActionOk p st (elim u as (λ x. Action) [ Some u ↦ Calls u k | None ↦ Acts i k ])
     by_procedure None h = o

@@ -8,3 +8,4 @@ pub mod Reach
 pub mod Keeps
 pub mod Machines
 pub mod Views
+pub mod Statements

@@ -21,22 +21,16 @@ use Rattle.cp_model.specs.Turns.{Kernel, Kind, NoStep, Private, after_step, if_k
 use Rattle.cp_model.specs.Rounds.{Event, KernelTurn, PrivateStep, after_closing, awakened, close_round, phased_round, replay_event, replay_round, sequential_round, wake}
 use Rattle.cp_model.specs.Start.{component_writes, initial_environment, initial_writes, start, variable_writes}
 use Rattle.cp_model.specs.Orders.{IsLawful, replay}
+use Rattle.cp_model.specs.Reach.{in_reach}
+use Rattle.cp_model.specs.Invariant.{ContinuationInvariant, EnvironmentIn, FrameIn, FramesInvariant, Invariant, IsActivation, IsBlocked, NoneBeyond, StoreInvariant, TaskIn, TasksInReach}
 use Rattle.cp_model.specs.Parts.{is_own}
-use Rattle.cp_model.specs.Laws.{OneProcessor, PhasedIsOneProcessor}
-use Rattle.cp_model.proofs.Frame.{EnvironmentIn, FrameIn, IfGives, IsClosed, mix}
-use Rattle.cp_model.proofs.Footprint.{ContinuationIn, TaskIn, moved_to, step_same}
+use Rattle.cp_model.proofs.Frame.{IfGives, IsClosed, mix}
+use Rattle.cp_model.proofs.Footprint.{ContinuationIn, moved_to, step_same}
 use Rattle.cp_model.proofs.Quiet.{no_gates-tail}
-use Rattle.cp_model.proofs.Commute.{IsStopped, MayCommute, differ, is_foreign, kind_private, result, with_at_here}
+use Rattle.cp_model.proofs.Commute.{MayCommute, differ, is_foreign, kind_private, result, with_at_here}
 use Rattle.cp_model.proofs.Theorem.{Kept, lawful_is_seq, phased_is_seq}
-use Rattle.cp_model.proofs.Reach.{AllKeep, AllPlain, ContinuationInvariant, FramesInvariant, IsActivation, IsPlain, Keeps, NoneBeyond, StoreInvariant, TasksInReach, before_keeps, before_ok, in_reach, inner_plain, is_closed, ok_keeps, puts_no_new, puts_ok, starts_keep}
+use Rattle.cp_model.proofs.Reach.{AllKeep, AllPlain, IsPlain, Keeps, before_keeps, before_ok, inner_plain, is_closed, ok_keeps, puts_no_new, puts_ok, starts_keep}
 use Rattle.cp_model.proofs.Keeps.{After, EffectOk, step_keeps}
-
-pub record Invariant (s : State) : Type 0 where
-  pub store : StoreInvariant s.store
-  pub ok : (p : ℕ) → ContinuationInvariant p s.store (s.continuation p)
-  -- who asks or is delayed is in a monitor
-  pub held : (p : ℕ) → IsStopped (s.status p) → holds_gate (s.continuation p) ≡ true
-  pub unstarted : (p : ℕ) → s.status p ≡ Unstarted → depth (s.continuation p) ≡ 0
 
 -- ---- it gives what commuting needs
 
@@ -78,13 +72,13 @@ items_more p v (i ∷ k) h g = (item_more (in_reach p (gates_of (i ∷ k))) v i 
 -- all but what no reach of another process holds
 closed_but : (s : State) → Invariant s → (v : Owner → Bool) → ((r d : ℕ) (ms : List ℕ) (o : Owner) → v (OfActivation r d) ≡ true → in_reach r ms o ≡ true → v o ≡ true) → IsClosed v s.store
 closed_but s i v h = record {
-    refers = λ l j g e. go l j l.owner refl g e (i.store.refers l j e);
+    references = λ l j g e. go l j l.owner refl g e (i.store.references l j e);
     classes = λ l j g e. rw (i.store.classes l j e) g }
   where
     go : (l j : Location) (w : Owner) → l.owner ≡ w → v l.owner ≡ true → s.store l ≡ Reference j → IsActivation l.owner → v j.owner ≡ true
     go l j (OfActivation r d) f g e a =
         h r d (gates_of (s.continuation r)) j.owner (subst (λ y. v y ≡ true) f g)
-          ((is_closed r s.store (s.continuation r) i.store (i.ok r)).refers l j (rw f (eq-eqb r r refl)) e)
+          ((is_closed r s.store (s.continuation r) i.store (i.continuations r)).references l j (rw f (eq-eqb r r refl)) e)
     go l j (OfProcess q) f g e a = absurd (subst (λ y. IsActivation y) f a)
     go l j (OfMonitor q) f g e a = absurd (subst (λ y. IsActivation y) f a)
 
@@ -92,21 +86,43 @@ pub good : (s : State) → Invariant s → MayCommute s
 good s i = record {
     own = λ p k.
       let g = (kind_private (s.status p) (s.continuation p) k).1 in
-      let c = is_closed p s.store (s.continuation p) i.store (i.ok p) in
+      let c = is_closed p s.store (s.continuation p) i.store (i.continuations p) in
       (record {
-         refers = λ l j h e. sym (reach_mine p j.owner) ∙ subst (λ ms. in_reach p ms j.owner ≡ true) g (c.refers l j (subst (λ ms. in_reach p ms l.owner ≡ true) (sym g) (reach_mine p l.owner ∙ h)) e);
+         references = λ l j h e. sym (reach_mine p j.owner) ∙ subst (λ ms. in_reach p ms j.owner ≡ true) g (c.references l j (subst (λ ms. in_reach p ms l.owner ≡ true) (sym g) (reach_mine p l.owner ∙ h)) e);
          classes = λ l j h e. rw (i.store.classes l j e) h },
-       items_mine p (s.continuation p) g (i.ok p).items);
+       items_mine p (s.continuation p) g (i.continuations p).tasks);
     others = λ p q d k.
       (closed_but s i (is_foreign p) (λ r n ms o h e. reach_theirs p r ms o (not_mine p r h) e),
-       items_more q (is_foreign p) (s.continuation q) (λ ms o e. reach_theirs p q ms o d e) (i.ok q).items);
-    held = i.held }
+       items_more q (is_foreign p) (s.continuation q) (λ ms o e. reach_theirs p q ms o d e) (i.continuations q).tasks);
+    blocked = i.blocked }
   where
     not_mine : (p r : ℕ) → not (nat_eq p r) ≡ true → p ≢ r
     not_mine p r h e = clash (sym (ap not (eq-eqb p r e)) ∙ h)
       where
         clash : false ≡ true → ⊥
         clash x = Prim.grind arith
+
+pub inv_close : (s : State) → Invariant s → Invariant (close_round s)
+inv_close s i = record { store = i.store; continuations = i.continuations; blocked = λ p h. i.blocked p (at (s.status p) h); unstarted = λ p h. i.unstarted p (flat (s.status p) h) }
+  where
+    at : (x : Status) → IsBlocked (after_closing x) → IsBlocked x
+    at Unstarted h = h
+    at Fresh h = h
+    at Ready h = h
+    at Ended h = h
+    at Waiting h = h
+    at (Asking m) h = h
+    at (Delayed m q) h = h
+    at (Faulted n) h = h
+    flat : (x : Status) → after_closing x ≡ Unstarted → x ≡ Unstarted
+    flat Unstarted h = refl
+    flat Fresh h = absurd (Prim.grind arith)
+    flat Ready h = h
+    flat Ended h = h
+    flat Waiting h = h
+    flat (Asking m) h = h
+    flat (Delayed m q) h = h
+    flat (Faulted n) h = h
 
 -- ---- a step keeps it
 
@@ -121,7 +137,7 @@ no_new_of q st st' = (l j : Location) (d : ℕ) → l.owner ≡ OfActivation q d
 frames_keep_of : (q : ℕ) (st st' : Store) (k : List Task) → no_new_of q st st' → FramesInvariant q st k → FramesInvariant q st' k
 unfolding no_new_of
 frames_keep_of q st st' [] n h = tt
-frames_keep_of q st st' (EndCall env gate ∷ k) n h = (record { frame = h.0.frame; refers = λ l j o e. h.0.refers l j o (n l j (depth k) o e) }, frames_keep_of q st st' k n h.1)
+frames_keep_of q st st' (EndCall env gate ∷ k) n h = (record { frame = h.0.frame; references = λ l j o e. h.0.references l j o (n l j (depth k) o e) }, frames_keep_of q st st' k n h.1)
 frames_keep_of q st st' (Do s env ∷ k) n h = frames_keep_of q st st' k n h
 frames_keep_of q st st' (WhileTest now e s env ∷ k) n h = frames_keep_of q st st' k n h
 frames_keep_of q st st' (RepeatTest now s e env ∷ k) n h = frames_keep_of q st st' k n h
@@ -131,7 +147,7 @@ frames_keep_of q st st' (EndProcess ∷ k) n h = frames_keep_of q st st' k n h
 
 ok_keeps_of : (q : ℕ) (st st' : Store) (k : List Task) → no_new_of q st st' → ContinuationInvariant q st k → ContinuationInvariant q st' k
 unfolding no_new_of
-ok_keeps_of q st st' k n o = record { items = o.items; frames = frames_keep_of q st st' k n o.frames; beyond = λ l j d h e f. o.beyond l j d h e (n l j d e f) }
+ok_keeps_of q st st' k n o = record { tasks = o.tasks; frames = frames_keep_of q st st' k n o.frames; beyond = λ l j d h e f. o.beyond l j d h e (n l j d e f) }
 
 mix_same : (t : Owner → Bool) (a : Store) → mix t a a ≡ a
 mix_same t a = λ i l. go l (t l.owner) i
@@ -149,7 +165,7 @@ module _ (setup : Setup) where
       ap (λ st. step_of (context setup s p) (record { store = st; continuation = s.continuation p; transcript = s.transcript p; consumed = s.consumed p })) (sym (mix_same (not_of q) s.store))
       ∙ step_same (not_of q) s.store (context setup s p) (λ r. is_started (s.status r)) (λ m. is_set (s.gates m).holder) (configuration s p)
           (closed_but s i (not_of q) (λ r n ms o h e. other r ms o h e)) (λ n. rw (differ q p (λ e. d (sym e))) refl)
-          (items_more p (not_of q) (s.continuation p) (λ ms o e. other p ms o (rw (differ q p (λ f. d (sym f))) refl) e) (i.ok p).items)
+          (items_more p (not_of q) (s.continuation p) (λ ms o e. other p ms o (rw (differ q p (λ f. d (sym f))) refl) e) (i.continuations p).tasks)
           (λ a. record { monitors = λ m. refl; processes = λ r e. refl; same_started = refl; same_set = refl })
     where
       other : (r : ℕ) (ms : List ℕ) (o : Owner) → not (nat_eq q r) ≡ true → in_reach r ms o ≡ true → not_of q o ≡ true
@@ -165,12 +181,12 @@ module _ (setup : Setup) where
     status : u.status ≡ s.status
 
   abbrev HeldIn : State → Type 0
-  HeldIn u = (q : ℕ) → IsStopped (u.status q) → holds_gate (u.continuation q) ≡ true
+  HeldIn u = (q : ℕ) → IsBlocked (u.status q) → holds_gate (u.continuation q) ≡ true
 
   abbrev FlatIn : State → Type 0
   FlatIn u = (q : ℕ) → u.status q ≡ Unstarted → depth (u.continuation q) ≡ 0
 
-  ready_stopped : (x : Status) → IsStopped (made_ready x) → ⊥
+  ready_stopped : (x : Status) → IsBlocked (made_ready x) → ⊥
   ready_stopped Unstarted h = h
   ready_stopped Fresh h = h
   ready_stopped Ready h = h
@@ -191,32 +207,32 @@ module _ (setup : Setup) where
   ready_unstarted (Faulted n) h = h
 
   inv_of : (u : State) → StoreInvariant u.store → ((q : ℕ) → ContinuationInvariant q u.store (u.continuation q)) → HeldIn u → FlatIn u → Invariant u
-  inv_of u s o h f = record { store = s; ok = o; held = h; unstarted = f }
+  inv_of u s o h f = record { store = s; continuations = o; blocked = h; unstarted = f }
 
   make_ready_keeps : (r : ℕ) (u : State) → Invariant u → Invariant (make_ready r u)
-  make_ready_keeps r u i = inv_of (make_ready r u) i.store i.ok (λ q h. at q (nat_eq r q) refl h) (λ q h. flat q (nat_eq r q) refl h)
+  make_ready_keeps r u i = inv_of (make_ready r u) i.store i.continuations (λ q h. at q (nat_eq r q) refl h) (λ q h. flat q (nat_eq r q) refl h)
     where
-      at : (q : ℕ) (b : Bool) → nat_eq r q ≡ b → IsStopped (if b then made_ready (u.status r) else u.status q) → holds_gate (u.continuation q) ≡ true
+      at : (q : ℕ) (b : Bool) → nat_eq r q ≡ b → IsBlocked (if b then made_ready (u.status r) else u.status q) → holds_gate (u.continuation q) ≡ true
       at q true e h = absurd (ready_stopped (u.status r) h)
-      at q false e h = i.held q h
+      at q false e h = i.blocked q h
       flat : (q : ℕ) (b : Bool) → nat_eq r q ≡ b → (if b then made_ready (u.status r) else u.status q) ≡ Unstarted → depth (u.continuation q) ≡ 0
       flat q true e h = rw (← eqb-true r q e) (i.unstarted r (ready_unstarted (u.status r) h))
       flat q false e h = i.unstarted q h
 
   gate_keeps : (m : ℕ) (x : Holder) (qs : List ℕ) (u : State) → Invariant u → Invariant (set_gate m x qs u)
-  gate_keeps m x qs u i = inv_of (set_gate m x qs u) i.store i.ok i.held i.unstarted
+  gate_keeps m x qs u i = inv_of (set_gate m x qs u) i.store i.continuations i.blocked i.unstarted
 
   pass_keeps : (m : ℕ) (qs : List ℕ) (u : State) → Invariant u → Invariant (pass_to m qs u)
   pass_keeps m [] u i = gate_keeps m Free [] u i
   pass_keeps m (r ∷ qs) u i = make_ready_keeps r (set_gate m (HeldBy r) qs u) (gate_keeps m (HeldBy r) qs u i)
 
   -- a status that wants a gate is only for who holds one
-  status_keeps : (p : ℕ) (x : Status) (u : State) → (IsStopped x → holds_gate (u.continuation p) ≡ true) → x ≢ Unstarted → Invariant u → Invariant (set_status p x u)
-  status_keeps p x u g n i = inv_of (set_status p x u) i.store i.ok (λ q h. at q (nat_eq p q) refl h) (λ q h. flat q (nat_eq p q) h)
+  status_keeps : (p : ℕ) (x : Status) (u : State) → (IsBlocked x → holds_gate (u.continuation p) ≡ true) → x ≢ Unstarted → Invariant u → Invariant (set_status p x u)
+  status_keeps p x u g n i = inv_of (set_status p x u) i.store i.continuations (λ q h. at q (nat_eq p q) refl h) (λ q h. flat q (nat_eq p q) h)
     where
-      at : (q : ℕ) (b : Bool) → nat_eq p q ≡ b → IsStopped (if b then x else u.status q) → holds_gate (u.continuation q) ≡ true
+      at : (q : ℕ) (b : Bool) → nat_eq p q ≡ b → IsBlocked (if b then x else u.status q) → holds_gate (u.continuation q) ≡ true
       at q true e h = rw (← eqb-true p q e) (g h)
-      at q false e h = i.held q h
+      at q false e h = i.blocked q h
       flat : (q : ℕ) (b : Bool) → (if b then x else u.status q) ≡ Unstarted → depth (u.continuation q) ≡ 0
       flat q true h = absurd (n h)
       flat q false h = i.unstarted q h
@@ -242,13 +258,13 @@ module _ (setup : Setup) where
       started e = inv_of (set_status r Fresh (record u { continuation = with_at r k u.continuation })) i.store (λ q. ok q (nat_eq r q) refl) (λ q g. at q (nat_eq r q) g) (λ q g. flat q (nat_eq r q) g)
         where
           new : ContinuationInvariant r u.store k
-          new = record { items = h.items; frames = h.frames u.store; beyond = subst (λ n. NoneBeyond r u.store n) (i.unstarted r e ∙ sym h.deep) (i.ok r).beyond }
+          new = record { tasks = h.tasks; frames = h.frames u.store; beyond = subst (λ n. NoneBeyond r u.store n) (i.unstarted r e ∙ sym h.deep) (i.continuations r).beyond }
           ok : (q : ℕ) (b : Bool) → nat_eq r q ≡ b → ContinuationInvariant q u.store (if b then k else u.continuation q)
           ok q true g = subst (λ n. ContinuationInvariant n u.store k) (eqb-true r q g) new
-          ok q false g = i.ok q
-          at : (q : ℕ) (b : Bool) → IsStopped (if b then Fresh else u.status q) → holds_gate (if b then k else u.continuation q) ≡ true
+          ok q false g = i.continuations q
+          at : (q : ℕ) (b : Bool) → IsBlocked (if b then Fresh else u.status q) → holds_gate (if b then k else u.continuation q) ≡ true
           at q true g = absurd g
-          at q false g = i.held q g
+          at q false g = i.blocked q g
           flat : (q : ℕ) (b : Bool) → (if b then Fresh else u.status q) ≡ Unstarted → depth (if b then k else u.continuation q) ≡ 0
           flat q true g = absurd (Prim.grind arith)
           flat q false g = i.unstarted q g
@@ -265,7 +281,7 @@ module _ (setup : Setup) where
   -- a step of a process that is made_ready
   pub step_inv : (s : State) (p : ℕ) → s.status p ≡ Ready → Invariant s → Invariant (step setup s p)
   unfolding not_of no_new_of
-  step_inv s p h i = go (step_of (context setup s p) (configuration s p)) (step_keeps (context setup s p) (configuration s p) i.store (i.ok p)) (λ q d. beside p q s d i)
+  step_inv s p h i = go (step_of (context setup s p) (configuration s p)) (step_keeps (context setup s p) (configuration s p) i.store (i.continuations p)) (λ q d. beside p q s d i)
     where
       go : (o : StepResult) → IfGives (After p) o → ((q : ℕ) → p ≢ q → o ≡ moved_to (not_of q) s.store o) → Invariant (after_step s p o)
       go (Fault n) a b = status_keeps p (Faulted n) s (λ x. absurd x) (λ x. Prim.grind arith) i
@@ -273,7 +289,7 @@ module _ (setup : Setup) where
         where
           ok : (q : ℕ) (x : Bool) → nat_eq p q ≡ x → ContinuationInvariant q r.store (if x then r.continuation else s.continuation q)
           ok q true g = subst (λ n. ContinuationInvariant n r.store r.continuation) (eqb-true p q g) a.ok
-          ok q false g = ok_keeps_of q s.store r.store (s.continuation q) (λ l j d f y. sym (same l d f) ∙ y) (i.ok q)
+          ok q false g = ok_keeps_of q s.store r.store (s.continuation q) (λ l j d f y. sym (same l d f) ∙ y) (i.continuations q)
             where
               w : r.store ≡ mix (not_of q) r.store s.store
               w = ap (λ o. (result (configuration s p) o).store) (b q (eqb-false p q g))
@@ -283,9 +299,9 @@ module _ (setup : Setup) where
                   transcript : (c : Bool) → c ≡ false → (if c then r.store l else s.store l) ≡ s.store l
                   transcript true z = absurd (Prim.grind arith)
                   transcript false z = refl
-          at : (q : ℕ) (x : Bool) → nat_eq p q ≡ x → IsStopped (s.status q) → holds_gate (if x then r.continuation else s.continuation q) ≡ true
-          at q true g y = absurd (subst (λ z. IsStopped z) (ap s.status (sym (eqb-true p q g)) ∙ h) y)
-          at q false g y = i.held q y
+          at : (q : ℕ) (x : Bool) → nat_eq p q ≡ x → IsBlocked (s.status q) → holds_gate (if x then r.continuation else s.continuation q) ≡ true
+          at q true g y = absurd (subst (λ z. IsBlocked z) (ap s.status (sym (eqb-true p q g)) ∙ h) y)
+          at q false g y = i.blocked q y
           flat : (q : ℕ) (x : Bool) → nat_eq p q ≡ x → s.status q ≡ Unstarted → depth (if x then r.continuation else s.continuation q) ≡ 0
           flat q true g y = absurd (Prim.grind (arith, h, y, ap s.status (eqb-true p q g)))
           flat q false g y = i.unstarted q y
@@ -321,32 +337,10 @@ module _ (setup : Setup) where
 
   -- ---- rounds
 
-  pub inv_close : (s : State) → Invariant s → Invariant (close_round s)
-  inv_close s i = record { store = i.store; ok = i.ok; held = λ p h. i.held p (at (s.status p) h); unstarted = λ p h. i.unstarted p (flat (s.status p) h) }
-    where
-      at : (x : Status) → IsStopped (after_closing x) → IsStopped x
-      at Unstarted h = h
-      at Fresh h = h
-      at Ready h = h
-      at Ended h = h
-      at Waiting h = h
-      at (Asking m) h = h
-      at (Delayed m q) h = h
-      at (Faulted n) h = h
-      flat : (x : Status) → after_closing x ≡ Unstarted → x ≡ Unstarted
-      flat Unstarted h = refl
-      flat Fresh h = absurd (Prim.grind arith)
-      flat Ready h = h
-      flat Ended h = h
-      flat Waiting h = h
-      flat (Asking m) h = h
-      flat (Delayed m q) h = h
-      flat (Faulted n) h = h
-
   pub inv_wake : (s : State) → Invariant s → Invariant (wake setup s)
   inv_wake s i = go (nat_eq (suc s.rounds % setup.tick) 0)
     where
-      at : (x : Status) → IsStopped (awakened x) → IsStopped x
+      at : (x : Status) → IsBlocked (awakened x) → IsBlocked x
       at Unstarted h = h
       at Fresh h = h
       at Ready h = h
@@ -365,7 +359,7 @@ module _ (setup : Setup) where
       flat (Delayed m q) h = h
       flat (Faulted n) h = h
       go : (b : Bool) → Invariant (if b then record s { status = λ p. awakened (s.status p) } else s)
-      go true = record { store = i.store; ok = i.ok; held = λ p h. i.held p (at (s.status p) h); unstarted = λ p h. i.unstarted p (flat (s.status p) h) }
+      go true = record { store = i.store; continuations = i.continuations; blocked = λ p h. i.blocked p (at (s.status p) h); unstarted = λ p h. i.unstarted p (flat (s.status p) h) }
       go false = i
 
   pub inv_events : (t : ℕ) (es : List Event) (s : State) → Invariant s → Invariant (fold (replay_event setup t) s es)
@@ -429,7 +423,7 @@ module _ (setup : Setup) where
   nowhere l = Absent
 
   nothing_ok : StoreInvariant nowhere
-  nothing_ok = record { refers = λ l j e. absurd (Prim.grind arith); classes = λ l j e. absurd (Prim.grind arith) }
+  nothing_ok = record { references = λ l j e. absurd (Prim.grind arith); classes = λ l j e. absurd (Prim.grind arith) }
 
   first_list : List Task
   first_list = push setup.tree.initial.body (initial_environment setup) (EndProcess ∷ [])
@@ -437,7 +431,7 @@ module _ (setup : Setup) where
   first_ok : ContinuationInvariant 1 nowhere first_list
   unfolding first_list
   first_ok = before_ok 1 nowhere setup.tree.initial.body (initial_environment setup) (EndProcess ∷ []) (record { component = refl; frame = tt })
-    (record { items = (tt, tt); frames = tt; beyond = λ l j d n e f. absurd (Prim.grind arith) })
+    (record { tasks = (tt, tt); frames = tt; beyond = λ l j d n e f. absurd (Prim.grind arith) })
 
   first_deep : depth first_list ≡ 0
   unfolding first_list
@@ -451,25 +445,17 @@ module _ (setup : Setup) where
       writes = append_keep (starting_writes (initial_environment setup).component (initial_variables setup)) _ (starts_keep (initial_environment setup).component (initial_variables setup)) (starts_apart_keep (initial_environment setup) (initial_variables setup))
       ok : (p : ℕ) (b : Bool) → nat_eq 1 p ≡ b → ContinuationInvariant p (put_all (initial_writes setup) nowhere) (if b then first_list else [])
       ok p true e = subst (λ n. ContinuationInvariant n (put_all (initial_writes setup) nowhere) first_list) (eqb-true 1 p e) (ok_keeps 1 nowhere (put_all (initial_writes setup) nowhere) first_list (puts_no_new (initial_writes setup) nowhere writes) first_ok)
-      ok p false e = record { items = tt; frames = tt; beyond = λ l j d n h f. absurd (empty l j (puts_no_new (initial_writes setup) nowhere writes l j f)) }
+      ok p false e = record { tasks = tt; frames = tt; beyond = λ l j d n h f. absurd (empty l j (puts_no_new (initial_writes setup) nowhere writes l j f)) }
         where
           empty : (l j : Location) → Absent ≡ Reference j → ⊥
           empty l j h = Prim.grind arith
-      at : (b : Bool) → IsStopped (if b then Ready else Unstarted) → ⊥
+      at : (b : Bool) → IsBlocked (if b then Ready else Unstarted) → ⊥
       at true h = h
       at false h = h
       flat : (b : Bool) → (if b then Ready else Unstarted) ≡ Unstarted → depth (if b then first_list else []) ≡ 0
       flat true h = absurd (Prim.grind arith)
       flat false h = refl
 
-  inv_replayed : (rs : List (ℕ × List Event)) (s : State) → Invariant s → Invariant (replay setup s rs)
+  pub inv_replayed : (rs : List (ℕ × List Event)) (s : State) → Invariant s → Invariant (replay setup s rs)
   inv_replayed [] s i = i
   inv_replayed (r ∷ rs) s i = inv_replayed rs (replay_round setup r.0 s r.1) (inv_fold r.0 s r.1 i)
-
--- ---- as stated to readers
-
-pub one_processor : OneProcessor
-one_processor setup past t es h = lawful_order setup t (replay setup (start setup) past) es (inv_replayed setup past (start setup) (inv_start setup)) h
-
-pub phased_is_one_processor : PhasedIsOneProcessor
-phased_is_one_processor setup past t = phased_order setup t (replay setup (start setup) past) (inv_replayed setup past (start setup) (inv_start setup))

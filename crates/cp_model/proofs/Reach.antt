@@ -1,5 +1,5 @@
 -- What every machine keeps: what a process names is in its reach.
-use Rattle.std.specs.Prelude.{Bool, List, None, Option, Some, [], false, flat_map, if◌then◌else◌, map, nat_eq, nat_lt, refl, true, zip, ℕ, ℤ, ◌&&◌, ◌++◌, ◌<◌, ◌∷◌, ◌≡◌, ◌≢◌, ◌≤◌}
+use Rattle.std.specs.Prelude.{Bool, List, None, Some, [], false, flat_map, if◌then◌else◌, map, nat_eq, nat_lt, refl, true, zip, ℕ, ℤ, ◌&&◌, ◌++◌, ◌<◌, ◌∷◌, ◌≡◌, ◌≢◌}
 use Rattle.std.proofs.Common.{ap, arith, subst, sym, ◌∙◌}
 use Rattle.std.proofs.lemmas.Bool.{eq-eqb, eqb-false, eqb-true}
 use Rattle.cp_model.specs.Abstract.{Assign, Case, Class, Cycle, Expression, For, If, Init, Monitor, Name, Nothing, Perform, Process, Repeat, Seq, Sort, Statement, While}
@@ -9,60 +9,17 @@ use Rattle.cp_model.specs.Types.{ArrayOf, ComponentOf, Members, MoreMembers, NoM
 use Rattle.cp_model.specs.Declarations.{Variable}
 use Rattle.cp_model.specs.Leaves.{Leaf, below_step, component_leaves, count_between, integers_from, leaves, leaves_of_members}
 use Rattle.cp_model.specs.Outcomes.{provided}
-use Rattle.cp_model.specs.Environments.{Environment, Frame}
+use Rattle.cp_model.specs.Environments.{Environment}
 use Rattle.cp_model.specs.Places.{TypedValue, ordinal_in, ordinal_of, within}
 use Rattle.cp_model.specs.Continuations.{Do, EndBody, EndCall, EndProcess, ForNext, RepeatTest, Task, WhileTest, depth, gates_of, push}
 use Rattle.cp_model.specs.Assignments.{Writes, starting_writes, writes_of}
 use Rattle.cp_model.specs.States.{is_in}
 use Rattle.cp_model.specs.Start.{start}
-use Rattle.cp_model.proofs.Frame.{EnvironmentIn, IfGives, IsClosed, same_owner-eq}
-use Rattle.cp_model.proofs.Footprint.{TaskIn}
-
--- the reach of p, with the monitors of these gates
-abbrev pub in_reach : ℕ → List ℕ → Owner → Bool
-in_reach p ms (OfProcess q) = nat_eq p q
-in_reach p ms (OfActivation q d) = nat_eq p q
-in_reach p ms (OfMonitor m) = is_in m ms
-
-abbrev pub IsActivation : Owner → Type 0
-IsActivation (OfActivation p d) = Unit {0}
-IsActivation _ = ⊥
-
--- only parameters refer, and a right to a class names one of the same owner
-pub record StoreInvariant (st : Store) : Type 0 where
-  pub refers : (l j : Location) → st l ≡ Reference j → IsActivation l.owner
-  pub classes : (l j : Location) → st l ≡ ClassRight j → j.owner ≡ l.owner
-
--- each item's scope is in the reach of what is left with it
-abbrev pub TasksInReach : ℕ → List Task → Type 0
-TasksInReach p [] = Unit {0}
-TasksInReach p (i ∷ k) = TaskIn (in_reach p (gates_of (i ∷ k))) i × TasksInReach p k
-
-abbrev pub IsFrameOf : Option Frame → Owner → Type 0
-IsFrameOf None o = ⊥
-IsFrameOf (Some f) o = f.owner ≡ o
-
--- what the parameters of an activation refer to is in its caller's reach
-pub record FrameInvariant (p : ℕ) (st : Store) (env : Environment) (k : List Task) : Type 0 where
-  pub frame : IsFrameOf env.frame (OfActivation p (depth k))
-  pub refers : (l j : Location) → l.owner ≡ OfActivation p (depth k) → st l ≡ Reference j → in_reach p (gates_of k) j.owner ≡ true
-
-abbrev pub FramesInvariant : ℕ → Store → List Task → Type 0
-FramesInvariant p st [] = Unit {0}
-FramesInvariant p st (EndCall env gate ∷ k) = FrameInvariant p st env k × FramesInvariant p st k
-FramesInvariant p st (_ ∷ k) = FramesInvariant p st k
-
--- no activation beyond refers to anything
-abbrev pub NoneBeyond : ℕ → Store → ℕ → Type 0
-NoneBeyond p st n = (l j : Location) (d : ℕ) → n ≤ d → l.owner ≡ OfActivation p d → st l ≢ Reference j
-
-pub record ContinuationInvariant (p : ℕ) (st : Store) (k : List Task) : Type 0 where
-  pub items : TasksInReach p k
-  pub frames : FramesInvariant p st k
-  pub beyond : NoneBeyond p st (depth k)
+use Rattle.cp_model.specs.Reach.{in_reach}
+use Rattle.cp_model.specs.Invariant.{ContinuationInvariant, EnvironmentIn, FramesInvariant, IsActivation, NoneBeyond, StoreInvariant, TasksInReach}
+use Rattle.cp_model.proofs.Frame.{IfGives, IsClosed, same_owner-eq}
 
 -- ---- statements put in front
-
 
 -- what holds of a list holds of it behind statements of a scope
 pub before_keeps : (Q : List Task → Type 0) (env : Environment)
@@ -82,30 +39,30 @@ before_keeps Q env a b c (For v down e f s) k h = a (For v down e f s) k h
 before_keeps Q env a b c (Cycle s) k h = a (Cycle s) k h
 before_keeps Q env a b c (Init x arguments) k h = a (Init x arguments) k h
 
--- a list with more items and no more marks
+-- a list with more tasks and no more marks
 record Behind (p : ℕ) (st : Store) (ms : List ℕ) (n : ℕ) (k : List Task) : Type 0 where
   gates : gates_of k ≡ ms
   deep : depth k ≡ n
-  items : TasksInReach p k
+  tasks : TasksInReach p k
   frames : FramesInvariant p st k
 
 pub before_ok : (p : ℕ) (st : Store) (s : Statement) (env : Environment) (k : List Task) → EnvironmentIn (in_reach p (gates_of k)) env → ContinuationInvariant p st k → ContinuationInvariant p st (push s env k)
 before_ok p st s env k h o =
     let b = before_keeps (Behind p st (gates_of k) (depth k)) env
-      (λ x l g. record { gates = g.gates; deep = g.deep; items = (subst (λ ms. EnvironmentIn (in_reach p ms) env) (sym g.gates) h, g.items); frames = g.frames })
-      (λ x e y l g. record { gates = g.gates; deep = g.deep; items = (subst (λ ms. EnvironmentIn (in_reach p ms) env) (sym g.gates) h, g.items); frames = g.frames })
-      (λ x e y l g. record { gates = g.gates; deep = g.deep; items = (subst (λ ms. EnvironmentIn (in_reach p ms) env) (sym g.gates) h, g.items); frames = g.frames })
-      s k (record { gates = refl; deep = refl; items = o.items; frames = o.frames })
-    in record { items = b.items; frames = b.frames; beyond = subst (λ n. NoneBeyond p st n) (sym b.deep) o.beyond }
+      (λ x l g. record { gates = g.gates; deep = g.deep; tasks = (subst (λ ms. EnvironmentIn (in_reach p ms) env) (sym g.gates) h, g.tasks); frames = g.frames })
+      (λ x e y l g. record { gates = g.gates; deep = g.deep; tasks = (subst (λ ms. EnvironmentIn (in_reach p ms) env) (sym g.gates) h, g.tasks); frames = g.frames })
+      (λ x e y l g. record { gates = g.gates; deep = g.deep; tasks = (subst (λ ms. EnvironmentIn (in_reach p ms) env) (sym g.gates) h, g.tasks); frames = g.frames })
+      s k (record { gates = refl; deep = refl; tasks = o.tasks; frames = o.frames })
+    in record { tasks = b.tasks; frames = b.frames; beyond = subst (λ n. NoneBeyond p st n) (sym b.deep) o.beyond }
 
--- ---- stores with no new references
+-- ---- stores with no new refers
 
 abbrev pub NoNew : Store → Store → Type 0
 NoNew st st' = (l j : Location) → st' l ≡ Reference j → st l ≡ Reference j
 
 pub frames_keep : (p : ℕ) (st st' : Store) (k : List Task) → NoNew st st' → FramesInvariant p st k → FramesInvariant p st' k
 frames_keep p st st' [] n h = tt
-frames_keep p st st' (EndCall env gate ∷ k) n h = (record { frame = h.0.frame; refers = λ l j o e. h.0.refers l j o (n l j e) }, frames_keep p st st' k n h.1)
+frames_keep p st st' (EndCall env gate ∷ k) n h = (record { frame = h.0.frame; references = λ l j o e. h.0.references l j o (n l j e) }, frames_keep p st st' k n h.1)
 frames_keep p st st' (Do s env ∷ k) n h = frames_keep p st st' k n h
 frames_keep p st st' (WhileTest now e s env ∷ k) n h = frames_keep p st st' k n h
 frames_keep p st st' (RepeatTest now s e env ∷ k) n h = frames_keep p st st' k n h
@@ -114,7 +71,7 @@ frames_keep p st st' (EndBody gate ∷ k) n h = frames_keep p st st' k n h
 frames_keep p st st' (EndProcess ∷ k) n h = frames_keep p st st' k n h
 
 pub ok_keeps : (p : ℕ) (st st' : Store) (k : List Task) → NoNew st st' → ContinuationInvariant p st k → ContinuationInvariant p st' k
-ok_keeps p st st' k n o = record { items = o.items; frames = frames_keep p st st' k n o.frames; beyond = λ l j d h e f. o.beyond l j d h e (n l j f) }
+ok_keeps p st st' k n o = record { tasks = o.tasks; frames = frames_keep p st st' k n o.frames; beyond = λ l j d h e f. o.beyond l j d h e (n l j f) }
 
 -- a write of what is no reference, and of a right to a class of the same owner
 abbrev pub Keeps : Location → Value → Type 0
@@ -150,7 +107,7 @@ same_owner_of l k e = same_owner-eq l.owner k.owner (continuation (same_owner l.
 
 put_ok : (st : Store) (l : Location) (v : Value) → Keeps l v → StoreInvariant st → StoreInvariant (put l v st)
 put_ok st l v h o = record {
-    refers = λ k j e. o.refers k j (put_no_new st l v h k j e);
+    references = λ k j e. o.references k j (put_no_new st l v h k j e);
     classes = λ k j e. go k j (same_location l k) refl e }
   where
     is_class : (x : Value) (j : Location) → Keeps l x → x ≡ ClassRight j → j.owner ≡ l.owner
@@ -188,7 +145,7 @@ forget_no_new o st l j e = go (same_owner o l.owner) e
     go false e = e
 
 pub forget_ok : (o : Owner) (st : Store) → StoreInvariant st → StoreInvariant (forget o st)
-forget_ok o st h = record { refers = λ l j e. h.refers l j (forget_no_new o st l j e); classes = λ l j e. go l j (same_owner o l.owner) e }
+forget_ok o st h = record { references = λ l j e. h.references l j (forget_no_new o st l j e); classes = λ l j e. go l j (same_owner o l.owner) e }
   where
     go : (l j : Location) (b : Bool) → (if b then Absent else st l) ≡ ClassRight j → j.owner ≡ l.owner
     go l j true e = absurd (Prim.grind arith)
@@ -229,7 +186,7 @@ frame_refers p st [] l j d f h o e = absurd (Prim.omega arith)
 frame_refers p st (EndCall env gate ∷ k) l j d f h o e = tail_reach p (EndCall env gate) k j.owner (go (nat_eq d (depth k)) refl (λ g. frame_refers p st k l j d f.1 g o e))
   where
     go : (b : Bool) → nat_eq d (depth k) ≡ b → (d < depth k → in_reach p (gates_of k) j.owner ≡ true) → in_reach p (gates_of k) j.owner ≡ true
-    go true g ih = f.0.refers l j (o ∙ ap (λ n. OfActivation p n) (eqb-true d (depth k) g)) e
+    go true g ih = f.0.references l j (o ∙ ap (λ n. OfActivation p n) (eqb-true d (depth k) g)) e
     go false g ih = ih (lesser (eqb-false d (depth k) g))
       where
         lesser : (d ≡ depth k → ⊥) → d < depth k
@@ -243,7 +200,7 @@ frame_refers p st (EndProcess ∷ k) l j d f h o e = frame_refers p st k l j d f
 
 -- what a process names in its reach stays in it
 pub is_closed : (p : ℕ) (st : Store) (k : List Task) → StoreInvariant st → ContinuationInvariant p st k → IsClosed (in_reach p (gates_of k)) st
-is_closed p st k s o = record { refers = λ l j h e. go l j l.owner refl h e (s.refers l j e); classes = λ l j h e. rw (s.classes l j e) h }
+is_closed p st k s o = record { references = λ l j h e. go l j l.owner refl h e (s.references l j e); classes = λ l j h e. rw (s.classes l j e) h }
   where
     lesser : (l j : Location) (d : ℕ) → l.owner ≡ OfActivation p d → st l ≡ Reference j → in_reach p (gates_of k) j.owner ≡ true
     lesser l j d f e = by (nat_lt d (depth k)) refl

@@ -10,8 +10,8 @@ use Rattle.cp_model.specs.States.{Setup, State, count_components, initial_variab
 use Rattle.cp_model.specs.Turns.{Kernel, Kind, NoStep, Private, kernel_step, kernel_turn, kind, private_step, private_turn}
 use Rattle.cp_model.specs.Rounds.{Event, KernelTurn, PrivateStep, after_own_turn, all_turns, close_round, kernel_turns, own_parts, owner_process, phased_round, replay_event, replay_round, sequential_round, wake}
 use Rattle.cp_model.specs.Orders.{IsLawful}
-use Rattle.cp_model.specs.Parts.{is_own}
 use Rattle.cp_model.specs.Report.{line}
+use Rattle.cp_model.specs.Parts.{is_own}
 use Rattle.cp_model.proofs.Orders.{AreDistinct, MayChangePlaces, after, lawful_is_one_by_one, many, one_by_one}
 use Rattle.cp_model.proofs.Frame.{mix}
 use Rattle.cp_model.proofs.Footprint.{mixed}
@@ -75,7 +75,7 @@ module _ (setup : Setup) (Inv : State → Type 0) (m : Kept setup Inv) where
 
   -- ---- the phased round
 
-  -- s' with p's leaf as it is in a
+  -- s' with p's part as it is in a
   merge : ℕ → State → State → State
   merge p a s = record s {
     store = mix (is_own p) a.store s.store; continuation = with_at p (a.continuation p) s.continuation; transcript = with_at p (a.transcript p) s.transcript;
@@ -107,7 +107,7 @@ module _ (setup : Setup) (Inv : State → Type 0) (m : Kept setup Inv) where
       state_is _ _ (mix_twice (is_own p) a.store b.store s.store) (with_at_twice p (a.continuation p) (b.continuation p) s.continuation) (with_at_twice p (a.transcript p) (b.transcript p) s.transcript)
         (with_at_twice p (a.consumed p) (b.consumed p) s.consumed) (with_at_twice p (a.status p) (b.status p) s.status) refl refl
 
-  -- a private step is the same wherever p's leaf is the same, and changes that leaf alone
+  -- a private step is the same wherever p's part is the same, and changes that part alone
   step_merges : (p : ℕ) (s s' : State) → Inv s → IsSameFor setup p s s' → private_step setup s' p ≡ merge p (private_step setup s p) s'
   unfolding merge
   step_merges p s s' i e = go (kind s p) refl
@@ -289,10 +289,10 @@ module _ (setup : Setup) (Inv : State → Type 0) (m : Kept setup Inv) where
 
   parts_are_own : (t : ℕ) (s : State) → parts_of t (put_before (processes setup) []) s ≡ own_parts setup t s
   unfolding parts_of
-  parts_are_own t s = state_is _ _ (λ i l. leaf (owner_process l.owner) (λ x. x.store l) i) (λ i p. leaf p (λ x. x.continuation p) i) (λ i p. leaf p (λ x. x.transcript p) i) (λ i p. leaf p (λ x. x.consumed p) i) (λ i p. leaf p (λ x. x.status p) i) refl refl
+  parts_are_own t s = state_is _ _ (λ i l. part (owner_process l.owner) (λ x. x.store l) i) (λ i p. part p (λ x. x.continuation p) i) (λ i p. part p (λ x. x.transcript p) i) (λ i p. part p (λ x. x.consumed p) i) (λ i p. part p (λ x. x.status p) i) refl refl
     where
-      leaf : {A : Type 0} (p : ℕ) (f : State → A) → (if is_in p (put_before (processes setup) []) then f (private_turn setup t s p) else f s) ≡ after_own_turn setup t s f p
-      leaf p f = ap (λ b. if b then f (private_turn setup t s p) else f s) (in_either p (processes setup) [] ∙ or-false (is_in p (processes setup)))
+      part : {A : Type 0} (p : ℕ) (f : State → A) → (if is_in p (put_before (processes setup) []) then f (private_turn setup t s p) else f s) ≡ after_own_turn setup t s f p
+      part p f = ap (λ b. if b then f (private_turn setup t s p) else f s) (in_either p (processes setup) [] ∙ or-false (is_in p (processes setup)))
 
   numbers_are_fresh : (p n : ℕ) (done : List ℕ) → 1 ≤ p → ((k : ℕ) → p ≤ k → is_in k done ≡ false) → AreFresh (numbers_from p n) done
   unfolding AreFresh

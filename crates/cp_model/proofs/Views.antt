@@ -13,21 +13,22 @@ use Rattle.cp_model.specs.States.{Free, HeldBy, Holder, Setup, State, Unset, con
 use Rattle.cp_model.specs.Gates.{apply_effect, enter, made_ready, make_ready, pass_to, set_gate, start_process}
 use Rattle.cp_model.specs.Turns.{Kernel, Kind, NoStep, Private, after_step, if_kernel, if_private, kernel_step, kernel_turn, kind, kind_of, private_step, private_turn, step}
 use Rattle.cp_model.specs.Rounds.{after_own_turn, awakened, own_parts, owner_process, wake}
-use Rattle.cp_model.specs.Parts.{IsNotRunning, IsUnderWay, SameKernelPart, SameOwnPart, is_own, kernel_status, own_status}
+use Rattle.cp_model.specs.Invariant.{Invariant}
+use Rattle.cp_model.specs.Parts.{HasBegun, HasNotBegun, SameKernelPart, SameOwnPart, is_own, kernel_status, own_status}
 use Rattle.cp_model.proofs.Frame.{IsClosed}
 use Rattle.cp_model.proofs.Footprint.{ContinuationIn, moved_to, step_same}
 use Rattle.cp_model.proofs.Commute.{MayCommute, Other, apart, differ, install_stepped, is_foreign, kind_private, mix_same, my_run, my_status, no_private_step, private_step_is, quiet_here, result_status, self, their_act, with_at_here, with_at_there}
 use Rattle.cp_model.proofs.Theorem.{below_are_out, kernel_turn_keeps, own_parts_keep}
-use Rattle.cp_model.proofs.Machines.{Invariant, good, inv_kernel, kept}
+use Rattle.cp_model.proofs.Machines.{good, inv_kernel, kept}
 
 pub own_refl : (p : ℕ) (s : State) → SameOwnPart p s s
-own_refl p s = record { same_phase = refl; transcript = refl; consumed = refl; own_store = λ a l h. refl; own_left = λ a. refl }
+own_refl p s = record { status = refl; transcript = refl; consumed = refl; store = λ a l h. refl; continuation = λ a. refl }
 
 pub own_trans : (p : ℕ) (s u v : State) → SameOwnPart p s u → SameOwnPart p u v → SameOwnPart p s v
 own_trans p s u v a b = record {
-  same_phase = b.same_phase ∙ a.same_phase; transcript = b.transcript ∙ a.transcript; consumed = b.consumed ∙ a.consumed;
-  own_store = λ o l h. b.own_store (subst IsUnderWay (sym a.same_phase) o) l h ∙ a.own_store o l h;
-  own_left = λ o. b.own_left (subst IsUnderWay (sym a.same_phase) o) ∙ a.own_left o }
+  status = b.status ∙ a.status; transcript = b.transcript ∙ a.transcript; consumed = b.consumed ∙ a.consumed;
+  store = λ o l h. b.store (subst HasBegun (sym a.status) o) l h ∙ a.store o l h;
+  continuation = λ o. b.continuation (subst HasBegun (sym a.status) o) ∙ a.continuation o }
 
 owner_of : (p : ℕ) (o : Owner) → is_own p o ≡ true → owner_process o ≡ p
 owner_of p (OfProcess q) h = sym (eqb-true p q h)
@@ -36,18 +37,18 @@ owner_of p (OfMonitor m) h = absurd (Prim.grind arith)
 
 module _ (setup : Setup) where
 
-  -- ---- a private leaf in place
+  -- ---- a private part in place
 
   pub own_parts_own : (t : ℕ) (s : State) (p : ℕ) → is_in p (processes setup) ≡ true → SameOwnPart p (private_turn setup t s p) (own_parts setup t s)
   own_parts_own t s p h = record {
-      same_phase = ap own_status (leaf (λ x. x.status p)); transcript = leaf (λ x. x.transcript p); consumed = leaf (λ x. x.consumed p);
-      own_store = λ a l m. ap (λ k. after_own_turn setup t s (λ x. x.store l) k) (owner_of p l.owner m) ∙ leaf (λ x. x.store l);
-      own_left = λ a. leaf (λ x. x.continuation p) }
+      status = ap own_status (part (λ x. x.status p)); transcript = part (λ x. x.transcript p); consumed = part (λ x. x.consumed p);
+      store = λ a l m. ap (λ k. after_own_turn setup t s (λ x. x.store l) k) (owner_of p l.owner m) ∙ part (λ x. x.store l);
+      continuation = λ a. part (λ x. x.continuation p) }
     where
-      leaf : {A : Type 0} (f : State → A) → after_own_turn setup t s f p ≡ f (private_turn setup t s p)
-      leaf f = ap (λ b. if b then f (private_turn setup t s p) else f s) h
+      part : {A : Type 0} (f : State → A) → after_own_turn setup t s f p ≡ f (private_turn setup t s p)
+      part f = ap (λ b. if b then f (private_turn setup t s p) else f s) h
 
-  -- ---- private turns and the kernel's leaf
+  -- ---- private turns and the kernel's part
 
   turn_rests : (t : ℕ) (s : State) (p : ℕ) (k : Kind) → kind s p ≡ k → Other setup k → private_turn setup t s p ≡ s
   turn_rests zero s p k h o = refl
@@ -81,7 +82,7 @@ module _ (setup : Setup) where
   turn_known zero s p = refl
   turn_known (suc t) s p = turn_known t (private_step setup s p) p ∙ step_known s p
 
-  apart_rests : (x : Status) (k : List Task) → IsNotRunning x → kind_of x k ≡ NoStep
+  apart_rests : (x : Status) (k : List Task) → HasNotBegun x → kind_of x k ≡ NoStep
   apart_rests Unstarted k h = refl
   apart_rests Fresh k h = refl
   apart_rests Ready k h = absurd h
@@ -95,9 +96,9 @@ module _ (setup : Setup) where
   own_parts_kernel t s = record {
       gates = refl;
       status = λ p. known_part p (is_in p (processes setup));
-      monitors = λ l m e. ap (λ k. after_own_turn setup t s (λ x. x.store l) k) (ap owner_process e) ∙ outside l (below_are_out 0 1 n (Prim.omega arith));
-      apart_store = λ p a l h. ap (λ k. after_own_turn setup t s (λ x. x.store l) k) (owner_of p l.owner h) ∙ rests p a (λ x. x.store l) (is_in p (processes setup));
-      apart_left = λ p a. rests p a (λ x. x.continuation p) (is_in p (processes setup)) }
+      monitor_store = λ l m e. ap (λ k. after_own_turn setup t s (λ x. x.store l) k) (ap owner_process e) ∙ outside l (below_are_out 0 1 n (Prim.omega arith));
+      unbegun_store = λ p a l h. ap (λ k. after_own_turn setup t s (λ x. x.store l) k) (owner_of p l.owner h) ∙ rests p a (λ x. x.store l) (is_in p (processes setup));
+      unbegun_continuation = λ p a. rests p a (λ x. x.continuation p) (is_in p (processes setup)) }
     where
       n : ℕ
       n = suc (count_components Process (initial_variables setup))
@@ -106,7 +107,7 @@ module _ (setup : Setup) where
       known_part : (p : ℕ) (b : Bool) → kernel_status (if b then (private_turn setup t s p).status p else s.status p) ≡ kernel_status (s.status p)
       known_part p true = turn_known t s p
       known_part p false = refl
-      rests : {A : Type 0} (p : ℕ) → IsNotRunning (s.status p) → (f : State → A) (b : Bool) → (if b then f (private_turn setup t s p) else f s) ≡ f s
+      rests : {A : Type 0} (p : ℕ) → HasNotBegun (s.status p) → (f : State → A) (b : Bool) → (if b then f (private_turn setup t s p) else f s) ≡ f s
       rests p a f true = ap f (turn_rests t s p NoStep (apart_rests (s.status p) (s.continuation p) a) tt)
       rests p a f false = refl
 
@@ -123,16 +124,16 @@ module _ (setup : Setup) where
       at (Delayed m q) = refl
       at (Faulted n) = refl
       go : (b : Bool) → SameKernelPart s (if b then record s { status = λ p. awakened (s.status p) } else s)
-      go true = record { gates = refl; status = λ p. at (s.status p); monitors = λ l m e. refl; apart_store = λ p a l h. refl; apart_left = λ p a. refl }
-      go false = record { gates = refl; status = λ p. refl; monitors = λ l m e. refl; apart_store = λ p a l h. refl; apart_left = λ p a. refl }
+      go true = record { gates = refl; status = λ p. at (s.status p); monitor_store = λ l m e. refl; unbegun_store = λ p a l h. refl; unbegun_continuation = λ p a. refl }
+      go false = record { gates = refl; status = λ p. refl; monitor_store = λ l m e. refl; unbegun_store = λ p a l h. refl; unbegun_continuation = λ p a. refl }
 
 -- ---- what the kernel does beside p
 
 gate_own : (p m : ℕ) (x : Holder) (qs : List ℕ) (v : State) → SameOwnPart p v (set_gate m x qs v)
-gate_own p m x qs v = record { same_phase = refl; transcript = refl; consumed = refl; own_store = λ a l h. refl; own_left = λ a. refl }
+gate_own p m x qs v = record { status = refl; transcript = refl; consumed = refl; store = λ a l h. refl; continuation = λ a. refl }
 
 status_own : (p q : ℕ) (x : Status) (v : State) → q ≢ p → SameOwnPart p v (set_status q x v)
-status_own p q x v d = record { same_phase = ap own_status (with_at_there q p x v.status (differ q p d)); transcript = refl; consumed = refl; own_store = λ a l h. refl; own_left = λ a. refl }
+status_own p q x v d = record { status = ap own_status (with_at_there q p x v.status (differ q p d)); transcript = refl; consumed = refl; store = λ a l h. refl; continuation = λ a. refl }
 
 ready_phase : (x : Status) → own_status (made_ready x) ≡ own_status x
 ready_phase Unstarted = refl
@@ -145,7 +146,7 @@ ready_phase (Delayed m q) = refl
 ready_phase (Faulted n) = refl
 
 ready_own : (p r : ℕ) (v : State) → SameOwnPart p v (make_ready r v)
-ready_own p r v = record { same_phase = at (nat_eq r p) refl; transcript = refl; consumed = refl; own_store = λ a l h. refl; own_left = λ a. refl }
+ready_own p r v = record { status = at (nat_eq r p) refl; transcript = refl; consumed = refl; store = λ a l h. refl; continuation = λ a. refl }
   where
     at : (b : Bool) → nat_eq r p ≡ b → own_status (if b then made_ready (v.status r) else v.status p) ≡ own_status (v.status p)
     at true e = ready_phase (v.status r) ∙ ap (λ k. own_status (v.status k)) (eqb-true r p e)
@@ -162,13 +163,13 @@ enter_own p q m (HeldBy c) v d = own_trans p v (set_gate m (HeldBy c) _ v) _ (ga
 
 start_own : (p r : ℕ) (k : List Task) (x : Status) (v : State) → v.status r ≡ x → SameOwnPart p v (start_process r k x v)
 start_own p r k Unstarted v e = record {
-    same_phase = at (nat_eq r p) refl; transcript = refl; consumed = refl; own_store = λ a l h. refl; own_left = λ a. continuation a (nat_eq r p) refl }
+    status = at (nat_eq r p) refl; transcript = refl; consumed = refl; store = λ a l h. refl; continuation = λ a. continuation a (nat_eq r p) refl }
   where
     at : (b : Bool) → nat_eq r p ≡ b → own_status (if b then Fresh else v.status p) ≡ own_status (v.status p)
     at true h = sym (ap own_status e) ∙ ap (λ j. own_status (v.status j)) (eqb-true r p h)
     at false h = refl
-    continuation : IsUnderWay (own_status (v.status p)) → (b : Bool) → nat_eq r p ≡ b → (if b then k else v.continuation p) ≡ v.continuation p
-    continuation a true h = absurd (subst IsUnderWay (ap (λ j. own_status (v.status j)) (sym (eqb-true r p h)) ∙ ap own_status e) a)
+    continuation : HasBegun (own_status (v.status p)) → (b : Bool) → nat_eq r p ≡ b → (if b then k else v.continuation p) ≡ v.continuation p
+    continuation a true h = absurd (subst HasBegun (ap (λ j. own_status (v.status j)) (sym (eqb-true r p h)) ∙ ap own_status e) a)
     continuation a false h = refl
 start_own p r k Fresh v e = own_refl p v
 start_own p r k Ready v e = own_refl p v
@@ -190,7 +191,7 @@ effect_own p q (Continues m (Some r)) v d = own_trans p v (set_gate m (HeldBy r)
 effect_own p q (Opens m) v d = gate_own p m (HeldBy q) [] v
 effect_own p q (Starts r k) v d = start_own p r k (v.status r) v refl
 
-on_started : (x : Status) → IsUnderWay (own_status x) → is_started x ≡ true
+on_started : (x : Status) → HasBegun (own_status x) → is_started x ≡ true
 on_started Unstarted h = absurd h
 on_started Fresh h = refl
 on_started Ready h = refl
@@ -221,7 +222,7 @@ module _ (setup : Setup) where
       ∙ step_same (is_foreign p) s.store (context setup s q) (λ r. is_started (s.status r)) (λ m. is_set (s.gates m).holder) (configuration s q) o.0 (λ n. their_act setup p q n d) o.1
           (λ a. record { monitors = λ m. refl; processes = their_started p s h; same_started = refl; same_set = refl })
 
-  stepped_own : (p q : ℕ) (s : State) (o : StepResult) → q ≢ p → (IsUnderWay (own_status (s.status p)) → o ≡ moved_to (is_foreign p) s.store o) → SameOwnPart p s (after_step s q o)
+  stepped_own : (p q : ℕ) (s : State) (o : StepResult) → q ≢ p → (HasBegun (own_status (s.status p)) → o ≡ moved_to (is_foreign p) s.store o) → SameOwnPart p s (after_step s q o)
   stepped_own p q s (Fault n) d w = status_own p q (Faulted n) s d
   stepped_own p q s (Gives (u, e)) d w = own_trans p s (with_configuration s q u) _ first (effect_own p q e (with_configuration s q u) d)
     where
@@ -236,9 +237,9 @@ module _ (setup : Setup) where
           clash g = Prim.grind arith
       first : SameOwnPart p s (with_configuration s q u)
       first = record {
-        same_phase = refl; transcript = with_at_there q p u.transcript s.transcript (differ q p d); consumed = with_at_there q p u.consumed s.consumed (differ q p d);
-        own_store = λ a l h. ap (λ x. store_of x l) (w a) ∙ at l (is_own p l.owner) h;
-        own_left = λ a. with_at_there q p u.continuation s.continuation (differ q p d) }
+        status = refl; transcript = with_at_there q p u.transcript s.transcript (differ q p d); consumed = with_at_there q p u.consumed s.consumed (differ q p d);
+        store = λ a l h. ap (λ x. store_of x l) (w a) ∙ at l (is_own p l.owner) h;
+        continuation = λ a. with_at_there q p u.continuation s.continuation (differ q p d) }
 
   step_beside : (p q : ℕ) (s : State) → q ≢ p → Invariant s → SameOwnPart p s (kernel_step setup s q)
   step_beside p q s d i = go (kind s q) refl
@@ -248,7 +249,7 @@ module _ (setup : Setup) where
       go Private h = own_refl p s
       go Kernel h = stepped_own p q s (out_of s q) d (λ a. writes_beside p q s (λ e. d (sym e)) (good s i) h (on_started (s.status p) a))
 
-  -- a kernel turn leaves every other process's own leaf as it was
+  -- a kernel turn leaves every other process's own part as it was
   pub turn_beside : (t : ℕ) (p q : ℕ) (s : State) → q ≢ p → Invariant s → SameOwnPart p s (kernel_turn setup t s q)
   turn_beside zero p q s d i = own_refl p s
   turn_beside (suc t) p q s d i = own_trans p s (kernel_step setup s q) _ (step_beside p q s d i) (turn_beside t p q (kernel_step setup s q) d (inv_kernel setup s q i))
@@ -330,10 +331,10 @@ module _ (setup : Setup) where
       go NoStep h = subst (λ (u : State). SameOwnPart p s u) (sym (no_private_step setup q s NoStep h tt)) (own_refl p s)
       go Kernel h = subst (λ (u : State). SameOwnPart p s u) (sym (no_private_step setup q s Kernel h tt)) (own_refl p s)
       go Private h = subst (λ (u : State). SameOwnPart p s u) (sym (private_step_is setup q s s (good s i) h (self setup q s))) (record {
-        same_phase = ap own_status (with_at_there q p (my_status setup s q) s.status (differ q p d));
+        status = ap own_status (with_at_there q p (my_status setup s q) s.status (differ q p d));
         transcript = with_at_there q p (my_run setup s q).transcript s.transcript (differ q p d); consumed = with_at_there q p (my_run setup s q).consumed s.consumed (differ q p d);
-        own_store = λ a l m. at l (is_own q l.owner) (apart p q l.owner (λ e. d (sym e)) m);
-        own_left = λ a. with_at_there q p (my_run setup s q).continuation s.continuation (differ q p d) })
+        store = λ a l m. at l (is_own q l.owner) (apart p q l.owner (λ e. d (sym e)) m);
+        continuation = λ a. with_at_there q p (my_run setup s q).continuation s.continuation (differ q p d) })
 
   pub private_kernel : (p : ℕ) (s : State) → Invariant s → SameKernelPart s (private_step setup s p)
   private_kernel p s i = go (kind s p) refl
@@ -341,7 +342,7 @@ module _ (setup : Setup) where
       clash : true ≡ false → ⊥
       clash g = Prim.grind arith
       same : SameKernelPart s s
-      same = record { gates = refl; status = λ r. refl; monitors = λ l m e. refl; apart_store = λ r a l m. refl; apart_left = λ r a. refl }
+      same = record { gates = refl; status = λ r. refl; monitor_store = λ l m e. refl; unbegun_store = λ r a l m. refl; unbegun_continuation = λ r a. refl }
       at : (l : Location) (b : Bool) → b ≡ false → (if b then (my_run setup s p).store l else s.store l) ≡ s.store l
       at l true h = absurd (clash h)
       at l false h = refl
@@ -350,14 +351,14 @@ module _ (setup : Setup) where
       go Kernel h = subst (λ (u : State). SameKernelPart s u) (sym (no_private_step setup p s Kernel h tt)) same
       go Private h = subst (λ (u : State). SameKernelPart s u) (sym (private_step_is setup p s s (good s i) h (self setup p s))) (record {
           gates = refl; status = λ r. told r (nat_eq p r) refl;
-          monitors = λ l m e. at l (is_own p l.owner) (ap (is_own p) e);
-          apart_store = λ r a l m. at l (is_own p l.owner) (apart r p l.owner (other r a) m);
-          apart_left = λ r a. with_at_there p r (my_run setup s p).continuation s.continuation (differ p r (λ e. other r a (sym e))) })
+          monitor_store = λ l m e. at l (is_own p l.owner) (ap (is_own p) e);
+          unbegun_store = λ r a l m. at l (is_own p l.owner) (apart r p l.owner (other r a) m);
+          unbegun_continuation = λ r a. with_at_there p r (my_run setup s p).continuation s.continuation (differ p r (λ e. other r a (sym e))) })
         where
           is_ready : s.status p ≡ Ready
           is_ready = (kind_private (s.status p) (s.continuation p) h).0
-          other : (r : ℕ) → IsNotRunning (s.status r) → r ≢ p
-          other r a e = subst IsNotRunning (ap s.status e ∙ is_ready) a
+          other : (r : ℕ) → HasNotBegun (s.status r) → r ≢ p
+          other r a e = subst HasNotBegun (ap s.status e ∙ is_ready) a
           told : (r : ℕ) (b : Bool) → nat_eq p r ≡ b → kernel_status (if b then my_status setup s p else s.status r) ≡ kernel_status (s.status r)
           told r true e = known_by setup (out_of s p) ∙ sym (ap kernel_status (ap s.status (sym (eqb-true p r e)) ∙ is_ready))
           told r false e = refl

@@ -29,8 +29,10 @@ pub mod Turns
 pub mod Rounds
 pub mod Start
 pub mod Orders
-pub mod Parts
 pub mod Chains
 pub mod Report
 pub mod Input
+pub mod Reach
+pub mod Invariant
+pub mod Parts
 pub mod Laws

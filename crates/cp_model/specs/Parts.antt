@@ -17,12 +17,12 @@ is_own p (OfMonitor m) = false
 -- ---- A process's own part
 
 pub data OwnStatus : Type 0 where
-  NotRunning Running Finished Sleeping : OwnStatus
+  NotBegun Running Finished Sleeping : OwnStatus
   Failed : (number : ℕ) → OwnStatus
 
 abbrev pub own_status : Status → OwnStatus
-own_status Unstarted = NotRunning
-own_status Fresh = NotRunning
+own_status Unstarted = NotBegun
+own_status Fresh = NotBegun
 own_status Ready = Running
 own_status Ended = Finished
 own_status Waiting = Sleeping
@@ -30,17 +30,17 @@ own_status (Asking m) = Running
 own_status (Delayed m q) = Running
 own_status (Faulted n) = Failed n
 
-abbrev pub IsUnderWay : OwnStatus → Type 0
-IsUnderWay NotRunning = ⊥
-IsUnderWay _ = Unit {0}
+abbrev pub HasBegun : OwnStatus → Type 0
+HasBegun NotBegun = ⊥
+HasBegun _ = Unit {0}
 
 -- The own part of p is the same in two states.
 pub record SameOwnPart (p : ℕ) (s u : State) : Type 0 where
-  pub same_phase : own_status (u.status p) ≡ own_status (s.status p)
+  pub status : own_status (u.status p) ≡ own_status (s.status p)
   pub transcript : u.transcript p ≡ s.transcript p
   pub consumed : u.consumed p ≡ s.consumed p
-  pub own_store : IsUnderWay (own_status (s.status p)) → (l : Location) → is_own p l.owner ≡ true → u.store l ≡ s.store l
-  pub own_left : IsUnderWay (own_status (s.status p)) → u.continuation p ≡ s.continuation p
+  pub store : HasBegun (own_status (s.status p)) → (l : Location) → is_own p l.owner ≡ true → u.store l ≡ s.store l
+  pub continuation : HasBegun (own_status (s.status p)) → u.continuation p ≡ s.continuation p
 
 -- ---- The kernel's part
 
@@ -51,15 +51,15 @@ kernel_status (Asking m) = Asking m
 kernel_status (Delayed m q) = Delayed m q
 kernel_status _ = Ready
 
-abbrev pub IsNotRunning : Status → Type 0
-IsNotRunning Unstarted = Unit {0}
-IsNotRunning Fresh = Unit {0}
-IsNotRunning _ = ⊥
+abbrev pub HasNotBegun : Status → Type 0
+HasNotBegun Unstarted = Unit {0}
+HasNotBegun Fresh = Unit {0}
+HasNotBegun _ = ⊥
 
 -- The kernel's part is the same in two states.
 pub record SameKernelPart (s u : State) : Type 0 where
   pub gates : u.gates ≡ s.gates
   pub status : (p : ℕ) → kernel_status (u.status p) ≡ kernel_status (s.status p)
-  pub monitors : (l : Location) (m : ℕ) → l.owner ≡ OfMonitor m → u.store l ≡ s.store l
-  pub apart_store : (p : ℕ) → IsNotRunning (s.status p) → (l : Location) → is_own p l.owner ≡ true → u.store l ≡ s.store l
-  pub apart_left : (p : ℕ) → IsNotRunning (s.status p) → u.continuation p ≡ s.continuation p
+  pub monitor_store : (l : Location) (m : ℕ) → l.owner ≡ OfMonitor m → u.store l ≡ s.store l
+  pub unbegun_store : (p : ℕ) → HasNotBegun (s.status p) → (l : Location) → is_own p l.owner ≡ true → u.store l ≡ s.store l
+  pub unbegun_continuation : (p : ℕ) → HasNotBegun (s.status p) → u.continuation p ≡ s.continuation p

@@ -1,11 +1,4 @@
-// The definitions of the language, and the law of one processor.
+//! The definitions of the language, and the laws of its rounds.
 #![tactic(auto)]
 
-ghost use Rattle.cp_model.specs.Laws.{OneProcessor, PhasedIsOneProcessor};
-
-/// Every lawful order of a round, and the phased round, leave what one processor leaves.
-pub fn one_processor()
-    ensures any_order { OneProcessor }
-    ensures phased { PhasedIsOneProcessor }
-{
-}
+pub mod law;
