@@ -9,3 +9,5 @@ pub mod Keeps
 pub mod Machines
 pub mod Views
 pub mod Statements
+pub mod OrderRows
+pub mod Corners

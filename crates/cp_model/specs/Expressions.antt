@@ -15,11 +15,10 @@ abbrev pub value_of_name : Clock → Environment → Store → Name → Outcome 
 value_of_name clock env store x =
     if same_name x (codes "realtime") then integer_result (pos (realtime clock)) else Gives (value_of_meaning env store (meaning env x))
 
--- The name that a designator ends with.
+-- The name of a designator that is a name alone, as of a standard routine or of a component.
 abbrev pub name_of : Designator → Name
 name_of (Plain x) = x
-name_of (Part d x) = x
-name_of (At d e) = []
+name_of _ = []
 
 abbrev mutual
   -- the value of an expression without user calls

@@ -32,6 +32,7 @@ pub mod Orders
 pub mod Chains
 pub mod Report
 pub mod Input
+pub mod OrderText
 pub mod Reach
 pub mod Invariant
 pub mod Parts

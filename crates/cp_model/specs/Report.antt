@@ -11,15 +11,12 @@ use Rattle.cp_model.specs.Declarations.{Variable, globals, reported_members}
 use Rattle.cp_model.specs.Leaves.{leaves_of_members}
 use Rattle.cp_model.specs.Components.{is_component_of, monitor_location, process_location}
 use Rattle.cp_model.specs.Configurations.{Asking, Delayed, Ended, Faulted, Fresh, Ready, Status, Unstarted, Waiting}
-use Rattle.cp_model.specs.Decimal.{decimal, digits}
+use Rattle.cp_model.specs.Decimal.{decimal, natural}
 use Rattle.cp_model.specs.States.{Free, HeldBy, Holder, Setup, State, Unset, initial_variables}
 use Rattle.cp_model.specs.Chains.{chain}
 
 abbrev pub Text : Type 0
 Text = List ℕ
-
-abbrev pub number_text : ℕ → Text
-number_text n = digits 20 n []
 
 abbrev pub line : Text → Text
 line t = t ++ 10 ∷ []
@@ -56,7 +53,7 @@ path_text p = path_rest p
 
 abbrev pub occupant_text : Option ℕ → Text
 occupant_text None = codes "-"
-occupant_text (Some p) = number_text p
+occupant_text (Some p) = natural p
 
 -- A simple part and a queue have a line; a right and a mark have none.
 abbrev pub leaf_line : Path → Value → Text
@@ -87,11 +84,11 @@ status_text setup Ended = codes "ended"
 status_text setup Waiting = codes "waiting"
 status_text setup (Asking m) = codes "asking " ++ monitor_name setup m
 status_text setup (Delayed m q) = codes "delayed " ++ (monitor_name setup m ++ (codes " " ++ path_text q.path))
-status_text setup (Faulted n) = codes "fault " ++ number_text n
+status_text setup (Faulted n) = codes "fault " ++ natural n
 
 abbrev pub process_text : Setup → State → ℕ → Name → Members → Text
 process_text setup s p x ps =
-    line (codes "process " ++ (number_text p ++ (codes " " ++ (x ++ (codes " " ++ status_text setup (s.status p))))))
+    line (codes "process " ++ (natural p ++ (codes " " ++ (x ++ (codes " " ++ status_text setup (s.status p))))))
     ++ (line (codes "out '" ++ (flat_map escaped (s.transcript p) ++ codes "'")) ++ variable_lines s.store (process_location p) ps)
 
 abbrev pub processes_text : Setup → State → ℕ → List (Name × Variable) → Text
@@ -103,11 +100,11 @@ processes_text setup s p (v ∷ vs) = process_text setup s p v.0 (component_memb
 abbrev pub gate_text : Holder → Text
 gate_text Unset = codes "unset"
 gate_text Free = codes "free"
-gate_text (HeldBy p) = codes "held " ++ number_text p
+gate_text (HeldBy p) = codes "held " ++ natural p
 
 abbrev pub numbers_text : List ℕ → Text
 numbers_text [] = []
-numbers_text (p ∷ ps) = codes " " ++ (number_text p ++ numbers_text ps)
+numbers_text (p ∷ ps) = codes " " ++ (natural p ++ numbers_text ps)
 
 abbrev pub askers_text : List ℕ → Text
 askers_text [] = codes " -"
@@ -143,7 +140,7 @@ count_of (v ∷ vs) = suc (count_of vs)
 
 abbrev pub report : Setup → Bool → State → Text
 report setup chains s =
-    line (codes "rounds " ++ number_text s.rounds)
+    line (codes "rounds " ++ natural s.rounds)
     ++ (process_text setup s 1 (codes "initial") (reported_members (globals setup.tree) setup.tree.initial)
     ++ (processes_text setup s 2 (components_of setup Process)
     ++ (monitors_text s 1 (components_of setup Monitor)
