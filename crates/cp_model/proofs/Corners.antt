@@ -6,7 +6,6 @@ use Rattle.cp_model.specs.Rounds.{run}
 use Rattle.cp_model.specs.Start.{start}
 use Rattle.cp_model.specs.Report.{line, report}
 use Rattle.cp_model.specs.Input.{cut}
-use Rattle.cp_model.proofs.Commute.{result}
 
 -- A parameter has the name of a later routine of its component.
 --     procedure p(q: integer); begin display(q) end;
@@ -14,19 +13,46 @@ use Rattle.cp_model.proofs.Commute.{result}
 --     begin p(3); display(q) end.
 abbrev setup_later_routine_parameter : Setup
 setup_later_routine_parameter = record {
-    tree = record { definitions = ([]); initial = record { sort = Process; parameters = []; variables = ([]); routines =
-      (record { name = codes "p"; entry = false; parameters = (record { by_reference = false; names = ((codes "q") ∷ []);
-      type = (TypeName (codes "integer")) } ∷ []); result = None; variables = ([]); body = (Perform (Plain (codes
-      "display")) (MoreExpressions (Use (Plain (codes "q"))) NoExpression)) } ∷ record { name = codes "q"; entry = false;
-      parameters = ([]); result = (Some (codes "integer")); variables = ([]); body = (Assign (Plain (codes "q")) (Literal
-      7)) } ∷ []); body = (Seq (Perform (Plain (codes "p")) (MoreExpressions (Literal 3) NoExpression)) (Perform (Plain
-      (codes "display")) (MoreExpressions (Use (Plain (codes "q"))) NoExpression))) } };
-    inputs = cut []; tick = 1 }
+  tree = record {
+    definitions = ([]);
+    initial = record {
+      sort = Process;
+      parameters = [];
+      variables = ([]);
+      routines =
+          (record {
+            name = codes "p";
+            entry = false;
+            parameters = (record {
+              by_reference = false;
+              names = ((codes "q") ∷ []);
+              type = (TypeName (codes "integer"));
+            } ∷ []);
+            result = None;
+            variables = ([]);
+            body = (Perform (Plain (codes
+                "display")) (MoreExpressions (Use (Plain (codes "q"))) NoExpression));
+          } ∷ record {
+            name = codes "q";
+            entry = false;
+            parameters = ([]);
+            result = (Some (codes "integer"));
+            variables = ([]);
+            body = (Assign (Plain (codes "q")) (Literal
+                7));
+          } ∷ []);
+      body = (Seq (Perform (Plain (codes "p")) (MoreExpressions (Literal 3) NoExpression)) (Perform (Plain
+          (codes "display")) (MoreExpressions (Use (Plain (codes "q"))) NoExpression)));
+    };
+  };
+  inputs = cut [];
+  tick = 1;
+}
 
 later_routine_parameter : report setup_later_routine_parameter false (run setup_later_routine_parameter 10 1 (start setup_later_routine_parameter)) ≡
-      line ((codes "rounds 1"))
-      ++ (line ((codes "process 1 initial ended"))
-      ++ (line ((codes "out '37'"))))
+    line ((codes "rounds 1"))
+    ++ (line ((codes "process 1 initial ended"))
+    ++ (line ((codes "out '37'"))))
 later_routine_parameter = refl
 
 -- A routine's variable has the name of a later routine: counted, referred to and read.
@@ -36,23 +62,60 @@ later_routine_parameter = refl
 --     begin p; q end.
 abbrev setup_later_routine_variable : Setup
 setup_later_routine_variable = record {
-    tree = record { definitions = ([]); initial = record { sort = Process; parameters = []; variables = ([]); routines =
-      (record { name = codes "inc"; entry = false; parameters = (record { by_reference = true; names = ((codes "x") ∷ []);
-      type = (TypeName (codes "integer")) } ∷ []); result = None; variables = ([]); body = (Assign (Plain (codes "x"))
-      (Binary Add (Use (Plain (codes "x"))) (Literal 1))) } ∷ record { name = codes "p"; entry = false; parameters = ([]);
-      result = None; variables = (record { by_reference = false; names = ((codes "q") ∷ []); type = (TypeName (codes
-      "integer")) } ∷ []); body = (Seq (For (codes "q") false (Literal 1) (Literal 2) (Perform (Plain (codes "display"))
-      (MoreExpressions (Use (Plain (codes "q"))) NoExpression))) (Seq (Perform (Plain (codes "inc")) (MoreExpressions (Use
-      (Plain (codes "q"))) NoExpression)) (Perform (Plain (codes "display")) (MoreExpressions (Use (Plain (codes "q")))
-      NoExpression)))) } ∷ record { name = codes "q"; entry = false; parameters = ([]); result = None; variables = ([]);
-      body = (Perform (Plain (codes "display")) (MoreExpressions (Literal 9) NoExpression)) } ∷ []); body = (Seq (Perform
-      (Plain (codes "p")) NoExpression) (Perform (Plain (codes "q")) NoExpression)) } };
-    inputs = cut []; tick = 1 }
+  tree = record {
+    definitions = ([]);
+    initial = record {
+      sort = Process;
+      parameters = [];
+      variables = ([]);
+      routines =
+          (record {
+            name = codes "inc";
+            entry = false;
+            parameters = (record {
+              by_reference = true;
+              names = ((codes "x") ∷ []);
+              type = (TypeName (codes "integer"));
+            } ∷ []);
+            result = None;
+            variables = ([]);
+            body = (Assign (Plain (codes "x"))
+                (Binary Add (Use (Plain (codes "x"))) (Literal 1)));
+          } ∷ record {
+            name = codes "p";
+            entry = false;
+            parameters = ([]);
+            result = None;
+            variables = (record {
+              by_reference = false;
+              names = ((codes "q") ∷ []);
+              type = (TypeName (codes
+                  "integer"));
+            } ∷ []);
+            body = (Seq (For (codes "q") false (Literal 1) (Literal 2) (Perform (Plain (codes "display"))
+                (MoreExpressions (Use (Plain (codes "q"))) NoExpression))) (Seq (Perform (Plain (codes "inc")) (MoreExpressions (Use
+                (Plain (codes "q"))) NoExpression)) (Perform (Plain (codes "display")) (MoreExpressions (Use (Plain (codes "q")))
+                NoExpression))));
+          } ∷ record {
+            name = codes "q";
+            entry = false;
+            parameters = ([]);
+            result = None;
+            variables = ([]);
+            body = (Perform (Plain (codes "display")) (MoreExpressions (Literal 9) NoExpression));
+          } ∷ []);
+      body = (Seq (Perform
+          (Plain (codes "p")) NoExpression) (Perform (Plain (codes "q")) NoExpression));
+    };
+  };
+  inputs = cut [];
+  tick = 1;
+}
 
 later_routine_variable : report setup_later_routine_variable false (run setup_later_routine_variable 100 1 (start setup_later_routine_variable)) ≡
-      line ((codes "rounds 1"))
-      ++ (line ((codes "process 1 initial ended"))
-      ++ (line ((codes "out '1239'"))))
+    line ((codes "rounds 1"))
+    ++ (line ((codes "process 1 initial ended"))
+    ++ (line ((codes "out '1239'"))))
 later_routine_variable = refl
 
 -- Variables of a class have the names of a later constant, enumeration value, type and variable.
@@ -66,37 +129,69 @@ later_routine_variable = refl
 --     begin init v; v.e; display(k); display(red); display(green); display(w); display(x) end.
 abbrev setup_later_definitions : Setup
 setup_later_definitions = record {
-    tree = record { definitions = (SystemDef (codes "c") (record { sort = Class; parameters = ([]); variables = (record {
-      by_reference = false; names = ((codes "k") ∷ (codes "red") ∷ (codes "t") ∷ (codes "v") ∷ []); type = (TypeName
-      (codes "integer")) } ∷ []); routines = (record { name = codes "e"; entry = true; parameters = ([]); result = None;
-      variables = ([]); body = (Seq (Assign (Plain (codes "k")) (Literal 1)) (Seq (Assign (Plain (codes "red")) (Literal
-      2)) (Seq (Assign (Plain (codes "t")) (Literal 3)) (Seq (Assign (Plain (codes "v")) (Literal 4)) (Seq (Perform (Plain
-      (codes "display")) (MoreExpressions (Use (Plain (codes "k"))) NoExpression)) (Seq (Perform (Plain (codes "display"))
-      (MoreExpressions (Use (Plain (codes "red"))) NoExpression)) (Seq (Perform (Plain (codes "display")) (MoreExpressions
-      (Use (Plain (codes "t"))) NoExpression)) (Perform (Plain (codes "display")) (MoreExpressions (Use (Plain (codes
-      "v"))) NoExpression))))))))) } ∷ []); body = Nothing }) ∷ ConstantDef (codes "k") (Number 50) ∷ EnumDef (codes
-      "color") ((codes "red") ∷ (codes "green") ∷ []) ∷ TypeDef (codes "t") (Range (Number 1) (Number 3)) ∷ []); initial =
-      record { sort = Process; parameters = []; variables = (record { by_reference = false; names = ((codes "v") ∷ []);
-      type = (TypeName (codes "c")) } ∷ record { by_reference = false; names = ((codes "w") ∷ []); type = (TypeName (codes
-      "t")) } ∷ record { by_reference = false; names = ((codes "x") ∷ []); type = (TypeName (codes "color")) } ∷ []);
-      routines = ([]); body = (Seq (Init (codes "v") NoExpression) (Seq (Perform (Part (Plain (codes "v")) (codes "e"))
-      NoExpression) (Seq (Perform (Plain (codes "display")) (MoreExpressions (Use (Plain (codes "k"))) NoExpression)) (Seq
-      (Perform (Plain (codes "display")) (MoreExpressions (Use (Plain (codes "red"))) NoExpression)) (Seq (Perform (Plain
-      (codes "display")) (MoreExpressions (Use (Plain (codes "green"))) NoExpression)) (Seq (Perform (Plain (codes
-      "display")) (MoreExpressions (Use (Plain (codes "w"))) NoExpression)) (Perform (Plain (codes "display"))
-      (MoreExpressions (Use (Plain (codes "x"))) NoExpression)))))))) } };
-    inputs = cut []; tick = 1 }
+  tree = record {
+    definitions = (SystemDef (codes "c") (record {
+      sort = Class;
+      parameters = ([]);
+      variables = (record {
+        by_reference = false;
+        names = ((codes "k") ∷ (codes "red") ∷ (codes "t") ∷ (codes "v") ∷ []);
+        type = (TypeName
+            (codes "integer"));
+      } ∷ []);
+      routines = (record {
+        name = codes "e";
+        entry = true;
+        parameters = ([]);
+        result = None;
+        variables = ([]);
+        body = (Seq (Assign (Plain (codes "k")) (Literal 1)) (Seq (Assign (Plain (codes "red")) (Literal
+            2)) (Seq (Assign (Plain (codes "t")) (Literal 3)) (Seq (Assign (Plain (codes "v")) (Literal 4)) (Seq (Perform (Plain
+            (codes "display")) (MoreExpressions (Use (Plain (codes "k"))) NoExpression)) (Seq (Perform (Plain (codes "display"))
+            (MoreExpressions (Use (Plain (codes "red"))) NoExpression)) (Seq (Perform (Plain (codes "display")) (MoreExpressions
+            (Use (Plain (codes "t"))) NoExpression)) (Perform (Plain (codes "display")) (MoreExpressions (Use (Plain (codes
+            "v"))) NoExpression)))))))));
+      } ∷ []);
+      body = Nothing;
+    }) ∷ ConstantDef (codes "k") (Number 50) ∷ EnumDef (codes
+        "color") ((codes "red") ∷ (codes "green") ∷ []) ∷ TypeDef (codes "t") (Range (Number 1) (Number 3)) ∷ []);
+    initial =
+        record {
+          sort = Process;
+          parameters = [];
+          variables = (record {
+            by_reference = false;
+            names = ((codes "v") ∷ []);
+            type = (TypeName (codes "c"));
+          } ∷ record {
+            by_reference = false;
+            names = ((codes "w") ∷ []);
+            type = (TypeName (codes
+                "t"));
+          } ∷ record { by_reference = false; names = ((codes "x") ∷ []); type = (TypeName (codes "color")) } ∷ []);
+          routines = ([]);
+          body = (Seq (Init (codes "v") NoExpression) (Seq (Perform (Part (Plain (codes "v")) (codes "e"))
+              NoExpression) (Seq (Perform (Plain (codes "display")) (MoreExpressions (Use (Plain (codes "k"))) NoExpression)) (Seq
+              (Perform (Plain (codes "display")) (MoreExpressions (Use (Plain (codes "red"))) NoExpression)) (Seq (Perform (Plain
+              (codes "display")) (MoreExpressions (Use (Plain (codes "green"))) NoExpression)) (Seq (Perform (Plain (codes
+              "display")) (MoreExpressions (Use (Plain (codes "w"))) NoExpression)) (Perform (Plain (codes "display"))
+              (MoreExpressions (Use (Plain (codes "x"))) NoExpression))))))));
+        };
+  };
+  inputs = cut [];
+  tick = 1;
+}
 
 later_definitions : report setup_later_definitions false (run setup_later_definitions 100 1 (start setup_later_definitions)) ≡
-      line ((codes "rounds 1"))
-      ++ (line ((codes "process 1 initial ended"))
-      ++ (line ((codes "out '1234500110'"))
-      ++ (line ((codes "var v.k = 1"))
-      ++ (line ((codes "var v.red = 2"))
-      ++ (line ((codes "var v.t = 3"))
-      ++ (line ((codes "var v.v = 4"))
-      ++ (line ((codes "var w = 1"))
-      ++ (line ((codes "var x = 0"))))))))))
+    line ((codes "rounds 1"))
+    ++ (line ((codes "process 1 initial ended"))
+    ++ (line ((codes "out '1234500110'"))
+    ++ (line ((codes "var v.k = 1"))
+    ++ (line ((codes "var v.red = 2"))
+    ++ (line ((codes "var v.t = 3"))
+    ++ (line ((codes "var v.v = 4"))
+    ++ (line ((codes "var w = 1"))
+    ++ (line ((codes "var x = 0"))))))))))
 later_definitions = refl
 
 -- A function of a class has the name of a later constant.
@@ -109,21 +204,54 @@ later_definitions = refl
 --     begin init u; u.e; display(f) end.
 abbrev setup_later_constant_routine : Setup
 setup_later_constant_routine = record {
-    tree = record { definitions = (SystemDef (codes "c") (record { sort = Class; parameters = ([]); variables = ([]); routines
-      = (record { name = codes "f"; entry = false; parameters = ([]); result = (Some (codes "integer")); variables = ([]);
-      body = (Assign (Plain (codes "f")) (Literal 5)) } ∷ record { name = codes "e"; entry = true; parameters = ([]);
-      result = None; variables = ([]); body = (Perform (Plain (codes "display")) (MoreExpressions (Use (Plain (codes
-      "f"))) NoExpression)) } ∷ []); body = Nothing }) ∷ ConstantDef (codes "f") (Number 8) ∷ []); initial = record { sort
-      = Process; parameters = []; variables = (record { by_reference = false; names = ((codes "u") ∷ []); type = (TypeName
-      (codes "c")) } ∷ []); routines = ([]); body = (Seq (Init (codes "u") NoExpression) (Seq (Perform (Part (Plain (codes
-      "u")) (codes "e")) NoExpression) (Perform (Plain (codes "display")) (MoreExpressions (Use (Plain (codes "f")))
-      NoExpression)))) } };
-    inputs = cut []; tick = 1 }
+  tree = record {
+    definitions = (SystemDef (codes "c") (record {
+      sort = Class;
+      parameters = ([]);
+      variables = ([]);
+      routines
+          = (record {
+            name = codes "f";
+            entry = false;
+            parameters = ([]);
+            result = (Some (codes "integer"));
+            variables = ([]);
+            body = (Assign (Plain (codes "f")) (Literal 5));
+          } ∷ record {
+            name = codes "e";
+            entry = true;
+            parameters = ([]);
+            result = None;
+            variables = ([]);
+            body = (Perform (Plain (codes "display")) (MoreExpressions (Use (Plain (codes
+                "f"))) NoExpression));
+          } ∷ []);
+      body = Nothing;
+    }) ∷ ConstantDef (codes "f") (Number 8) ∷ []);
+    initial = record {
+      sort
+          = Process;
+      parameters = [];
+      variables = (record {
+        by_reference = false;
+        names = ((codes "u") ∷ []);
+        type = (TypeName
+            (codes "c"));
+      } ∷ []);
+      routines = ([]);
+      body = (Seq (Init (codes "u") NoExpression) (Seq (Perform (Part (Plain (codes
+          "u")) (codes "e")) NoExpression) (Perform (Plain (codes "display")) (MoreExpressions (Use (Plain (codes "f")))
+          NoExpression))));
+    };
+  };
+  inputs = cut [];
+  tick = 1;
+}
 
 later_constant_routine : report setup_later_constant_routine false (run setup_later_constant_routine 100 1 (start setup_later_constant_routine)) ≡
-      line ((codes "rounds 1"))
-      ++ (line ((codes "process 1 initial ended"))
-      ++ (line ((codes "out '58'"))))
+    line ((codes "rounds 1"))
+    ++ (line ((codes "process 1 initial ended"))
+    ++ (line ((codes "out '58'"))))
 later_constant_routine = refl
 
 -- A process type's parameter has the name of a later process variable.
@@ -133,24 +261,63 @@ later_constant_routine = refl
 --     begin init h, g(h) end.
 abbrev setup_later_component : Setup
 setup_later_component = record {
-    tree = record { definitions = (SystemDef (codes "m") (record { sort = Monitor; parameters = ([]); variables = ([]);
-      routines = (record { name = codes "e"; entry = true; parameters = ([]); result = None; variables = ([]); body =
-      (Perform (Plain (codes "display")) (MoreExpressions (Literal 1) NoExpression)) } ∷ []); body = Nothing }) ∷
-      SystemDef (codes "p") (record { sort = Process; parameters = (record { by_reference = false; names = ((codes "g") ∷
-      []); type = (TypeName (codes "m")) } ∷ []); variables = ([]); routines = ([]); body = (Perform (Part (Plain (codes
-      "g")) (codes "e")) NoExpression) }) ∷ []); initial = record { sort = Process; parameters = []; variables = (record {
-      by_reference = false; names = ((codes "h") ∷ []); type = (TypeName (codes "m")) } ∷ record { by_reference = false;
-      names = ((codes "g") ∷ []); type = (TypeName (codes "p")) } ∷ []); routines = ([]); body = (Seq (Init (codes "h")
-      NoExpression) (Init (codes "g") (MoreExpressions (Use (Plain (codes "h"))) NoExpression))) } };
-    inputs = cut []; tick = 1 }
+  tree = record {
+    definitions = (SystemDef (codes "m") (record {
+      sort = Monitor;
+      parameters = ([]);
+      variables = ([]);
+      routines = (record {
+        name = codes "e";
+        entry = true;
+        parameters = ([]);
+        result = None;
+        variables = ([]);
+        body =
+            (Perform (Plain (codes "display")) (MoreExpressions (Literal 1) NoExpression));
+      } ∷ []);
+      body = Nothing;
+    }) ∷
+        SystemDef (codes "p") (record {
+          sort = Process;
+          parameters = (record {
+            by_reference = false;
+            names = ((codes "g") ∷
+                []);
+            type = (TypeName (codes "m"));
+          } ∷ []);
+          variables = ([]);
+          routines = ([]);
+          body = (Perform (Part (Plain (codes
+              "g")) (codes "e")) NoExpression);
+        }) ∷ []);
+    initial = record {
+      sort = Process;
+      parameters = [];
+      variables = (record {
+        by_reference = false;
+        names = ((codes "h") ∷ []);
+        type = (TypeName (codes "m"));
+      } ∷ record {
+        by_reference = false;
+        names = ((codes "g") ∷ []);
+        type = (TypeName (codes "p"));
+      } ∷ []);
+      routines = ([]);
+      body = (Seq (Init (codes "h")
+          NoExpression) (Init (codes "g") (MoreExpressions (Use (Plain (codes "h"))) NoExpression)));
+    };
+  };
+  inputs = cut [];
+  tick = 1;
+}
 
 later_component : report setup_later_component false (run setup_later_component 100 3 (start setup_later_component)) ≡
-      line ((codes "rounds 3"))
-      ++ (line ((codes "process 1 initial ended"))
-      ++ (line ((codes "out ''"))
-      ++ (line ((codes "process 2 g ended"))
-      ++ (line ((codes "out '1'"))
-      ++ (line ((codes "monitor h free askers -")))))))
+    line ((codes "rounds 3"))
+    ++ (line ((codes "process 1 initial ended"))
+    ++ (line ((codes "out ''"))
+    ++ (line ((codes "process 2 g ended"))
+    ++ (line ((codes "out '1'"))
+    ++ (line ((codes "monitor h free askers -")))))))
 later_component = refl
 
 -- Fields have the names of a function, of a standard function and of their own variable.
@@ -160,24 +327,41 @@ later_component = refl
 --     begin v.f := 1; v.abs := 2; v.v := f; display(v.f); display(v.abs + v.v) end.
 abbrev setup_field_names : Setup
 setup_field_names = record {
-    tree = record { definitions = (TypeDef (codes "r") (Record (MoreFields ((codes "f") ∷ (codes "abs") ∷ (codes "v") ∷ [])
-      (TypeName (codes "integer")) NoFields)) ∷ []); initial = record { sort = Process; parameters = []; variables =
-      (record { by_reference = false; names = ((codes "v") ∷ []); type = (TypeName (codes "r")) } ∷ []); routines =
-      (record { name = codes "f"; entry = false; parameters = ([]); result = (Some (codes "integer")); variables = ([]);
-      body = (Assign (Plain (codes "f")) (Literal 4)) } ∷ []); body = (Seq (Assign (Part (Plain (codes "v")) (codes "f"))
-      (Literal 1)) (Seq (Assign (Part (Plain (codes "v")) (codes "abs")) (Literal 2)) (Seq (Assign (Part (Plain (codes
-      "v")) (codes "v")) (Use (Plain (codes "f")))) (Seq (Perform (Plain (codes "display")) (MoreExpressions (Use (Part
-      (Plain (codes "v")) (codes "f"))) NoExpression)) (Perform (Plain (codes "display")) (MoreExpressions (Binary Add
-      (Use (Part (Plain (codes "v")) (codes "abs"))) (Use (Part (Plain (codes "v")) (codes "v")))) NoExpression)))))) } };
-    inputs = cut []; tick = 1 }
+  tree = record {
+    definitions = (TypeDef (codes "r") (Record (MoreFields ((codes "f") ∷ (codes "abs") ∷ (codes "v") ∷ [])
+        (TypeName (codes "integer")) NoFields)) ∷ []);
+    initial = record {
+      sort = Process;
+      parameters = [];
+      variables =
+          (record { by_reference = false; names = ((codes "v") ∷ []); type = (TypeName (codes "r")) } ∷ []);
+      routines =
+          (record {
+            name = codes "f";
+            entry = false;
+            parameters = ([]);
+            result = (Some (codes "integer"));
+            variables = ([]);
+            body = (Assign (Plain (codes "f")) (Literal 4));
+          } ∷ []);
+      body = (Seq (Assign (Part (Plain (codes "v")) (codes "f"))
+          (Literal 1)) (Seq (Assign (Part (Plain (codes "v")) (codes "abs")) (Literal 2)) (Seq (Assign (Part (Plain (codes
+          "v")) (codes "v")) (Use (Plain (codes "f")))) (Seq (Perform (Plain (codes "display")) (MoreExpressions (Use (Part
+          (Plain (codes "v")) (codes "f"))) NoExpression)) (Perform (Plain (codes "display")) (MoreExpressions (Binary Add
+          (Use (Part (Plain (codes "v")) (codes "abs"))) (Use (Part (Plain (codes "v")) (codes "v")))) NoExpression))))));
+    };
+  };
+  inputs = cut [];
+  tick = 1;
+}
 
 field_names : report setup_field_names false (run setup_field_names 100 1 (start setup_field_names)) ≡
-      line ((codes "rounds 1"))
-      ++ (line ((codes "process 1 initial ended"))
-      ++ (line ((codes "out '16'"))
-      ++ (line ((codes "var v.f = 1"))
-      ++ (line ((codes "var v.abs = 2"))
-      ++ (line ((codes "var v.v = 4")))))))
+    line ((codes "rounds 1"))
+    ++ (line ((codes "process 1 initial ended"))
+    ++ (line ((codes "out '16'"))
+    ++ (line ((codes "var v.f = 1"))
+    ++ (line ((codes "var v.abs = 2"))
+    ++ (line ((codes "var v.v = 4")))))))
 field_names = refl
 
 -- Two functions have each other's local names.
@@ -186,23 +370,62 @@ field_names = refl
 --     begin display(g(3)) end.
 abbrev setup_same_local_names : Setup
 setup_same_local_names = record {
-    tree = record { definitions = ([]); initial = record { sort = Process; parameters = []; variables = ([]); routines =
-      (record { name = codes "f"; entry = false; parameters = (record { by_reference = false; names = ((codes "a") ∷ []);
-      type = (TypeName (codes "integer")) } ∷ []); result = (Some (codes "integer")); variables = (record { by_reference =
-      false; names = ((codes "b") ∷ []); type = (TypeName (codes "integer")) } ∷ []); body = (Seq (Assign (Plain (codes
-      "b")) (Binary Add (Use (Plain (codes "a"))) (Literal 1))) (Assign (Plain (codes "f")) (Use (Plain (codes "b"))))) }
-      ∷ record { name = codes "g"; entry = false; parameters = (record { by_reference = false; names = ((codes "b") ∷ []);
-      type = (TypeName (codes "integer")) } ∷ []); result = (Some (codes "integer")); variables = (record { by_reference =
-      false; names = ((codes "a") ∷ []); type = (TypeName (codes "integer")) } ∷ []); body = (Seq (Assign (Plain (codes
-      "a")) (Call (Plain (codes "f")) (MoreExpressions (Use (Plain (codes "b"))) NoExpression))) (Assign (Plain (codes
-      "g")) (Binary Multiply (Use (Plain (codes "a"))) (Literal 2)))) } ∷ []); body = (Perform (Plain (codes "display"))
-      (MoreExpressions (Call (Plain (codes "g")) (MoreExpressions (Literal 3) NoExpression)) NoExpression)) } };
-    inputs = cut []; tick = 1 }
+  tree = record {
+    definitions = ([]);
+    initial = record {
+      sort = Process;
+      parameters = [];
+      variables = ([]);
+      routines =
+          (record {
+            name = codes "f";
+            entry = false;
+            parameters = (record {
+              by_reference = false;
+              names = ((codes "a") ∷ []);
+              type = (TypeName (codes "integer"));
+            } ∷ []);
+            result = (Some (codes "integer"));
+            variables = (record {
+              by_reference =
+                  false;
+              names = ((codes "b") ∷ []);
+              type = (TypeName (codes "integer"));
+            } ∷ []);
+            body = (Seq (Assign (Plain (codes
+                "b")) (Binary Add (Use (Plain (codes "a"))) (Literal 1))) (Assign (Plain (codes "f")) (Use (Plain (codes "b")))));
+          }
+          ∷ record {
+            name = codes "g";
+            entry = false;
+            parameters = (record {
+              by_reference = false;
+              names = ((codes "b") ∷ []);
+              type = (TypeName (codes "integer"));
+            } ∷ []);
+            result = (Some (codes "integer"));
+            variables = (record {
+              by_reference =
+                  false;
+              names = ((codes "a") ∷ []);
+              type = (TypeName (codes "integer"));
+            } ∷ []);
+            body = (Seq (Assign (Plain (codes
+                "a")) (Call (Plain (codes "f")) (MoreExpressions (Use (Plain (codes "b"))) NoExpression))) (Assign (Plain (codes
+                "g")) (Binary Multiply (Use (Plain (codes "a"))) (Literal 2))));
+          } ∷ []);
+      body = (Perform (Plain (codes "display"))
+          (MoreExpressions (Call (Plain (codes "g")) (MoreExpressions (Literal 3) NoExpression)) NoExpression));
+    };
+  };
+  inputs = cut [];
+  tick = 1;
+}
 
 same_local_names : report setup_same_local_names false (run setup_same_local_names 100 1 (start setup_same_local_names)) ≡
-      line ((codes "rounds 1"))
-      ++ (line ((codes "process 1 initial ended"))
-      ++ (line ((codes "out '8'"))))
+    line ((codes "rounds 1"))
+    ++ (line ((codes "process 1 initial ended"))
+    ++ (line ((codes "out '8'"))))
 same_local_names = refl
 
 -- A function of the initial process has the name of a class's function that it calls.
@@ -212,20 +435,53 @@ same_local_names = refl
 --     begin init u; display(f) end.
 abbrev setup_same_function_names : Setup
 setup_same_function_names = record {
-    tree = record { definitions = (SystemDef (codes "c") (record { sort = Class; parameters = ([]); variables = ([]); routines
-      = (record { name = codes "f"; entry = true; parameters = ([]); result = (Some (codes "integer")); variables = ([]);
-      body = (Assign (Plain (codes "f")) (Literal 1)) } ∷ []); body = Nothing }) ∷ []); initial = record { sort = Process;
-      parameters = []; variables = (record { by_reference = false; names = ((codes "u") ∷ []); type = (TypeName (codes
-      "c")) } ∷ []); routines = (record { name = codes "f"; entry = false; parameters = ([]); result = (Some (codes
-      "integer")); variables = ([]); body = (Assign (Plain (codes "f")) (Binary Add (Use (Part (Plain (codes "u")) (codes
-      "f"))) (Literal 1))) } ∷ []); body = (Seq (Init (codes "u") NoExpression) (Perform (Plain (codes "display"))
-      (MoreExpressions (Use (Plain (codes "f"))) NoExpression))) } };
-    inputs = cut []; tick = 1 }
+  tree = record {
+    definitions = (SystemDef (codes "c") (record {
+      sort = Class;
+      parameters = ([]);
+      variables = ([]);
+      routines
+          = (record {
+            name = codes "f";
+            entry = true;
+            parameters = ([]);
+            result = (Some (codes "integer"));
+            variables = ([]);
+            body = (Assign (Plain (codes "f")) (Literal 1));
+          } ∷ []);
+      body = Nothing;
+    }) ∷ []);
+    initial = record {
+      sort = Process;
+      parameters = [];
+      variables = (record {
+        by_reference = false;
+        names = ((codes "u") ∷ []);
+        type = (TypeName (codes
+            "c"));
+      } ∷ []);
+      routines = (record {
+        name = codes "f";
+        entry = false;
+        parameters = ([]);
+        result = (Some (codes
+            "integer"));
+        variables = ([]);
+        body = (Assign (Plain (codes "f")) (Binary Add (Use (Part (Plain (codes "u")) (codes
+            "f"))) (Literal 1)));
+      } ∷ []);
+      body = (Seq (Init (codes "u") NoExpression) (Perform (Plain (codes "display"))
+          (MoreExpressions (Use (Plain (codes "f"))) NoExpression)));
+    };
+  };
+  inputs = cut [];
+  tick = 1;
+}
 
 same_function_names : report setup_same_function_names false (run setup_same_function_names 100 1 (start setup_same_function_names)) ≡
-      line ((codes "rounds 1"))
-      ++ (line ((codes "process 1 initial ended"))
-      ++ (line ((codes "out '2'"))))
+    line ((codes "rounds 1"))
+    ++ (line ((codes "process 1 initial ended"))
+    ++ (line ((codes "out '2'"))))
 same_function_names = refl
 
 -- A routine's record has the name of a later routine, and its field that of another.
@@ -236,21 +492,54 @@ same_function_names = refl
 --     begin p; z end.
 abbrev setup_local_record_field : Setup
 setup_local_record_field = record {
-    tree = record { definitions = (TypeDef (codes "r") (Record (MoreFields ((codes "q") ∷ []) (TypeName (codes "integer"))
-      NoFields)) ∷ []); initial = record { sort = Process; parameters = []; variables = ([]); routines = (record { name =
-      codes "p"; entry = false; parameters = ([]); result = None; variables = (record { by_reference = false; names =
-      ((codes "z") ∷ []); type = (TypeName (codes "r")) } ∷ []); body = (Seq (Assign (Part (Plain (codes "z")) (codes
-      "q")) (Literal 3)) (Perform (Plain (codes "display")) (MoreExpressions (Use (Part (Plain (codes "z")) (codes "q")))
-      NoExpression))) } ∷ record { name = codes "q"; entry = false; parameters = ([]); result = None; variables = ([]);
-      body = (Perform (Plain (codes "display")) (MoreExpressions (Literal 5) NoExpression)) } ∷ record { name = codes "z";
-      entry = false; parameters = ([]); result = None; variables = ([]); body = (Perform (Plain (codes "q")) NoExpression)
-      } ∷ []); body = (Seq (Perform (Plain (codes "p")) NoExpression) (Perform (Plain (codes "z")) NoExpression)) } };
-    inputs = cut []; tick = 1 }
+  tree = record {
+    definitions = (TypeDef (codes "r") (Record (MoreFields ((codes "q") ∷ []) (TypeName (codes "integer"))
+        NoFields)) ∷ []);
+    initial = record {
+      sort = Process;
+      parameters = [];
+      variables = ([]);
+      routines = (record {
+        name =
+            codes "p";
+        entry = false;
+        parameters = ([]);
+        result = None;
+        variables = (record {
+          by_reference = false;
+          names =
+              ((codes "z") ∷ []);
+          type = (TypeName (codes "r"));
+        } ∷ []);
+        body = (Seq (Assign (Part (Plain (codes "z")) (codes
+            "q")) (Literal 3)) (Perform (Plain (codes "display")) (MoreExpressions (Use (Part (Plain (codes "z")) (codes "q")))
+            NoExpression)));
+      } ∷ record {
+        name = codes "q";
+        entry = false;
+        parameters = ([]);
+        result = None;
+        variables = ([]);
+        body = (Perform (Plain (codes "display")) (MoreExpressions (Literal 5) NoExpression));
+      } ∷ record {
+        name = codes "z";
+        entry = false;
+        parameters = ([]);
+        result = None;
+        variables = ([]);
+        body = (Perform (Plain (codes "q")) NoExpression);
+      } ∷ []);
+      body = (Seq (Perform (Plain (codes "p")) NoExpression) (Perform (Plain (codes "z")) NoExpression));
+    };
+  };
+  inputs = cut [];
+  tick = 1;
+}
 
 local_record_field : report setup_local_record_field false (run setup_local_record_field 100 1 (start setup_local_record_field)) ≡
-      line ((codes "rounds 1"))
-      ++ (line ((codes "process 1 initial ended"))
-      ++ (line ((codes "out '35'"))))
+    line ((codes "rounds 1"))
+    ++ (line ((codes "process 1 initial ended"))
+    ++ (line ((codes "out '35'"))))
 local_record_field = refl
 
 -- Labels are constants though the routine before has variables of later names.
@@ -264,25 +553,55 @@ local_record_field = refl
 --     begin init u; u.e(1); u.e(two) end.
 abbrev setup_label_constants : Setup
 setup_label_constants = record {
-    tree = record { definitions = (ConstantDef (codes "one") (Number 1) ∷ SystemDef (codes "c") (record { sort = Class;
-      parameters = ([]); variables = (record { by_reference = false; names = ((codes "two") ∷ []); type = (TypeName (codes
-      "integer")) } ∷ []); routines = (record { name = codes "e"; entry = true; parameters = (record { by_reference =
-      false; names = ((codes "k") ∷ []); type = (TypeName (codes "integer")) } ∷ []); result = None; variables = ([]);
-      body = (Seq (Case (Use (Plain (codes "k"))) (MoreArms ((Named (codes "one")) ∷ []) (Assign (Plain (codes "two"))
-      (Literal 10)) (MoreArms ((Number 2) ∷ (Number 3) ∷ []) (Assign (Plain (codes "two")) (Literal 20)) NoArm))) (Perform
-      (Plain (codes "display")) (MoreExpressions (Use (Plain (codes "two"))) NoExpression))) } ∷ []); body = Nothing }) ∷
-      ConstantDef (codes "two") (Number 2) ∷ []); initial = record { sort = Process; parameters = []; variables = (record
-      { by_reference = false; names = ((codes "u") ∷ []); type = (TypeName (codes "c")) } ∷ []); routines = ([]); body =
-      (Seq (Init (codes "u") NoExpression) (Seq (Perform (Part (Plain (codes "u")) (codes "e")) (MoreExpressions (Literal
-      1) NoExpression)) (Perform (Part (Plain (codes "u")) (codes "e")) (MoreExpressions (Use (Plain (codes "two")))
-      NoExpression)))) } };
-    inputs = cut []; tick = 1 }
+  tree = record {
+    definitions = (ConstantDef (codes "one") (Number 1) ∷ SystemDef (codes "c") (record {
+      sort = Class;
+      parameters = ([]);
+      variables = (record {
+        by_reference = false;
+        names = ((codes "two") ∷ []);
+        type = (TypeName (codes
+            "integer"));
+      } ∷ []);
+      routines = (record {
+        name = codes "e";
+        entry = true;
+        parameters = (record {
+          by_reference =
+              false;
+          names = ((codes "k") ∷ []);
+          type = (TypeName (codes "integer"));
+        } ∷ []);
+        result = None;
+        variables = ([]);
+        body = (Seq (Case (Use (Plain (codes "k"))) (MoreArms ((Named (codes "one")) ∷ []) (Assign (Plain (codes "two"))
+            (Literal 10)) (MoreArms ((Number 2) ∷ (Number 3) ∷ []) (Assign (Plain (codes "two")) (Literal 20)) NoArm))) (Perform
+            (Plain (codes "display")) (MoreExpressions (Use (Plain (codes "two"))) NoExpression)));
+      } ∷ []);
+      body = Nothing;
+    }) ∷
+        ConstantDef (codes "two") (Number 2) ∷ []);
+    initial = record {
+      sort = Process;
+      parameters = [];
+      variables = (record
+          { by_reference = false; names = ((codes "u") ∷ []); type = (TypeName (codes "c")) } ∷ []);
+      routines = ([]);
+      body =
+          (Seq (Init (codes "u") NoExpression) (Seq (Perform (Part (Plain (codes "u")) (codes "e")) (MoreExpressions (Literal
+          1) NoExpression)) (Perform (Part (Plain (codes "u")) (codes "e")) (MoreExpressions (Use (Plain (codes "two")))
+          NoExpression))));
+    };
+  };
+  inputs = cut [];
+  tick = 1;
+}
 
 label_constants : report setup_label_constants false (run setup_label_constants 100 1 (start setup_label_constants)) ≡
-      line ((codes "rounds 1"))
-      ++ (line ((codes "process 1 initial ended"))
-      ++ (line ((codes "out '1020'"))
-      ++ (line ((codes "var u.two = 20")))))
+    line ((codes "rounds 1"))
+    ++ (line ((codes "process 1 initial ended"))
+    ++ (line ((codes "out '1020'"))
+    ++ (line ((codes "var u.two = 20")))))
 label_constants = refl
 
 -- A function's own name on the left is its result, also where a later constant has the name.
@@ -294,22 +613,49 @@ label_constants = refl
 --     begin init u; display(u.f(1) + u.f(f)) end.
 abbrev setup_result_named_later : Setup
 setup_result_named_later = record {
-    tree = record { definitions = (SystemDef (codes "c") (record { sort = Class; parameters = ([]); variables = ([]); routines
-      = (record { name = codes "f"; entry = true; parameters = (record { by_reference = false; names = ((codes "k") ∷ []);
-      type = (TypeName (codes "integer")) } ∷ []); result = (Some (codes "integer")); variables = ([]); body = (Seq
-      (Assign (Plain (codes "f")) (Use (Plain (codes "k")))) (If (Binary Greater (Use (Plain (codes "k"))) (Literal 1))
-      (Assign (Plain (codes "f")) (Binary Multiply (Use (Plain (codes "k"))) (Literal 10))) Nothing)) } ∷ []); body =
-      Nothing }) ∷ ConstantDef (codes "f") (Number 3) ∷ []); initial = record { sort = Process; parameters = []; variables
-      = (record { by_reference = false; names = ((codes "u") ∷ []); type = (TypeName (codes "c")) } ∷ []); routines =
-      ([]); body = (Seq (Init (codes "u") NoExpression) (Perform (Plain (codes "display")) (MoreExpressions (Binary Add
-      (Call (Part (Plain (codes "u")) (codes "f")) (MoreExpressions (Literal 1) NoExpression)) (Call (Part (Plain (codes
-      "u")) (codes "f")) (MoreExpressions (Use (Plain (codes "f"))) NoExpression))) NoExpression))) } };
-    inputs = cut []; tick = 1 }
+  tree = record {
+    definitions = (SystemDef (codes "c") (record {
+      sort = Class;
+      parameters = ([]);
+      variables = ([]);
+      routines
+          = (record {
+            name = codes "f";
+            entry = true;
+            parameters = (record {
+              by_reference = false;
+              names = ((codes "k") ∷ []);
+              type = (TypeName (codes "integer"));
+            } ∷ []);
+            result = (Some (codes "integer"));
+            variables = ([]);
+            body = (Seq
+                (Assign (Plain (codes "f")) (Use (Plain (codes "k")))) (If (Binary Greater (Use (Plain (codes "k"))) (Literal 1))
+                (Assign (Plain (codes "f")) (Binary Multiply (Use (Plain (codes "k"))) (Literal 10))) Nothing));
+          } ∷ []);
+      body =
+          Nothing;
+    }) ∷ ConstantDef (codes "f") (Number 3) ∷ []);
+    initial = record {
+      sort = Process;
+      parameters = [];
+      variables
+          = (record { by_reference = false; names = ((codes "u") ∷ []); type = (TypeName (codes "c")) } ∷ []);
+      routines =
+          ([]);
+      body = (Seq (Init (codes "u") NoExpression) (Perform (Plain (codes "display")) (MoreExpressions (Binary Add
+          (Call (Part (Plain (codes "u")) (codes "f")) (MoreExpressions (Literal 1) NoExpression)) (Call (Part (Plain (codes
+          "u")) (codes "f")) (MoreExpressions (Use (Plain (codes "f"))) NoExpression))) NoExpression)));
+    };
+  };
+  inputs = cut [];
+  tick = 1;
+}
 
 result_named_later : report setup_result_named_later false (run setup_result_named_later 100 1 (start setup_result_named_later)) ≡
-      line ((codes "rounds 1"))
-      ++ (line ((codes "process 1 initial ended"))
-      ++ (line ((codes "out '31'"))))
+    line ((codes "rounds 1"))
+    ++ (line ((codes "process 1 initial ended"))
+    ++ (line ((codes "out '31'"))))
 result_named_later = refl
 
 -- An index is a local of a later routine's name, an index of the left side is read after the calls.
@@ -321,26 +667,63 @@ result_named_later = refl
 --     begin i := 1; p; g end.
 abbrev setup_index_by_local : Setup
 setup_index_by_local = record {
-    tree = record { definitions = (TypeDef (codes "a") (Array (Range (Number 1) (Number 3)) (TypeName (codes "integer"))) ∷
-      []); initial = record { sort = Process; parameters = []; variables = (record { by_reference = false; names = ((codes
-      "v") ∷ []); type = (TypeName (codes "a")) } ∷ record { by_reference = false; names = ((codes "i") ∷ []); type =
-      (TypeName (codes "integer")) } ∷ []); routines = (record { name = codes "f"; entry = false; parameters = ([]);
-      result = (Some (codes "integer")); variables = ([]); body = (Seq (Assign (Plain (codes "i")) (Literal 2)) (Assign
-      (Plain (codes "f")) (Literal 7))) } ∷ record { name = codes "p"; entry = false; parameters = ([]); result = None;
-      variables = (record { by_reference = false; names = ((codes "g") ∷ []); type = (TypeName (codes "integer")) } ∷ []);
-      body = (Seq (Assign (Plain (codes "g")) (Literal 3)) (Assign (At (Plain (codes "v")) (Use (Plain (codes "g"))))
-      (Literal 5))) } ∷ record { name = codes "g"; entry = false; parameters = ([]); result = None; variables = ([]); body
-      = (Assign (At (Plain (codes "v")) (Use (Plain (codes "i")))) (Use (Plain (codes "f")))) } ∷ []); body = (Seq (Assign
-      (Plain (codes "i")) (Literal 1)) (Seq (Perform (Plain (codes "p")) NoExpression) (Perform (Plain (codes "g"))
-      NoExpression))) } };
-    inputs = cut []; tick = 1 }
+  tree = record {
+    definitions = (TypeDef (codes "a") (Array (Range (Number 1) (Number 3)) (TypeName (codes "integer"))) ∷
+        []);
+    initial = record {
+      sort = Process;
+      parameters = [];
+      variables = (record {
+        by_reference = false;
+        names = ((codes
+            "v") ∷ []);
+        type = (TypeName (codes "a"));
+      } ∷ record {
+        by_reference = false;
+        names = ((codes "i") ∷ []);
+        type =
+            (TypeName (codes "integer"));
+      } ∷ []);
+      routines = (record {
+        name = codes "f";
+        entry = false;
+        parameters = ([]);
+        result = (Some (codes "integer"));
+        variables = ([]);
+        body = (Seq (Assign (Plain (codes "i")) (Literal 2)) (Assign
+            (Plain (codes "f")) (Literal 7)));
+      } ∷ record {
+        name = codes "p";
+        entry = false;
+        parameters = ([]);
+        result = None;
+        variables = (record { by_reference = false; names = ((codes "g") ∷ []); type = (TypeName (codes "integer")) } ∷ []);
+        body = (Seq (Assign (Plain (codes "g")) (Literal 3)) (Assign (At (Plain (codes "v")) (Use (Plain (codes "g"))))
+            (Literal 5)));
+      } ∷ record {
+        name = codes "g";
+        entry = false;
+        parameters = ([]);
+        result = None;
+        variables = ([]);
+        body
+            = (Assign (At (Plain (codes "v")) (Use (Plain (codes "i")))) (Use (Plain (codes "f"))));
+      } ∷ []);
+      body = (Seq (Assign
+          (Plain (codes "i")) (Literal 1)) (Seq (Perform (Plain (codes "p")) NoExpression) (Perform (Plain (codes "g"))
+          NoExpression)));
+    };
+  };
+  inputs = cut [];
+  tick = 1;
+}
 
 index_by_local : report setup_index_by_local false (run setup_index_by_local 100 1 (start setup_index_by_local)) ≡
-      line ((codes "rounds 1"))
-      ++ (line ((codes "process 1 initial ended"))
-      ++ (line ((codes "out ''"))
-      ++ (line ((codes "var v[1] = 0"))
-      ++ (line ((codes "var v[2] = 7"))
-      ++ (line ((codes "var v[3] = 5"))
-      ++ (line ((codes "var i = 2"))))))))
+    line ((codes "rounds 1"))
+    ++ (line ((codes "process 1 initial ended"))
+    ++ (line ((codes "out ''"))
+    ++ (line ((codes "var v[1] = 0"))
+    ++ (line ((codes "var v[2] = 7"))
+    ++ (line ((codes "var v[3] = 5"))
+    ++ (line ((codes "var i = 2"))))))))
 index_by_local = refl

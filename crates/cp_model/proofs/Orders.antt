@@ -1,4 +1,6 @@
--- Every lawful order of a round gives what one processor gives, where steps of different processes may change places.
+-- Every lawful order of events gives what each process gives whole in turn, where steps of different processes commute.
+--
+-- This part knows nothing of the language: `one` is a step, `turn` a kernel turn, on any kind of state.
 use Rattle.std.specs.Prelude.{Bool, List, [], false, if◌then◌else◌, nat_eq, refl, suc, true, zero, ℕ, ◌∷◌, ◌≡◌, ◌≢◌}
 use Rattle.std.proofs.Common.{ap, arith, subst, sym, ◌∙◌}
 use Rattle.std.proofs.lemmas.Bool.{eq-eqb, eqb-false, eqb-true}
@@ -6,25 +8,24 @@ use Rattle.cp_model.specs.States.{is_in}
 use Rattle.cp_model.specs.Rounds.{Event, KernelTurn, PrivateStep}
 use Rattle.cp_model.specs.Orders.{ArePrivateStepsFirst, IsLawful, kernel_turn_order, private_steps}
 
--- no ordinal_of stands twice
+-- No number stands twice.
 abbrev pub AreDistinct : List ℕ → Type 0
 AreDistinct [] = Unit {0}
 AreDistinct (p ∷ ps) = (is_in p ps ≡ false) × AreDistinct ps
 
--- the events but the private steps of p
+-- The events but the private steps of p.
 abbrev without : ℕ → List Event → List Event
 without p [] = []
 without p (PrivateStep q ∷ es) = if nat_eq p q then without p es else PrivateStep q ∷ without p es
 without p (KernelTurn q ∷ es) = KernelTurn q ∷ without p es
 
--- the events but the first kernel turn
+-- The events but the first kernel turn.
 abbrev past_turn : List Event → List Event
 past_turn [] = []
 past_turn (PrivateStep q ∷ es) = PrivateStep q ∷ past_turn es
 past_turn (KernelTurn q ∷ es) = es
 
 module _ {S : Type 0} (one turn : S → ℕ → S) where
-
   abbrev pub after : S → List Event → S
   after s [] = s
   after s (PrivateStep p ∷ es) = after (one s p) es
@@ -34,7 +35,7 @@ module _ {S : Type 0} (one turn : S → ℕ → S) where
   many zero s p = s
   many (suc n) s p = many n (one s p) p
 
-  -- each process's steps and then its turn
+  -- Each process's steps and then its turn.
   abbrev pub one_by_one : ℕ → S → List ℕ → S
   one_by_one t s [] = s
   one_by_one t s (p ∷ ps) = one_by_one t (turn (many t s p) p) ps
@@ -46,7 +47,6 @@ module _ {S : Type 0} (one turn : S → ℕ → S) where
     pub turns : (s : S) (p q : ℕ) → p ≢ q → Good s → turn (one s p) q ≡ one (turn s q) p
 
   module _ (Good : S → Type 0) (m : MayChangePlaces Good) where
-
     good_many : (n : ℕ) (s : S) (p : ℕ) → Good s → Good (many n s p)
     good_many zero s p g = g
     good_many (suc n) s p g = good_many n (one s p) p (m.good_one s p g)
@@ -61,7 +61,7 @@ module _ {S : Type 0} (one turn : S → ℕ → S) where
     many_past_turn (suc n) s p q d g =
         ap (λ x. many n x p) (sym (m.turns s p q d g)) ∙ many_past_turn n (one s p) p q d (m.good_one s p g)
 
-    -- where none of p's steps is left
+    -- Where none of p's steps is left.
     none_left : (p : ℕ) (es : List Event) → private_steps p es ≡ 0 → without p es ≡ es
     none_left p [] h = refl
     none_left p (KernelTurn q ∷ es) h = ap (λ x. KernelTurn q ∷ x) (none_left p es h)
@@ -72,7 +72,7 @@ module _ {S : Type 0} (one turn : S → ℕ → S) where
         go true h ih = Prim.grind arith
         go false h ih = ap (λ x. PrivateStep q ∷ x) (ih h)
 
-    -- p's steps may come first
+    -- p's steps may come first.
     first_steps : (p : ℕ) (es : List Event) (s : S) → Good s → ArePrivateStepsFirst es
         → after s es ≡ after (many (private_steps p es) s p) (without p es)
     first_steps p [] s g b = refl
@@ -93,7 +93,7 @@ module _ {S : Type 0} (one turn : S → ℕ → S) where
         go false e ih =
             ih ∙ ap (λ x. after x (without p es)) (many_past_turn (private_steps p es) s p q (eqb-false p q e) g)
 
-    -- then the first kernel turn may come, where none of its process's steps is left
+    -- Then the first kernel turn may come, where none of its process's steps is left.
     then_turn : (p : ℕ) (ps : List ℕ) (es : List Event) (s : S) → Good s → private_steps p es ≡ 0 → kernel_turn_order es ≡ p ∷ ps
         → after s es ≡ after (turn s p) (past_turn es)
     then_turn p ps [] s g n k = Prim.grind arith
@@ -106,63 +106,63 @@ module _ {S : Type 0} (one turn : S → ℕ → S) where
         go true e n ih = Prim.grind arith
         go false e n ih = ih n k ∙ ap (λ x. after x (past_turn es)) (m.turns s q p (λ f. eqb-false p q e (sym f)) g)
 
--- ---- what is left of a lawful list is lawful
+-- ---- What is left of a lawful list is lawful
 
-kernels_without : (p : ℕ) (es : List Event) → kernel_turn_order (without p es) ≡ kernel_turn_order es
-kernels_without p [] = refl
-kernels_without p (KernelTurn q ∷ es) = ap (λ x. q ∷ x) (kernels_without p es)
-kernels_without p (PrivateStep q ∷ es) = go (nat_eq p q) (kernels_without p es)
+kernel_turn_order-without : (p : ℕ) (es : List Event) → kernel_turn_order (without p es) ≡ kernel_turn_order es
+kernel_turn_order-without p [] = refl
+kernel_turn_order-without p (KernelTurn q ∷ es) = ap (λ x. q ∷ x) (kernel_turn_order-without p es)
+kernel_turn_order-without p (PrivateStep q ∷ es) = go (nat_eq p q) (kernel_turn_order-without p es)
   where
     go : (b : Bool) → kernel_turn_order (without p es) ≡ kernel_turn_order es → kernel_turn_order (if b then without p es else PrivateStep q ∷ without p es) ≡ kernel_turn_order es
     go true ih = ih
     go false ih = ih
 
-none_without : (p : ℕ) (es : List Event) → private_steps p (without p es) ≡ 0
-none_without p [] = refl
-none_without p (KernelTurn q ∷ es) = none_without p es
-none_without p (PrivateStep q ∷ es) = go (nat_eq p q) refl (none_without p es)
+private_steps-without : (p : ℕ) (es : List Event) → private_steps p (without p es) ≡ 0
+private_steps-without p [] = refl
+private_steps-without p (KernelTurn q ∷ es) = private_steps-without p es
+private_steps-without p (PrivateStep q ∷ es) = go (nat_eq p q) refl (private_steps-without p es)
   where
     go : (b : Bool) → nat_eq p q ≡ b → private_steps p (without p es) ≡ 0 → private_steps p (if b then without p es else PrivateStep q ∷ without p es) ≡ 0
     go true e ih = ih
     go false e ih = rw e ih
 
-others_without : (p r : ℕ) (es : List Event) → nat_eq r p ≡ false → private_steps r (without p es) ≡ private_steps r es
-others_without p r [] d = refl
-others_without p r (KernelTurn q ∷ es) d = others_without p r es d
-others_without p r (PrivateStep q ∷ es) d = go (nat_eq p q) refl (others_without p r es d)
+other_private_steps-without : (p r : ℕ) (es : List Event) → nat_eq r p ≡ false → private_steps r (without p es) ≡ private_steps r es
+other_private_steps-without p r [] d = refl
+other_private_steps-without p r (KernelTurn q ∷ es) d = other_private_steps-without p r es d
+other_private_steps-without p r (PrivateStep q ∷ es) d = go (nat_eq p q) refl (other_private_steps-without p r es d)
   where
     go : (b : Bool) → nat_eq p q ≡ b → private_steps r (without p es) ≡ private_steps r es
         → private_steps r (if b then without p es else PrivateStep q ∷ without p es) ≡ (if nat_eq r q then suc (private_steps r es) else private_steps r es)
     go true e ih = rw (← eqb-true p q e, d) ih
     go false e ih = ap (λ x. if nat_eq r q then suc x else x) ih
 
-before_without : (p : ℕ) (es : List Event) → ArePrivateStepsFirst es → ArePrivateStepsFirst (without p es)
-before_without p [] b = tt
-before_without p (KernelTurn q ∷ es) b = (go (nat_eq q p) refl, before_without p es b.1)
+in_order-without : (p : ℕ) (es : List Event) → ArePrivateStepsFirst es → ArePrivateStepsFirst (without p es)
+in_order-without p [] b = tt
+in_order-without p (KernelTurn q ∷ es) b = (go (nat_eq q p) refl, in_order-without p es b.1)
   where
     go : (e : Bool) → nat_eq q p ≡ e → private_steps q (without p es) ≡ 0
-    go true e = rw (eqb-true q p e) (none_without p es)
-    go false e = others_without p q es e ∙ b.0
-before_without p (PrivateStep q ∷ es) b = go (nat_eq p q) (before_without p es b)
+    go true e = rw (eqb-true q p e) (private_steps-without p es)
+    go false e = other_private_steps-without p q es e ∙ b.0
+in_order-without p (PrivateStep q ∷ es) b = go (nat_eq p q) (in_order-without p es b)
   where
     go : (e : Bool) → ArePrivateStepsFirst (without p es) → ArePrivateStepsFirst (if e then without p es else PrivateStep q ∷ without p es)
     go true ih = ih
     go false ih = ih
 
-kernels_past : (p : ℕ) (ps : List ℕ) (es : List Event) → kernel_turn_order es ≡ p ∷ ps → kernel_turn_order (past_turn es) ≡ ps
-kernels_past p ps [] h = Prim.grind arith
-kernels_past p ps (PrivateStep q ∷ es) h = kernels_past p ps es h
-kernels_past p ps (KernelTurn q ∷ es) h = Prim.grind arith
+kernel_turn_order-past_turn : (p : ℕ) (ps : List ℕ) (es : List Event) → kernel_turn_order es ≡ p ∷ ps → kernel_turn_order (past_turn es) ≡ ps
+kernel_turn_order-past_turn p ps [] h = Prim.grind arith
+kernel_turn_order-past_turn p ps (PrivateStep q ∷ es) h = kernel_turn_order-past_turn p ps es h
+kernel_turn_order-past_turn p ps (KernelTurn q ∷ es) h = Prim.grind arith
 
-privates_past : (r : ℕ) (es : List Event) → private_steps r (past_turn es) ≡ private_steps r es
-privates_past r [] = refl
-privates_past r (PrivateStep q ∷ es) = ap (λ x. if nat_eq r q then suc x else x) (privates_past r es)
-privates_past r (KernelTurn q ∷ es) = refl
+private_steps-past_turn : (r : ℕ) (es : List Event) → private_steps r (past_turn es) ≡ private_steps r es
+private_steps-past_turn r [] = refl
+private_steps-past_turn r (PrivateStep q ∷ es) = ap (λ x. if nat_eq r q then suc x else x) (private_steps-past_turn r es)
+private_steps-past_turn r (KernelTurn q ∷ es) = refl
 
-before_past : (es : List Event) → ArePrivateStepsFirst es → ArePrivateStepsFirst (past_turn es)
-before_past [] b = tt
-before_past (PrivateStep q ∷ es) b = before_past es b
-before_past (KernelTurn q ∷ es) b = b.1
+in_order-past_turn : (es : List Event) → ArePrivateStepsFirst es → ArePrivateStepsFirst (past_turn es)
+in_order-past_turn [] b = tt
+in_order-past_turn (PrivateStep q ∷ es) b = in_order-past_turn es b
+in_order-past_turn (KernelTurn q ∷ es) b = b.1
 
 rest_of : ℕ → List Event → List Event
 rest_of p es = past_turn (without p es)
@@ -170,13 +170,14 @@ rest_of p es = past_turn (without p es)
 rest_is_lawful : (t p : ℕ) (ps : List ℕ) (es : List Event) → is_in p ps ≡ false → IsLawful t (p ∷ ps) es → IsLawful t ps (rest_of p es)
 unfolding rest_of
 rest_is_lawful t p ps es d h = record {
-    order = kernels_past p ps (without p es) (kernels_without p es ∙ h.order);
-    steps = λ r. privates_past r (without p es) ∙ go r (nat_eq r p) refl;
-    in_order = before_past (without p es) (before_without p es h.in_order) }
+  order = kernel_turn_order-past_turn p ps (without p es) (kernel_turn_order-without p es ∙ h.order);
+  steps = λ r. private_steps-past_turn r (without p es) ∙ go r (nat_eq r p) refl;
+  in_order = in_order-past_turn (without p es) (in_order-without p es h.in_order);
+}
   where
     go : (r : ℕ) (e : Bool) → nat_eq r p ≡ e → private_steps r (without p es) ≡ (if is_in r ps then t else 0)
-    go r true e = rw (eqb-true r p e, d) (none_without p es)
-    go r false e = others_without p r es e ∙ (rw e at (h.steps r))
+    go r true e = rw (eqb-true r p e, d) (private_steps-without p es)
+    go r false e = other_private_steps-without p r es e ∙ (rw e at (h.steps r))
 
 no_events : (t : ℕ) (es : List Event) → IsLawful t [] es → es ≡ []
 no_events t [] h = refl
@@ -188,7 +189,6 @@ no_events t (PrivateStep q ∷ es) h = let n = h.steps q in absurd (go (nat_eq q
 no_events t (KernelTurn q ∷ es) h = let o = h.order in absurd (Prim.grind arith)
 
 module _ {S : Type 0} (one turn : S → ℕ → S) (Good : S → Type 0) (m : MayChangePlaces one turn Good) where
-
   good_past : (t : ℕ) (s : S) (p : ℕ) → Good s → Good (turn (many one turn t s p) p)
   good_past t s p g = m.good_turn _ p (good_many one turn Good m t s p g)
 
@@ -199,5 +199,5 @@ module _ {S : Type 0} (one turn : S → ℕ → S) (Good : S → Type 0) (m : Ma
   lawful_is_one_by_one t (p ∷ ps) es s d g h =
       first_steps one turn Good m p es s g h.in_order
       ∙ ap (λ n. after one turn (many one turn n s p) (without p es)) (rw (eq-eqb p p refl) at (h.steps p))
-      ∙ then_turn one turn Good m p ps (without p es) (many one turn t s p) (good_many one turn Good m t s p g) (none_without p es) (kernels_without p es ∙ h.order)
+      ∙ then_turn one turn Good m p ps (without p es) (many one turn t s p) (good_many one turn Good m t s p g) (private_steps-without p es) (kernel_turn_order-without p es ∙ h.order)
       ∙ lawful_is_one_by_one t ps (rest_of p es) (turn (many one turn t s p) p) d.1 (good_past t s p g) (rest_is_lawful t p ps es d.0 h)

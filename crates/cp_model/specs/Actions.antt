@@ -19,8 +19,9 @@ abbrev pub action : List Task → Action
 action [] = Rests
 action (i ∷ k) =
     elim (call_in_task (Literal 0) i) [
-      Some f ↦ Calls f.0 (i ∷ k)
-    | None ↦ elim (procedure_call i) [ Some u ↦ Calls u k | None ↦ Acts i k ] ]
+      | Some f ↦ Calls f.0 (i ∷ k)
+      | None ↦ elim (procedure_call i) [ Some u ↦ Calls u k | None ↦ Acts i k ]
+    ]
 
 abbrev pub is_init_of_class : Environment → Name → Bool
 is_init_of_class env x = elim (component_named env x) [ None ↦ true | Some c ↦ same_sort Class c.system.sort ]

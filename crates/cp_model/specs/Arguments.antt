@@ -40,7 +40,7 @@ named_right_writes env store to at None = []
 named_right_writes env store to at (Some n) = right_writes env store to at n.system.sort n
 
 abbrev pub init_argument_writes : Sort → Clock → Environment → Store → Location → ResolvedType → Expression → Outcome Writes
-init_argument_writes to clock env store at (ComponentOf s members) e = Gives (named_right_writes env store to at (component_named env (name_of (designator_of e))))
+init_argument_writes to clock env store at (ComponentOf s inner) e = Gives (named_right_writes env store to at (component_named env (name_of (designator_of e))))
 init_argument_writes to clock env store at t e = and_then (value clock env store e) (writes_of at t)
 
 -- ---- In order
@@ -48,5 +48,5 @@ init_argument_writes to clock env store at t e = and_then (value clock env store
 abbrev pub bind : (Location → Variable → Expression → Outcome Writes) → Location → List (Name × Variable) → Expressions → Outcome Writes
 bind one at (p ∷ ps) (MoreExpressions e es) =
     and_then (one (under at (ByName p.0 ∷ [])) p.1 e) (λ ws.
-      and_then (bind one at ps es) (λ more. Gives (ws ++ more)))
+    and_then (bind one at ps es) (λ more. Gives (ws ++ more)))
 bind one at _ _ = Gives []

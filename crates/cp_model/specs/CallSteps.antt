@@ -7,7 +7,7 @@ use Rattle.cp_model.specs.Abstract.{Class, Expression, Known, Monitor, Name, Pro
 use Rattle.cp_model.specs.Locations.{ByName, Location, OfActivation, Owner}
 use Rattle.cp_model.specs.Stores.{Initialised, Ordinal, Store, Value, forget, put_all}
 use Rattle.cp_model.specs.Types.{base_of_type, named_type}
-use Rattle.cp_model.specs.Declarations.{declarations, globals}
+use Rattle.cp_model.specs.Declarations.{declarations}
 use Rattle.cp_model.specs.Outcomes.{Fault, Gives, Outcome, and_then}
 use Rattle.cp_model.specs.Environments.{Environment}
 use Rattle.cp_model.specs.Continuations.{EndCall, Task, depth, push}
@@ -58,11 +58,13 @@ abbrev pub called_configuration : Configuration → UserCall → List Task → T
 called_configuration config u k t o ws =
     let g = u.environment.globals in
     let r = u.callee.routine in
-    let env = activation_environment u t o in
-    (record config {
+    let env = activation_environment u t o in (
+      record config {
         store = put_all (starting_writes (record { owner = o; path = [] }) (declarations g r.variables)) (put_all ws (forget o config.store));
-        continuation = push r.body env (EndCall env t.gate ∷ k) },
-     entering t.gate)
+        continuation = push r.body env (EndCall env t.gate ∷ k);
+      },
+      entering t.gate,
+    )
 
 abbrev pub call : Context → Configuration → UserCall → List Task → StepResult
 call context config u k =
@@ -70,8 +72,8 @@ call context config u k =
     let o = OfActivation context.process (depth k) in
     if t.is_callable
     then and_then
-      (bind (argument_writes context.clock u.environment config.store) (record { owner = o; path = [] }) (declarations u.environment.globals u.callee.routine.parameters) u.arguments)
-      (λ ws. Gives (called_configuration config u k t o ws))
+    (bind (argument_writes context.clock u.environment config.store) (record { owner = o; path = [] }) (declarations u.environment.globals u.callee.routine.parameters) u.arguments)
+    (λ ws. Gives (called_configuration config u k t o ws))
     else Fault 6
 
 -- ---- Returns
@@ -93,10 +95,12 @@ return_value config env o k t _ = Fault 9
 -- The routine of an environment returns to k.
 abbrev pub returns : Configuration → Environment → List Task → Outcome Configuration
 returns config env k = elim env.frame [
-    None ↦ Gives config
+  | None ↦ Gives config
   | Some f ↦ elim f.routine.result [
-      None ↦ Gives (record config { store = forget f.owner config.store; continuation = k })
-    | Some t ↦ return_value config env f.owner k t (config.store (record { owner = f.owner; path = ByName f.routine.name ∷ [] })) ] ]
+    | None ↦ Gives (record config { store = forget f.owner config.store; continuation = k })
+    | Some t ↦ return_value config env f.owner k t (config.store (record { owner = f.owner; path = ByName f.routine.name ∷ [] }))
+  ]
+]
 
 -- The innermost end mark of a routine: its environment, its gate, and what is left behind it.
 abbrev pub innermost_call : List Task → Option (Environment × Option ℕ × List Task)

@@ -38,8 +38,9 @@ abbrev pub callee : Environment → Designator → Option Callee
 callee env (Plain f) = elim (own_routine (is_local env.globals env.frame f) f env.system) [ None ↦ None | Some r ↦ Some (record { routine = r; of = None }) ]
 callee env (Part (Plain x) f) =
     elim (component_named env x) [
-      None ↦ None
-    | Some c ↦ elim (routine_named f c.system) [ None ↦ None | Some r ↦ Some (record { routine = r; of = Some c }) ] ]
+      | None ↦ None
+      | Some c ↦ elim (routine_named f c.system) [ None ↦ None | Some r ↦ Some (record { routine = r; of = Some c }) ]
+    ]
 callee env _ = None
 
 abbrev pub is_monitor_call : Callee → Bool

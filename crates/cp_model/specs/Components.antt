@@ -16,7 +16,7 @@ same_sort Class Class = true
 same_sort _ _ = false
 
 abbrev pub is_component_of : Sort → ResolvedType → Bool
-is_component_of s (ComponentOf sys members) = same_sort s sys.sort
+is_component_of s (ComponentOf sys inner) = same_sort s sys.sort
 is_component_of s _ = false
 
 -- A component that a variable or parameter of the running component names.
@@ -27,13 +27,13 @@ pub record Component : Type 0 where
 
 abbrev pub as_component : Name → Bool → Option Variable → Option Component
 as_component x p (Some v) =
-    elim v.type [ ComponentOf s members ↦ Some (record { name = x; system = s; is_parameter = p }) | _ ↦ None ]
+    elim v.type [ ComponentOf s inner ↦ Some (record { name = x; system = s; is_parameter = p }) | _ ↦ None ]
 as_component x p None = None
 
 abbrev pub component_named : Environment → Name → Option Component
 component_named env x =
     option_or (as_component x true (lookup x (declarations env.globals env.system.parameters)))
-      (as_component x false (lookup x (declarations env.globals env.system.variables)))
+    (as_component x false (lookup x (declarations env.globals env.system.variables)))
 
 -- ---- Where it lies
 

@@ -9,7 +9,7 @@ use Rattle.cp_model.specs.Environments.{Environment}
 -- What is left can be a statement in its environment; the test of a `while` or `repeat`, of which some calls may have been
 -- made (`now`) beside the whole test; the next test of a `for`, with the counter, which is kept apart from the variable; and
 -- the end marks: of a routine, of the body of a class or monitor, of the body of a process. An end mark of a monitor's entry
--- or body names that monitor, whose gate is blocked till then.
+-- or body names that monitor, whose gate is held till then.
 pub data Task : Type 0 where
   Do : (s : Statement) (env : Environment) → Task
   -- the test of a while, of which calls may have been made already, and the whole test

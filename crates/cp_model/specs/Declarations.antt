@@ -22,7 +22,7 @@ declarations g [] = []
 declarations g (d ∷ ds) = declared_group d.by_reference (resolved_type g d.type) d.names (declarations g ds)
 
 abbrev pub is_component : ResolvedType → Bool
-is_component (ComponentOf s members) = true
+is_component (ComponentOf s inner) = true
 is_component _ = false
 
 abbrev pub members_from : List (Name × Variable) → Members → Members

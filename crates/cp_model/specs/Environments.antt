@@ -56,5 +56,5 @@ local_or g (Some f) x else' = variable_or (lookup x (local_variables g f.routine
 abbrev pub meaning : Environment → Name → Meaning
 meaning env x =
     local_or env.globals env.frame x
-      (variable_or (lookup x (permanent_variables env.globals env.system)) env.component.owner env.component.path x
-        (constant_or_unknown (lookup x env.globals.constants)))
+    (variable_or (lookup x (permanent_variables env.globals env.system)) env.component.owner env.component.path x
+    (constant_or_unknown (lookup x env.globals.constants)))

@@ -6,7 +6,7 @@ use Rattle.std.specs.Prelude.{List, None, Some, [], if◌then◌else◌, true, �
 use Rattle.cp_model.specs.Abstract.{Class, Expressions, Monitor, Process, Sort, System}
 use Rattle.cp_model.specs.Locations.{Location}
 use Rattle.cp_model.specs.Stores.{Initialised, put, put_all}
-use Rattle.cp_model.specs.Declarations.{declarations, globals}
+use Rattle.cp_model.specs.Declarations.{declarations}
 use Rattle.cp_model.specs.Outcomes.{Fault, Gives, Outcome, and_then}
 use Rattle.cp_model.specs.Environments.{Environment}
 use Rattle.cp_model.specs.Continuations.{EndBody, EndProcess, Task, push}
@@ -28,19 +28,26 @@ init_component Class context config env k arguments n =
     let at = class_location env config.store n in
     if is_initialised (config.store at) then Fault 7
     else and_then (init_arguments context config env arguments n at) (λ ws.
-      own_step (record config {
-        store = put at (Initialised true) (put_all ws config.store);
-        continuation = push n.system.body (body_environment env n.system at) (EndBody None ∷ k) }))
+    own_step (record config {
+      store = put at (Initialised true) (put_all ws config.store);
+      continuation = push n.system.body (body_environment env n.system at) (EndBody None ∷ k);
+    }))
 init_component Monitor context config env k arguments n =
     let m = monitor_number env config.store n in
     if context.is_set m then Fault 7
     else and_then (init_arguments context config env arguments n (monitor_location m)) (λ ws.
-      Gives (record config {
+    Gives (
+      record config {
         store = put_all ws config.store;
-        continuation = push n.system.body (body_environment env n.system (monitor_location m)) (EndBody (Some m) ∷ k) }, Opens m))
+        continuation = push n.system.body (body_environment env n.system (monitor_location m)) (EndBody (Some m) ∷ k);
+      },
+      Opens m,
+    ))
 init_component Process context config env k arguments n =
     let r = process_number env n in
     if context.is_started r then Fault 7
     else and_then (init_arguments context config env arguments n (process_location r)) (λ ws.
-      Gives (record config { store = put_all ws config.store; continuation = k },
-        Starts r (push n.system.body (body_environment env n.system (process_location r)) (EndProcess ∷ []))))
+    Gives (
+      record config { store = put_all ws config.store; continuation = k },
+      Starts r (push n.system.body (body_environment env n.system (process_location r)) (EndProcess ∷ [])),
+    ))

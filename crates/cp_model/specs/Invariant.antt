@@ -82,7 +82,7 @@ IsBlocked (Asking m) = Unit {0}
 IsBlocked (Delayed m q) = Unit {0}
 IsBlocked _ = ⊥
 
--- A blocked process has the end mark of a monitor, so that it is not private when it is ready again; and an unstarted process
+-- A held process has the end mark of a monitor, so that it is not private when it is ready again; and an unstarted process
 -- has no activation.
 pub record Invariant (s : State) : Type 0 where
   pub store : StoreInvariant s.store

@@ -1,6 +1,6 @@
 -- The leaves of a variable: its simple parts, queues and marks, each with its path and start value, in the report's order.
 --
--- Fields come in text order, elements by rising index. A class is a leaf for its mark and then its members; what a process or
+-- Fields come in text order, elements by rising index. A class is a part for its mark and then its members; what a process or
 -- a monitor owns does not lie at its variable.
 use Rattle.std.specs.Prelude.{List, None, [], false, flat_map, map, negsuc, pos, suc, zero, ℕ, ℤ, ◌++◌, ◌+◌, ◌-◌, ◌∷◌}
 use Rattle.cp_model.specs.Abstract.{Class, Monitor, Process, Sort}
@@ -40,11 +40,11 @@ abbrev mutual
   pub leaves : ResolvedType → List Leaf
   leaves (Simple b low high start) = ([], Ordinal start) ∷ []
   leaves (ArrayOf low high t) =
-      let members = leaves t in
-      flat_map (λ i. map (below_step (ByIndex i)) members) (integers_from low (count_between low high))
+      let inner = leaves t in
+      flat_map (λ i. map (below_step (ByIndex i)) inner) (integers_from low (count_between low high))
   leaves (RecordOf ps) = leaves_of_members ps
   leaves Queue = ([], QueueHolds None) ∷ []
-  leaves (ComponentOf s members) = component_leaves s.sort (leaves_of_members members)
+  leaves (ComponentOf s inner) = component_leaves s.sort (leaves_of_members inner)
   leaves NoType = []
 
   pub leaves_of_members : Members → List Leaf

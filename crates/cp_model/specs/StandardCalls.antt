@@ -42,7 +42,7 @@ abbrev pub enqueue : ℕ → Configuration → List Task → Location → ℕ �
 enqueue p config k q m (Some r) = Fault 5
 enqueue p config k q m None = Gives (record config { store = put q (QueueHolds (Some p)) config.store; continuation = k }, Delays m q)
 
--- The process stands in the queue, and the kernel passes on the gate of the innermost monitor. Outer gates stay blocked.
+-- The process stands in the queue, and the kernel passes on the gate of the innermost monitor. Outer gates stay held.
 abbrev pub delay : ℕ → Configuration → List Task → Location → List ℕ → StepResult
 delay p config k q [] = own_step config
 delay p config k q (m ∷ ms) = enqueue p config k q m (process_in_queue (config.store q))
@@ -51,7 +51,7 @@ delay p config k q (m ∷ ms) = enqueue p config k q m (process_in_queue (config
 abbrev pub continue : Configuration → Location → Option (Environment × Option ℕ × List Task) → StepResult
 continue config q (Some (env, Some m, k)) =
     and_then (returns (record config { store = put q (QueueHolds None) config.store }) env k)
-      (λ after. Gives (after, Continues m (process_in_queue (config.store q))))
+    (λ after. Gives (after, Continues m (process_in_queue (config.store q))))
 continue config q _ = own_step config
 
 -- ---- All of them
@@ -62,8 +62,8 @@ standard_procedure context config env k x e =
     then and_then (value context.clock env config.store e) (λ v. own_step (record config { continuation = k; transcript = config.transcript ++ display_text v }))
     else if same_name x (codes "accept")
     then and_then (place context.clock env config.store (designator_of e)) (λ at.
-      and_then (writes_of at.at at.type (simple_value Char (next_input context.input config.consumed))) (λ ws.
-        own_step (record config { continuation = k; store = put_all ws config.store; consumed = suc config.consumed })))
+    and_then (writes_of at.at at.type (simple_value Char (next_input context.input config.consumed))) (λ ws.
+    own_step (record config { continuation = k; store = put_all ws config.store; consumed = suc config.consumed })))
     else if same_name x (codes "delay")
     then and_then (place context.clock env config.store (designator_of e)) (λ at. delay context.process config k at.at (gates_of k))
     else and_then (place context.clock env config.store (designator_of e)) (λ at. continue config at.at (innermost_call k))

@@ -31,7 +31,7 @@ component_writes env n Monitor ps = member_writes (monitor_location (1 + count_b
 component_writes env n Class ps = []
 
 abbrev pub variable_writes : Environment → Name → ResolvedType → Writes
-variable_writes env x (ComponentOf s members) = component_writes env (record { name = x; system = s; is_parameter = false }) s.sort members
+variable_writes env x (ComponentOf s inner) = component_writes env (record { name = x; system = s; is_parameter = false }) s.sort inner
 variable_writes env x _ = []
 
 abbrev pub initial_writes : Setup → Writes

@@ -42,26 +42,26 @@ next_counter true n = n +ℤ negsuc 0
 abbrev pub for_step : Context → Configuration → Environment → List Task → Name → Bool → ℤ → ℤ → Statement → StepResult
 for_step context config env k v down n last s =
     and_then (place context.clock env config.store (Plain v)) (λ at.
-      and_then (writes_of at.at at.type (simple_value Integer n)) (λ ws.
-        own_step (record config { store = put_all ws config.store; continuation = push s env (ForNext v down n last s env ∷ k) })))
+    and_then (writes_of at.at at.type (simple_value Integer n)) (λ ws.
+    own_step (record config { store = put_all ws config.store; continuation = push s env (ForNext v down n last s env ∷ k) })))
 
 -- ---- All statements
 
 abbrev pub execute : Context → Configuration → Environment → List Task → Statement → StepResult
 execute context config env k (Assign d e) =
     and_then (place context.clock env config.store d) (λ at. and_then (value context.clock env config.store e) (λ v.
-      and_then (writes_of at.at at.type v) (λ ws. own_step (record config { store = put_all ws config.store; continuation = k }))))
+    and_then (writes_of at.at at.type v) (λ ws. own_step (record config { store = put_all ws config.store; continuation = k }))))
 execute context config env k (Perform d arguments) = standard_statement context config env k d arguments
 execute context config env k (If e a b) =
     and_then (value context.clock env config.store e) (λ v. own_step (record config { continuation = if is_true v then push a env k else push b env k }))
 execute context config env k (Case e arms) =
     and_then (value context.clock env config.store e) (λ v.
-      elim (chosen_arm env.globals (ordinal_of v) arms) [ None ↦ Fault 8 | Some s ↦ own_step (record config { continuation = push s env k }) ])
+    elim (chosen_arm env.globals (ordinal_of v) arms) [ None ↦ Fault 8 | Some s ↦ own_step (record config { continuation = push s env k }) ])
 execute context config env k (For v down a b s) =
     and_then (value context.clock env config.store a) (λ x. and_then (value context.clock env config.store b) (λ y.
-      if is_past down (ordinal_of x) (ordinal_of y)
-      then own_step (record config { continuation = k })
-      else for_step context config env k v down (ordinal_of x) (ordinal_of y) s))
+    if is_past down (ordinal_of x) (ordinal_of y)
+    then own_step (record config { continuation = k })
+    else for_step context config env k v down (ordinal_of x) (ordinal_of y) s))
 execute context config env k (Cycle s) = own_step (record config { continuation = push s env (Do (Cycle s) env ∷ k) })
 execute context config env k (Init x arguments) =
     elim (component_named env x) [ None ↦ own_step (record config { continuation = k }) | Some n ↦ init_component n.system.sort context config env k arguments n ]

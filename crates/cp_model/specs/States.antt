@@ -10,7 +10,7 @@ use Rattle.cp_model.specs.Configurations.{Configuration, Context, Status, Unstar
 
 -- ---- Gates
 
--- A gate is unset before its monitor is initialised; then it is free or blocked by a process.
+-- A gate is unset before its monitor is initialised; then it is free or held by a process.
 pub data Holder : Type 0 where
   Unset Free : Holder
   HeldBy : (p : ℕ) → Holder
@@ -54,8 +54,11 @@ configuration s p = record { store = s.store; continuation = s.continuation p; t
 abbrev pub with_configuration : State → ℕ → Configuration → State
 with_configuration s p r =
     record s {
-      store = r.store; continuation = with_at p r.continuation s.continuation; transcript = with_at p r.transcript s.transcript;
-      consumed = with_at p r.consumed s.consumed }
+      store = r.store;
+      continuation = with_at p r.continuation s.continuation;
+      transcript = with_at p r.transcript s.transcript;
+      consumed = with_at p r.consumed s.consumed;
+    }
 
 abbrev pub running_clock : Setup → State → Clock
 running_clock setup s = record { round = suc s.rounds; tick = setup.tick }
@@ -70,8 +73,11 @@ is_set _ = true
 
 abbrev pub context : Setup → State → ℕ → Context
 context setup s p = record {
-  clock = running_clock setup s; process = p; input = setup.inputs p;
-  is_started = λ r. is_started (s.status r); is_set = λ m. is_set (s.gates m).holder;
+  clock = running_clock setup s;
+  process = p;
+  input = setup.inputs p;
+  is_started = λ r. is_started (s.status r);
+  is_set = λ m. is_set (s.gates m).holder;
 }
 
 -- ---- The components of the initial process

@@ -17,8 +17,7 @@ pub fn one_processor()
     ensures phased { PhasedRoundIsSequential }
     ensures lawful_from_start { LawfulRoundIsSequentialFromStart }
     ensures phased_from_start { PhasedRoundIsSequentialFromStart }
-{
-}
+{}
 
 /// The invariant holds at the start, and each part of a round keeps it, whatever the text and the order of events.
 pub fn invariant()
@@ -34,8 +33,7 @@ pub fn invariant()
     ensures round { RoundKeepsInvariant }
     ensures sequential_round { SequentialRoundKeepsInvariant }
     ensures run { RunKeepsInvariant }
-{
-}
+{}
 
 /// In every state with the invariant, what a `var` parameter names is in the reach of its process, and a right to a class names one
 /// of the same owner.
@@ -43,8 +41,7 @@ pub fn reach()
     ensures references { ReferencesAreInReach }
     ensures activations { OnlyActivationsRefer }
     ensures classes { ClassRightsKeepOwner }
-{
-}
+{}
 
 /// What the turns of a round leave as it was: the own parts of other processes, and the kernel's part.
 pub fn parts()
@@ -55,8 +52,7 @@ pub fn parts()
     ensures beside_private_step { PrivateStepKeepsOtherParts }
     ensures beside_kernel_turn { KernelTurnKeepsOtherParts }
     ensures none_private { KernelTurnMakesNonePrivate }
-{
-}
+{}
 
 /// Nothing within a round changes the count of rounds.
 pub fn count()
@@ -64,5 +60,4 @@ pub fn count()
     ensures private_turn { PrivateTurnKeepsCount }
     ensures kernel_turn { KernelTurnKeepsCount }
     ensures own_parts { OwnPartsKeepCount }
-{
-}
+{}
