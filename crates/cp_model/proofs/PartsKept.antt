@@ -1,0 +1,362 @@
+-- What a private step, a kernel turn and a waking leave as it was: the own parts of other processes, and the kernel's part.
+use Rattle.std.specs.Prelude.{Bool, List, None, Some, [], false, if◌then◌else◌, nat_eq, not, refl, suc, true, zero, ℕ, ◌%◌, ◌∷◌, ◌≡◌, ◌≢◌}
+use Rattle.std.proofs.Common.{ap, arith, subst, sym, ◌∙◌}
+use Rattle.std.proofs.lemmas.Bool.{eqb-true}
+use Rattle.cp_model.specs.Abstract.{Process}
+use Rattle.cp_model.specs.Locations.{Location, OfActivation, OfMonitor, OfProcess, Owner}
+use Rattle.cp_model.specs.Stores.{Store}
+use Rattle.cp_model.specs.Outcomes.{Fault, Gives}
+use Rattle.cp_model.specs.Continuations.{Task}
+use Rattle.cp_model.specs.Configurations.{Asking, Continues, Delayed, Delays, Effect, Ended, Ends, Enters, Faulted, Fresh, Leaves, Opens, Own, Ready, Starts, Status, StepResult, Unstarted, Waiting, Waits}
+use Rattle.cp_model.specs.Step.{step_of}
+use Rattle.cp_model.specs.States.{Free, HeldBy, Holder, Setup, State, Unset, configuration, context, count_components, initial_variables, is_in, is_set, is_started, processes, set_status, with_configuration}
+use Rattle.cp_model.specs.Gates.{apply_effect, enter, made_ready, make_ready, pass_to, set_gate, start_process}
+use Rattle.cp_model.specs.Turns.{Kernel, Kind, NoStep, Private, after_step, if_kernel, if_private, kernel_step, kernel_turn, kind, kind_of, private_step, private_turn, step}
+use Rattle.cp_model.specs.Rounds.{after_own_turn, awakened, own_parts, owner_process, wake}
+use Rattle.cp_model.specs.Invariant.{Invariant}
+use Rattle.cp_model.specs.Parts.{HasBegun, HasNotBegun, SameKernelPart, SameOwnPart, is_own, kernel_status, own_status}
+use Rattle.cp_model.proofs.StateMaps.{differ, is_foreign, own_apart, with_at_here, with_at_there}
+use Rattle.cp_model.proofs.MixedStores.{IsClosed, mix_same}
+use Rattle.cp_model.proofs.ActionReach.{ContinuationIn}
+use Rattle.cp_model.proofs.StepReach.{result_mixed, step_same}
+use Rattle.cp_model.proofs.OwnSteps.{MayCommute, NotPrivate, install_stepped, kind_private, no_private_step, own_configuration, private_step_is, quiet_here, result_status, same_for_self, status_after}
+use Rattle.cp_model.proofs.NotPrivate.{after_step_other}
+use Rattle.cp_model.proofs.StepOrder.{foreign_activation}
+use Rattle.cp_model.proofs.StateInvariant.{kernel_step_keeps, may_commute}
+use Rattle.cp_model.proofs.LawfulRounds.{below_are_out}
+
+pub own_part_refl : (p : ℕ) (s : State) → SameOwnPart p s s
+own_part_refl p s = record { status = refl; transcript = refl; consumed = refl; store = λ a l h. refl; continuation = λ a. refl }
+
+pub own_part_trans : (p : ℕ) (s u v : State) → SameOwnPart p s u → SameOwnPart p u v → SameOwnPart p s v
+own_part_trans p s u v a b = record {
+  status = b.status ∙ a.status;
+  transcript = b.transcript ∙ a.transcript;
+  consumed = b.consumed ∙ a.consumed;
+  store = λ o l h. b.store (subst HasBegun (sym a.status) o) l h ∙ a.store o l h;
+  continuation = λ o. b.continuation (subst HasBegun (sym a.status) o) ∙ a.continuation o;
+}
+
+owner_of : (p : ℕ) (o : Owner) → is_own p o ≡ true → owner_process o ≡ p
+owner_of p (OfProcess q) h = sym (eqb-true p q h)
+owner_of p (OfActivation q d) h = sym (eqb-true p q h)
+owner_of p (OfMonitor m) h = absurd (Prim.grind arith)
+
+module _ (setup : Setup) where
+  -- ---- A private part in place
+
+  pub own_part_is_turned : (t : ℕ) (s : State) (p : ℕ) → is_in p (processes setup) ≡ true → SameOwnPart p (private_turn setup t s p) (own_parts setup t s)
+  own_part_is_turned t s p h = record {
+    status = ap own_status (part (λ x. x.status p));
+    transcript = part (λ x. x.transcript p);
+    consumed = part (λ x. x.consumed p);
+    store = λ a l m. ap (λ k. after_own_turn setup t s (λ x. x.store l) k) (owner_of p l.owner m) ∙ part (λ x. x.store l);
+    continuation = λ a. part (λ x. x.continuation p);
+  }
+    where
+      part : {A : Type 0} (f : State → A) → after_own_turn setup t s f p ≡ f (private_turn setup t s p)
+      part f = ap (λ b. if b then f (private_turn setup t s p) else f s) h
+
+  -- ---- Private turns and the kernel's part
+
+  private_turn_rests : (t : ℕ) (s : State) (p : ℕ) (k : Kind) → kind s p ≡ k → NotPrivate setup k → private_turn setup t s p ≡ s
+  private_turn_rests zero s p k h o = refl
+  private_turn_rests (suc t) s p k h o = ap (λ x. private_turn setup t x p) (no_private_step setup p s k h o) ∙ private_turn_rests t s p k h o
+
+  kernel_status_by : (o : StepResult) → kernel_status (result_status o) ≡ Ready
+  kernel_status_by (Fault n) = refl
+  kernel_status_by (Gives (r, Own)) = refl
+  kernel_status_by (Gives (r, Ends)) = refl
+  kernel_status_by (Gives (r, Waits)) = refl
+  kernel_status_by (Gives (r, Enters m)) = refl
+  kernel_status_by (Gives (r, Leaves m)) = refl
+  kernel_status_by (Gives (r, Delays m q)) = refl
+  kernel_status_by (Gives (r, Continues m x)) = refl
+  kernel_status_by (Gives (r, Opens m)) = refl
+  kernel_status_by (Gives (r, Starts x k)) = refl
+
+  private_step_kernel_status : (s : State) (p : ℕ) → kernel_status ((private_step setup s p).status p) ≡ kernel_status (s.status p)
+  private_step_kernel_status s p = go (kind s p) refl
+    where
+      go : (k : Kind) → kind s p ≡ k → kernel_status ((if_private k (step setup s p) s).status p) ≡ kernel_status (s.status p)
+      go NoStep h = refl
+      go Kernel h = refl
+      go Private h =
+          let r = (kind_private (s.status p) (s.continuation p) h).0 in
+          ap (λ (x : State). kernel_status (x.status p)) (install_stepped s p (step_of (context setup s p) (configuration s p)) r (quiet_here setup p s h))
+          ∙ ap kernel_status (with_at_here p (result_status (step_of (context setup s p) (configuration s p))) s.status)
+          ∙ kernel_status_by (step_of (context setup s p) (configuration s p)) ∙ sym (ap kernel_status r)
+
+  private_turn_kernel_status : (t : ℕ) (s : State) (p : ℕ) → kernel_status ((private_turn setup t s p).status p) ≡ kernel_status (s.status p)
+  private_turn_kernel_status zero s p = refl
+  private_turn_kernel_status (suc t) s p = private_turn_kernel_status t (private_step setup s p) p ∙ private_step_kernel_status s p
+
+  not_begun_rests : (x : Status) (k : List Task) → HasNotBegun x → kind_of x k ≡ NoStep
+  not_begun_rests Unstarted k h = refl
+  not_begun_rests Fresh k h = refl
+  not_begun_rests Ready k h = absurd h
+  not_begun_rests Ended k h = absurd h
+  not_begun_rests Waiting k h = absurd h
+  not_begun_rests (Asking m) k h = absurd h
+  not_begun_rests (Delayed m q) k h = absurd h
+  not_begun_rests (Faulted n) k h = absurd h
+
+  pub own_parts_kernel_part : (t : ℕ) (s : State) → SameKernelPart s (own_parts setup t s)
+  own_parts_kernel_part t s = record {
+    gates = refl;
+    status = λ p. kernel_status_part p (is_in p (processes setup));
+    monitor_store = λ l m e. ap (λ k. after_own_turn setup t s (λ x. x.store l) k) (ap owner_process e) ∙ outside l (below_are_out 0 1 n (Prim.omega arith));
+    unbegun_store = λ p a l h. ap (λ k. after_own_turn setup t s (λ x. x.store l) k) (owner_of p l.owner h) ∙ rests p a (λ x. x.store l) (is_in p (processes setup));
+    unbegun_continuation = λ p a. rests p a (λ x. x.continuation p) (is_in p (processes setup));
+  }
+    where
+      n : ℕ
+      n = suc (count_components Process (initial_variables setup))
+
+      outside : (l : Location) → is_in 0 (processes setup) ≡ false → after_own_turn setup t s (λ x. x.store l) 0 ≡ s.store l
+      outside l h = ap (λ b. if b then (private_turn setup t s 0).store l else s.store l) h
+
+      kernel_status_part : (p : ℕ) (b : Bool) → kernel_status (if b then (private_turn setup t s p).status p else s.status p) ≡ kernel_status (s.status p)
+      kernel_status_part p true = private_turn_kernel_status t s p
+      kernel_status_part p false = refl
+
+      rests : {A : Type 0} (p : ℕ) → HasNotBegun (s.status p) → (f : State → A) (b : Bool) → (if b then f (private_turn setup t s p) else f s) ≡ f s
+      rests p a f true = ap f (private_turn_rests t s p NoStep (not_begun_rests (s.status p) (s.continuation p) a) tt)
+      rests p a f false = refl
+
+  pub wake_kernel_part : (s : State) → SameKernelPart s (wake setup s)
+  wake_kernel_part s = go (nat_eq (suc s.rounds % setup.tick) 0)
+    where
+      at : (x : Status) → kernel_status (awakened x) ≡ kernel_status x
+      at Unstarted = refl
+      at Fresh = refl
+      at Ready = refl
+      at Ended = refl
+      at Waiting = refl
+      at (Asking m) = refl
+      at (Delayed m q) = refl
+      at (Faulted n) = refl
+
+      go : (b : Bool) → SameKernelPart s (if b then record s { status = λ p. awakened (s.status p) } else s)
+      go true = record { gates = refl; status = λ p. at (s.status p); monitor_store = λ l m e. refl; unbegun_store = λ p a l h. refl; unbegun_continuation = λ p a. refl }
+      go false = record { gates = refl; status = λ p. refl; monitor_store = λ l m e. refl; unbegun_store = λ p a l h. refl; unbegun_continuation = λ p a. refl }
+
+-- ---- What the kernel does beside p
+
+gate_own : (p m : ℕ) (x : Holder) (qs : List ℕ) (v : State) → SameOwnPart p v (set_gate m x qs v)
+gate_own p m x qs v = record { status = refl; transcript = refl; consumed = refl; store = λ a l h. refl; continuation = λ a. refl }
+
+status_own : (p q : ℕ) (x : Status) (v : State) → q ≢ p → SameOwnPart p v (set_status q x v)
+status_own p q x v d = record { status = ap own_status (with_at_there q p x v.status (differ q p d)); transcript = refl; consumed = refl; store = λ a l h. refl; continuation = λ a. refl }
+
+made_ready_own_status : (x : Status) → own_status (made_ready x) ≡ own_status x
+made_ready_own_status Unstarted = refl
+made_ready_own_status Fresh = refl
+made_ready_own_status Ready = refl
+made_ready_own_status Ended = refl
+made_ready_own_status Waiting = refl
+made_ready_own_status (Asking m) = refl
+made_ready_own_status (Delayed m q) = refl
+made_ready_own_status (Faulted n) = refl
+
+make_ready_own : (p r : ℕ) (v : State) → SameOwnPart p v (make_ready r v)
+make_ready_own p r v = record { status = at (nat_eq r p) refl; transcript = refl; consumed = refl; store = λ a l h. refl; continuation = λ a. refl }
+  where
+    at : (b : Bool) → nat_eq r p ≡ b → own_status (if b then made_ready (v.status r) else v.status p) ≡ own_status (v.status p)
+    at true e = made_ready_own_status (v.status r) ∙ ap (λ k. own_status (v.status k)) (eqb-true r p e)
+    at false e = refl
+
+pass_own : (p m : ℕ) (qs : List ℕ) (v : State) → SameOwnPart p v (pass_to m qs v)
+pass_own p m [] v = gate_own p m Free [] v
+pass_own p m (r ∷ qs) v = own_part_trans p v (set_gate m (HeldBy r) qs v) _ (gate_own p m (HeldBy r) qs v) (make_ready_own p r (set_gate m (HeldBy r) qs v))
+
+enter_own : (p q m : ℕ) (x : Holder) (v : State) → q ≢ p → SameOwnPart p v (enter q m x v)
+enter_own p q m Unset v d = gate_own p m (HeldBy q) (v.gates m).askers v
+enter_own p q m Free v d = gate_own p m (HeldBy q) (v.gates m).askers v
+enter_own p q m (HeldBy c) v d = own_part_trans p v (set_gate m (HeldBy c) _ v) _ (gate_own p m (HeldBy c) _ v) (status_own p q (Asking m) (set_gate m (HeldBy c) _ v) d)
+
+start_own : (p r : ℕ) (k : List Task) (x : Status) (v : State) → v.status r ≡ x → SameOwnPart p v (start_process r k x v)
+start_own p r k Unstarted v e = record {
+  status = at (nat_eq r p) refl;
+  transcript = refl;
+  consumed = refl;
+  store = λ a l h. refl;
+  continuation = λ a. continuation a (nat_eq r p) refl;
+}
+  where
+    at : (b : Bool) → nat_eq r p ≡ b → own_status (if b then Fresh else v.status p) ≡ own_status (v.status p)
+    at true h = sym (ap own_status e) ∙ ap (λ j. own_status (v.status j)) (eqb-true r p h)
+    at false h = refl
+
+    continuation : HasBegun (own_status (v.status p)) → (b : Bool) → nat_eq r p ≡ b → (if b then k else v.continuation p) ≡ v.continuation p
+    continuation a true h = absurd (subst HasBegun (ap (λ j. own_status (v.status j)) (sym (eqb-true r p h)) ∙ ap own_status e) a)
+    continuation a false h = refl
+start_own p r k Fresh v e = own_part_refl p v
+start_own p r k Ready v e = own_part_refl p v
+start_own p r k Ended v e = own_part_refl p v
+start_own p r k Waiting v e = own_part_refl p v
+start_own p r k (Asking m) v e = own_part_refl p v
+start_own p r k (Delayed m q) v e = own_part_refl p v
+start_own p r k (Faulted n) v e = own_part_refl p v
+
+effect_own : (p q : ℕ) (e : Effect) (v : State) → q ≢ p → SameOwnPart p v (apply_effect q e v)
+effect_own p q Own v d = own_part_refl p v
+effect_own p q Ends v d = status_own p q Ended v d
+effect_own p q Waits v d = status_own p q Waiting v d
+effect_own p q (Enters m) v d = enter_own p q m (v.gates m).holder v d
+effect_own p q (Leaves m) v d = pass_own p m (v.gates m).askers v
+effect_own p q (Delays m l) v d = own_part_trans p v (set_status q (Delayed m l) v) _ (status_own p q (Delayed m l) v d) (pass_own p m (v.gates m).askers (set_status q (Delayed m l) v))
+effect_own p q (Continues m None) v d = pass_own p m (v.gates m).askers v
+effect_own p q (Continues m (Some r)) v d = own_part_trans p v (set_gate m (HeldBy r) (v.gates m).askers v) _ (gate_own p m (HeldBy r) (v.gates m).askers v) (make_ready_own p r (set_gate m (HeldBy r) (v.gates m).askers v))
+effect_own p q (Opens m) v d = gate_own p m (HeldBy q) [] v
+effect_own p q (Starts r k) v d = start_own p r k (v.status r) v refl
+
+begun_is_started : (x : Status) → HasBegun (own_status x) → is_started x ≡ true
+begun_is_started Unstarted h = absurd h
+begun_is_started Fresh h = refl
+begun_is_started Ready h = refl
+begun_is_started Ended h = refl
+begun_is_started Waiting h = refl
+begun_is_started (Asking m) h = refl
+begun_is_started (Delayed m q) h = refl
+begun_is_started (Faulted n) h = refl
+
+module _ (setup : Setup) where
+  abbrev outcome_of : State → ℕ → StepResult
+  outcome_of s q = step_of (context setup s q) (configuration s q)
+
+  foreign_unstarted : (p : ℕ) (s : State) → is_started (s.status p) ≡ true → (r : ℕ) → is_started (s.status r) ≡ false → is_foreign p (OfProcess r) ≡ true
+  foreign_unstarted p s h r e = go (nat_eq p r) refl
+    where
+      clash : false ≡ true → ⊥
+      clash g = Prim.grind arith
+
+      go : (b : Bool) → nat_eq p r ≡ b → not b ≡ true
+      go true f = absurd (clash (sym e ∙ ap (λ k. is_started (s.status k)) (sym (eqb-true p r f)) ∙ h))
+      go false f = refl
+
+  kernel_writes_beside : (p q : ℕ) (s : State) → p ≢ q → MayCommute s → kind s q ≡ Kernel → is_started (s.status p) ≡ true → outcome_of s q ≡ result_mixed (is_foreign p) s.store (outcome_of s q)
+  kernel_writes_beside p q s d g k h =
+      let o : IsClosed (is_foreign p) s.store × ContinuationIn (is_foreign p) (s.continuation q) = g.others p q d k in
+      ap (λ st. step_of (context setup s q) (record { store = st; continuation = s.continuation q; transcript = s.transcript q; consumed = s.consumed q })) (sym (mix_same (is_foreign p) s.store))
+      ∙ step_same (is_foreign p) s.store (context setup s q) (λ r. is_started (s.status r)) (λ m. is_set (s.gates m).holder) (configuration s q) o.0 (λ n. foreign_activation setup p q n d) o.1
+      (λ a. record { monitors = λ m. refl; processes = foreign_unstarted p s h; same_started = refl; same_set = refl })
+
+  after_step_own : (p q : ℕ) (s : State) (o : StepResult) → q ≢ p → (HasBegun (own_status (s.status p)) → o ≡ result_mixed (is_foreign p) s.store o) → SameOwnPart p s (after_step s q o)
+  after_step_own p q s (Fault n) d w = status_own p q (Faulted n) s d
+  after_step_own p q s (Gives (u, e)) d w = own_part_trans p s (with_configuration s q u) _ first (effect_own p q e (with_configuration s q u) d)
+    where
+      store_of : StepResult → Store
+      store_of (Fault n) = s.store
+      store_of (Gives x) = x.0.store
+
+      at : (l : Location) (b : Bool) → b ≡ true → (if not b then u.store l else s.store l) ≡ s.store l
+      at l true h = refl
+      at l false h = absurd (clash h)
+        where
+          clash : false ≡ true → ⊥
+          clash g = Prim.grind arith
+
+      first : SameOwnPart p s (with_configuration s q u)
+      first = record {
+        status = refl;
+        transcript = with_at_there q p u.transcript s.transcript (differ q p d);
+        consumed = with_at_there q p u.consumed s.consumed (differ q p d);
+        store = λ a l h. ap (λ x. store_of x l) (w a) ∙ at l (is_own p l.owner) h;
+        continuation = λ a. with_at_there q p u.continuation s.continuation (differ q p d);
+      }
+
+  kernel_step_other_parts : (p q : ℕ) (s : State) → q ≢ p → Invariant s → SameOwnPart p s (kernel_step setup s q)
+  kernel_step_other_parts p q s d i = go (kind s q) refl
+    where
+      go : (k : Kind) → kind s q ≡ k → SameOwnPart p s (if_kernel k (step setup s q) s)
+      go NoStep h = own_part_refl p s
+      go Private h = own_part_refl p s
+      go Kernel h = after_step_own p q s (outcome_of s q) d (λ a. kernel_writes_beside p q s (λ e. d (sym e)) (may_commute s i) h (begun_is_started (s.status p) a))
+
+  -- a kernel turn leaves every other process's own part as it was.
+  pub kernel_turn_other_parts : (t : ℕ) (p q : ℕ) (s : State) → q ≢ p → Invariant s → SameOwnPart p s (kernel_turn setup t s q)
+  kernel_turn_other_parts zero p q s d i = own_part_refl p s
+  kernel_turn_other_parts (suc t) p q s d i = own_part_trans p s (kernel_step setup s q) _ (kernel_step_other_parts p q s d i) (kernel_turn_other_parts t p q (kernel_step setup s q) d (kernel_step_keeps setup s q i))
+
+  pub private_step_other_parts : (p q : ℕ) (s : State) → q ≢ p → Invariant s → SameOwnPart p s (private_step setup s q)
+  private_step_other_parts p q s d i = go (kind s q) refl
+    where
+      at : (l : Location) (b : Bool) → b ≡ false → (if b then (own_configuration setup s q).store l else s.store l) ≡ s.store l
+      at l true h = absurd (clash h)
+        where
+          clash : true ≡ false → ⊥
+          clash g = Prim.grind arith
+      at l false h = refl
+
+      go : (k : Kind) → kind s q ≡ k → SameOwnPart p s (private_step setup s q)
+      go NoStep h = subst (λ (u : State). SameOwnPart p s u) (sym (no_private_step setup q s NoStep h tt)) (own_part_refl p s)
+      go Kernel h = subst (λ (u : State). SameOwnPart p s u) (sym (no_private_step setup q s Kernel h tt)) (own_part_refl p s)
+      go Private h = subst (λ (u : State). SameOwnPart p s u) (sym (private_step_is setup q s s (may_commute s i) h (same_for_self setup q s))) (record {
+        status = ap own_status (with_at_there q p (status_after setup s q) s.status (differ q p d));
+        transcript = with_at_there q p (own_configuration setup s q).transcript s.transcript (differ q p d);
+        consumed = with_at_there q p (own_configuration setup s q).consumed s.consumed (differ q p d);
+        store = λ a l m. at l (is_own q l.owner) (own_apart p q l.owner (λ e. d (sym e)) m);
+        continuation = λ a. with_at_there q p (own_configuration setup s q).continuation s.continuation (differ q p d);
+      })
+
+  pub private_step_kernel_part : (p : ℕ) (s : State) → Invariant s → SameKernelPart s (private_step setup s p)
+  private_step_kernel_part p s i = go (kind s p) refl
+    where
+      clash : true ≡ false → ⊥
+      clash g = Prim.grind arith
+
+      same : SameKernelPart s s
+      same = record { gates = refl; status = λ r. refl; monitor_store = λ l m e. refl; unbegun_store = λ r a l m. refl; unbegun_continuation = λ r a. refl }
+
+      at : (l : Location) (b : Bool) → b ≡ false → (if b then (own_configuration setup s p).store l else s.store l) ≡ s.store l
+      at l true h = absurd (clash h)
+      at l false h = refl
+
+      go : (k : Kind) → kind s p ≡ k → SameKernelPart s (private_step setup s p)
+      go NoStep h = subst (λ (u : State). SameKernelPart s u) (sym (no_private_step setup p s NoStep h tt)) same
+      go Kernel h = subst (λ (u : State). SameKernelPart s u) (sym (no_private_step setup p s Kernel h tt)) same
+      go Private h = subst (λ (u : State). SameKernelPart s u) (sym (private_step_is setup p s s (may_commute s i) h (same_for_self setup p s))) (record {
+        gates = refl;
+        status = λ r. told r (nat_eq p r) refl;
+        monitor_store = λ l m e. at l (is_own p l.owner) (ap (is_own p) e);
+        unbegun_store = λ r a l m. at l (is_own p l.owner) (own_apart r p l.owner (other r a) m);
+        unbegun_continuation = λ r a. with_at_there p r (own_configuration setup s p).continuation s.continuation (differ p r (λ e. other r a (sym e)));
+      })
+        where
+          is_ready : s.status p ≡ Ready
+          is_ready = (kind_private (s.status p) (s.continuation p) h).0
+
+          other : (r : ℕ) → HasNotBegun (s.status r) → r ≢ p
+          other r a e = subst HasNotBegun (ap s.status e ∙ is_ready) a
+
+          told : (r : ℕ) (b : Bool) → nat_eq p r ≡ b → kernel_status (if b then status_after setup s p else s.status r) ≡ kernel_status (s.status r)
+          told r true e = kernel_status_by setup (outcome_of s p) ∙ sym (ap kernel_status (ap s.status (sym (eqb-true p r e)) ∙ is_ready))
+          told r false e = refl
+
+  -- ---- No process is made private
+
+  kernel_step_makes_none_private : (p q : ℕ) (s : State) → q ≢ p → Invariant s → kind s p ≢ Private → kind (kernel_step setup s q) p ≢ Private
+  kernel_step_makes_none_private p q s d i h = go (kind s q)
+    where
+      by_kind : (k : Kind) → (k ≡ Private → ⊥) → NotPrivate setup k
+      by_kind NoStep g = tt
+      by_kind Kernel g = tt
+      by_kind Private g = absurd (g refl)
+
+      none : (k : Kind) → NotPrivate setup k → k ≡ Private → ⊥
+      none NoStep o e = Prim.grind arith
+      none Kernel o e = Prim.grind arith
+      none Private o e = o
+
+      go : (k : Kind) → kind (if_kernel k (step setup s q) s) p ≡ Private → ⊥
+      go NoStep = h
+      go Private = h
+      go Kernel =
+          none (kind (step setup s q) p)
+          (after_step_other setup p q s (step_of (context setup s q) (configuration s q)) (λ e. d (sym e)) (by_kind (kind s p) h) (i.blocked p))
+
+  pub kernel_turn_makes_none_private : (t p q : ℕ) (s : State) → q ≢ p → Invariant s → kind s p ≢ Private → kind (kernel_turn setup t s q) p ≢ Private
+  kernel_turn_makes_none_private zero p q s d i h = h
+  kernel_turn_makes_none_private (suc t) p q s d i h =
+      kernel_turn_makes_none_private t p q (kernel_step setup s q) d (kernel_step_keeps setup s q i) (kernel_step_makes_none_private p q s d i h)

@@ -1,0 +1,17 @@
+-- Chains of askers: p, then, while the last one is asking, the holder of that gate.
+use Rattle.std.specs.Prelude.{List, None, Option, Some, [], suc, zero, ℕ, ◌∷◌}
+use Rattle.cp_model.specs.Configurations.{Asking, Status}
+use Rattle.cp_model.specs.States.{HeldBy, Holder, State}
+
+abbrev pub holding_process : Holder → Option ℕ
+holding_process (HeldBy p) = Some p
+holding_process _ = None
+
+abbrev pub holder_asked : State → Status → Option ℕ
+holder_asked s (Asking m) = holding_process (s.gates m).holder
+holder_asked s _ = None
+
+-- The chain from p with at most so many behind it.
+abbrev pub chain : ℕ → State → ℕ → List ℕ
+chain zero s p = p ∷ []
+chain (suc n) s p = elim (holder_asked s (s.status p)) [ None ↦ p ∷ [] | Some q ↦ p ∷ chain n s q ]

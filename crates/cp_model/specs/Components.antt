@@ -1,0 +1,76 @@
+-- Components: which component a name means, where it lies, and what number it has.
+use Rattle.std.specs.Prelude.{Bool, List, None, Option, Some, [], false, if◌then◌else◌, suc, true, ℕ, ◌+◌, ◌∷◌}
+use Rattle.std.specs.Option.{option_or}
+use Rattle.cp_model.specs.Abstract.{Class, Monitor, Name, Process, Sort, System}
+use Rattle.cp_model.specs.Names.{lookup, same_name}
+use Rattle.cp_model.specs.Locations.{ByName, Location, OfMonitor, OfProcess, under}
+use Rattle.cp_model.specs.Stores.{ClassRight, MonitorRight, Store, Value}
+use Rattle.cp_model.specs.Types.{ComponentOf, ResolvedType}
+use Rattle.cp_model.specs.Declarations.{Variable, declarations}
+use Rattle.cp_model.specs.Environments.{Environment}
+
+abbrev pub same_sort : Sort → Sort → Bool
+same_sort Process Process = true
+same_sort Monitor Monitor = true
+same_sort Class Class = true
+same_sort _ _ = false
+
+abbrev pub is_component_of : Sort → ResolvedType → Bool
+is_component_of s (ComponentOf sys inner) = same_sort s sys.sort
+is_component_of s _ = false
+
+-- A component that a variable or parameter of the running component names.
+pub record Component : Type 0 where
+  pub name : Name
+  pub system : System
+  pub is_parameter : Bool
+
+abbrev pub as_component : Name → Bool → Option Variable → Option Component
+as_component x p (Some v) =
+    elim v.type [ ComponentOf s inner ↦ Some (record { name = x; system = s; is_parameter = p }) | _ ↦ None ]
+as_component x p None = None
+
+abbrev pub component_named : Environment → Name → Option Component
+component_named env x =
+    option_or (as_component x true (lookup x (declarations env.globals env.system.parameters)))
+    (as_component x false (lookup x (declarations env.globals env.system.variables)))
+
+-- ---- Where it lies
+
+-- The location of its name: of its variable, or of the parameter that holds a right to it.
+abbrev pub name_location : Environment → Component → Location
+name_location env n = under env.component (ByName n.name ∷ [])
+
+abbrev pub class_or_here : Location → Value → Location
+class_or_here l (ClassRight k) = k
+class_or_here l _ = l
+
+-- A class lies at its variable, or where the right points.
+abbrev pub class_location : Environment → Store → Component → Location
+class_location env store n = if n.is_parameter then class_or_here (name_location env n) (store (name_location env n)) else name_location env n
+
+abbrev pub process_location : ℕ → Location
+process_location p = record { owner = OfProcess p; path = [] }
+
+abbrev pub monitor_location : ℕ → Location
+monitor_location m = record { owner = OfMonitor m; path = [] }
+
+-- ---- Numbers
+
+-- How many components of a sort are declared before a name.
+abbrev pub count_before : Sort → Name → List (Name × Variable) → ℕ
+count_before s x [] = 0
+count_before s x (v ∷ vs) = if same_name x v.0 then 0 else if is_component_of s v.1.type then suc (count_before s x vs) else count_before s x vs
+
+abbrev pub monitor_right : Value → ℕ
+monitor_right (MonitorRight m) = m
+monitor_right _ = 0
+
+-- Monitors are numbered from 1 in order of declaration.
+abbrev pub monitor_number : Environment → Store → Component → ℕ
+monitor_number env store n =
+    if n.is_parameter then monitor_right (store (name_location env n)) else 1 + count_before Monitor n.name (declarations env.globals env.system.variables)
+
+-- Processes are numbered from 2 in order of declaration: 1 is the initial process.
+abbrev pub process_number : Environment → Component → ℕ
+process_number env n = 2 + count_before Process n.name (declarations env.globals env.system.variables)

@@ -1,0 +1,48 @@
+-- What one step of a process works on, what it reads beside, and what it leaves to the kernel.
+use Rattle.std.specs.Prelude.{Bool, List, Option, ℕ}
+use Rattle.cp_model.specs.Locations.{Location}
+use Rattle.cp_model.specs.Stores.{Store}
+use Rattle.cp_model.specs.Outcomes.{Gives, Outcome}
+use Rattle.cp_model.specs.Operators.{Clock}
+use Rattle.cp_model.specs.Continuations.{Task}
+
+-- Unstarted; fresh, which is started in the running round; ready; asking for a monitor's gate; delayed in a queue of a
+-- monitor; ended; waiting for the clock; stopped by a fault.
+pub data Status : Type 0 where
+  Unstarted Fresh Ready Ended Waiting : Status
+  Asking : (m : ℕ) → Status
+  Delayed : (m : ℕ) (queue : Location) → Status
+  Faulted : (number : ℕ) → Status
+
+-- The store of the system, and of the process: what is left to do, the transcript, and how much input was taken.
+pub record Configuration : Type 0 where
+  pub store : Store
+  pub continuation : List Task
+  pub transcript : List ℕ
+  pub consumed : ℕ
+
+-- The clock, the number of the process and its input; which processes were started, and which monitors were initialised.
+pub record Context : Type 0 where
+  pub clock : Clock
+  pub process : ℕ
+  pub input : List ℕ
+  pub is_started : ℕ → Bool
+  pub is_set : ℕ → Bool
+
+-- What a step leaves to the kernel. `Own` is nothing; `Ends` and `Waits` concern the process alone. The others: it enters or
+-- leaves a monitor, is delayed there, continues (with the process that stood in the queue, if any), opens a monitor's body as
+-- its holder, or starts a process, which then has that left to do.
+pub data Effect : Type 0 where
+  Own Ends Waits : Effect
+  Enters : (m : ℕ) → Effect
+  Leaves : (m : ℕ) → Effect
+  Delays : (m : ℕ) (queue : Location) → Effect
+  Continues : (m : ℕ) (resumed : Option ℕ) → Effect
+  Opens : (m : ℕ) → Effect
+  Starts : (r : ℕ) (continuation : List Task) → Effect
+
+abbrev pub StepResult : Type 0
+StepResult = Outcome (Configuration × Effect)
+
+abbrev pub own_step : Configuration → Outcome (Configuration × Effect)
+own_step config = Gives (config, Own)

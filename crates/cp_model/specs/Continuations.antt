@@ -1,0 +1,47 @@
+-- Continuations: what a process has left to do, as a list of tasks.
+--
+-- A statement is unfolded, free of cost, when it is put in front of a continuation: compound statements give way to their
+-- statements, empty ones vanish, `repeat` gives way to its statements and its test. So each task costs a step.
+use Rattle.std.specs.Prelude.{Bool, List, Option, Some, [], false, suc, true, ℕ, ℤ, ◌∷◌}
+use Rattle.cp_model.specs.Abstract.{Expression, Name, Nothing, Repeat, Seq, Statement, While}
+use Rattle.cp_model.specs.Environments.{Environment}
+
+-- What is left can be a statement in its environment; the test of a `while` or `repeat`, of which some calls may have been
+-- made (`now`) beside the whole test; the next test of a `for`, with the counter, which is kept apart from the variable; and
+-- the end marks: of a routine, of the body of a class or monitor, of the body of a process. An end mark of a monitor's entry
+-- or body names that monitor, whose gate is held till then.
+pub data Task : Type 0 where
+  Do : (s : Statement) (env : Environment) → Task
+  -- the test of a while, of which calls may have been made already, and the whole test
+  WhileTest : (now e : Expression) (s : Statement) (env : Environment) → Task
+  RepeatTest : (now : Expression) (s : Statement) (e : Expression) (env : Environment) → Task
+  -- the next test of a for, behind the counter
+  ForNext : (v : Name) (down : Bool) (counter last : ℤ) (s : Statement) (env : Environment) → Task
+  -- end marks, with the monitor whose gate they hold
+  EndCall : (env : Environment) (gate : Option ℕ) → Task
+  EndBody : (gate : Option ℕ) → Task
+  EndProcess : Task
+
+-- A statement in front of a continuation.
+abbrev pub push : Statement → Environment → List Task → List Task
+push Nothing env k = k
+push (Seq a b) env k = push a env (push b env k)
+push (While e s) env k = WhileTest e e s env ∷ k
+push (Repeat s e) env k = push s env (RepeatTest e s e env ∷ k)
+push s env k = Do s env ∷ k
+
+-- The monitors that end marks name, the innermost first.
+abbrev pub gates_of : List Task → List ℕ
+gates_of [] = []
+gates_of (EndCall env (Some m) ∷ k) = m ∷ gates_of k
+gates_of (EndBody (Some m) ∷ k) = m ∷ gates_of k
+gates_of (_ ∷ k) = gates_of k
+
+abbrev pub holds_gate : List Task → Bool
+holds_gate k = elim (gates_of k) [ [] ↦ false | m ∷ ms ↦ true ]
+
+-- How many activations there are. The body of a component is none.
+abbrev pub depth : List Task → ℕ
+depth [] = 0
+depth (EndCall env gate ∷ k) = suc (depth k)
+depth (_ ∷ k) = depth k

@@ -1,0 +1,65 @@
+-- The parts of a state that a machine keeps apart: the own part of each process, and the part of the kernel.
+--
+-- A process's own part tells neither whether it is ready, asking or delayed, nor whether it is unstarted or fresh. While it is not
+-- running its store and what is left belong to the kernel's part, so that the kernel can start it.
+use Rattle.std.specs.Prelude.{Bool, false, nat_eq, true, ℕ, ◌≡◌}
+use Rattle.cp_model.specs.Locations.{Location, OfActivation, OfMonitor, OfProcess, Owner}
+use Rattle.cp_model.specs.Configurations.{Asking, Delayed, Ended, Faulted, Fresh, Ready, Status, Unstarted, Waiting}
+use Rattle.cp_model.specs.States.{State}
+
+-- ---- Whose a location is
+
+abbrev pub is_own : ℕ → Owner → Bool
+is_own p (OfProcess q) = nat_eq p q
+is_own p (OfActivation q d) = nat_eq p q
+is_own p (OfMonitor m) = false
+
+-- ---- A process's own part
+
+pub data OwnStatus : Type 0 where
+  NotBegun Running Finished Sleeping : OwnStatus
+  Failed : (number : ℕ) → OwnStatus
+
+abbrev pub own_status : Status → OwnStatus
+own_status Unstarted = NotBegun
+own_status Fresh = NotBegun
+own_status Ready = Running
+own_status Ended = Finished
+own_status Waiting = Sleeping
+own_status (Asking m) = Running
+own_status (Delayed m q) = Running
+own_status (Faulted n) = Failed n
+
+abbrev pub HasBegun : OwnStatus → Type 0
+HasBegun NotBegun = ⊥
+HasBegun _ = Unit {0}
+
+-- The own part of p is the same in two states.
+pub record SameOwnPart (p : ℕ) (s u : State) : Type 0 where
+  pub status : own_status (u.status p) ≡ own_status (s.status p)
+  pub transcript : u.transcript p ≡ s.transcript p
+  pub consumed : u.consumed p ≡ s.consumed p
+  pub store : HasBegun (own_status (s.status p)) → (l : Location) → is_own p l.owner ≡ true → u.store l ≡ s.store l
+  pub continuation : HasBegun (own_status (s.status p)) → u.continuation p ≡ s.continuation p
+
+-- ---- The kernel's part
+
+abbrev pub kernel_status : Status → Status
+kernel_status Unstarted = Unstarted
+kernel_status Fresh = Fresh
+kernel_status (Asking m) = Asking m
+kernel_status (Delayed m q) = Delayed m q
+kernel_status _ = Ready
+
+abbrev pub HasNotBegun : Status → Type 0
+HasNotBegun Unstarted = Unit {0}
+HasNotBegun Fresh = Unit {0}
+HasNotBegun _ = ⊥
+
+-- The kernel's part is the same in two states.
+pub record SameKernelPart (s u : State) : Type 0 where
+  pub gates : u.gates ≡ s.gates
+  pub status : (p : ℕ) → kernel_status (u.status p) ≡ kernel_status (s.status p)
+  pub monitor_store : (l : Location) (m : ℕ) → l.owner ≡ OfMonitor m → u.store l ≡ s.store l
+  pub unbegun_store : (p : ℕ) → HasNotBegun (s.status p) → (l : Location) → is_own p l.owner ≡ true → u.store l ≡ s.store l
+  pub unbegun_continuation : (p : ℕ) → HasNotBegun (s.status p) → u.continuation p ≡ s.continuation p

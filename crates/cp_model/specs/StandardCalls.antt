@@ -1,0 +1,74 @@
+-- The standard procedures: `display`, `accept`, `delay`, `continue` and `wait`.
+--
+-- A step that faults takes no input and writes nothing.
+use Rattle.std.specs.Prelude.{List, None, Option, Some, [], codes, if◌then◌else◌, negsuc, pos, slice_get, suc, ℕ, ℤ, ◌++◌, ◌∷◌}
+use Rattle.cp_model.specs.Abstract.{Boolean, Char, Designator, Enumeration, Expression, Expressions, Integer, MoreExpressions, Name, NoExpression}
+use Rattle.cp_model.specs.Names.{same_name}
+use Rattle.cp_model.specs.Locations.{Location}
+use Rattle.cp_model.specs.Stores.{QueueHolds, Value, put, put_all}
+use Rattle.cp_model.specs.Outcomes.{Fault, Gives, and_then}
+use Rattle.cp_model.specs.Environments.{Environment}
+use Rattle.cp_model.specs.Places.{TypedValue, base_of_value, ordinal_of, simple_value}
+use Rattle.cp_model.specs.Expressions.{name_of, place, value}
+use Rattle.cp_model.specs.Continuations.{Task, gates_of}
+use Rattle.cp_model.specs.Configurations.{Configuration, Context, Continues, Delays, StepResult, Waits, own_step}
+use Rattle.cp_model.specs.Assignments.{writes_of}
+use Rattle.cp_model.specs.Arguments.{designator_of}
+use Rattle.cp_model.specs.CallSteps.{innermost_call, returns}
+use Rattle.cp_model.specs.Decimal.{decimal}
+
+-- ---- display and accept
+
+abbrev pub byte : ℤ → ℕ
+byte (pos n) = n
+byte (negsuc n) = 0
+
+-- A character is displayed as its byte, any other simple value as the decimal number of its ordinal.
+abbrev pub display_text : TypedValue → List ℕ
+display_text v = elim (base_of_value v) [ Char ↦ byte (ordinal_of v) ∷ [] | Integer ↦ decimal (ordinal_of v) | Boolean ↦ decimal (ordinal_of v) | Enumeration x n ↦ decimal (ordinal_of v) ]
+
+-- At the end of the input each character is 25.
+abbrev pub next_input : List ℕ → ℕ → ℤ
+next_input input i = elim (slice_get input i) [ None ↦ pos 25 | Some b ↦ pos b ]
+
+-- ---- delay and continue
+
+abbrev pub process_in_queue : Value → Option ℕ
+process_in_queue (QueueHolds occupant_text) = occupant_text
+process_in_queue _ = None
+
+-- Into a queue where nobody stands; a taken queue is fault 5.
+abbrev pub enqueue : ℕ → Configuration → List Task → Location → ℕ → Option ℕ → StepResult
+enqueue p config k q m (Some r) = Fault 5
+enqueue p config k q m None = Gives (record config { store = put q (QueueHolds (Some p)) config.store; continuation = k }, Delays m q)
+
+-- The process stands in the queue, and the kernel passes on the gate of the innermost monitor. Outer gates stay held.
+abbrev pub delay : ℕ → Configuration → List Task → Location → List ℕ → StepResult
+delay p config k q [] = own_step config
+delay p config k q (m ∷ ms) = enqueue p config k q m (process_in_queue (config.store q))
+
+-- The entry routine returns at once, and the queue is empty. A process that stood in it resumes.
+abbrev pub continue : Configuration → Location → Option (Environment × Option ℕ × List Task) → StepResult
+continue config q (Some (env, Some m, k)) =
+    and_then (returns (record config { store = put q (QueueHolds None) config.store }) env k)
+    (λ after. Gives (after, Continues m (process_in_queue (config.store q))))
+continue config q _ = own_step config
+
+-- ---- All of them
+
+abbrev pub standard_procedure : Context → Configuration → Environment → List Task → Name → Expression → StepResult
+standard_procedure context config env k x e =
+    if same_name x (codes "display")
+    then and_then (value context.clock env config.store e) (λ v. own_step (record config { continuation = k; transcript = config.transcript ++ display_text v }))
+    else if same_name x (codes "accept")
+    then and_then (place context.clock env config.store (designator_of e)) (λ at.
+    and_then (writes_of at.at at.type (simple_value Char (next_input context.input config.consumed))) (λ ws.
+    own_step (record config { continuation = k; store = put_all ws config.store; consumed = suc config.consumed })))
+    else if same_name x (codes "delay")
+    then and_then (place context.clock env config.store (designator_of e)) (λ at. delay context.process config k at.at (gates_of k))
+    else and_then (place context.clock env config.store (designator_of e)) (λ at. continue config at.at (innermost_call k))
+
+-- Only `wait` has no argument.
+abbrev pub standard_statement : Context → Configuration → Environment → List Task → Designator → Expressions → StepResult
+standard_statement context config env k d NoExpression = Gives (record config { continuation = k }, Waits)
+standard_statement context config env k d (MoreExpressions e es) = standard_procedure context config env k (name_of d) e

@@ -1,0 +1,32 @@
+-- Values and the store: one map from locations to values for the whole system.
+use Rattle.std.specs.Prelude.{Bool, List, Option, [], if◌then◌else◌, ℕ, ℤ, ◌∷◌}
+use Rattle.cp_model.specs.Locations.{Location, Owner, same_location, same_owner}
+
+-- What a location can hold: nothing (also the result of a function that has set none), the ordinal of a simple value, a queue
+-- with the process that stands in it, a right to a monitor (by its number) or to a class (by where it lies), what a `var`
+-- parameter refers to, and the mark of a class: whether it has been initialised.
+pub data Value : Type 0 where
+  Absent : Value
+  Ordinal : (n : ℤ) → Value
+  QueueHolds : (occupant_text : Option ℕ) → Value
+  MonitorRight : (m : ℕ) → Value
+  ClassRight : (at : Location) → Value
+  Reference : (to : Location) → Value
+  Initialised : (yes : Bool) → Value
+
+-- A location that was never written holds `Absent`.
+abbrev pub Store : Type 0
+Store = Location → Value
+
+-- The store with a value at a location.
+abbrev pub put : Location → Value → Store → Store
+put l v store k = if same_location l k then v else store k
+
+-- The store after writes, one after another.
+abbrev pub put_all : List (Location × Value) → Store → Store
+put_all [] store = store
+put_all (w ∷ ws) store = put_all ws (put w.0 w.1 store)
+
+-- The store without the locations of an owner, as at the end of its activation.
+abbrev pub forget : Owner → Store → Store
+forget o store k = if same_owner o k.owner then Absent else store k

@@ -1,0 +1,63 @@
+//! The laws of rounds, as functions without a body.
+//!
+//! A caller has a law as a fact once it calls the function: `one_processor` in a round, `invariant` where states go from round to
+//! round. The laws are stated in `specs/Laws.antt`, over the invariant of `specs/Invariant.antt`, and told in docs/meaning.md,
+//! "Laws".
+
+ghost use Rattle.cp_model.specs.Laws.{LawfulRoundIsSequential, PhasedRoundIsSequential, LawfulRoundIsSequentialFromStart, PhasedRoundIsSequentialFromStart};
+ghost use Rattle.cp_model.specs.Laws.{InvariantAtStart, PrivateStepKeepsInvariant, KernelStepKeepsInvariant, PrivateTurnKeepsInvariant, KernelTurnKeepsInvariant, OwnPartsKeepInvariant, WakeKeepsInvariant, CloseKeepsInvariant, EventKeepsInvariant, RoundKeepsInvariant, SequentialRoundKeepsInvariant, RunKeepsInvariant};
+ghost use Rattle.cp_model.specs.Laws.{ReferencesAreInReach, OnlyActivationsRefer, ClassRightsKeepOwner};
+ghost use Rattle.cp_model.specs.Laws.{OwnPartIsTurned, OwnPartsKeepKernelPart, WakeKeepsKernelPart, PrivateStepKeepsKernelPart, PrivateStepKeepsOtherParts, KernelTurnKeepsOtherParts, KernelTurnMakesNonePrivate};
+ghost use Rattle.cp_model.specs.Laws.{WakeKeepsCount, PrivateTurnKeepsCount, KernelTurnKeepsCount, OwnPartsKeepCount};
+
+/// From every state with the invariant, each lawful order of a round and the phased round leave what one processor leaves. So it
+/// is from every state that rounds reach from the start, in any orders.
+pub fn one_processor()
+    ensures lawful { LawfulRoundIsSequential }
+    ensures phased { PhasedRoundIsSequential }
+    ensures lawful_from_start { LawfulRoundIsSequentialFromStart }
+    ensures phased_from_start { PhasedRoundIsSequentialFromStart }
+{}
+
+/// The invariant holds at the start, and each part of a round keeps it, whatever the text and the order of events.
+pub fn invariant()
+    ensures start { InvariantAtStart }
+    ensures private_step { PrivateStepKeepsInvariant }
+    ensures kernel_step { KernelStepKeepsInvariant }
+    ensures private_turn { PrivateTurnKeepsInvariant }
+    ensures kernel_turn { KernelTurnKeepsInvariant }
+    ensures own_parts { OwnPartsKeepInvariant }
+    ensures wake { WakeKeepsInvariant }
+    ensures close { CloseKeepsInvariant }
+    ensures event { EventKeepsInvariant }
+    ensures round { RoundKeepsInvariant }
+    ensures sequential_round { SequentialRoundKeepsInvariant }
+    ensures run { RunKeepsInvariant }
+{}
+
+/// In every state with the invariant, what a `var` parameter names is in the reach of its process, and a right to a class names one
+/// of the same owner.
+pub fn reach()
+    ensures references { ReferencesAreInReach }
+    ensures activations { OnlyActivationsRefer }
+    ensures classes { ClassRightsKeepOwner }
+{}
+
+/// What the turns of a round leave as it was: the own parts of other processes, and the kernel's part.
+pub fn parts()
+    ensures turned { OwnPartIsTurned }
+    ensures own_parts { OwnPartsKeepKernelPart }
+    ensures wake { WakeKeepsKernelPart }
+    ensures private_step { PrivateStepKeepsKernelPart }
+    ensures beside_private_step { PrivateStepKeepsOtherParts }
+    ensures beside_kernel_turn { KernelTurnKeepsOtherParts }
+    ensures none_private { KernelTurnMakesNonePrivate }
+{}
+
+/// Nothing within a round changes the count of rounds.
+pub fn count()
+    ensures wake { WakeKeepsCount }
+    ensures private_turn { PrivateTurnKeepsCount }
+    ensures kernel_turn { KernelTurnKeepsCount }
+    ensures own_parts { OwnPartsKeepCount }
+{}
