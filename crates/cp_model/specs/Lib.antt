@@ -16,6 +16,7 @@ pub mod RulesStatements
 pub mod RulesNeeds
 pub mod RulesDeclarations
 pub mod Rules
+pub mod Erase
 pub mod Abstract
 pub mod Names
 pub mod Locations
