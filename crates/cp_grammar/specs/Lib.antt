@@ -6,3 +6,4 @@ pub mod Types
 pub mod Statements
 pub mod Declarations
 pub mod Text
+pub mod Laws

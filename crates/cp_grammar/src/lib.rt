@@ -5,6 +5,8 @@
 //! token that no text has there, is proved here.
 #![tactic(auto)]
 
+mod laws;
 mod stop;
 
+pub use laws::expression_laws;
 pub use stop::Stop;
