@@ -39,7 +39,7 @@ sound_of p s r id v at = sound_from_counted p.numbers v.draws (counted_of p s r 
 pub few_of : (p : Shape) (s : BoardState) → KeepsRule p s → (id : ℕ) (v : View) → get_elem? s.views id ≡ some v → length v.draws ≤ p.numbers
 few_of p s r id v at = length-counted p.numbers v.draws (counted_of p s r id v at)
 
--- a view changes at f by no more than the seat's own part does
+-- where a seat's new view has as much of f as its old one, all views have
 pub total_same : (f : View → ℕ) (views : List View) (id : ℕ) (v w : View) → get_elem? views id ≡ some v → f w ≡ f v → total f (set views id w) ≡ total f views
 total_same f views id v w at same = let changed = total_set f views id v w at in omega arith
 

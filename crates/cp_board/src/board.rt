@@ -219,6 +219,10 @@ impl Board {
         ensures view { result.view ≡ joined first.view second.view }
         ensures sound { IsSound self.now.shape.numbers result.view.draws }
         ensures few { length result.view.draws ≤ self.now.shape.numbers }
+
+        // Who was answered None stays so.
+        ensures first_done { IsDone first.view → IsDone result.view }
+        ensures second_done { IsDone second.view → IsDone result.view }
     {
         let stop_word = self.shape.stripes;
         let Seat {

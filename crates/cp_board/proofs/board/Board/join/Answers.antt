@@ -1,9 +1,11 @@
-use Rattle.std.proofs.Common.{sym, ap, subst, ◌∙◌, ◌≡◌, arith, ℕ}
+use Rattle.std.proofs.Common.{sym, ap, subst, ◌∙◌, ◌≡◌, arith, ℕ, rules}
 use mathlib.Core.Option.{none}
 use Rattle.atomic_table.specs.Table.{Allows, step}
 use Rattle.cp_board.specs.declared.view.Shape.{Shape}
 use Rattle.cp_board.specs.Rule.{KeepsRule}
 use Rattle.cp_board.specs.Steps.{LearnsDraws}
+use Rattle.cp_board.specs.Views.{IsDone, joined}
+use Rattle.cp_board.proofs.MarkLists.{done_first, done_second}
 use Rattle.cp_board.proofs.StopSteps.{learns}
 use Rattle.cp_board.proofs.SplitAndJoin.{joins}
 use Rattle.cp_board.proofs.board.Board.join.Goals as goal
@@ -34,3 +36,13 @@ load-requires c =
       subst (λ (i : ℕ). Allows (KeepsRule p) slots me.id me.me i (λ n. n) (LearnsDraws (step slots i 0 0 none) me.me)) (sym stop_word)
           (learns p slots me.id me.me (ap (λ m. m.0.shape) c.join_seat.ensures.2 ∙ of_board)),
     )
+
+pub returns-clause-first_done : goal.returns-clause-first_done
+returns-clause-first_done c done =
+    let view : c.load.new.seat.me.0 ≡ joined c.args.first.view c.args.second.view = search rules in
+    subst IsDone (sym view) (done_first c.args.first.view c.args.second.view done)
+
+pub returns-clause-second_done : goal.returns-clause-second_done
+returns-clause-second_done c done =
+    let view : c.load.new.seat.me.0 ≡ joined c.args.first.view c.args.second.view = search rules in
+    subst IsDone (sym view) (done_second c.args.first.view c.args.second.view (c.requires.second.shape ∙ sym c.requires.first.shape) done)
