@@ -1,5 +1,5 @@
 -- From how often each number stands in a list of draws to what the list is, and to its length.
-use Rattle.std.proofs.Common.{◌≡◌, ◌≢◌, ℕ, zero, suc, ◌+◌, ◌<◌, ◌≤◌, Bool, true, false, cond, eqb, List, [], ◌∷◌, ◌++◌, length, get_or, sym, refl, ap, ◌∙◌, subst, arith, eq-eqb, ne_eqb, lt_of_not-le}
+use Rattle.std.proofs.Common.{◌≡◌, ◌≢◌, ℕ, zero, suc, ◌+◌, ◌<◌, ◌≤◌, Bool, true, false, cond, eqb, List, [], ◌∷◌, ◌++◌, length, get_or, sym, refl, ap, ◌∙◌, arith, eq-eqb, eqb-true, ne_eqb, lt_of_not-le}
 use mathlib.Core.Logic.{dite}
 use native.Mathlib.Decide.{ℕ_discrete, dec_le}
 use Rattle.std.specs.Prelude.{Contains}
@@ -69,7 +69,8 @@ unfolding without
 length_without m [] = refl
 length_without m (y ∷ ys) = by_head (eqb m y) (length_without m ys)
   where
-    by_head : (b : Bool) → length ys ≡ times m ys + length (without m ys) → suc (length ys) ≡ (cond b 1 0 + times m ys) + length (cond b (without m ys) (y ∷ without m ys))
+    by_head : (b : Bool) → length ys ≡ times m ys + length (without m ys)
+        → suc (length ys) ≡ (cond b 1 0 + times m ys) + length (cond b (without m ys) (y ∷ without m ys))
     by_head true rest = omega arith
     by_head false rest = omega arith
 
@@ -87,9 +88,10 @@ unfolding without
 times_kept x m [] ne = omega arith
 times_kept x m (y ∷ ys) ne = by_head (eqb m y) refl (times_kept x m ys ne)
   where
-    by_head : (b : Bool) → eqb m y ≡ b → times x ys ≤ times x (without m ys) → cond (eqb x y) 1 0 + times x ys ≤ times x (cond b (without m ys) (y ∷ without m ys))
+    by_head : (b : Bool) → eqb m y ≡ b → times x ys ≤ times x (without m ys)
+        → cond (eqb x y) 1 0 + times x ys ≤ times x (cond b (without m ys) (y ∷ without m ys))
     by_head true is rest =
-        let other : x ≢ y = λ e. ne (e ∙ sym (Rattle.std.proofs.Common.eqb-true m y is)) in
+        let other : x ≢ y = λ e. ne (e ∙ sym (eqb-true m y is)) in
         let none : cond {A = ℕ} (eqb x y) 1 0 ≡ 0 = ap (λ (b : Bool). cond {A = ℕ} b 1 0) (ne_eqb x y other) in
         omega arith
     by_head false is rest = omega arith
@@ -125,7 +127,10 @@ length-counted (suc n) ys c =
 pub length-whole : (n : ℕ) (ys : List ℕ) → ((x : ℕ) → x < n → 0 < times x ys) → n ≤ length ys
 length-whole zero ys whole = omega arith
 length-whole (suc n) ys whole =
-    let rest = length-whole n (without n ys) (λ x below. let kept = times_kept x n ys (λ e. absurd (omega arith)) in let some = whole x (omega arith) in omega arith) in
+    let rest = length-whole n (without n ys) (λ x below.
+    let kept = times_kept x n ys (λ e. absurd (omega arith)) in
+    let some = whole x (omega arith) in
+    omega arith) in
     let parts = length_without n ys in
     let some = whole n (omega arith) in
     omega arith

@@ -2,7 +2,7 @@ pub mod Totals
 pub mod DrawLists
 pub mod StripeNumbers
 pub mod MarkLists
-pub mod SeatDraws
+pub mod States
 pub mod DrawStep
 pub mod StopSteps
 pub mod SplitAndJoin

@@ -15,7 +15,8 @@ join_seat-requires c =
     let p : Shape = c.self.inside.table.shared.key in
     let first = c.first.invariant in
     let words = c.self.invariant.words in
-    let of_board = ap (λ s. s.view.shape) c.first.view_is ∙ c.requires.first.shape ∙ sym (ap (λ b. b.shape) c.self.view_is) ∙ sym c.self.invariant.key in (
+    let shape = ap (λ b. b.shape) c.self.view_is in
+    let of_board = ap (λ s. s.view.shape) c.first.view_is ∙ c.requires.first.shape ∙ sym shape ∙ sym c.self.invariant.key in (
       ap (λ s. s.table) c.first.view_is ∙ c.requires.first.table ∙ sym (ap (λ b. b.table) c.self.view_is),
       ap (λ s. s.table) c.second.view_is ∙ c.requires.second.table ∙ sym (ap (λ b. b.table) c.self.view_is),
       c.second.invariant.slots,
@@ -30,7 +31,8 @@ load-requires c =
     let slots : ℕ = c.self.inside.table.shared.table_id.slots in
     let words = c.self.invariant.words in
     let stop_word : c.self.inside.shape.stripes ≡ p.stripes = ap (λ (q : Shape). q.stripes) (sym c.self.invariant.key) in
-    let of_board : c.first.inside.pass.me.0.shape ≡ p = ap (λ s. s.view.shape) c.first.view_is ∙ c.requires.first.shape ∙ sym (ap (λ b. b.shape) c.self.view_is) ∙ sym c.self.invariant.key in (
+    let shape = ap (λ b. b.shape) c.self.view_is in
+    let of_board : c.first.inside.pass.me.0.shape ≡ p = ap (λ s. s.view.shape) c.first.view_is ∙ c.requires.first.shape ∙ sym shape ∙ sym c.self.invariant.key in (
       c.join_seat.ensures.0 ∙ (ap (λ s. s.table) c.first.view_is ∙ c.requires.first.table ∙ sym (ap (λ b. b.table) c.self.view_is)),
       omega arith,
       subst (λ (i : ℕ). Allows (KeepsRule p) slots me.id me.me i (λ n. n) (LearnsDraws (step slots i 0 0 none) me.me)) (sym stop_word)
