@@ -8,6 +8,10 @@ use Rattle.cp_board.specs.declared.view.View.{View}
 abbrev pub is_used_up : View → ℕ → Bool
 is_used_up v stripe = slice_index_or v.used_up stripe false
 
+-- no stripe that was found used up is forgotten
+abbrev pub KeepsMarks : View → View → Type 0
+KeepsMarks old new = (stripe : ℕ) → is_used_up old stripe ≡ true → is_used_up new stripe ≡ true
+
 -- the seat found each stripe used up, so it was answered that no number is left
 abbrev pub IsDone : View → Type 0
 IsDone v = (stripe : ℕ) → stripe < v.shape.stripes → is_used_up v stripe ≡ true

@@ -1,16 +1,20 @@
-//! The board and its calls. What contracts see of a board stands in `specs/Models.antt`, and what its fields have to do
-//! with its table in `specs/BoardInside.antt`.
+//! The board and its calls. What contracts see of a board stands in `specs/Models.antt`, and what
+//! its fields have to do with its table in `specs/BoardInside.antt`.
 //!
-//! The steps on shared words are three kinds: `fetch_add` of 1 on a ticket word, load of the stop word, and `fetch_or` of
-//! 1 on it. A ticket that is past the end of its stripe is no number; the seat then marks the stripe. Of `claim` no clause
-//! says, but reading it shows: it touches no word of a stripe that its seat marked, makes at most as many atomic steps as
-//! there are stripes, and tries no step twice.
+//! There are three kinds of steps on shared words: `fetch_add` of 1 on a ticket word, load of the
+//! stop word, and `fetch_or` of 1 on it. A ticket that is past the end of its stripe is no number:
+//! the seat then marks the stripe. `join` makes one load beside those with which `atomic_table`
+//! cuts and joins views.
+//!
+//! No clause says the following of `claim`, but reading it shows it: it touches no word of a stripe
+//! that its seat marked, makes at most as many atomic steps as there are stripes, and tries no step
+//! twice.
 //!
 //! No call but `Board::new` takes memory, and none waits.
 ghost use Rattle.std.specs.Prelude.{◌≡◌, ◌<◌, ◌≤◌, ◌++◌, ◌∷◌, [], true, length, IfOk, IsErr, IfErr, IfSome, None, IsNone, IfNone, IsTrue, ◌↔◌};
 ghost use Rattle.cp_board.specs.Draws.{IsSound, IsWhole};
 ghost use Rattle.cp_board.specs.Models.{IsSeatOf, ChangesOnlyDraws};
-ghost use Rattle.cp_board.specs.Views.{IsDone, is_used_up, first_view, first_half, second_half, joined, with_called_stop};
+ghost use Rattle.cp_board.specs.Views.{IsDone, KeepsMarks, is_used_up, first_view, first_half, second_half, joined, with_called_stop};
 
 use crate::marks::either;
 use crate::seat::Seat;
@@ -20,7 +24,8 @@ use atomic_table::Table;
 use std::alloc::{AllocError, Global};
 use std::marker::Model;
 
-/// The numbers below n, to be drawn by any number of threads. A contract sees which board it is, and its shape.
+/// The numbers below n, to be drawn by any number of threads. A contract sees which board it is,
+/// and its shape.
 #[derive(Drop)]
 pub struct Board {
     // The ticket words, one for each stripe, and then the stop word.
@@ -41,8 +46,8 @@ impl Model for Board {
 }
 
 impl Board {
-    /// A board of the numbers below n over so many stripes, and its first seat, which has the whole allowance, no draws and
-    /// no marks. `Err` where memory was refused.
+    /// A board of the numbers below n over so many stripes, and its first seat, which has the whole
+    /// allowance, no draws and no marks. `Err` where memory was refused.
     pub fn new(alloc: Global, n: usize, stripes: usize) -> Result<(Board, Seat), AllocError>
         requires numbers { n ≤ MOST_NUMBERS }
         requires some { 0 < stripes }
@@ -69,7 +74,8 @@ impl Board {
         Ok((board, seat))
     }
 
-    // Draws the next ticket of the stripe. `None` where the seat has marked the stripe, or finds it used up and marks it.
+    // Draws the next ticket of the stripe. `None` where the seat has marked the stripe, or finds it
+    // used up and marks it.
     fn draw_from(&self, seat: &mut Seat, stripe: usize) -> Option<usize>
         requires of { IsSeatOf self.now seat.old }
         requires stripe { stripe < self.now.shape.stripes }
@@ -78,7 +84,7 @@ impl Board {
         ensures some { IfSome result (λ x. seat.new.view.draws ≡ seat.old.view.draws ++ x ∷ []) }
         ensures none { IfNone result (seat.new.view.draws ≡ seat.old.view.draws) }
         ensures marked { IsNone result ↔ (is_used_up seat.new.view stripe ≡ true) }
-        ensures kept { (j : _) → is_used_up seat.old.view j ≡ true → is_used_up seat.new.view j ≡ true }
+        ensures kept { KeepsMarks seat.old.view seat.new.view }
         ensures sound { IsSound self.now.shape.numbers seat.new.view.draws }
         ensures few { length seat.new.view.draws ≤ self.now.shape.numbers }
     {
@@ -100,7 +106,8 @@ impl Board {
         }
     }
 
-    /// A number below n that nobody else draws. `None` where all were drawn, and from then on whenever this seat asks.
+    /// A number below n that nobody else draws. `None` where all were drawn, and from then on
+    /// whenever this seat asks.
     pub fn claim(&self, seat: &mut Seat) -> Option<usize>
         requires { IsSeatOf self.now seat.old }
         ensures rest { ChangesOnlyDraws seat.old seat.new }
@@ -114,7 +121,7 @@ impl Board {
 
         // None is that each stripe is marked, and marks stay.
         ensures done { IsNone result ↔ IsDone seat.new.view }
-        ensures kept { (j : _) → is_used_up seat.old.view j ≡ true → is_used_up seat.new.view j ≡ true }
+        ensures kept { KeepsMarks seat.old.view seat.new.view }
         ensures again { IsDone seat.old.view → result ≡ None }
     {
         let stripes = self.shape.stripes;
@@ -145,8 +152,8 @@ impl Board {
         seat.seen_stop = true;
     }
 
-    /// Whether a stop was called: true only after one, and always for a seat that has seen one. That a seat sees a stop
-    /// that another called is shown by tests alone.
+    /// Whether a stop was called: true only after one, and always for a seat that has seen one.
+    /// That a seat sees a stop that another called is shown by tests alone.
     pub fn stopped(&self, seat: &mut Seat) -> bool
         requires { IsSeatOf self.now seat.old }
         ensures table { seat.new.table ≡ seat.old.table }
@@ -164,8 +171,9 @@ impl Board {
         stopped
     }
 
-    /// Two seats of one: the allowance is halved, and the first keeps the larger half, the draws and the calls of stop.
-    /// Both keep what was seen. The seat comes back just where its allowance is 1.
+    /// Two seats of one: the allowance is halved, and the first keeps the larger half, the draws
+    /// and the calls of stop. Both keep what was seen. The seat comes back just where its allowance
+    /// is 1.
     pub fn split(&self, seat: Seat) -> Result<(Seat, Seat), Seat>
         requires { IsSeatOf self.now seat }
         ensures tables { IfOk result (λ r. (r.0.table ≡ seat.table) × (r.1.table ≡ seat.table)) }
@@ -209,9 +217,11 @@ impl Board {
         Ok((first, second))
     }
 
-    /// One seat of two: the allowances are added, and draws, calls of stop and what was seen are put together.
+    /// One seat of two: the allowances are added, and draws, calls of stop and what was seen are
+    /// put together.
     ///
-    /// The load at the end changes nothing. By it the seat learns that the draws of both are sound together.
+    /// The load at the end changes nothing. By it the seat learns that the draws of both are sound
+    /// together.
     pub fn join(&self, first: Seat, second: Seat) -> Seat
         requires first { IsSeatOf self.now first }
         requires second { IsSeatOf self.now second }
@@ -247,7 +257,8 @@ impl Board {
         }
     }
 
-    /// Ends the board, and gives the number of draws. The seat has to be the only one left, with the whole allowance.
+    /// Ends the board, and gives the number of draws. The seat has to be the only one left, with
+    /// the whole allowance.
     pub fn close(self, seat: Seat) -> usize
         requires of { IsSeatOf self seat }
         requires whole { seat.view.allowance ≡ FULL_ALLOWANCE }

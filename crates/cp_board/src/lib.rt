@@ -1,10 +1,11 @@
-//! A ticket board: the numbers below n, each drawn by one seat alone, in whatever threads the seats are, and a stop that
-//! any seat may call.
+//! A ticket board: the numbers below n, each drawn by one seat alone, in whatever threads the seats
+//! are, and a stop that any seat may call.
 //!
-//! A board has one ticket word for each of its stripes, and a stop word. `Board::new` gives the board and its first seat.
-//! `Board::split` makes two seats of one and `Board::join` one of two, so each thread gets a seat of its own. A seat
-//! draws with `Board::claim`, calls the stop with `Board::stop` and asks for it with `Board::stopped`. Who has joined all
-//! seats closes the board with `Board::close`, and then knows all that was drawn.
+//! A board has one ticket word for each of its stripes, and a stop word. `Board::new` gives the
+//! board and its first seat. `Board::split` makes two seats of one and `Board::join` one of two, so
+//! each thread gets a seat of its own. A seat draws with `Board::claim`, calls the stop with
+//! `Board::stop` and asks for it with `Board::stopped`. Who has joined all seats closes the board
+//! with `Board::close`, and then knows all that was drawn.
 //!
 //! | What | Where its definition stands |
 //! |---|---|
@@ -15,8 +16,9 @@
 //! | the rule that holds between any two atomic steps | `specs/Rule.antt` |
 //! | what each kind of atomic step tells its seat | `specs/Steps.antt` |
 //!
-//! The rule is that of the table of `atomic_table` below a board, whose promise it is that it holds between any two steps
-//! of any threads. No clause of this crate names it: what a caller learns of it are the clauses of the calls.
+//! The rule is kept by the table of `atomic_table` on which a board stands: that crate promises that
+//! it holds between any two steps, of whatever threads. No clause here names it; what a caller
+//! learns of it are the clauses of the calls.
 #![tactic(auto)]
 
 mod board;

@@ -1,5 +1,6 @@
-//! The rule of a board's table, and the kinds of its atomic steps. The rule stands in `specs/Rule.antt`, and what each
-//! kind of step tells the seat that makes it in `specs/Steps.antt`.
+//! The rule of a board's table, and the kinds of its atomic steps. The rule stands in
+//! `specs/Rule.antt`, and what each kind of step tells the seat that makes it in
+//! `specs/Steps.antt`.
 ghost use Rattle.cp_board.specs.Rule.{KeepsRule};
 ghost use Rattle.cp_board.specs.Steps.{DrawsTicket, ReadsStop, CallsStop, LearnsDraws};
 ghost use Rattle.cp_board.specs.Views.{first_view, first_half, second_half, joined, spent_view};
@@ -37,7 +38,8 @@ impl Play<(), View> for CallStop {
     ghost then = { CallsStop };
 }
 
-/// Load of the stop word behind a join. It changes no view: by it the seat learns from the rule that its draws are sound.
+/// Load of the stop word behind a join. It changes no view: by it the seat learns from the rule
+/// that its draws are sound.
 pub(crate) struct LearnDraws;
 
 impl Play<(), View> for LearnDraws {

@@ -1,5 +1,5 @@
-//! What no clause says: how the numbers are spread over stripes, that seats in many threads draw them all, and that a seat
-//! sees the stop that another called.
+//! What no clause says: how the numbers are spread over stripes, that seats in many threads draw
+//! them all, and that a seat sees the stop that another called.
 ghost use Rattle.std.specs.Prelude.{◌≡◌, ◌<◌, ◌≤◌};
 ghost use Rattle.std.specs.Thread.{IsSync};
 ghost use Rattle.cp_board.specs.Models.{IsSeatOf};
@@ -33,7 +33,8 @@ fn is_each_once(alloc: Global, mut drawn: Vec<usize>, n: usize) -> Result<bool, 
     Ok(drawn.as_slice() == want.as_slice())
 }
 
-// Whether one seat draws each number once and is then answered None again, and the close counts them.
+// Whether one seat draws each number once and is then answered None again, and the close counts
+// them.
 fn draws_alone(alloc: Global, n: usize, stripes: usize) -> Result<bool, AllocError>
     requires numbers { n ≤ MOST_NUMBERS }
     requires some { 0 < stripes }

@@ -1,4 +1,5 @@
-//! What a board is told when it is made, and what a seat knows. The functions on views stand in `specs/Views.antt`.
+//! What a board is told when it is made, and what a seat knows. The functions on views stand in
+//! `specs/Views.antt`.
 use std::collections::LinkedList;
 
 /// The most numbers that a board may have.
