@@ -1,5 +1,5 @@
 -- The rule of a board, over its words and the views of all its seats. It holds between any two atomic steps.
--- The first words are the tickets, one for each stripe, each the next ticket to be drawn there. The last word is the stop.
+-- The first words are the tickets, one for each stripe: the next ticket to be drawn there. The last word is the stop.
 use Rattle.std.specs.Prelude.{◌≡◌, ℕ, ◌+◌, ◌<◌, ◌≤◌, min, Bool, true, false, if◌then◌else◌, List, [], ◌∷◌, length, slice_index}
 use mathlib.Core.Option.{some}
 use lib.ListN.{get_elem?}
@@ -24,12 +24,14 @@ abbrev pub marked_allowance : ℕ → View → ℕ
 marked_allowance stripe v = if is_used_up v stripe then v.allowance else 0
 
 -- What holds of each seat. One that a join has spent has no allowance: its shape says nothing, and it has drawn and called nothing.
+-- A seat that has seen a stop was not told wrong, and no ticket below n is left in a stripe that it found used up.
 pub record FitsWords (shape : Shape) (words : List ℕ) (v : View) : Type 0 where
   pub of_board : 0 < v.allowance → v.shape ≡ shape
   pub idle : v.allowance ≡ 0 → (v.draws ≡ []) × (v.called_stop ≡ false)
   pub told : v.seen_stop ≡ true → slice_index words shape.stripes ≡ 1
   pub used_up : (j : ℕ) → j < shape.stripes → is_used_up v j ≡ true → shape.numbers ≤ number_of shape j (slice_index words j)
 
+-- What holds of all seats and words.
 pub record KeepsRule (shape : Shape) (s : State (Unit {0}) View) : Type 0 where
   pub width : length s.words ≡ shape.stripes + 1
   -- the stop word is 1 exactly where a seat called stop, else 0
@@ -39,6 +41,6 @@ pub record KeepsRule (shape : Shape) (s : State (Unit {0}) View) : Type 0 where
   pub gone : (x : ℕ) → x < shape.numbers → ticket_of shape x < slice_index s.words (stripe_of shape x) → total (λ v. times x v.draws) s.views ≡ 1
   pub left : (x : ℕ) → x < shape.numbers → slice_index s.words (stripe_of shape x) ≤ ticket_of shape x → total (λ v. times x v.draws) s.views ≡ 0
   pub beyond : (x : ℕ) → shape.numbers ≤ x → total (λ v. times x v.draws) s.views ≡ 0
-  -- past its end a stripe's word grows only by steps that use up some allowance for that stripe, so no word wraps
+  -- a seat that draws past the end of a stripe marks it, and draws there no more: so no word grows far past its end, and none wraps
   pub small : (j : ℕ) → j < shape.stripes → slice_index s.words j ≤ shape.numbers + total (marked_allowance j) s.views
   pub each : (id : ℕ) (v : View) → get_elem? s.views id ≡ some v → FitsWords shape s.words v

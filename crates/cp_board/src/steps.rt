@@ -9,7 +9,7 @@ use crate::view::{Shape, View};
 use atomic_table::{Join, Play, Split, TableRule};
 
 /// What holds of the words and all views between any two steps.
-pub struct BoardRule;
+pub(crate) struct BoardRule;
 
 impl TableRule<(), View, Shape> for BoardRule {
     ghost holds = { KeepsRule };
