@@ -105,20 +105,32 @@ def write_module(folder):
             lines += [f'abbrev pub {own} : Type 0', f'{own} = {statement(*case)}', '']
     lines += [f'abbrev pub {title} : Type 0', f'{title} = ' + ' × '.join(names), '']
     (CRATE / 'specs' / f'{title}.antt').write_text('\n'.join(lines))
-    proof = CRATE / 'proofs' / 'rows' / f'{name}_hold'
-    proof.mkdir(parents=True, exist_ok=True)
-    modules = unfoldable()
-    answers = ['use Rattle.std.proofs.Common.{refl}', f'use Rattle.cp_rows.proofs.rows.{name}_hold.Goals as goal']
-    answers += [f'use {module}.{{{", ".join(own)}}}' for module, own in modules.items()]
-    answers += ['', 'pub returns : goal.returns',
-                'unfolding ' + ' '.join(word for own in modules.values() for word in own),
-                'returns c = (' + ', '.join('refl' for _ in names) + ')', '']
-    (proof / 'Answers.antt').write_text('\n'.join(answers))
+    write_proofs(name, title, names)
     return title, name, len(names)
+
+
+def write_proofs(name, title, names):
+    """A lemma for each statement, by computation, and the answer that puts them together."""
+    modules = unfoldable()
+    unfolding = 'unfolding ' + ' '.join(word for own in modules.values() for word in own)
+    lemmas = [f'-- The answers of {name}, computed. Written by worked/make_rows.py.', 'use Rattle.std.proofs.Common.{refl}',
+              f'use Rattle.cp_rows.specs.{title}.{{{", ".join(names)}}}']
+    lemmas += [f'use {module}.{{{", ".join(own)}}}' for module, own in modules.items()]
+    for own in names:
+        lemmas += ['', f'pub {own}-holds : {own}', unfolding, f'{own}-holds = refl']
+    (CRATE / 'proofs' / f'{title}Computed.antt').write_text('\n'.join(lemmas) + '\n')
+    folder = CRATE / 'proofs' / 'rows' / f'{name}_hold'
+    folder.mkdir(parents=True, exist_ok=True)
+    cited = [f'{own}-holds' for own in names]
+    answers = [f'use Rattle.cp_rows.proofs.{title}Computed.{{{", ".join(cited)}}}',
+               f'use Rattle.cp_rows.proofs.rows.{name}_hold.Goals as goal', '',
+               'pub returns : goal.returns', 'returns c = (' + ', '.join(cited) + ')', '']
+    (folder / 'Answers.antt').write_text('\n'.join(answers))
 
 
 def write_all():
     modules = [write_module(folder) for folder in sorted(HERE.iterdir()) if list(folder.glob('*.txt'))]
+    (CRATE / 'proofs' / 'Lib.antt').write_text(''.join(f'mod {title}Computed\n' for title, _, _ in modules))
     (CRATE / 'specs' / 'Lib.antt').write_text('pub mod Answers\n' + ''.join(f'pub mod {title}\n' for title, _, _ in modules))
     code = ['//! The worked texts of the folder `worked`: each function says of one folder that the definitions give its answers.',
             '//!', '//! Written by worked/make_rows.py.', '']
