@@ -1,7 +1,12 @@
+mod CallsComputed
 mod ClassesComputed
 mod ClockComputed
+mod ComponentsComputed
 mod MonitorsComputed
+mod NamesComputed
 mod NestingComputed
 mod OrdersComputed
 mod ProcessesComputed
 mod RefusalsComputed
+mod TypesComputed
+mod VariablesComputed

@@ -1,8 +1,13 @@
 pub mod Answers
+pub mod Calls
 pub mod Classes
 pub mod Clock
+pub mod Components
 pub mod Monitors
+pub mod Names
 pub mod Nesting
 pub mod Orders
 pub mod Processes
 pub mod Refusals
+pub mod Types
+pub mod Variables

@@ -2,13 +2,24 @@
 //!
 //! Written by worked/make_rows.py.
 
+ghost use Rattle.cp_rows.specs.Calls.{Calls};
 ghost use Rattle.cp_rows.specs.Classes.{Classes};
 ghost use Rattle.cp_rows.specs.Clock.{Clock};
+ghost use Rattle.cp_rows.specs.Components.{Components};
 ghost use Rattle.cp_rows.specs.Monitors.{Monitors};
+ghost use Rattle.cp_rows.specs.Names.{Names};
 ghost use Rattle.cp_rows.specs.Nesting.{Nesting};
 ghost use Rattle.cp_rows.specs.Orders.{Orders};
 ghost use Rattle.cp_rows.specs.Processes.{Processes};
 ghost use Rattle.cp_rows.specs.Refusals.{Refusals};
+ghost use Rattle.cp_rows.specs.Types.{Types};
+ghost use Rattle.cp_rows.specs.Variables.{Variables};
+
+/// The 18 answers of `worked/calls`.
+pub fn calls_hold()
+    ensures { Calls }
+{
+}
 
 /// The 1 answers of `worked/classes`.
 pub fn classes_hold()
@@ -22,9 +33,21 @@ pub fn clock_hold()
 {
 }
 
-/// The 23 answers of `worked/monitors`.
+/// The 43 answers of `worked/components`.
+pub fn components_hold()
+    ensures { Components }
+{
+}
+
+/// The 60 answers of `worked/monitors`.
 pub fn monitors_hold()
     ensures { Monitors }
+{
+}
+
+/// The 41 answers of `worked/names`.
+pub fn names_hold()
+    ensures { Names }
 {
 }
 
@@ -49,5 +72,17 @@ pub fn processes_hold()
 /// The 25 answers of `worked/refusals`.
 pub fn refusals_hold()
     ensures { Refusals }
+{
+}
+
+/// The 42 answers of `worked/types`.
+pub fn types_hold()
+    ensures { Types }
+{
+}
+
+/// The 66 answers of `worked/variables`.
+pub fn variables_hold()
+    ensures { Variables }
 {
 }

@@ -1,0 +1,84 @@
+-- The answers of calls, computed. Written by worked/make_rows.py.
+use Rattle.std.proofs.Common.{refl}
+use Rattle.cp_rows.specs.Calls.{arguments_1, arguments_2, arguments_3, arguments_4, arguments_5, arguments_6, arguments_7, arguments_8, arguments_9, arguments_10, arguments_11, arguments_12, arguments_13, arguments_14, arguments_15, arguments_16, arguments_17, arguments_18}
+use Rattle.cp_scan.specs.Pieces.{word, number, comment, coded, character, longer_mark, mark, piece, pieces}
+use Rattle.cp_grammar.specs.Declarations.{constant_definition_of, parameter_group_of, some_parameters_of, parameters_of, result_type_of, heading_from, heading_of, variable_group_of, some_variables_of, variables_of, body_of, routine_of, routines_of, system_from, system_type, enumeration_of, written_type, defined_by, defined_of, type_definition_of, section_by, section_of}
+use Rattle.cp_grammar.specs.Expressions.{operation_of, chain_from, term_of, signed_term, simple_of, expression_of, expressions_from, index_of, indices_from, field_of, indexed_of, selector_by, selector_of, designator_of, arguments_of, optional_arguments_of, call_or_part, named_of, parenthesized_of, not_of, factor_by, factor_of, inner_at}
+use Rattle.cp_grammar.specs.Kinds.{is_symbol}
+use Rattle.cp_grammar.specs.Names.{identifier_of, names_of, constant_of, constants_of}
+use Rattle.cp_grammar.specs.Reading.{expect, optional_symbol, repeat}
+use Rattle.cp_grammar.specs.Statements.{direction_of, statements_from, arm_of, else_part, block_of, compound_of, if_of, case_of, while_of, repeat_of, for_of, cycle_of, assign_or_perform, designated_of, init_item_of, init_of, statement_by, statement_of, deeper_at}
+use Rattle.cp_grammar.specs.Text.{tree_of, text_of}
+use Rattle.cp_grammar.specs.Types.{subrange_from, named_or_subrange, group_of, array_of, record_of, type_by, type_of, inner_type_at}
+
+pub arguments_1-holds : arguments_1
+unfolding word number comment coded character longer_mark mark piece pieces constant_definition_of parameter_group_of some_parameters_of parameters_of result_type_of heading_from heading_of variable_group_of some_variables_of variables_of body_of routine_of routines_of system_from system_type enumeration_of written_type defined_by defined_of type_definition_of section_by section_of operation_of chain_from term_of signed_term simple_of expression_of expressions_from index_of indices_from field_of indexed_of selector_by selector_of designator_of arguments_of optional_arguments_of call_or_part named_of parenthesized_of not_of factor_by factor_of inner_at is_symbol identifier_of names_of constant_of constants_of expect optional_symbol repeat direction_of statements_from arm_of else_part block_of compound_of if_of case_of while_of repeat_of for_of cycle_of assign_or_perform designated_of init_item_of init_of statement_by statement_of deeper_at tree_of text_of subrange_from named_or_subrange group_of array_of record_of type_by type_of inner_type_at
+arguments_1-holds = refl
+
+pub arguments_2-holds : arguments_2
+unfolding word number comment coded character longer_mark mark piece pieces constant_definition_of parameter_group_of some_parameters_of parameters_of result_type_of heading_from heading_of variable_group_of some_variables_of variables_of body_of routine_of routines_of system_from system_type enumeration_of written_type defined_by defined_of type_definition_of section_by section_of operation_of chain_from term_of signed_term simple_of expression_of expressions_from index_of indices_from field_of indexed_of selector_by selector_of designator_of arguments_of optional_arguments_of call_or_part named_of parenthesized_of not_of factor_by factor_of inner_at is_symbol identifier_of names_of constant_of constants_of expect optional_symbol repeat direction_of statements_from arm_of else_part block_of compound_of if_of case_of while_of repeat_of for_of cycle_of assign_or_perform designated_of init_item_of init_of statement_by statement_of deeper_at tree_of text_of subrange_from named_or_subrange group_of array_of record_of type_by type_of inner_type_at
+arguments_2-holds = refl
+
+pub arguments_3-holds : arguments_3
+unfolding word number comment coded character longer_mark mark piece pieces constant_definition_of parameter_group_of some_parameters_of parameters_of result_type_of heading_from heading_of variable_group_of some_variables_of variables_of body_of routine_of routines_of system_from system_type enumeration_of written_type defined_by defined_of type_definition_of section_by section_of operation_of chain_from term_of signed_term simple_of expression_of expressions_from index_of indices_from field_of indexed_of selector_by selector_of designator_of arguments_of optional_arguments_of call_or_part named_of parenthesized_of not_of factor_by factor_of inner_at is_symbol identifier_of names_of constant_of constants_of expect optional_symbol repeat direction_of statements_from arm_of else_part block_of compound_of if_of case_of while_of repeat_of for_of cycle_of assign_or_perform designated_of init_item_of init_of statement_by statement_of deeper_at tree_of text_of subrange_from named_or_subrange group_of array_of record_of type_by type_of inner_type_at
+arguments_3-holds = refl
+
+pub arguments_4-holds : arguments_4
+unfolding word number comment coded character longer_mark mark piece pieces constant_definition_of parameter_group_of some_parameters_of parameters_of result_type_of heading_from heading_of variable_group_of some_variables_of variables_of body_of routine_of routines_of system_from system_type enumeration_of written_type defined_by defined_of type_definition_of section_by section_of operation_of chain_from term_of signed_term simple_of expression_of expressions_from index_of indices_from field_of indexed_of selector_by selector_of designator_of arguments_of optional_arguments_of call_or_part named_of parenthesized_of not_of factor_by factor_of inner_at is_symbol identifier_of names_of constant_of constants_of expect optional_symbol repeat direction_of statements_from arm_of else_part block_of compound_of if_of case_of while_of repeat_of for_of cycle_of assign_or_perform designated_of init_item_of init_of statement_by statement_of deeper_at tree_of text_of subrange_from named_or_subrange group_of array_of record_of type_by type_of inner_type_at
+arguments_4-holds = refl
+
+pub arguments_5-holds : arguments_5
+unfolding word number comment coded character longer_mark mark piece pieces constant_definition_of parameter_group_of some_parameters_of parameters_of result_type_of heading_from heading_of variable_group_of some_variables_of variables_of body_of routine_of routines_of system_from system_type enumeration_of written_type defined_by defined_of type_definition_of section_by section_of operation_of chain_from term_of signed_term simple_of expression_of expressions_from index_of indices_from field_of indexed_of selector_by selector_of designator_of arguments_of optional_arguments_of call_or_part named_of parenthesized_of not_of factor_by factor_of inner_at is_symbol identifier_of names_of constant_of constants_of expect optional_symbol repeat direction_of statements_from arm_of else_part block_of compound_of if_of case_of while_of repeat_of for_of cycle_of assign_or_perform designated_of init_item_of init_of statement_by statement_of deeper_at tree_of text_of subrange_from named_or_subrange group_of array_of record_of type_by type_of inner_type_at
+arguments_5-holds = refl
+
+pub arguments_6-holds : arguments_6
+unfolding word number comment coded character longer_mark mark piece pieces constant_definition_of parameter_group_of some_parameters_of parameters_of result_type_of heading_from heading_of variable_group_of some_variables_of variables_of body_of routine_of routines_of system_from system_type enumeration_of written_type defined_by defined_of type_definition_of section_by section_of operation_of chain_from term_of signed_term simple_of expression_of expressions_from index_of indices_from field_of indexed_of selector_by selector_of designator_of arguments_of optional_arguments_of call_or_part named_of parenthesized_of not_of factor_by factor_of inner_at is_symbol identifier_of names_of constant_of constants_of expect optional_symbol repeat direction_of statements_from arm_of else_part block_of compound_of if_of case_of while_of repeat_of for_of cycle_of assign_or_perform designated_of init_item_of init_of statement_by statement_of deeper_at tree_of text_of subrange_from named_or_subrange group_of array_of record_of type_by type_of inner_type_at
+arguments_6-holds = refl
+
+pub arguments_7-holds : arguments_7
+unfolding word number comment coded character longer_mark mark piece pieces constant_definition_of parameter_group_of some_parameters_of parameters_of result_type_of heading_from heading_of variable_group_of some_variables_of variables_of body_of routine_of routines_of system_from system_type enumeration_of written_type defined_by defined_of type_definition_of section_by section_of operation_of chain_from term_of signed_term simple_of expression_of expressions_from index_of indices_from field_of indexed_of selector_by selector_of designator_of arguments_of optional_arguments_of call_or_part named_of parenthesized_of not_of factor_by factor_of inner_at is_symbol identifier_of names_of constant_of constants_of expect optional_symbol repeat direction_of statements_from arm_of else_part block_of compound_of if_of case_of while_of repeat_of for_of cycle_of assign_or_perform designated_of init_item_of init_of statement_by statement_of deeper_at tree_of text_of subrange_from named_or_subrange group_of array_of record_of type_by type_of inner_type_at
+arguments_7-holds = refl
+
+pub arguments_8-holds : arguments_8
+unfolding word number comment coded character longer_mark mark piece pieces constant_definition_of parameter_group_of some_parameters_of parameters_of result_type_of heading_from heading_of variable_group_of some_variables_of variables_of body_of routine_of routines_of system_from system_type enumeration_of written_type defined_by defined_of type_definition_of section_by section_of operation_of chain_from term_of signed_term simple_of expression_of expressions_from index_of indices_from field_of indexed_of selector_by selector_of designator_of arguments_of optional_arguments_of call_or_part named_of parenthesized_of not_of factor_by factor_of inner_at is_symbol identifier_of names_of constant_of constants_of expect optional_symbol repeat direction_of statements_from arm_of else_part block_of compound_of if_of case_of while_of repeat_of for_of cycle_of assign_or_perform designated_of init_item_of init_of statement_by statement_of deeper_at tree_of text_of subrange_from named_or_subrange group_of array_of record_of type_by type_of inner_type_at
+arguments_8-holds = refl
+
+pub arguments_9-holds : arguments_9
+unfolding word number comment coded character longer_mark mark piece pieces constant_definition_of parameter_group_of some_parameters_of parameters_of result_type_of heading_from heading_of variable_group_of some_variables_of variables_of body_of routine_of routines_of system_from system_type enumeration_of written_type defined_by defined_of type_definition_of section_by section_of operation_of chain_from term_of signed_term simple_of expression_of expressions_from index_of indices_from field_of indexed_of selector_by selector_of designator_of arguments_of optional_arguments_of call_or_part named_of parenthesized_of not_of factor_by factor_of inner_at is_symbol identifier_of names_of constant_of constants_of expect optional_symbol repeat direction_of statements_from arm_of else_part block_of compound_of if_of case_of while_of repeat_of for_of cycle_of assign_or_perform designated_of init_item_of init_of statement_by statement_of deeper_at tree_of text_of subrange_from named_or_subrange group_of array_of record_of type_by type_of inner_type_at
+arguments_9-holds = refl
+
+pub arguments_10-holds : arguments_10
+unfolding word number comment coded character longer_mark mark piece pieces constant_definition_of parameter_group_of some_parameters_of parameters_of result_type_of heading_from heading_of variable_group_of some_variables_of variables_of body_of routine_of routines_of system_from system_type enumeration_of written_type defined_by defined_of type_definition_of section_by section_of operation_of chain_from term_of signed_term simple_of expression_of expressions_from index_of indices_from field_of indexed_of selector_by selector_of designator_of arguments_of optional_arguments_of call_or_part named_of parenthesized_of not_of factor_by factor_of inner_at is_symbol identifier_of names_of constant_of constants_of expect optional_symbol repeat direction_of statements_from arm_of else_part block_of compound_of if_of case_of while_of repeat_of for_of cycle_of assign_or_perform designated_of init_item_of init_of statement_by statement_of deeper_at tree_of text_of subrange_from named_or_subrange group_of array_of record_of type_by type_of inner_type_at
+arguments_10-holds = refl
+
+pub arguments_11-holds : arguments_11
+unfolding word number comment coded character longer_mark mark piece pieces constant_definition_of parameter_group_of some_parameters_of parameters_of result_type_of heading_from heading_of variable_group_of some_variables_of variables_of body_of routine_of routines_of system_from system_type enumeration_of written_type defined_by defined_of type_definition_of section_by section_of operation_of chain_from term_of signed_term simple_of expression_of expressions_from index_of indices_from field_of indexed_of selector_by selector_of designator_of arguments_of optional_arguments_of call_or_part named_of parenthesized_of not_of factor_by factor_of inner_at is_symbol identifier_of names_of constant_of constants_of expect optional_symbol repeat direction_of statements_from arm_of else_part block_of compound_of if_of case_of while_of repeat_of for_of cycle_of assign_or_perform designated_of init_item_of init_of statement_by statement_of deeper_at tree_of text_of subrange_from named_or_subrange group_of array_of record_of type_by type_of inner_type_at
+arguments_11-holds = refl
+
+pub arguments_12-holds : arguments_12
+unfolding word number comment coded character longer_mark mark piece pieces constant_definition_of parameter_group_of some_parameters_of parameters_of result_type_of heading_from heading_of variable_group_of some_variables_of variables_of body_of routine_of routines_of system_from system_type enumeration_of written_type defined_by defined_of type_definition_of section_by section_of operation_of chain_from term_of signed_term simple_of expression_of expressions_from index_of indices_from field_of indexed_of selector_by selector_of designator_of arguments_of optional_arguments_of call_or_part named_of parenthesized_of not_of factor_by factor_of inner_at is_symbol identifier_of names_of constant_of constants_of expect optional_symbol repeat direction_of statements_from arm_of else_part block_of compound_of if_of case_of while_of repeat_of for_of cycle_of assign_or_perform designated_of init_item_of init_of statement_by statement_of deeper_at tree_of text_of subrange_from named_or_subrange group_of array_of record_of type_by type_of inner_type_at
+arguments_12-holds = refl
+
+pub arguments_13-holds : arguments_13
+unfolding word number comment coded character longer_mark mark piece pieces constant_definition_of parameter_group_of some_parameters_of parameters_of result_type_of heading_from heading_of variable_group_of some_variables_of variables_of body_of routine_of routines_of system_from system_type enumeration_of written_type defined_by defined_of type_definition_of section_by section_of operation_of chain_from term_of signed_term simple_of expression_of expressions_from index_of indices_from field_of indexed_of selector_by selector_of designator_of arguments_of optional_arguments_of call_or_part named_of parenthesized_of not_of factor_by factor_of inner_at is_symbol identifier_of names_of constant_of constants_of expect optional_symbol repeat direction_of statements_from arm_of else_part block_of compound_of if_of case_of while_of repeat_of for_of cycle_of assign_or_perform designated_of init_item_of init_of statement_by statement_of deeper_at tree_of text_of subrange_from named_or_subrange group_of array_of record_of type_by type_of inner_type_at
+arguments_13-holds = refl
+
+pub arguments_14-holds : arguments_14
+unfolding word number comment coded character longer_mark mark piece pieces constant_definition_of parameter_group_of some_parameters_of parameters_of result_type_of heading_from heading_of variable_group_of some_variables_of variables_of body_of routine_of routines_of system_from system_type enumeration_of written_type defined_by defined_of type_definition_of section_by section_of operation_of chain_from term_of signed_term simple_of expression_of expressions_from index_of indices_from field_of indexed_of selector_by selector_of designator_of arguments_of optional_arguments_of call_or_part named_of parenthesized_of not_of factor_by factor_of inner_at is_symbol identifier_of names_of constant_of constants_of expect optional_symbol repeat direction_of statements_from arm_of else_part block_of compound_of if_of case_of while_of repeat_of for_of cycle_of assign_or_perform designated_of init_item_of init_of statement_by statement_of deeper_at tree_of text_of subrange_from named_or_subrange group_of array_of record_of type_by type_of inner_type_at
+arguments_14-holds = refl
+
+pub arguments_15-holds : arguments_15
+unfolding word number comment coded character longer_mark mark piece pieces constant_definition_of parameter_group_of some_parameters_of parameters_of result_type_of heading_from heading_of variable_group_of some_variables_of variables_of body_of routine_of routines_of system_from system_type enumeration_of written_type defined_by defined_of type_definition_of section_by section_of operation_of chain_from term_of signed_term simple_of expression_of expressions_from index_of indices_from field_of indexed_of selector_by selector_of designator_of arguments_of optional_arguments_of call_or_part named_of parenthesized_of not_of factor_by factor_of inner_at is_symbol identifier_of names_of constant_of constants_of expect optional_symbol repeat direction_of statements_from arm_of else_part block_of compound_of if_of case_of while_of repeat_of for_of cycle_of assign_or_perform designated_of init_item_of init_of statement_by statement_of deeper_at tree_of text_of subrange_from named_or_subrange group_of array_of record_of type_by type_of inner_type_at
+arguments_15-holds = refl
+
+pub arguments_16-holds : arguments_16
+unfolding word number comment coded character longer_mark mark piece pieces constant_definition_of parameter_group_of some_parameters_of parameters_of result_type_of heading_from heading_of variable_group_of some_variables_of variables_of body_of routine_of routines_of system_from system_type enumeration_of written_type defined_by defined_of type_definition_of section_by section_of operation_of chain_from term_of signed_term simple_of expression_of expressions_from index_of indices_from field_of indexed_of selector_by selector_of designator_of arguments_of optional_arguments_of call_or_part named_of parenthesized_of not_of factor_by factor_of inner_at is_symbol identifier_of names_of constant_of constants_of expect optional_symbol repeat direction_of statements_from arm_of else_part block_of compound_of if_of case_of while_of repeat_of for_of cycle_of assign_or_perform designated_of init_item_of init_of statement_by statement_of deeper_at tree_of text_of subrange_from named_or_subrange group_of array_of record_of type_by type_of inner_type_at
+arguments_16-holds = refl
+
+pub arguments_17-holds : arguments_17
+unfolding word number comment coded character longer_mark mark piece pieces constant_definition_of parameter_group_of some_parameters_of parameters_of result_type_of heading_from heading_of variable_group_of some_variables_of variables_of body_of routine_of routines_of system_from system_type enumeration_of written_type defined_by defined_of type_definition_of section_by section_of operation_of chain_from term_of signed_term simple_of expression_of expressions_from index_of indices_from field_of indexed_of selector_by selector_of designator_of arguments_of optional_arguments_of call_or_part named_of parenthesized_of not_of factor_by factor_of inner_at is_symbol identifier_of names_of constant_of constants_of expect optional_symbol repeat direction_of statements_from arm_of else_part block_of compound_of if_of case_of while_of repeat_of for_of cycle_of assign_or_perform designated_of init_item_of init_of statement_by statement_of deeper_at tree_of text_of subrange_from named_or_subrange group_of array_of record_of type_by type_of inner_type_at
+arguments_17-holds = refl
+
+pub arguments_18-holds : arguments_18
+unfolding word number comment coded character longer_mark mark piece pieces constant_definition_of parameter_group_of some_parameters_of parameters_of result_type_of heading_from heading_of variable_group_of some_variables_of variables_of body_of routine_of routines_of system_from system_type enumeration_of written_type defined_by defined_of type_definition_of section_by section_of operation_of chain_from term_of signed_term simple_of expression_of expressions_from index_of indices_from field_of indexed_of selector_by selector_of designator_of arguments_of optional_arguments_of call_or_part named_of parenthesized_of not_of factor_by factor_of inner_at is_symbol identifier_of names_of constant_of constants_of expect optional_symbol repeat direction_of statements_from arm_of else_part block_of compound_of if_of case_of while_of repeat_of for_of cycle_of assign_or_perform designated_of init_item_of init_of statement_by statement_of deeper_at tree_of text_of subrange_from named_or_subrange group_of array_of record_of type_by type_of inner_type_at
+arguments_18-holds = refl

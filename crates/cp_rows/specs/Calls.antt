@@ -1,0 +1,60 @@
+-- Worked texts and their answers: calls. Written by worked/make_rows.py.
+use Rattle.std.specs.Prelude.{◌≡◌, true, false, [], ◌∷◌, ◌++◌, codes}
+use Rattle.cp_rows.specs.Answers.{check_answer, run_answer, replay_answer}
+
+abbrev pub arguments_1 : Type 0
+arguments_1 = check_answer (codes "procedure p(a: integer); begin end; begin p end.") ≡ (codes "refused C2 at 42")
+
+abbrev pub arguments_2 : Type 0
+arguments_2 = check_answer (codes "procedure p; begin end; begin p(1) end.") ≡ (codes "refused C2 at 30")
+
+abbrev pub arguments_3 : Type 0
+arguments_3 = check_answer (codes "procedure p(a: integer); begin end; begin p(true) end.") ≡ (codes "refused C2 at 44")
+
+abbrev pub arguments_4 : Type 0
+arguments_4 = check_answer (codes "function f: integer; begin f := 1 end; begin f end.") ≡ (codes "refused C2 at 45")
+
+abbrev pub arguments_5 : Type 0
+arguments_5 = check_answer (codes "procedure p(a: integer); begin end; begin display(1 + p(2)) end.") ≡ (codes "refused C2 at 54")
+
+abbrev pub arguments_6 : Type 0
+arguments_6 = check_answer (codes "begin display(succ) end.") ≡ (codes "refused C2 at 14")
+
+abbrev pub arguments_7 : Type 0
+arguments_7 = check_answer (codes "begin display end.") ≡ (codes "refused C2 at 6")
+
+abbrev pub arguments_8 : Type 0
+arguments_8 = check_answer (codes "begin display(1, 2) end.") ≡ (codes "refused C2 at 6")
+
+abbrev pub arguments_9 : Type 0
+arguments_9 = check_answer (codes "var r: record x: integer end; begin display(r) end.") ≡ (codes "refused C2 at 44")
+
+abbrev pub arguments_10 : Type 0
+arguments_10 = check_answer (codes "begin display(succ(r)) end.") ≡ (codes "refused C1 at 19")
+
+abbrev pub arguments_11 : Type 0
+arguments_11 = check_answer (codes "begin display(abs(true)) end.") ≡ (codes "refused C2 at 18")
+
+abbrev pub arguments_12 : Type 0
+arguments_12 = check_answer (codes "begin display(chr(true)) end.") ≡ (codes "refused C2 at 18")
+
+abbrev pub arguments_13 : Type 0
+arguments_13 = check_answer (codes "begin display(ord(true)); display(chr(65)); display(succ(red_)) end.") ≡ (codes "refused C1 at 57")
+
+abbrev pub arguments_14 : Type 0
+arguments_14 = check_answer (codes "procedure p(a, b: integer); begin end; begin accept(p(1)) end.") ≡ (codes "refused C2 at 52")
+
+abbrev pub arguments_15 : Type 0
+arguments_15 = check_answer (codes "procedure p(a: integer); begin end; begin accept(p(1)) end.") ≡ (codes "refused C10 at 49")
+
+abbrev pub arguments_16 : Type 0
+arguments_16 = check_answer (codes "procedure p; begin end; begin accept(p + 1) end.") ≡ (codes "refused C10 at 37")
+
+abbrev pub arguments_17 : Type 0
+arguments_17 = check_answer (codes "type t = array [1..2] of integer; var x: t; procedure p(a: t); begin end; begin p(x); p((x)) end.") ≡ (codes "accepted\n")
+
+abbrev pub arguments_18 : Type 0
+arguments_18 = check_answer (codes "type t = array [1..2] of integer; var x: array [1..2] of integer; procedure p(a: t); begin end; begin p(x) end.") ≡ (codes "refused C2 at 104")
+
+abbrev pub Calls : Type 0
+Calls = arguments_1 × arguments_2 × arguments_3 × arguments_4 × arguments_5 × arguments_6 × arguments_7 × arguments_8 × arguments_9 × arguments_10 × arguments_11 × arguments_12 × arguments_13 × arguments_14 × arguments_15 × arguments_16 × arguments_17 × arguments_18
