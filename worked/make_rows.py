@@ -11,12 +11,14 @@ Each folder is a module of statements, each file a text with its answers:
     the answer, up to the next line that begins with ==
 
 Lines before the first == say what the text shows. `make_rows.py` writes crates/cp_rows/specs, proofs and src/rows.rt;
-`make_rows.py --list` prints the cases as JSON, for the tests of the program.
+`make_rows.py --list` prints the cases as JSON, for the tests of the program; `make_rows.py --unchanged` fails where the crate's files
+aren't those that it would write.
 """
 import json, pathlib, re, sys
 
 HERE = pathlib.Path(__file__).resolve().parent
 CRATE = HERE.parent / 'crates' / 'cp_rows'
+WRITTEN = {}
 DEFAULTS = {'rounds': '0', 'turn': '100', 'tick': '1', 'input': '', 'order': ''}
 
 
@@ -91,6 +93,11 @@ def unfoldable():
     return found
 
 
+def write(path, text):
+    """Keeps what a file of the crate shall hold."""
+    WRITTEN[path] = text
+
+
 def write_module(folder):
     """One folder: its statements, their proof, and the public function that stands on them."""
     name, title = folder.name, folder.name.capitalize()
@@ -104,7 +111,7 @@ def write_module(folder):
             names.append(own)
             lines += [f'abbrev pub {own} : Type 0', f'{own} = {statement(*case)}', '']
     lines += [f'abbrev pub {title} : Type 0', f'{title} = ' + ' × '.join(names), '']
-    (CRATE / 'specs' / f'{title}.antt').write_text('\n'.join(lines))
+    write(CRATE / 'specs' / f'{title}.antt', '\n'.join(lines))
     write_proofs(name, title, names)
     return title, name, len(names)
 
@@ -118,27 +125,25 @@ def write_proofs(name, title, names):
     lemmas += [f'use {module}.{{{", ".join(own)}}}' for module, own in modules.items()]
     for own in names:
         lemmas += ['', f'pub {own}-holds : {own}', unfolding, f'{own}-holds = refl']
-    (CRATE / 'proofs' / f'{title}Computed.antt').write_text('\n'.join(lemmas) + '\n')
-    folder = CRATE / 'proofs' / 'rows' / f'{name}_hold'
-    folder.mkdir(parents=True, exist_ok=True)
+    write(CRATE / 'proofs' / f'{title}Computed.antt', '\n'.join(lemmas) + '\n')
     cited = [f'{own}-holds' for own in names]
     answers = [f'use Rattle.cp_rows.proofs.{title}Computed.{{{", ".join(cited)}}}',
                f'use Rattle.cp_rows.proofs.rows.{name}_hold.Goals as goal', '',
                'pub returns : goal.returns', 'returns c = (' + ', '.join(cited) + ')', '']
-    (folder / 'Answers.antt').write_text('\n'.join(answers))
+    write(CRATE / 'proofs' / 'rows' / f'{name}_hold' / 'Answers.antt', '\n'.join(answers))
 
 
-def write_all():
+def make_all():
     modules = [write_module(folder) for folder in sorted(HERE.iterdir()) if list(folder.glob('*.txt'))]
-    (CRATE / 'proofs' / 'Lib.antt').write_text(''.join(f'mod {title}Computed\n' for title, _, _ in modules))
-    (CRATE / 'specs' / 'Lib.antt').write_text('pub mod Answers\n' + ''.join(f'pub mod {title}\n' for title, _, _ in modules))
+    write(CRATE / 'proofs' / 'Lib.antt', ''.join(f'mod {title}Computed\n' for title, _, _ in modules))
+    write(CRATE / 'specs' / 'Lib.antt', 'pub mod Answers\n' + ''.join(f'pub mod {title}\n' for title, _, _ in modules))
     code = ['//! The worked texts of the folder `worked`: each function says of one folder that the definitions give its answers.',
             '//!', '//! Written by worked/make_rows.py.', '']
     code += [f'ghost use Rattle.cp_rows.specs.{title}.{{{title}}};' for title, _, _ in modules]
     for title, name, count in modules:
         code += ['', f'/// The {count} answers of `worked/{name}`.', f'pub fn {name}_hold()', f'    ensures {{ {title} }}', '{', '}']
-    (CRATE / 'src' / 'rows.rt').write_text('\n'.join(code) + '\n')
-    print(sum(count for _, _, count in modules), 'answers in', len(modules), 'modules')
+    write(CRATE / 'src' / 'rows.rt', '\n'.join(code) + '\n')
+    return sum(count for _, _, count in modules)
 
 
 def list_cases():
@@ -149,5 +154,18 @@ def list_cases():
     print(json.dumps(found, indent=1))
 
 
+def main():
+    if '--list' in sys.argv:
+        return list_cases()
+    count = make_all()
+    changed = [path for path, text in WRITTEN.items() if not path.exists() or path.read_text() != text]
+    if '--unchanged' in sys.argv:
+        sys.exit(f'written anew by worked/make_rows.py: {changed}' if changed else 0)
+    for path in changed:
+        path.parent.mkdir(parents=True, exist_ok=True)
+        path.write_text(WRITTEN[path])
+    print(count, 'answers,', len(changed), 'files written')
+
+
 if __name__ == '__main__':
-    list_cases() if '--list' in sys.argv else write_all()
+    main()
