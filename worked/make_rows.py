@@ -140,8 +140,8 @@ def make_all():
     code = ['//! The worked texts of the folder `worked`: each function says of one folder that the definitions give its answers.',
             '//!', '//! Written by worked/make_rows.py.', '']
     code += [f'ghost use Rattle.cp_rows.specs.{title}.{{{title}}};' for title, _, _ in modules]
-    for title, name, count in modules:
-        code += ['', f'/// The {count} answers of `worked/{name}`.', f'pub fn {name}_hold()', f'    ensures {{ {title} }}', '{', '}']
+    for title, name, _ in modules:
+        code += ['', f'/// Each of the answers of `worked/{name}`.', f'pub fn {name}_hold()', f'    ensures {{ {title} }}', '{}']
     write(CRATE / 'src' / 'rows.rt', '\n'.join(code) + '\n')
     return sum(count for _, _, count in modules)
 

@@ -55,7 +55,7 @@ result_type (Some t) = symbol symbol.Colon ⋅ identifier t
 abbrev pub routine : ℕ → s.Routine → Language
 routine limit r =
     routine_word r.result_type ⋅ optional symbol.Entry r.entry ⋅ identifier r.name ⋅ parameters r.parameters ⋅ result_type r.result_type
-  ⋅ symbol symbol.Semicolon ⋅ variables limit r.variables ⋅ body limit r.body ⋅ symbol symbol.Semicolon
+    ⋅ symbol symbol.Semicolon ⋅ variables limit r.variables ⋅ body limit r.body ⋅ symbol symbol.Semicolon
 
 abbrev pub sort_symbol : Sort → Symbol
 sort_symbol sort.Process = symbol.Process
@@ -65,7 +65,7 @@ sort_symbol sort.Class = symbol.Class
 abbrev pub system : ℕ → s.System → Language
 system limit y =
     symbol (sort_symbol y.sort) ⋅ parameters y.parameters ⋅ symbol symbol.Semicolon
-  ⋅ variables limit y.variables ⋅ each (routine limit) y.routines ⋅ body limit y.body
+    ⋅ variables limit y.variables ⋅ each (routine limit) y.routines ⋅ body limit y.body
 
 abbrev pub defined : ℕ → s.Defined → Language
 defined limit (s.Written t) = type_expression limit t

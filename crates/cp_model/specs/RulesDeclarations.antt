@@ -254,7 +254,7 @@ routine env y r =
         region = env.region;
       });
       violations = c1_declared env r.name ++ c5_entry y r.entry ++ head.violations ++ result_violations answer ++ locals.violations
-        ++ statements locals.env r.body.list;
+          ++ statements locals.env r.body.list;
     }
 
 abbrev pub routines : Environment → Sort → List s.Routine → Declared

@@ -58,10 +58,13 @@ pub record Environment : Type 0 where
 -- the numbers of the standard types
 abbrev pub integer : ℕ
 integer = 0
+
 abbrev pub boolean : ℕ
 boolean = 1
+
 abbrev pub char : ℕ
 char = 2
+
 abbrev pub queue : ℕ
 queue = 3
 
@@ -218,12 +221,12 @@ simple_row base low high = record { structure = structure.Simple base low high; 
 abbrev pub standard_names : Names
 standard_names =
     (codes "integer", entity.Type integer) ∷ (codes "boolean", entity.Type boolean) ∷ (codes "char", entity.Type char) ∷ (codes "queue", entity.Type queue)
-  ∷ (codes "false", entity.Constant boolean (pos 0)) ∷ (codes "true", entity.Constant boolean (pos 1))
-  ∷ (codes "abs", entity.Standard standard.Abs) ∷ (codes "succ", entity.Standard standard.Succ) ∷ (codes "pred", entity.Standard standard.Pred)
-  ∷ (codes "ord", entity.Standard standard.Ord) ∷ (codes "chr", entity.Standard standard.Chr) ∷ (codes "empty", entity.Standard standard.Empty)
-  ∷ (codes "delay", entity.Standard standard.Delay) ∷ (codes "continue", entity.Standard standard.Continue)
-  ∷ (codes "display", entity.Standard standard.Display) ∷ (codes "accept", entity.Standard standard.Accept)
-  ∷ (codes "realtime", entity.Standard standard.Realtime) ∷ (codes "wait", entity.Standard standard.Wait) ∷ []
+    ∷ (codes "false", entity.Constant boolean (pos 0)) ∷ (codes "true", entity.Constant boolean (pos 1))
+    ∷ (codes "abs", entity.Standard standard.Abs) ∷ (codes "succ", entity.Standard standard.Succ) ∷ (codes "pred", entity.Standard standard.Pred)
+    ∷ (codes "ord", entity.Standard standard.Ord) ∷ (codes "chr", entity.Standard standard.Chr) ∷ (codes "empty", entity.Standard standard.Empty)
+    ∷ (codes "delay", entity.Standard standard.Delay) ∷ (codes "continue", entity.Standard standard.Continue)
+    ∷ (codes "display", entity.Standard standard.Display) ∷ (codes "accept", entity.Standard standard.Accept)
+    ∷ (codes "realtime", entity.Standard standard.Realtime) ∷ (codes "wait", entity.Standard standard.Wait) ∷ []
 
 abbrev pub process_body : Region
 process_body = record { sort = sort.Process; part = part.Body }

@@ -226,7 +226,7 @@ abbrev mutual
       record {
         env = rest.env;
         of = also (c1_fields seen xs)
-          (both (then_judge one.of (c6_c8_placed one.env position.Field (type_at t))) rest.of (λ u fs. appended (fields_of_type xs u) fs));
+            (both (then_judge one.of (c6_c8_placed one.env position.Field (type_at t))) rest.of (λ u fs. appended (fields_of_type xs u) fs));
       }
 
 -- a type where it stands

@@ -13,14 +13,14 @@ use Rattle.cp_model.specs.declared.token.Token.{Token}
 abbrev pub reserved_words : List (List ℕ × Symbol)
 reserved_words =
     (codes "array", symbol.Array) ∷ (codes "begin", symbol.Begin) ∷ (codes "case", symbol.Case) ∷ (codes "class", symbol.Class)
-  ∷ (codes "const", symbol.Const) ∷ (codes "cycle", symbol.Cycle) ∷ (codes "div", symbol.Div) ∷ (codes "do", symbol.Do)
-  ∷ (codes "downto", symbol.Downto) ∷ (codes "else", symbol.Else) ∷ (codes "end", symbol.End) ∷ (codes "entry", symbol.Entry)
-  ∷ (codes "for", symbol.For) ∷ (codes "function", symbol.Function) ∷ (codes "if", symbol.If) ∷ (codes "in", symbol.In)
-  ∷ (codes "init", symbol.Init) ∷ (codes "mod", symbol.Mod) ∷ (codes "monitor", symbol.Monitor) ∷ (codes "not", symbol.Not)
-  ∷ (codes "of", symbol.Of) ∷ (codes "or", symbol.Or) ∷ (codes "procedure", symbol.Procedure) ∷ (codes "process", symbol.Process)
-  ∷ (codes "program", symbol.Program) ∷ (codes "record", symbol.Record) ∷ (codes "repeat", symbol.Repeat) ∷ (codes "set", symbol.Set)
-  ∷ (codes "then", symbol.Then) ∷ (codes "to", symbol.To) ∷ (codes "type", symbol.Type) ∷ (codes "univ", symbol.Univ)
-  ∷ (codes "until", symbol.Until) ∷ (codes "var", symbol.Var) ∷ (codes "while", symbol.While) ∷ (codes "with", symbol.With) ∷ []
+    ∷ (codes "const", symbol.Const) ∷ (codes "cycle", symbol.Cycle) ∷ (codes "div", symbol.Div) ∷ (codes "do", symbol.Do)
+    ∷ (codes "downto", symbol.Downto) ∷ (codes "else", symbol.Else) ∷ (codes "end", symbol.End) ∷ (codes "entry", symbol.Entry)
+    ∷ (codes "for", symbol.For) ∷ (codes "function", symbol.Function) ∷ (codes "if", symbol.If) ∷ (codes "in", symbol.In)
+    ∷ (codes "init", symbol.Init) ∷ (codes "mod", symbol.Mod) ∷ (codes "monitor", symbol.Monitor) ∷ (codes "not", symbol.Not)
+    ∷ (codes "of", symbol.Of) ∷ (codes "or", symbol.Or) ∷ (codes "procedure", symbol.Procedure) ∷ (codes "process", symbol.Process)
+    ∷ (codes "program", symbol.Program) ∷ (codes "record", symbol.Record) ∷ (codes "repeat", symbol.Repeat) ∷ (codes "set", symbol.Set)
+    ∷ (codes "then", symbol.Then) ∷ (codes "to", symbol.To) ∷ (codes "type", symbol.Type) ∷ (codes "univ", symbol.Univ)
+    ∷ (codes "until", symbol.Until) ∷ (codes "var", symbol.Var) ∷ (codes "while", symbol.While) ∷ (codes "with", symbol.With) ∷ []
 
 abbrev pub same_text : List ℕ → List ℕ → Bool
 same_text [] [] = true

@@ -35,7 +35,10 @@ pub enum TypeExpression {
         indices: Vec<TypeExpression>,
         element: Box<TypeExpression>,
     },
-    Record { at: usize, groups: Vec<Fields> },
+    Record {
+        at: usize,
+        groups: Vec<Fields>,
+    },
 }
 
 /// Fields of one type, or variables of one type.
@@ -75,14 +78,26 @@ pub enum Sign {
 #[cycle(expressions)]
 #[derive(Debug, Drop)]
 pub enum Expression {
-    Number { at: usize, value: u16 },
-    Character { at: usize, ordinal: u8 },
+    Number {
+        at: usize,
+        value: u16,
+    },
+    Character {
+        at: usize,
+        ordinal: u8,
+    },
     /// A constant, a variable or a part of one, or a function called without arguments.
     Designated(Designator),
     /// A function called with one argument or more.
     Call(Designator, Vec<Expression>),
-    Parenthesized { at: usize, inner: Box<Expression> },
-    Not { at: usize, operand: Box<Expression> },
+    Parenthesized {
+        at: usize,
+        inner: Box<Expression>,
+    },
+    Not {
+        at: usize,
+        operand: Box<Expression>,
+    },
     Signed {
         sign: Sign,
         at: usize,
@@ -180,7 +195,10 @@ pub enum Statement {
     },
     Cycle(Vec<Statement>),
     /// The place is that of the word `init`. There is one item or more.
-    Init { at: usize, items: Vec<InitItem> },
+    Init {
+        at: usize,
+        items: Vec<InitItem>,
+    },
 }
 
 /// One labelled statement of a `case`. The labels are one or more.

@@ -15,74 +15,62 @@ ghost use Rattle.cp_rows.specs.Refusals.{Refusals};
 ghost use Rattle.cp_rows.specs.Types.{Types};
 ghost use Rattle.cp_rows.specs.Variables.{Variables};
 
-/// The 18 answers of `worked/calls`.
+/// Each of the answers of `worked/calls`.
 pub fn calls_hold()
     ensures { Calls }
-{
-}
+{}
 
-/// The 1 answers of `worked/classes`.
+/// Each of the answers of `worked/classes`.
 pub fn classes_hold()
     ensures { Classes }
-{
-}
+{}
 
-/// The 7 answers of `worked/clock`.
+/// Each of the answers of `worked/clock`.
 pub fn clock_hold()
     ensures { Clock }
-{
-}
+{}
 
-/// The 43 answers of `worked/components`.
+/// Each of the answers of `worked/components`.
 pub fn components_hold()
     ensures { Components }
-{
-}
+{}
 
-/// The 60 answers of `worked/monitors`.
+/// Each of the answers of `worked/monitors`.
 pub fn monitors_hold()
     ensures { Monitors }
-{
-}
+{}
 
-/// The 41 answers of `worked/names`.
+/// Each of the answers of `worked/names`.
 pub fn names_hold()
     ensures { Names }
-{
-}
+{}
 
-/// The 3 answers of `worked/nesting`.
+/// Each of the answers of `worked/nesting`.
 pub fn nesting_hold()
     ensures { Nesting }
-{
-}
+{}
 
-/// The 7 answers of `worked/orders`.
+/// Each of the answers of `worked/orders`.
 pub fn orders_hold()
     ensures { Orders }
-{
-}
+{}
 
-/// The 18 answers of `worked/processes`.
+/// Each of the answers of `worked/processes`.
 pub fn processes_hold()
     ensures { Processes }
-{
-}
+{}
 
-/// The 25 answers of `worked/refusals`.
+/// Each of the answers of `worked/refusals`.
 pub fn refusals_hold()
     ensures { Refusals }
-{
-}
+{}
 
-/// The 42 answers of `worked/types`.
+/// Each of the answers of `worked/types`.
 pub fn types_hold()
     ensures { Types }
-{
-}
+{}
 
-/// The 66 answers of `worked/variables`.
+/// Each of the answers of `worked/variables`.
 pub fn variables_hold()
     ensures { Variables }
-{
-}
+{}
