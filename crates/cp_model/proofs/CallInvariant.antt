@@ -3,10 +3,10 @@ use Rattle.std.specs.Prelude.{Bool, List, None, Option, Some, [], false, if◌th
 use Rattle.std.proofs.Common.{ap, arith, inl, inr, subst, sym, ◌∙◌}
 use Rattle.std.proofs.lemmas.Bool.{eq-eqb}
 use Rattle.cp_model.specs.Abstract.{Class, Designator, Expression, Expressions, Literal, Monitor, MoreExpressions, Name, NoExpression, Perform, Process, Sort, Statement}
-use Rattle.cp_model.specs.Locations.{ByName, Location, OfActivation, Owner, same_location, under}
-use Rattle.cp_model.specs.Stores.{Absent, ClassRight, Initialised, MonitorRight, Ordinal, QueueHolds, Reference, Store, Value, forget, put, put_all}
 use Rattle.cp_model.specs.Types.{ArrayOf, ComponentOf, NoType, Queue, RecordOf, ResolvedType, Simple}
 use Rattle.cp_model.specs.Declarations.{Variable, declarations}
+use Rattle.cp_model.specs.Locations.{ByName, Location, OfActivation, Owner, same_location, under}
+use Rattle.cp_model.specs.Stores.{Absent, ClassRight, Initialised, MonitorRight, Ordinal, QueueHolds, Reference, Store, Value, forget, put, put_all}
 use Rattle.cp_model.specs.Leaves.{Leaf, leaves}
 use Rattle.cp_model.specs.Outcomes.{Fault, Gives, Outcome, and_then, provided}
 use Rattle.cp_model.specs.Environments.{Environment}
@@ -134,7 +134,7 @@ frames_below p n t st st' (ForNext v down x last s env ∷ k) r d h = frames_bel
 frames_below p n t st st' (EndBody gate ∷ k) r d h = frames_below p n t st st' k r d h
 frames_below p n t st st' (EndProcess ∷ k) r d h = frames_below p n t st st' k r d h
 
--- a call: the new frame refers into its caller's reach.
+-- A call: the new frame refers into its caller's reach.
 call_continuation : (p : ℕ) (st st' : Store) (k : List Task) (env : Environment) (gate : Option ℕ) (x : Statement) → NewReferences (in_reach p (gates_of k)) (OfActivation p (depth k)) (forget (OfActivation p (depth k)) st) st'
     → IsFrameOf env.frame (OfActivation p (depth k)) → EnvironmentIn (in_reach p (gates_of (EndCall env gate ∷ k))) env → ContinuationInvariant p st k → ContinuationInvariant p st' (push x env (EndCall env gate ∷ k))
 call_continuation p st st' k env gate x r f h o =
@@ -290,7 +290,7 @@ action_invariant p st (i ∷ k) o = go (call_in_task (Literal 0) i) (call_in_tas
     go None h = by_procedure (procedure_call i) (procedure i o)
     go (Some f) h = (h, o)
 
--- a step keeps the reach.
+-- A step keeps the reach.
 pub step_invariant : (w : Context) (config : Configuration) → StoreInvariant config.store → ContinuationInvariant w.process config.store config.continuation → IfGives (StepInvariant w.process) (step_of w config)
 step_invariant w config s o = go (action config.continuation) (action_invariant w.process config.store config.continuation o)
   where

@@ -29,7 +29,7 @@ result_status_own (Fault n) = (refl, refl)
 result_status_own (Gives x) = status_by_own x.1
 
 module _ (p : ℕ) (r : Configuration) (x : Status) (own : IsOwnStatus x) where
-  -- a status that is made ready, beside p's.
+  -- A status that is made ready, beside p's.
   ready_beside : (q : ℕ) (u : State) → u.status p ≡ Ready → make_ready q (install p r x u) ≡ install p r x (make_ready q u)
   ready_beside q u h = state_is _ _ refl refl refl refl (λ i k. at k (nat_eq q k) (nat_eq p k) (nat_eq p q) refl refl refl i) refl refl
     where

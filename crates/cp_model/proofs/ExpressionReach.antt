@@ -3,10 +3,10 @@ use Rattle.std.specs.Prelude.{Bool, None, Option, Some, [], codes, false, if◌t
 use Rattle.std.proofs.Common.{ap, ◌∙◌}
 use Rattle.cp_model.specs.Abstract.{At, BaseType, Binary, Call, Designator, Expression, Expressions, Known, Letter, Literal, MoreExpressions, Name, Negative, NoExpression, Not, Part, Plain, Positive, Use}
 use Rattle.cp_model.specs.Names.{lookup, same_name}
-use Rattle.cp_model.specs.Locations.{Location, Owner, Path}
-use Rattle.cp_model.specs.Stores.{Absent, ClassRight, Initialised, MonitorRight, Ordinal, QueueHolds, Reference, Store, Value}
 use Rattle.cp_model.specs.Types.{ArrayOf, ComponentOf, NoType, Queue, RecordOf, ResolvedType, Simple}
 use Rattle.cp_model.specs.Declarations.{Variable}
+use Rattle.cp_model.specs.Locations.{Location, Owner, Path}
+use Rattle.cp_model.specs.Stores.{Absent, ClassRight, Initialised, MonitorRight, Ordinal, QueueHolds, Reference, Store, Value}
 use Rattle.cp_model.specs.Outcomes.{Fault, Gives, Outcome, and_then, provided}
 use Rattle.cp_model.specs.Environments.{Environment, Frame, IsConstant, IsUnknown, IsVariable, Meaning, constant_or_unknown, local_or, local_variables, meaning, permanent_variables, variable_or}
 use Rattle.cp_model.specs.Places.{Place, element_place, ordinal_of, place_of_meaning, read, referent, value_of_meaning, within}

@@ -52,7 +52,7 @@ module _ (setup : Setup) where
   one_by_one_is_all t (p ∷ ps) s =
       ap (λ x. one_by_one (private_step setup) (turn t) t (kernel_turn setup t x p) ps) (many_is_turn t t s p) ∙ one_by_one_is_all t ps (kernel_turn setup t (private_turn setup t s p) p)
 
-  -- a lawful order of a round leaves what one processor's round leaves.
+  -- A lawful order of a round leaves what one processor's round leaves.
   pub lawful_round : (t : ℕ) (s : State) (es : List Event) → Invariant (wake setup s) → IsLawful t (processes setup) es → replay_round setup t s es ≡ sequential_round setup t s
   lawful_round t s es i h =
       ap close_round (sym (after_is_fold t es (wake setup s))

@@ -5,7 +5,7 @@ use Rattle.std.proofs.lemmas.Bool.{eqb-true}
 use Rattle.cp_model.specs.Locations.{Location, OfActivation, OfMonitor, OfProcess, Owner, same_location, same_owner}
 use Rattle.cp_model.specs.Stores.{Absent, ClassRight, Reference, Store, Value, forget, put}
 
--- a at the owners that pass, b elsewhere.
+-- The store a at the owners that pass, b elsewhere.
 abbrev pub mix : (Owner → Bool) → Store → Store → Store
 mix t a b l = if t l.owner then a l else b l
 

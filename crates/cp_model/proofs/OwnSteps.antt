@@ -130,7 +130,7 @@ module _ (setup : Setup) where
   pub quiet_here : (p : ℕ) (s : State) → kind s p ≡ Private → Quietly (outcome s p)
   quiet_here p s k = let h = kind_private (s.status p) (s.continuation p) k in private_is_quiet (context setup s p) (configuration s p) h.1 h.2
 
-  -- a private step, wherever p's part is the same.
+  -- A private step, wherever p's part is the same.
   pub private_step_is : (p : ℕ) (s s' : State) → MayCommute s → kind s p ≡ Private → IsSameFor p s s'
       → private_step setup s' p ≡ install p (with_mixed_store (is_own p) s'.store (own_configuration s p)) (status_after s p) s'
   private_step_is p s s' g k e =

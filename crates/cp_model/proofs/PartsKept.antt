@@ -274,7 +274,7 @@ module _ (setup : Setup) where
       go Private h = own_part_refl p s
       go Kernel h = after_step_own p q s (outcome_of s q) d (λ a. kernel_writes_beside p q s (λ e. d (sym e)) (may_commute s i) h (begun_is_started (s.status p) a))
 
-  -- a kernel turn leaves every other process's own part as it was.
+  -- A kernel turn leaves every other process's own part as it was.
   pub kernel_turn_other_parts : (t : ℕ) (p q : ℕ) (s : State) → q ≢ p → Invariant s → SameOwnPart p s (kernel_turn setup t s q)
   kernel_turn_other_parts zero p q s d i = own_part_refl p s
   kernel_turn_other_parts (suc t) p q s d i = own_part_trans p s (kernel_step setup s q) _ (kernel_step_other_parts p q s d i) (kernel_turn_other_parts t p q (kernel_step setup s q) d (kernel_step_keeps setup s q i))

@@ -11,6 +11,7 @@ use Rattle.cp_model.specs.Turns.{Kernel, Kind, NoStep, Private, kernel_turn, kin
 use Rattle.cp_model.specs.Rounds.{after_own_turn, all_turns, close_round, kernel_turns, own_parts, owner_process, phased_round, sequential_round, wake}
 use Rattle.cp_model.specs.Invariant.{Invariant}
 use Rattle.cp_model.specs.Parts.{is_own}
+use Rattle.cp_model.specs.Report.{line}
 use Rattle.cp_model.proofs.Orders.{AreDistinct}
 use Rattle.cp_model.proofs.StateMaps.{differ, state_is, with_at_here, with_at_same}
 use Rattle.cp_model.proofs.MixedStores.{mix}
@@ -56,7 +57,7 @@ module _ (setup : Setup) where
       state_is _ _ (mix_twice (is_own p) a.store b.store s.store) (with_at_twice p (a.continuation p) (b.continuation p) s.continuation) (with_at_twice p (a.transcript p) (b.transcript p) s.transcript)
       (with_at_twice p (a.consumed p) (b.consumed p) s.consumed) (with_at_twice p (a.status p) (b.status p) s.status) refl refl
 
-  -- a private step is the same wherever p's part is the same, and changes that part alone.
+  -- A private step is the same wherever p's part is the same, and changes that part alone.
   step_merges : (p : ℕ) (s s' : State) → Invariant s → IsSameFor setup p s s' → private_step setup s' p ≡ merge p (private_step setup s p) s'
   unfolding merge
   step_merges p s s' i e = go (kind s p) refl

@@ -3,9 +3,9 @@ use Rattle.std.specs.Prelude.{Bool, List, None, Option, Some, [], codes, false, 
 use Rattle.std.proofs.Common.{arith}
 use Rattle.cp_model.specs.Abstract.{Assign, Case, Char, Class, Cycle, Designator, Expression, Expressions, For, If, Init, Integer, Literal, Monitor, MoreExpressions, Name, NoExpression, Nothing, Perform, Plain, Process, Repeat, Seq, Sort, Statement, While}
 use Rattle.cp_model.specs.Names.{same_name}
+use Rattle.cp_model.specs.Declarations.{declarations}
 use Rattle.cp_model.specs.Locations.{Location, OfActivation, same_integer}
 use Rattle.cp_model.specs.Stores.{put_all}
-use Rattle.cp_model.specs.Declarations.{declarations}
 use Rattle.cp_model.specs.Outcomes.{Fault, Gives, Outcome, and_then}
 use Rattle.cp_model.specs.Environments.{Environment}
 use Rattle.cp_model.specs.Places.{ordinal_of, simple_value}
@@ -41,7 +41,7 @@ if_quiet : (x : Bool) (o u : StepResult) → Quietly o → Quietly u → Quietly
 if_quiet true o u h k = h
 if_quiet false o u h k = k
 
--- a part of a list without gates has none.
+-- A part of a list without gates has none.
 pub no_gates-tail : (i : Task) (k : List Task) → gates_of (i ∷ k) ≡ [] → gates_of k ≡ []
 no_gates-tail (Do s env) k h = h
 no_gates-tail (WhileTest now e s env) k h = h

@@ -3,10 +3,10 @@ use Rattle.std.specs.Prelude.{Bool, List, [], false, flat_map, if◌then◌else�
 use Rattle.std.proofs.Common.{arith, subst}
 use Rattle.std.proofs.lemmas.Bool.{eqb-true}
 use Rattle.cp_model.specs.Abstract.{Class, Monitor, Name, Process, Sort}
-use Rattle.cp_model.specs.Locations.{Location, under}
-use Rattle.cp_model.specs.Stores.{Absent, ClassRight, Initialised, MonitorRight, Ordinal, QueueHolds, Reference, Store, Value, put_all}
 use Rattle.cp_model.specs.Types.{ArrayOf, ComponentOf, NoType, Queue, RecordOf, ResolvedType, Simple}
 use Rattle.cp_model.specs.Declarations.{Variable, declarations}
+use Rattle.cp_model.specs.Locations.{Location, under}
+use Rattle.cp_model.specs.Stores.{Absent, ClassRight, Initialised, MonitorRight, Ordinal, QueueHolds, Reference, Store, Value, put_all}
 use Rattle.cp_model.specs.Leaves.{Leaf, leaves_of_members}
 use Rattle.cp_model.specs.Environments.{Environment}
 use Rattle.cp_model.specs.Continuations.{EndProcess, Task, depth, push}

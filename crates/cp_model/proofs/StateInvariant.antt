@@ -211,7 +211,7 @@ module _ (setup : Setup) where
   pass_to_keeps m [] u i = set_gate_keeps m Free [] u i
   pass_to_keeps m (r ∷ qs) u i = make_ready_keeps r (set_gate m (HeldBy r) qs u) (set_gate_keeps m (HeldBy r) qs u i)
 
-  -- a status that wants a gate is only for who holds one.
+  -- A status that wants a gate is only for who holds one.
   set_status_keeps : (p : ℕ) (x : Status) (u : State) → (IsBlocked x → holds_gate (u.continuation p) ≡ true) → x ≢ Unstarted → Invariant u → Invariant (set_status p x u)
   set_status_keeps p x u g n i = invariant_of (set_status p x u) i.store i.continuations (λ q h. at q (nat_eq p q) refl h) (λ q h. flat q (nat_eq p q) h)
     where
@@ -268,7 +268,7 @@ module _ (setup : Setup) where
       go (Delayed m q) e = i
       go (Faulted n) e = i
 
-  -- a step of a process that is ready.
+  -- A step of a process that is ready.
   pub ready_step_invariant : (s : State) (p : ℕ) → s.status p ≡ Ready → Invariant s → Invariant (step setup s p)
   unfolding not_of NoNewReferenceOf
   ready_step_invariant s p h i = go (step_of (context setup s p) (configuration s p)) (step_invariant (context setup s p) (configuration s p) i.store (i.continuations p)) (λ q d. beside p q s d i)

@@ -3,10 +3,10 @@ use Rattle.std.specs.Prelude.{Bool, List, None, Option, Some, [], codes, false, 
 use Rattle.std.proofs.Common.{ap, ◌∙◌}
 use Rattle.cp_model.specs.Abstract.{Assign, Case, Char, Class, Cycle, Designator, Expression, Expressions, For, If, Init, Integer, Monitor, MoreExpressions, Name, NoExpression, Nothing, Perform, Plain, Process, Repeat, Seq, Sort, Statement, While}
 use Rattle.cp_model.specs.Names.{same_name}
-use Rattle.cp_model.specs.Locations.{ByName, Location, OfActivation, OfMonitor, OfProcess, Owner, same_integer}
-use Rattle.cp_model.specs.Stores.{Absent, ClassRight, Initialised, MonitorRight, Ordinal, QueueHolds, Reference, Store, Value, forget, put, put_all}
 use Rattle.cp_model.specs.Types.{ArrayOf, ComponentOf, NoType, Queue, RecordOf, ResolvedType, Simple}
 use Rattle.cp_model.specs.Declarations.{Variable, declarations}
+use Rattle.cp_model.specs.Locations.{ByName, Location, OfActivation, OfMonitor, OfProcess, Owner, same_integer}
+use Rattle.cp_model.specs.Stores.{Absent, ClassRight, Initialised, MonitorRight, Ordinal, QueueHolds, Reference, Store, Value, forget, put, put_all}
 use Rattle.cp_model.specs.Outcomes.{Fault, Gives, Outcome, and_then}
 use Rattle.cp_model.specs.Environments.{Environment, Frame}
 use Rattle.cp_model.specs.Places.{Place, TypedValue, ordinal_of, simple_value}
@@ -23,6 +23,7 @@ use Rattle.cp_model.specs.StandardCalls.{continue, delay, enqueue, next_input, p
 use Rattle.cp_model.specs.Initialisation.{body_environment, init_arguments, init_component}
 use Rattle.cp_model.specs.StatementSteps.{chosen_arm, execute, for_step, is_past, next_counter}
 use Rattle.cp_model.specs.Step.{run_task, step_of, take_action}
+use Rattle.cp_model.specs.States.{is_set, is_started, processes}
 use Rattle.cp_model.specs.Start.{start}
 use Rattle.cp_model.specs.Invariant.{EnvironmentIn, FrameIn, TaskIn}
 use Rattle.cp_model.proofs.MixedStores.{IsClosed, forget_mix, get_mix, mix, put_mix}
@@ -30,7 +31,7 @@ use Rattle.cp_model.proofs.ExpressionReach.{IfGives, PlaceIn, anything, place_in
 use Rattle.cp_model.proofs.WriteReach.{WritesIn, bind_in, bind_same, put_all_mix, starting_writes_in, writes_in}
 use Rattle.cp_model.proofs.ActionReach.{ActionIn, ContinuationIn, action_in}
 
--- ---- Runs
+-- ---- Configurations
 
 abbrev pub with_mixed_store : (Owner → Bool) → Store → Configuration → Configuration
 with_mixed_store t b r = record r { store = mix t r.store b }
@@ -367,7 +368,7 @@ module _ (t : Owner → Bool) (b : Store) (w : Context) (f g : ℕ → Bool) (co
   action_same (Calls u l) h k = call_same u l h k
   action_same (Acts i l) h k = run_task_same i l h.0 h.1 k
 
--- a step commutes with a change of what is out of its reach.
+-- A step commutes with a change of what is out of its reach.
 pub step_same : (t : Owner → Bool) (b : Store) (w : Context) (f g : ℕ → Bool) (config : Configuration) (closed : IsClosed t config.store) (activations_pass : (d : ℕ) → t (OfActivation w.process d) ≡ true) → ContinuationIn t config.continuation
     → (is_kernel_action (action config.continuation) ≡ true → KernelIn t b w f g config closed activations_pass)
     → step_of (record w { is_started = f; is_set = g }) (with_mixed_store t b config) ≡ result_mixed t b (step_of w config)

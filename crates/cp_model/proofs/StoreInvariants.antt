@@ -3,10 +3,10 @@ use Rattle.std.specs.Prelude.{Bool, List, None, Some, [], false, flat_map, if◌
 use Rattle.std.proofs.Common.{ap, arith, subst, sym, ◌∙◌}
 use Rattle.std.proofs.lemmas.Bool.{eq-eqb, eqb-false, eqb-true}
 use Rattle.cp_model.specs.Abstract.{Assign, Case, Class, Cycle, Expression, For, If, Init, Monitor, Name, Nothing, Perform, Process, Repeat, Seq, Sort, Statement, While}
-use Rattle.cp_model.specs.Locations.{ByIndex, ByName, Location, OfActivation, OfMonitor, OfProcess, Owner, PathStep, same_location, same_owner, under}
-use Rattle.cp_model.specs.Stores.{Absent, ClassRight, Initialised, MonitorRight, Ordinal, QueueHolds, Reference, Store, Value, forget, put, put_all}
 use Rattle.cp_model.specs.Types.{ArrayOf, ComponentOf, Members, MoreMembers, NoMembers, NoType, Queue, RecordOf, ResolvedType, Simple}
 use Rattle.cp_model.specs.Declarations.{Variable}
+use Rattle.cp_model.specs.Locations.{ByIndex, ByName, Location, OfActivation, OfMonitor, OfProcess, Owner, PathStep, same_location, same_owner, under}
+use Rattle.cp_model.specs.Stores.{Absent, ClassRight, Initialised, MonitorRight, Ordinal, QueueHolds, Reference, Store, Value, forget, put, put_all}
 use Rattle.cp_model.specs.Leaves.{Leaf, below_step, component_leaves, count_between, integers_from, leaves, leaves_of_members}
 use Rattle.cp_model.specs.Outcomes.{provided}
 use Rattle.cp_model.specs.Environments.{Environment}
@@ -21,7 +21,7 @@ use Rattle.cp_model.specs.Laws.{ReferencesAreInReach}
 use Rattle.cp_model.proofs.MixedStores.{IsClosed, same_owner-eq}
 use Rattle.cp_model.proofs.ExpressionReach.{IfGives}
 
--- What holds of a list holds of it behind statements of a scope.
+-- What holds of a list holds of it behind statements of an environment.
 pub push_keeps : (Q : List Task → Type 0) (env : Environment)
     → ((s : Statement) (k : List Task) → Q k → Q (Do s env ∷ k))
     → ((now e : Expression) (s : Statement) (k : List Task) → Q k → Q (WhileTest now e s env ∷ k))
@@ -39,7 +39,7 @@ push_keeps Q env a b c (For v down e f s) k h = a (For v down e f s) k h
 push_keeps Q env a b c (Cycle s) k h = a (Cycle s) k h
 push_keeps Q env a b c (Init x arguments) k h = a (Init x arguments) k h
 
--- a list with more tasks and no more marks.
+-- A list with more tasks and no more marks.
 record Behind (p : ℕ) (st : Store) (ms : List ℕ) (n : ℕ) (k : List Task) : Type 0 where
   pub gates : gates_of k ≡ ms
   pub deep : depth k ≡ n
@@ -55,7 +55,7 @@ push_continuation p st s env k h o =
     s k (record { gates = refl; deep = refl; tasks = o.tasks; frames = o.frames })
     in record { tasks = b.tasks; frames = b.frames; beyond = subst (λ n. NoneBeyond p st n) (sym b.deep) o.beyond }
 
--- ---- Stores with no new refers
+-- ---- Stores with no new references
 
 abbrev pub NoNewReference : Store → Store → Type 0
 NoNewReference st st' = (l j : Location) → st' l ≡ Reference j → st l ≡ Reference j
@@ -73,7 +73,7 @@ frames_keep_store p st st' (EndProcess ∷ k) n h = frames_keep_store p st st' k
 pub continuation_keeps_store : (p : ℕ) (st st' : Store) (k : List Task) → NoNewReference st st' → ContinuationInvariant p st k → ContinuationInvariant p st' k
 continuation_keeps_store p st st' k n o = record { tasks = o.tasks; frames = frames_keep_store p st st' k n o.frames; beyond = λ l j d h e f. o.beyond l j d h e (n l j f) }
 
--- a write of what is no reference, and of a right to a class of the same owner.
+-- A write of what is no reference, and of a right to a class of the same owner.
 abbrev pub KeepsStore : Location → Value → Type 0
 KeepsStore l (Reference j) = ⊥
 KeepsStore l (ClassRight j) = j.owner ≡ l.owner

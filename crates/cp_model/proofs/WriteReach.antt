@@ -2,10 +2,10 @@
 use Rattle.std.specs.Prelude.{Bool, List, [], false, map, refl, true, zip, ◌++◌, ◌∷◌, ◌≡◌}
 use Rattle.std.proofs.Common.{ap, ◌∙◌}
 use Rattle.cp_model.specs.Abstract.{Expression, Expressions, MoreExpressions, Name, NoExpression}
-use Rattle.cp_model.specs.Locations.{ByName, Location, Owner, under}
-use Rattle.cp_model.specs.Stores.{Ordinal, Store, Value, put, put_all}
 use Rattle.cp_model.specs.Types.{ArrayOf, ComponentOf, NoType, Queue, RecordOf, ResolvedType, Simple}
 use Rattle.cp_model.specs.Declarations.{Variable}
+use Rattle.cp_model.specs.Locations.{ByName, Location, Owner, under}
+use Rattle.cp_model.specs.Stores.{Ordinal, Store, Value, put, put_all}
 use Rattle.cp_model.specs.Leaves.{Leaf, leaves}
 use Rattle.cp_model.specs.Outcomes.{Outcome, provided}
 use Rattle.cp_model.specs.Places.{TypedValue, ordinal_in, ordinal_of, within}

@@ -1,10 +1,10 @@
 -- Arguments: of a call and of an `init`, one after another, each tested before the next one is evaluated.
 use Rattle.std.specs.Prelude.{List, None, Option, Some, [], if◌then◌else◌, ◌++◌, ◌∷◌}
 use Rattle.cp_model.specs.Abstract.{Class, Designator, Expression, Expressions, Monitor, MoreExpressions, Name, Plain, Sort, Use}
-use Rattle.cp_model.specs.Locations.{ByName, Location, under}
-use Rattle.cp_model.specs.Stores.{ClassRight, MonitorRight, Reference, Store}
 use Rattle.cp_model.specs.Types.{ComponentOf, ResolvedType}
 use Rattle.cp_model.specs.Declarations.{Variable}
+use Rattle.cp_model.specs.Locations.{ByName, Location, under}
+use Rattle.cp_model.specs.Stores.{ClassRight, MonitorRight, Reference, Store}
 use Rattle.cp_model.specs.Outcomes.{Gives, Outcome, and_then}
 use Rattle.cp_model.specs.Environments.{Environment}
 use Rattle.cp_model.specs.Places.{Place}

@@ -3,10 +3,10 @@ use Rattle.std.specs.Prelude.{Bool, List, None, Option, Some, [], false, if◌th
 use Rattle.std.specs.Option.{option_or}
 use Rattle.cp_model.specs.Abstract.{Class, Monitor, Name, Process, Sort, System}
 use Rattle.cp_model.specs.Names.{lookup, same_name}
-use Rattle.cp_model.specs.Locations.{ByName, Location, OfMonitor, OfProcess, under}
-use Rattle.cp_model.specs.Stores.{ClassRight, MonitorRight, Store, Value}
 use Rattle.cp_model.specs.Types.{ComponentOf, ResolvedType}
 use Rattle.cp_model.specs.Declarations.{Variable, declarations}
+use Rattle.cp_model.specs.Locations.{ByName, Location, OfMonitor, OfProcess, under}
+use Rattle.cp_model.specs.Stores.{ClassRight, MonitorRight, Store, Value}
 use Rattle.cp_model.specs.Environments.{Environment}
 
 abbrev pub same_sort : Sort → Sort → Bool
@@ -67,9 +67,11 @@ monitor_right (MonitorRight m) = m
 monitor_right _ = 0
 
 -- Monitors are numbered from 1 in order of declaration.
+abbrev pub declared_monitor : Environment → Component → ℕ
+declared_monitor env n = 1 + count_before Monitor n.name (declarations env.globals env.system.variables)
+
 abbrev pub monitor_number : Environment → Store → Component → ℕ
-monitor_number env store n =
-    if n.is_parameter then monitor_right (store (name_location env n)) else 1 + count_before Monitor n.name (declarations env.globals env.system.variables)
+monitor_number env store n = if n.is_parameter then monitor_right (store (name_location env n)) else declared_monitor env n
 
 -- Processes are numbered from 2 in order of declaration: 1 is the initial process.
 abbrev pub process_number : Environment → Component → ℕ

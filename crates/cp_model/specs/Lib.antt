@@ -1,9 +1,9 @@
 pub mod Abstract
 pub mod Names
-pub mod Locations
-pub mod Stores
 pub mod Types
 pub mod Declarations
+pub mod Locations
+pub mod Stores
 pub mod Leaves
 pub mod Outcomes
 pub mod Environments
@@ -29,11 +29,11 @@ pub mod Turns
 pub mod Rounds
 pub mod Start
 pub mod Orders
-pub mod Chains
-pub mod Report
-pub mod Input
-pub mod OrderText
 pub mod Reach
 pub mod Invariant
 pub mod Parts
 pub mod Laws
+pub mod Chains
+pub mod Report
+pub mod Input
+pub mod OrderText

@@ -34,7 +34,7 @@ next_input input i = elim (slice_get input i) [ None ↦ pos 25 | Some b ↦ pos
 -- ---- delay and continue
 
 abbrev pub process_in_queue : Value → Option ℕ
-process_in_queue (QueueHolds occupant_text) = occupant_text
+process_in_queue (QueueHolds p) = p
 process_in_queue _ = None
 
 -- Into a queue where nobody stands; a taken queue is fault 5.
@@ -68,7 +68,7 @@ standard_procedure context config env k x e =
     then and_then (place context.clock env config.store (designator_of e)) (λ at. delay context.process config k at.at (gates_of k))
     else and_then (place context.clock env config.store (designator_of e)) (λ at. continue config at.at (innermost_call k))
 
--- Only `wait` has no argument.
+-- `wait` is the only one without an argument. The process then waits for the clock.
 abbrev pub standard_statement : Context → Configuration → Environment → List Task → Designator → Expressions → StepResult
 standard_statement context config env k d NoExpression = Gives (record config { continuation = k }, Waits)
 standard_statement context config env k d (MoreExpressions e es) = standard_procedure context config env k (name_of d) e

@@ -8,7 +8,7 @@ use Rattle.cp_model.specs.Locations.{Location, Owner, same_location, same_owner}
 pub data Value : Type 0 where
   Absent : Value
   Ordinal : (n : ℤ) → Value
-  QueueHolds : (occupant_text : Option ℕ) → Value
+  QueueHolds : (process : Option ℕ) → Value
   MonitorRight : (m : ℕ) → Value
   ClassRight : (at : Location) → Value
   Reference : (to : Location) → Value
