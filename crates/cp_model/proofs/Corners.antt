@@ -6,7 +6,6 @@ use Rattle.cp_model.specs.Rounds.{run}
 use Rattle.cp_model.specs.Start.{start}
 use Rattle.cp_model.specs.Report.{line, report}
 use Rattle.cp_model.specs.Input.{cut}
-use Rattle.cp_model.proofs.OwnSteps.{result}
 
 -- A parameter has the name of a later routine of its component.
 --     procedure p(q: integer); begin display(q) end;

@@ -11,7 +11,6 @@ use Rattle.cp_model.specs.Turns.{Kernel, Kind, NoStep, Private, kernel_turn, kin
 use Rattle.cp_model.specs.Rounds.{after_own_turn, all_turns, close_round, kernel_turns, own_parts, owner_process, phased_round, sequential_round, wake}
 use Rattle.cp_model.specs.Invariant.{Invariant}
 use Rattle.cp_model.specs.Parts.{is_own}
-use Rattle.cp_model.specs.Report.{line}
 use Rattle.cp_model.proofs.Orders.{AreDistinct}
 use Rattle.cp_model.proofs.StateMaps.{differ, state_is, with_at_here, with_at_same}
 use Rattle.cp_model.proofs.MixedStores.{mix}

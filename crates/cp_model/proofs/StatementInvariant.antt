@@ -5,7 +5,7 @@ use Rattle.std.proofs.lemmas.Bool.{eq-eqb, eqb-false, eqb-true}
 use Rattle.cp_model.specs.Abstract.{Assign, Case, Char, Class, Cycle, Designator, Expression, Expressions, For, If, Init, Integer, Monitor, MoreExpressions, Name, NoExpression, Nothing, Perform, Plain, Process, Repeat, Seq, Sort, Statement, While}
 use Rattle.cp_model.specs.Names.{same_name}
 use Rattle.cp_model.specs.Types.{ArrayOf, ComponentOf, NoType, Queue, RecordOf, ResolvedType, Simple}
-use Rattle.cp_model.specs.Declarations.{Variable, declarations, declared_group}
+use Rattle.cp_model.specs.Declarations.{Variable, declarations}
 use Rattle.cp_model.specs.Locations.{ByName, Location, OfActivation, OfProcess, Owner, same_integer, under}
 use Rattle.cp_model.specs.Stores.{Absent, ClassRight, Initialised, MonitorRight, Ordinal, QueueHolds, Reference, Store, Value, forget, put, put_all}
 use Rattle.cp_model.specs.Outcomes.{Fault, Gives, Outcome, and_then}
@@ -28,7 +28,6 @@ use Rattle.cp_model.specs.Start.{start}
 use Rattle.cp_model.specs.Reach.{in_reach}
 use Rattle.cp_model.specs.Invariant.{ContinuationInvariant, EnvironmentIn, FrameIn, FramesInvariant, IsFrameOf, StoreInvariant, TasksInReach}
 use Rattle.cp_model.proofs.ExpressionReach.{IfGives, anything, then_gives}
-use Rattle.cp_model.proofs.OwnSteps.{result}
 use Rattle.cp_model.proofs.StoreInvariants.{AllKeepStore, continuation_keeps_store, forget_no_new_reference, forget_store, forgotten, frames_keep_store, push_continuation, push_keeps, put_all_no_new_reference, put_all_store, writes_keep_store}
 
 -- What a started process has left.

@@ -7,7 +7,7 @@ use Rattle.cp_model.specs.Stores.{Store}
 use Rattle.cp_model.specs.Outcomes.{Fault, Gives}
 use Rattle.cp_model.specs.Configurations.{Configuration, Faulted, Ready, Status, StepResult}
 use Rattle.cp_model.specs.Step.{step_of}
-use Rattle.cp_model.specs.States.{Setup, State, configuration, context, is_set, is_started, processes, with_at, with_configuration}
+use Rattle.cp_model.specs.States.{Setup, State, configuration, context, is_set, is_started, with_at, with_configuration}
 use Rattle.cp_model.specs.Gates.{apply_effect}
 use Rattle.cp_model.specs.Turns.{Kernel, Kind, NoStep, Private, after_step, if_kernel, kernel_step, kind, private_step, step}
 use Rattle.cp_model.specs.Parts.{is_own}

@@ -23,7 +23,6 @@ use Rattle.cp_model.specs.StandardCalls.{continue, delay, enqueue, next_input, p
 use Rattle.cp_model.specs.Initialisation.{body_environment, init_arguments, init_component}
 use Rattle.cp_model.specs.StatementSteps.{chosen_arm, execute, for_step, is_past, next_counter}
 use Rattle.cp_model.specs.Step.{run_task, step_of, take_action}
-use Rattle.cp_model.specs.States.{is_set, is_started, processes}
 use Rattle.cp_model.specs.Start.{start}
 use Rattle.cp_model.specs.Invariant.{EnvironmentIn, FrameIn, TaskIn}
 use Rattle.cp_model.proofs.MixedStores.{IsClosed, forget_mix, get_mix, mix, put_mix}

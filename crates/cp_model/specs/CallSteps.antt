@@ -5,7 +5,7 @@
 use Rattle.std.specs.Prelude.{Bool, List, None, Option, Some, [], false, if◌then◌else◌, true, ℕ, ◌∷◌}
 use Rattle.cp_model.specs.Abstract.{Class, Expression, Known, Monitor, Name, Process, Sort, System}
 use Rattle.cp_model.specs.Types.{base_of_type, named_type}
-use Rattle.cp_model.specs.Declarations.{declarations, globals}
+use Rattle.cp_model.specs.Declarations.{declarations}
 use Rattle.cp_model.specs.Locations.{ByName, Location, OfActivation, Owner}
 use Rattle.cp_model.specs.Stores.{Initialised, Ordinal, Store, Value, forget, put_all}
 use Rattle.cp_model.specs.Outcomes.{Fault, Gives, Outcome, and_then}

@@ -4,7 +4,7 @@
 -- as part of the caller; a process is started, with its body left to do.
 use Rattle.std.specs.Prelude.{List, None, Some, [], if◌then◌else◌, true, ◌∷◌}
 use Rattle.cp_model.specs.Abstract.{Class, Expressions, Monitor, Process, Sort, System}
-use Rattle.cp_model.specs.Declarations.{declarations, globals}
+use Rattle.cp_model.specs.Declarations.{declarations}
 use Rattle.cp_model.specs.Locations.{Location}
 use Rattle.cp_model.specs.Stores.{Initialised, put, put_all}
 use Rattle.cp_model.specs.Outcomes.{Fault, Gives, Outcome, and_then}
