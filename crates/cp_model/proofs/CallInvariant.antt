@@ -6,7 +6,7 @@ use Rattle.cp_model.specs.Abstract.{Class, Designator, Expression, Expressions, 
 use Rattle.cp_model.specs.Types.{ArrayOf, ComponentOf, NoType, Queue, RecordOf, ResolvedType, Simple}
 use Rattle.cp_model.specs.Declarations.{Variable, declarations}
 use Rattle.cp_model.specs.Locations.{ByName, Location, OfActivation, Owner, same_location, under}
-use Rattle.cp_model.specs.Stores.{Absent, ClassRight, Initialised, MonitorRight, Ordinal, QueueHolds, Reference, Store, Value, forget, put, put_all}
+use Rattle.cp_model.specs.Stores.{Absent, ClassRight, Initialised, MonitorRight, Ordinal, QueueHolds, Reference, Store, Value, Writes, forget, put, put_all}
 use Rattle.cp_model.specs.Leaves.{Leaf, leaves}
 use Rattle.cp_model.specs.Outcomes.{Fault, Gives, Outcome, and_then, provided}
 use Rattle.cp_model.specs.Environments.{Environment}
@@ -17,7 +17,7 @@ use Rattle.cp_model.specs.Components.{Component, monitor_number}
 use Rattle.cp_model.specs.Calls.{Callee, Found, UserCall, call_in_task, callee, procedure_call}
 use Rattle.cp_model.specs.Actions.{Action, Acts, Calls, Rests, action}
 use Rattle.cp_model.specs.Configurations.{Configuration, Context}
-use Rattle.cp_model.specs.Assignments.{Writes, starting_writes, writes_of}
+use Rattle.cp_model.specs.Assignments.{starting_writes, writes_of}
 use Rattle.cp_model.specs.Arguments.{argument_writes, bind, designator_of, reference_writes}
 use Rattle.cp_model.specs.CallSteps.{Target, activation_environment, call, called_configuration, component_target, entering, target}
 use Rattle.cp_model.specs.Step.{step_of, take_action}

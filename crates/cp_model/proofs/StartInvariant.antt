@@ -6,13 +6,13 @@ use Rattle.cp_model.specs.Abstract.{Class, Monitor, Name, Process, Sort}
 use Rattle.cp_model.specs.Types.{ArrayOf, ComponentOf, NoType, Queue, RecordOf, ResolvedType, Simple}
 use Rattle.cp_model.specs.Declarations.{Variable, declarations}
 use Rattle.cp_model.specs.Locations.{Location, under}
-use Rattle.cp_model.specs.Stores.{Absent, ClassRight, Initialised, MonitorRight, Ordinal, QueueHolds, Reference, Store, Value, put_all}
+use Rattle.cp_model.specs.Stores.{Absent, ClassRight, Initialised, MonitorRight, Ordinal, QueueHolds, Reference, Store, Value, Writes, put_all}
 use Rattle.cp_model.specs.Leaves.{Leaf, leaves_of_members}
 use Rattle.cp_model.specs.Environments.{Environment}
 use Rattle.cp_model.specs.Continuations.{EndProcess, Task, depth, push}
 use Rattle.cp_model.specs.Components.{count_before, monitor_location, process_location, process_number}
 use Rattle.cp_model.specs.Configurations.{Ready, Unstarted}
-use Rattle.cp_model.specs.Assignments.{Writes, starting_writes}
+use Rattle.cp_model.specs.Assignments.{starting_writes}
 use Rattle.cp_model.specs.States.{Setup, State, initial_variables}
 use Rattle.cp_model.specs.Rounds.{Event, replay_round}
 use Rattle.cp_model.specs.Start.{component_writes, initial_environment, initial_writes, start, variable_writes}

@@ -7,7 +7,7 @@ use Rattle.cp_model.specs.Names.{same_name}
 use Rattle.cp_model.specs.Types.{ArrayOf, ComponentOf, NoType, Queue, RecordOf, ResolvedType, Simple}
 use Rattle.cp_model.specs.Declarations.{Variable, declarations}
 use Rattle.cp_model.specs.Locations.{ByName, Location, OfActivation, OfProcess, Owner, same_integer, under}
-use Rattle.cp_model.specs.Stores.{Absent, ClassRight, Initialised, MonitorRight, Ordinal, QueueHolds, Reference, Store, Value, forget, put, put_all}
+use Rattle.cp_model.specs.Stores.{Absent, ClassRight, Initialised, MonitorRight, Ordinal, QueueHolds, Reference, Store, Value, Writes, forget, put, put_all}
 use Rattle.cp_model.specs.Outcomes.{Fault, Gives, Outcome, and_then}
 use Rattle.cp_model.specs.Environments.{Environment, Frame}
 use Rattle.cp_model.specs.Places.{TypedValue, ordinal_of, simple_value}
@@ -16,7 +16,7 @@ use Rattle.cp_model.specs.Continuations.{Do, EndBody, EndCall, EndProcess, ForNe
 use Rattle.cp_model.specs.Components.{Component, class_location, class_or_here, component_named, monitor_location, monitor_number, name_location, process_location, process_number, same_sort}
 use Rattle.cp_model.specs.Calls.{Found, call_in_statement, call_in_task, first_call, in_context}
 use Rattle.cp_model.specs.Configurations.{Configuration, Context, Delays, Effect, Ends, Enters, Own, Starts, StepResult, Waits, own_step}
-use Rattle.cp_model.specs.Assignments.{Writes, writes_of}
+use Rattle.cp_model.specs.Assignments.{writes_of}
 use Rattle.cp_model.specs.Arguments.{bind, designator_of, init_argument_writes, named_right_writes, right_writes}
 use Rattle.cp_model.specs.CallSteps.{innermost_call, is_initialised, leaving, return_value, returns, with_answer}
 use Rattle.cp_model.specs.StandardCalls.{continue, delay, enqueue, next_input, process_in_queue, standard_procedure, standard_statement}

@@ -6,7 +6,7 @@ use Rattle.cp_model.specs.Names.{same_name}
 use Rattle.cp_model.specs.Types.{ArrayOf, ComponentOf, NoType, Queue, RecordOf, ResolvedType, Simple}
 use Rattle.cp_model.specs.Declarations.{Variable, declarations}
 use Rattle.cp_model.specs.Locations.{ByName, Location, OfActivation, OfMonitor, OfProcess, Owner, same_integer}
-use Rattle.cp_model.specs.Stores.{Absent, ClassRight, Initialised, MonitorRight, Ordinal, QueueHolds, Reference, Store, Value, forget, put, put_all}
+use Rattle.cp_model.specs.Stores.{Absent, ClassRight, Initialised, MonitorRight, Ordinal, QueueHolds, Reference, Store, Value, Writes, forget, put, put_all}
 use Rattle.cp_model.specs.Outcomes.{Fault, Gives, Outcome, and_then}
 use Rattle.cp_model.specs.Environments.{Environment, Frame}
 use Rattle.cp_model.specs.Places.{Place, TypedValue, ordinal_of, simple_value}
@@ -16,7 +16,7 @@ use Rattle.cp_model.specs.Components.{Component, class_location, class_or_here, 
 use Rattle.cp_model.specs.Calls.{UserCall, is_monitor_call}
 use Rattle.cp_model.specs.Actions.{Action, Acts, Calls, Rests, action, is_kernel_action}
 use Rattle.cp_model.specs.Configurations.{Configuration, Context, Continues, Effect, Starts, StepResult, own_step}
-use Rattle.cp_model.specs.Assignments.{Writes, starting_writes, writes_of}
+use Rattle.cp_model.specs.Assignments.{starting_writes, writes_of}
 use Rattle.cp_model.specs.Arguments.{argument_writes, bind, designator_of, init_argument_writes, named_right_writes, reference_writes, right_writes}
 use Rattle.cp_model.specs.CallSteps.{Target, call, called_configuration, component_target, innermost_call, is_initialised, leaving, return_value, returns, target}
 use Rattle.cp_model.specs.StandardCalls.{continue, delay, enqueue, next_input, process_in_queue, standard_procedure, standard_statement}

@@ -6,13 +6,13 @@ use Rattle.cp_model.specs.Abstract.{Assign, Case, Class, Cycle, Expression, For,
 use Rattle.cp_model.specs.Types.{ArrayOf, ComponentOf, Members, MoreMembers, NoMembers, NoType, Queue, RecordOf, ResolvedType, Simple}
 use Rattle.cp_model.specs.Declarations.{Variable}
 use Rattle.cp_model.specs.Locations.{ByIndex, ByName, Location, OfActivation, OfMonitor, OfProcess, Owner, PathStep, same_location, same_owner, under}
-use Rattle.cp_model.specs.Stores.{Absent, ClassRight, Initialised, MonitorRight, Ordinal, QueueHolds, Reference, Store, Value, forget, put, put_all}
+use Rattle.cp_model.specs.Stores.{Absent, ClassRight, Initialised, MonitorRight, Ordinal, QueueHolds, Reference, Store, Value, Writes, forget, put, put_all}
 use Rattle.cp_model.specs.Leaves.{Leaf, below_step, component_leaves, count_between, integers_from, leaves, leaves_of_members}
 use Rattle.cp_model.specs.Outcomes.{provided}
 use Rattle.cp_model.specs.Environments.{Environment}
 use Rattle.cp_model.specs.Places.{TypedValue, ordinal_in, ordinal_of, within}
 use Rattle.cp_model.specs.Continuations.{Do, EndBody, EndCall, EndProcess, ForNext, RepeatTest, Task, WhileTest, depth, gates_of, push}
-use Rattle.cp_model.specs.Assignments.{Writes, starting_writes, writes_of}
+use Rattle.cp_model.specs.Assignments.{starting_writes, writes_of}
 use Rattle.cp_model.specs.States.{is_in}
 use Rattle.cp_model.specs.Start.{start}
 use Rattle.cp_model.specs.Reach.{in_reach}

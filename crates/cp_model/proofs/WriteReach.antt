@@ -5,11 +5,11 @@ use Rattle.cp_model.specs.Abstract.{Expression, Expressions, MoreExpressions, Na
 use Rattle.cp_model.specs.Types.{ArrayOf, ComponentOf, NoType, Queue, RecordOf, ResolvedType, Simple}
 use Rattle.cp_model.specs.Declarations.{Variable}
 use Rattle.cp_model.specs.Locations.{ByName, Location, Owner, under}
-use Rattle.cp_model.specs.Stores.{Ordinal, Store, Value, put, put_all}
+use Rattle.cp_model.specs.Stores.{Ordinal, Store, Value, Writes, put, put_all}
 use Rattle.cp_model.specs.Leaves.{Leaf, leaves}
 use Rattle.cp_model.specs.Outcomes.{Outcome, provided}
 use Rattle.cp_model.specs.Places.{TypedValue, ordinal_in, ordinal_of, within}
-use Rattle.cp_model.specs.Assignments.{Writes, starting_writes, writes_of}
+use Rattle.cp_model.specs.Assignments.{starting_writes, writes_of}
 use Rattle.cp_model.specs.Arguments.{bind}
 use Rattle.cp_model.specs.Start.{start}
 use Rattle.cp_model.proofs.MixedStores.{mix, put_mix}

@@ -4,13 +4,10 @@ use Rattle.cp_model.specs.Abstract.{Name}
 use Rattle.cp_model.specs.Types.{ResolvedType, Simple}
 use Rattle.cp_model.specs.Declarations.{Variable}
 use Rattle.cp_model.specs.Locations.{ByName, Location, under}
-use Rattle.cp_model.specs.Stores.{Ordinal, Value}
+use Rattle.cp_model.specs.Stores.{Ordinal, Writes}
 use Rattle.cp_model.specs.Leaves.{leaves}
 use Rattle.cp_model.specs.Outcomes.{Gives, Outcome, provided}
 use Rattle.cp_model.specs.Places.{TypedValue, ordinal_in, ordinal_of, within}
-
-abbrev pub Writes : Type 0
-Writes = List (Location × Value)
 
 -- A simple value beyond the bounds of the place is fault 1. A structured one is copied leaf by leaf.
 abbrev pub writes_of : Location → ResolvedType → TypedValue → Outcome Writes
@@ -19,4 +16,5 @@ writes_of at t v = Gives (zip (map (λ leaf. under at leaf.0) (leaves t)) (map (
 
 -- The start values of variables that lie at a location.
 abbrev pub starting_writes : Location → List (Name × Variable) → Writes
-starting_writes at variables = flat_map (λ v. map (λ leaf. (under at (ByName v.0 ∷ leaf.0), leaf.1)) (leaves v.1.type)) variables
+starting_writes at variables =
+    flat_map (λ v. map (λ leaf. (under at (ByName v.0 ∷ leaf.0), leaf.1)) (leaves v.1.type)) variables

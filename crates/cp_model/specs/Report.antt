@@ -89,7 +89,8 @@ status_text setup (Faulted n) = codes "fault " ++ natural n
 abbrev pub process_text : Setup → State → ℕ → Name → Members → Text
 process_text setup s p x ps =
     line (codes "process " ++ (natural p ++ (codes " " ++ (x ++ (codes " " ++ status_text setup (s.status p))))))
-    ++ (line (codes "out '" ++ (flat_map escaped (s.transcript p) ++ codes "'")) ++ variable_lines s.store (process_location p) ps)
+    ++ (line (codes "out '" ++ (flat_map escaped (s.transcript p) ++ codes "'"))
+    ++ variable_lines s.store (process_location p) ps)
 
 abbrev pub processes_text : Setup → State → ℕ → List (Name × Variable) → Text
 processes_text setup s p [] = []
@@ -112,7 +113,8 @@ askers_text (p ∷ ps) = numbers_text (p ∷ ps)
 
 abbrev pub monitor_text : State → ℕ → Name → Members → Text
 monitor_text s m x ps =
-    line (codes "monitor " ++ (x ++ (codes " " ++ (gate_text (s.gates m).holder ++ (codes " askers" ++ askers_text (s.gates m).askers)))))
+    let gate = s.gates m in
+    line (codes "monitor " ++ (x ++ (codes " " ++ (gate_text gate.holder ++ (codes " askers" ++ askers_text gate.askers)))))
     ++ variable_lines s.store (monitor_location m) ps
 
 abbrev pub monitors_text : State → ℕ → List (Name × Variable) → Text

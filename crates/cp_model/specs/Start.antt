@@ -6,18 +6,19 @@ use Rattle.std.specs.Prelude.{None, [], false, flat_map, map, ◌++◌, ◌∷�
 use Rattle.cp_model.specs.Abstract.{Class, Monitor, Name, Process, Sort}
 use Rattle.cp_model.specs.Types.{ComponentOf, Members, ResolvedType}
 use Rattle.cp_model.specs.Declarations.{globals}
-use Rattle.cp_model.specs.Locations.{Location, OfProcess, under}
-use Rattle.cp_model.specs.Stores.{Absent, put_all}
+use Rattle.cp_model.specs.Locations.{Location, under}
+use Rattle.cp_model.specs.Stores.{Absent, Writes, put_all}
 use Rattle.cp_model.specs.Leaves.{leaves_of_members}
 use Rattle.cp_model.specs.Environments.{Environment}
 use Rattle.cp_model.specs.Continuations.{EndProcess, push}
 use Rattle.cp_model.specs.Components.{Component, declared_monitor, monitor_location, process_location, process_number}
 use Rattle.cp_model.specs.Configurations.{Ready, Unstarted}
-use Rattle.cp_model.specs.Assignments.{Writes, starting_writes}
+use Rattle.cp_model.specs.Assignments.{starting_writes}
 use Rattle.cp_model.specs.States.{Setup, State, Unset, initial_variables, with_at}
 
 abbrev pub initial_environment : Setup → Environment
-initial_environment setup = record { globals = globals setup.tree; system = setup.tree.initial; component = record { owner = OfProcess 1; path = [] }; frame = None }
+initial_environment setup =
+    record { globals = globals setup.tree; system = setup.tree.initial; component = process_location 1; frame = None }
 
 -- ---- Start values
 
@@ -31,7 +32,8 @@ component_writes env n Monitor ps = member_writes (monitor_location (declared_mo
 component_writes env n Class ps = []
 
 abbrev pub variable_writes : Environment → Name → ResolvedType → Writes
-variable_writes env x (ComponentOf s inner) = component_writes env (record { name = x; system = s; is_parameter = false }) s.sort inner
+variable_writes env x (ComponentOf s inner) =
+    component_writes env (record { name = x; system = s; is_parameter = false }) s.sort inner
 variable_writes env x _ = []
 
 abbrev pub initial_writes : Setup → Writes

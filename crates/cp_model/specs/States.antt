@@ -49,7 +49,12 @@ set_status p x s = record s { status = with_at p x s.status }
 -- ---- One process's view
 
 abbrev pub configuration : State → ℕ → Configuration
-configuration s p = record { store = s.store; continuation = s.continuation p; transcript = s.transcript p; consumed = s.consumed p }
+configuration s p = record {
+  store = s.store;
+  continuation = s.continuation p;
+  transcript = s.transcript p;
+  consumed = s.consumed p;
+}
 
 abbrev pub with_configuration : State → ℕ → Configuration → State
 with_configuration s p r =

@@ -50,7 +50,12 @@ pub record GlobalScope : Type 0 where
 abbrev pub standard_scope : GlobalScope
 standard_scope = record {
   constants = (codes "false", (Boolean, pos 0)) ∷ (codes "true", (Boolean, pos 1)) ∷ [];
-  types = (codes "integer", full_range Integer) ∷ (codes "boolean", full_range Boolean) ∷ (codes "char", full_range Char) ∷ (codes "queue", Queue) ∷ [];
+  types =
+      (codes "integer", full_range Integer)
+      ∷ (codes "boolean", full_range Boolean)
+      ∷ (codes "char", full_range Char)
+      ∷ (codes "queue", Queue)
+      ∷ [];
 }
 
 -- ---- What a written type stands for
