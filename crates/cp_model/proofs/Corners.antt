@@ -1,6 +1,6 @@
 -- Worked texts, computed: a name means what is visible where it stands, whatever is declared with that name later.
 use Rattle.std.specs.Prelude.{None, Some, [], codes, false, refl, true, ◌++◌, ◌∷◌, ◌≡◌}
-use Rattle.cp_model.specs.Abstract.{Add, Array, Assign, At, Binary, Class, ConstantDef, EnumDef, For, Init, Literal, Monitor, MoreExpressions, MoreFields, NoExpression, NoFields, Nothing, Number, Part, Perform, Plain, Process, Range, Record, Seq, SystemDef, TypeDef, TypeName, Use}
+use Rattle.cp_model.specs.Abstract.{Add, Array, Assign, At, Binary, Character, Class, ConstantDef, EnumDef, For, Init, Literal, Monitor, MoreExpressions, MoreFields, NoExpression, NoFields, Nothing, Number, Part, Perform, Plain, Process, Range, Record, Seq, SystemDef, TypeDef, TypeName, Use}
 use Rattle.cp_model.specs.States.{Setup}
 use Rattle.cp_model.specs.Rounds.{run}
 use Rattle.cp_model.specs.Start.{start}
@@ -489,3 +489,45 @@ index_by_local : report setup_index_by_local false (run setup_index_by_local 100
     ++ (line (codes "var v[3] = 5")
     ++ (line (codes "var i = 2")))))))
 index_by_local = refl
+
+-- Accept beyond the range of its variable takes no input.
+--     var c: 'a'..'c'; d: char;
+--     begin accept(d); accept(c) end.
+abbrev setup_input_in_subrange : Setup
+setup_input_in_subrange = record {
+  tree = record {
+    definitions = ([]);
+    initial = record {
+      sort = Process;
+      parameters = [];
+      variables = (record {
+        by_reference
+            = false;
+        names = (codes "c" ∷ []);
+        type = (Range (Character 97) (Character 99));
+      } ∷ record {
+        by_reference = false;
+        names = (codes "d" ∷ []);
+        type = (TypeName (codes "char"));
+      } ∷ []);
+      routines = ([]);
+      body = (Seq (Perform (Plain
+          (codes "accept")) (MoreExpressions (Use (Plain (codes "d"))) NoExpression)) (Perform (Plain (codes "accept"))
+          (MoreExpressions (Use (Plain (codes "c"))) NoExpression)));
+    };
+  };
+  inputs = cut (120 ∷ 121 ∷ 122 ∷ []);
+  tick = 1;
+}
+
+input_in_subrange : report setup_input_in_subrange false (run setup_input_in_subrange 100 1 (start setup_input_in_subrange)) ≡
+    line (codes "rounds 1")
+    ++ (line (codes "process 1 initial fault 1")
+    ++ (line (codes "out ''")
+    ++ (line (codes "var c = 97")
+    ++ (line (codes "var d = 120")))))
+input_in_subrange = refl
+
+-- The faulting step took no input: one character was taken before.
+no_input_taken : (run setup_input_in_subrange 100 1 (start setup_input_in_subrange)).consumed 1 ≡ 1
+no_input_taken = refl
