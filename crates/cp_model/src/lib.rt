@@ -1,4 +1,11 @@
-//! The definitions of the language, and the laws of its rounds.
+//! The types of a Concurrent Pascal text, and the definitions that everything else is proved against.
+//!
+//! The types have no behaviour: tokens (`token`), the syntax tree (`tree`), what the rules speak of (`rules`). The definitions stand
+//! in `specs/`; docs/language.md and docs/meaning.md tell them in words, each beside the name of its file. The laws of rounds stand
+//! on functions with empty bodies (`law`).
 #![tactic(auto)]
 
 pub mod law;
+pub mod rules;
+pub mod token;
+pub mod tree;

@@ -1,0 +1,10 @@
+pub mod Totals
+pub mod DrawLists
+pub mod StripeNumbers
+pub mod MarkLists
+pub mod States
+pub mod DrawStep
+pub mod StopSteps
+pub mod SplitAndJoin
+pub mod Opening
+pub mod Closing

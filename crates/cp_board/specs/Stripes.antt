@@ -1,0 +1,14 @@
+-- How the numbers of a board are spread over its stripes: ticket r of stripe j is the number r * stripes + j.
+use Rattle.std.specs.Prelude.{ℕ, ◌+◌, ◌*◌, ◌/◌, ◌%◌}
+use Rattle.cp_board.specs.declared.view.Shape.{Shape}
+
+-- the number of a stripe's ticket
+abbrev pub number_of : Shape → ℕ → ℕ → ℕ
+number_of shape stripe ticket = ticket * shape.stripes + stripe
+
+-- the stripe of a number, and its ticket there
+abbrev pub stripe_of : Shape → ℕ → ℕ
+stripe_of shape x = x % shape.stripes
+
+abbrev pub ticket_of : Shape → ℕ → ℕ
+ticket_of shape x = x / shape.stripes

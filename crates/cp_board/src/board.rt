@@ -1,0 +1,280 @@
+//! The board and its calls. What contracts see of a board stands in `specs/Models.antt`, and what
+//! its fields have to do with its table in `specs/BoardInside.antt`.
+//!
+//! There are three kinds of steps on shared words: `fetch_add` of 1 on a ticket word, load of the
+//! stop word, and `fetch_or` of 1 on it. A ticket that is past the end of its stripe is no number:
+//! the seat then marks the stripe. `join` makes one load beside those with which `atomic_table`
+//! cuts and joins views.
+//!
+//! No clause says the following of `claim`, but reading it shows it: it touches no word of a stripe
+//! that its seat marked, makes at most as many atomic steps as there are stripes, and tries no step
+//! twice.
+//!
+//! No call but `Board::new` takes memory, and none waits.
+ghost use Rattle.std.specs.Prelude.{◌≡◌, ◌<◌, ◌≤◌, ◌++◌, ◌∷◌, [], true, length, IfOk, IsErr, IfErr, IfSome, None, IsNone, IfNone, IsTrue, ◌↔◌};
+ghost use Rattle.cp_board.specs.Draws.{IsSound, IsWhole};
+ghost use Rattle.cp_board.specs.Models.{IsSeatOf, ChangesOnlyDraws};
+ghost use Rattle.cp_board.specs.Views.{IsDone, KeepsMarks, is_used_up, first_view, first_half, second_half, joined, with_called_stop};
+
+use crate::marks::either;
+use crate::seat::Seat;
+use crate::steps::{BoardRule, CallStop, DrawTicket, Halves, LearnDraws, ReadStop};
+use crate::view::{FULL_ALLOWANCE, MOST_NUMBERS, MOST_STRIPES, Shape, View};
+use atomic_table::Table;
+use std::alloc::{AllocError, Global};
+use std::marker::Model;
+
+/// The numbers below n, to be drawn by any number of threads. A contract sees which board it is,
+/// and its shape.
+#[derive(Drop)]
+pub struct Board {
+    // The ticket words, one for each stripe, and then the stop word.
+    table: Table<(), View, Shape, BoardRule, Global>,
+    shape: Shape,
+}
+
+impl Model for Board {
+    ghost use Rattle.cp_board.specs.Models.{BoardModel};
+
+    ghost Value = { BoardModel };
+
+    ghost use Rattle.cp_board.specs.BoardInside.{board_model, IsValidBoard};
+
+    ghost view = { board_model };
+
+    ghost invariant = { IsValidBoard };
+}
+
+impl Board {
+    /// A board of the numbers below n over so many stripes, and its first seat, which has the whole
+    /// allowance, no draws and no marks. `Err` where memory was refused.
+    pub fn new(alloc: Global, n: usize, stripes: usize) -> Result<(Board, Seat), AllocError>
+        requires numbers { n ≤ MOST_NUMBERS }
+        requires some { 0 < stripes }
+        requires most { stripes ≤ MOST_STRIPES }
+        ensures of { IfOk result (λ r. IsSeatOf r.0 r.1) }
+        ensures shape { IfOk result (λ r. r.0.shape ≡ record { numbers = n; stripes = stripes }) }
+        ensures seat { IfOk result (λ r. r.1.view ≡ first_view r.0.shape) }
+    {
+        let shape = Shape {
+            numbers: n,
+            stripes,
+        };
+        let words = [0u64; MOST_STRIPES + 1];
+        let (table, pass) = Table::of_words(alloc, &words[..stripes + 1], &shape)?;
+        let board = Board { table, shape };
+        let seat = Seat {
+            pass,
+            stripe: 0,
+            allowance: FULL_ALLOWANCE,
+            count: 0,
+            used_up: [false; MOST_STRIPES],
+            seen_stop: false,
+        };
+        Ok((board, seat))
+    }
+
+    // Draws the next ticket of the stripe. `None` where the seat has marked the stripe, or finds it
+    // used up and marks it.
+    fn draw_from(&self, seat: &mut Seat, stripe: usize) -> Option<usize>
+        requires of { IsSeatOf self.now seat.old }
+        requires stripe { stripe < self.now.shape.stripes }
+        ensures rest { ChangesOnlyDraws seat.old seat.new }
+        ensures below { IfSome result (λ x. x < self.now.shape.numbers) }
+        ensures some { IfSome result (λ x. seat.new.view.draws ≡ seat.old.view.draws ++ x ∷ []) }
+        ensures none { IfNone result (seat.new.view.draws ≡ seat.old.view.draws) }
+        ensures marked { IsNone result ↔ (is_used_up seat.new.view stripe ≡ true) }
+        ensures kept { KeepsMarks seat.old.view seat.new.view }
+        ensures sound { IsSound self.now.shape.numbers seat.new.view.draws }
+        ensures few { length seat.new.view.draws ≤ self.now.shape.numbers }
+    {
+        let Shape { numbers, stripes } = self.shape;
+        if seat.used_up[stripe] {
+            return None;
+        }
+        let ticket = self
+            .table
+            .shared
+            .fetch_add::<DrawTicket>(&mut seat.pass, stripe, 1);
+        let number = ticket as usize * stripes + stripe;
+        if number < numbers {
+            seat.count += 1;
+            Some(number)
+        } else {
+            seat.used_up[stripe] = true;
+            None
+        }
+    }
+
+    /// A number below n that nobody else draws. `None` where all were drawn, and from then on
+    /// whenever this seat asks.
+    pub fn claim(&self, seat: &mut Seat) -> Option<usize>
+        requires { IsSeatOf self.now seat.old }
+        ensures rest { ChangesOnlyDraws seat.old seat.new }
+
+        // The answer, and nothing else, is added to the draws.
+        ensures below { IfSome result (λ x. x < self.now.shape.numbers) }
+        ensures some { IfSome result (λ x. seat.new.view.draws ≡ seat.old.view.draws ++ x ∷ []) }
+        ensures none { IfNone result (seat.new.view.draws ≡ seat.old.view.draws) }
+        ensures sound { IsSound self.now.shape.numbers seat.new.view.draws }
+        ensures few { length seat.new.view.draws ≤ self.now.shape.numbers }
+
+        // None is that each stripe is marked, and marks stay.
+        ensures done { IsNone result ↔ IsDone seat.new.view }
+        ensures kept { KeepsMarks seat.old.view seat.new.view }
+        ensures again { IsDone seat.old.view → result ≡ None }
+    {
+        let stripes = self.shape.stripes;
+        let own = seat.stripe;
+        for stripe in own..stripes {
+            if let Some(number) = self.draw_from(seat, stripe) {
+                return Some(number);
+            }
+        }
+        for stripe in 0..own {
+            if let Some(number) = self.draw_from(seat, stripe) {
+                return Some(number);
+            }
+        }
+        None
+    }
+
+    /// Calls the stop, for all seats of the board. This one has then called it and seen it.
+    pub fn stop(&self, seat: &mut Seat)
+        requires { IsSeatOf self.now seat.old }
+        ensures table { seat.new.table ≡ seat.old.table }
+        ensures view { seat.new.view ≡ with_called_stop seat.old.view }
+    {
+        let stop_word = self.shape.stripes;
+        self.table
+            .shared
+            .fetch_or::<CallStop>(&mut seat.pass, stop_word, 1);
+        seat.seen_stop = true;
+    }
+
+    /// Whether a stop was called: true only after one, and always for a seat that has seen one.
+    /// That a seat sees a stop that another called is shown by tests alone.
+    pub fn stopped(&self, seat: &mut Seat) -> bool
+        requires { IsSeatOf self.now seat.old }
+        ensures table { seat.new.table ≡ seat.old.table }
+        ensures view { seat.new.view ≡ record seat.old.view { seen_stop = result } }
+        ensures told { IsTrue result ↔ (seat.new.view.seen_stop ≡ true) }
+        ensures stays { seat.old.view.seen_stop ≡ true → IsTrue result }
+    {
+        let stop_word = self.shape.stripes;
+        let found = self
+            .table
+            .shared
+            .load::<ReadStop>(&mut seat.pass, stop_word);
+        let stopped = found != 0;
+        seat.seen_stop = stopped;
+        stopped
+    }
+
+    /// Two seats of one: the allowance is halved, and the first keeps the larger half, the draws
+    /// and the calls of stop. Both keep what was seen. The seat comes back just where its allowance
+    /// is 1.
+    pub fn split(&self, seat: Seat) -> Result<(Seat, Seat), Seat>
+        requires { IsSeatOf self.now seat }
+        ensures tables { IfOk result (λ r. (r.0.table ≡ seat.table) × (r.1.table ≡ seat.table)) }
+        ensures first { IfOk result (λ r. r.0.view ≡ first_half seat.view) }
+        ensures second { IfOk result (λ r. r.1.view ≡ second_half seat.view) }
+        ensures back { IfErr result (λ s. s ≡ seat) }
+        ensures alone { IsErr result ↔ (seat.view.allowance ≡ 1) }
+        ensures enough { IfOk result (λ _. 1 < seat.view.allowance) }
+    {
+        if seat.allowance == 1 {
+            return Err(seat);
+        }
+        let stripes = self.shape.stripes;
+        let Seat {
+            mut pass,
+            stripe,
+            allowance,
+            count,
+            used_up,
+            seen_stop,
+        } = seat;
+        let second_pass = self.table.shared.split_seat::<Halves>(&mut pass);
+        let half = allowance / 2;
+        let next = if stripe + 1 < stripes { stripe + 1 } else { 0 };
+        let first = Seat {
+            pass,
+            stripe,
+            allowance: allowance - half,
+            count,
+            used_up,
+            seen_stop,
+        };
+        let second = Seat {
+            pass: second_pass,
+            stripe: next,
+            allowance: half,
+            count: 0,
+            used_up,
+            seen_stop,
+        };
+        Ok((first, second))
+    }
+
+    /// One seat of two: the allowances are added, and draws, calls of stop and what was seen are
+    /// put together.
+    ///
+    /// The load at the end changes nothing. By it the seat learns that the draws of both are sound
+    /// together.
+    pub fn join(&self, first: Seat, second: Seat) -> Seat
+        requires first { IsSeatOf self.now first }
+        requires second { IsSeatOf self.now second }
+        ensures table { result.table ≡ first.table }
+        ensures view { result.view ≡ joined first.view second.view }
+        ensures sound { IsSound self.now.shape.numbers result.view.draws }
+        ensures few { length result.view.draws ≤ self.now.shape.numbers }
+
+        // Who was answered None stays so.
+        ensures first_done { IsDone first.view → IsDone result.view }
+        ensures second_done { IsDone second.view → IsDone result.view }
+    {
+        let stop_word = self.shape.stripes;
+        let Seat {
+            mut pass,
+            stripe,
+            allowance,
+            count,
+            used_up,
+            seen_stop,
+        } = first;
+        self.table
+            .shared
+            .join_seat::<Halves>(&mut pass, second.pass);
+        self.table.shared.load::<LearnDraws>(&mut pass, stop_word);
+        Seat {
+            pass,
+            stripe,
+            allowance: allowance + second.allowance,
+            count: count + second.count,
+            used_up: either(&used_up, &second.used_up),
+            seen_stop: seen_stop || second.seen_stop,
+        }
+    }
+
+    /// Ends the board, and gives the number of draws. The seat has to be the only one left, with
+    /// the whole allowance.
+    pub fn close(self, seat: Seat) -> usize
+        requires of { IsSeatOf self seat }
+        requires whole { seat.view.allowance ≡ FULL_ALLOWANCE }
+        ensures count { result ≡ length seat.view.draws }
+        ensures sound { IsSound self.shape.numbers seat.view.draws }
+
+        // A seat that was ever answered None knows that every number was drawn.
+        ensures done { IsDone seat.view → IsWhole self.shape.numbers seat.view.draws }
+        ensures all { IsDone seat.view → result ≡ self.shape.numbers }
+
+        // No stop is seen that was not called.
+        ensures stop { seat.view.seen_stop ≡ true → seat.view.called_stop ≡ true }
+    {
+        let Board { table, shape: _ } = self;
+        let Seat { pass, count, .. } = seat;
+        table.close_with(pass).free();
+        count
+    }
+}

@@ -1,0 +1,19 @@
+//! The marks of the stripes that a seat found used up.
+ghost use Rattle.std.specs.Prelude.{◌≡◌};
+ghost use Rattle.cp_board.specs.Views.{or_each};
+
+use crate::view::MOST_STRIPES;
+
+/// One for each stripe. A board with fewer stripes leaves the rest unmarked.
+pub(crate) type Marks = [bool; MOST_STRIPES];
+
+/// The stripes that either seat found used up.
+pub(crate) fn either(first: &Marks, second: &Marks) -> Marks
+    ensures { result ≡ or_each first.now second.now }
+{
+    let mut both = *first;
+    for j in 0..MOST_STRIPES {
+        both[j] |= second[j];
+    }
+    both
+}

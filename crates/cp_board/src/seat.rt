@@ -1,0 +1,30 @@
+//! The right of one thread to draw from a board. What its fields have to do with its view stands in
+//! `specs/SeatInside.antt`.
+use crate::marks::Marks;
+use crate::view::View;
+use std::marker::Model;
+
+/// A contract sees which board the seat is of, and its view.
+#[derive(Drop)]
+pub struct Seat {
+    pub(crate) pass: atomic_table::Seat<(), View>,
+    // The stripe from which the seat draws first. Nothing is promised of it.
+    pub(crate) stripe: usize,
+    pub(crate) allowance: usize,
+    // How many numbers the seat drew.
+    pub(crate) count: usize,
+    pub(crate) used_up: Marks,
+    pub(crate) seen_stop: bool,
+}
+
+impl Model for Seat {
+    ghost use Rattle.cp_board.specs.Models.{SeatModel};
+
+    ghost Value = { SeatModel };
+
+    ghost use Rattle.cp_board.specs.SeatInside.{seat_model, IsValidSeat};
+
+    ghost view = { seat_model };
+
+    ghost invariant = { IsValidSeat };
+}

@@ -1,0 +1,4 @@
+pub mod Tokens
+pub mod Ensures
+pub mod NamesSound
+pub mod ExpressionsSound

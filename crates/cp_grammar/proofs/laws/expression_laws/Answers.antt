@@ -1,0 +1,5 @@
+use Rattle.cp_grammar.proofs.ExpressionsSound.{expressions_are_sound}
+use Rattle.cp_grammar.proofs.laws.expression_laws.Goals as goal
+
+pub returns : goal.returns
+returns c = record { sound = expressions_are_sound }

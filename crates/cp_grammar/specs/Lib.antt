@@ -1,0 +1,9 @@
+pub mod Kinds
+pub mod Reading
+pub mod Names
+pub mod Expressions
+pub mod Types
+pub mod Statements
+pub mod Declarations
+pub mod Text
+pub mod Laws

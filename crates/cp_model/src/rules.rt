@@ -1,0 +1,225 @@
+//! What the rules of the language speak of: the rules by number, what a name stands for, and the tables of types and routines.
+//!
+//! A type, a routine, a system type and a parameter are named by the number of its row in a table, in the order of the text. The
+//! rules themselves are defined in `specs/Rules*.antt` and told in docs/language.md, "Rules".
+
+use crate::tree::Sort;
+
+/// A rule of the language, by its number in refusals.
+#[derive(Clone, Copy, Debug, PartialEq, Eq)]
+pub enum Rule {
+    C1,
+    C2,
+    C3,
+    C4,
+    C5,
+    C6,
+    C7,
+    C8,
+    C9,
+    C10,
+    C11,
+    C12,
+    C13,
+}
+
+/// A rule that is broken at a place of the text.
+#[derive(Clone, Copy, Debug, PartialEq, Eq)]
+pub struct Violation {
+    pub rule: Rule,
+    pub at: usize,
+}
+
+/// How a variable may be used.
+#[derive(Clone, Copy, Debug, PartialEq, Eq)]
+pub enum Access {
+    /// A variable of the component or the routine.
+    Own,
+    /// A `var` parameter.
+    ByReference,
+    /// Another parameter. It may not be changed, and where it names a component it is a right.
+    Passive,
+}
+
+/// A routine of the language itself, which no text declares.
+#[derive(Clone, Copy, Debug, PartialEq, Eq)]
+pub enum Standard {
+    Abs,
+    Succ,
+    Pred,
+    Ord,
+    Chr,
+    Empty,
+    Realtime,
+    Delay,
+    Continue,
+    Display,
+    Accept,
+    Wait,
+}
+
+/// What a routine answers.
+#[derive(Clone, Copy, Debug, PartialEq, Eq)]
+pub enum Returns {
+    /// It is a procedure.
+    Nothing,
+    /// A value of this type.
+    Value(usize),
+    /// It is a function whose result type is broken.
+    Broken(Violation),
+}
+
+/// A routine: its parameters from the first on, and the words that it needs with all that it calls.
+#[derive(Clone, Copy, Debug, PartialEq, Eq)]
+pub struct RoutineRow {
+    pub entry: bool,
+    pub first: usize,
+    pub count: usize,
+    pub returns: Returns,
+    pub need: usize,
+}
+
+/// A parameter. It has no type where its type is broken.
+#[derive(Clone, Copy, Debug, PartialEq, Eq)]
+pub struct ParameterRow {
+    pub by_reference: bool,
+    pub of: Option<usize>,
+}
+
+/// A system type: its parameters from the first on, the words of a component, and what the body of one needs.
+#[derive(Clone, Copy, Debug, PartialEq, Eq)]
+pub struct SystemRow {
+    pub sort: Sort,
+    pub first: usize,
+    pub count: usize,
+    pub words: usize,
+    pub body_need: usize,
+}
+
+/// What a type is.
+#[derive(Clone, Copy, Debug, PartialEq, Eq)]
+pub enum Structure {
+    /// The base type, the lower and the upper bound. A base type is its own.
+    Simple(usize, i32, i32),
+    /// The index type and the element type.
+    Array(usize, usize),
+    Record,
+    Queue,
+    /// A system type, by its row.
+    System(usize),
+}
+
+/// A type, and the words of a variable of it, at most one above the limit.
+#[derive(Clone, Copy, Debug, PartialEq, Eq)]
+pub struct TypeRow {
+    pub structure: Structure,
+    pub words: usize,
+    pub has_queues: bool,
+}
+
+/// What a name behind a `.` stands for.
+#[derive(Clone, Copy, Debug, PartialEq, Eq)]
+pub enum Member {
+    /// A field of this type.
+    Field(usize),
+    Routine(usize),
+}
+
+/// What a name stands for.
+#[derive(Clone, Copy, Debug, PartialEq, Eq)]
+pub enum Entity {
+    /// The base type and the ordinal.
+    Constant(usize, i32),
+    Type(usize),
+    /// A variable, a parameter, or a part of one. A component is a variable of a system type.
+    Variable(usize, Access),
+    /// A routine of the component itself.
+    Routine(usize),
+    /// An entry routine of another component.
+    Entry(usize),
+    Standard(Standard),
+    /// A constant inside its own definition.
+    UnfinishedConstant,
+    /// A type inside its own definition.
+    UnfinishedType,
+    /// A routine inside its own definition.
+    UnfinishedRoutine(RoutineRow),
+    /// A parameter between its own group and the end of its heading, where it isn't visible.
+    Hidden,
+    /// Its declaration is broken.
+    Broken(Violation),
+}
+
+/// The part of a component that is judged.
+#[derive(Clone, Copy, Debug, PartialEq, Eq)]
+pub enum Part {
+    Body,
+    Routine,
+    EntryRoutine,
+}
+
+/// Where statements stand: in a part of a component of this sort. The initial process is a process.
+#[derive(Clone, Copy, Debug, PartialEq, Eq)]
+pub struct Region {
+    pub sort: Sort,
+    pub part: Part,
+}
+
+/// What a written type is the type of.
+#[derive(Clone, Copy, Debug, PartialEq, Eq)]
+pub enum Position {
+    Definition,
+    Element,
+    Field,
+    /// A variable of the initial process.
+    InitialVariable,
+    /// A variable of a monitor type.
+    MonitorVariable,
+    /// A variable of a process type or a class type.
+    ComponentVariable,
+    RoutineVariable,
+}
+
+/// An array that is indexed.
+#[derive(Clone, Copy, Debug, PartialEq, Eq)]
+pub struct ArrayPart {
+    pub index: usize,
+    pub element: usize,
+    pub access: Access,
+}
+
+/// What an argument has to meet.
+#[derive(Clone, Copy, Debug, PartialEq, Eq)]
+pub enum Want {
+    /// To agree with a parameter.
+    Parameter(ParameterRow),
+    /// To be a simple value.
+    Simple,
+    /// To be an integer.
+    Integer,
+    /// To be a variable of base char.
+    CharVariable,
+    /// To be a variable of type queue.
+    QueueVariable,
+}
+
+/// What a call gives.
+#[derive(Clone, Copy, Debug, PartialEq, Eq)]
+pub enum Gives {
+    Nothing,
+    /// A value of this type.
+    Value(usize),
+    /// A value of its argument's base type.
+    ArgumentBase,
+}
+
+/// How the first name of an expression is judged.
+#[derive(Clone, Copy, Debug, PartialEq, Eq)]
+pub enum Mode {
+    /// As a value.
+    Value,
+    /// As what should be a variable: its sort is no rule of a value's.
+    Variable,
+    /// As the argument that may be a queue.
+    Queue,
+}

@@ -1,0 +1,284 @@
+//! The syntax tree of a text, with the place of each token that a rule of the language names.
+//!
+//! A place is the first byte of a token, counted from 0. What the grammar repeats (operands, selectors, arguments, statements,
+//! declarations) is a `Vec`, so that a tree is never deeper than the limit of nesting, however long its text. Which tokens a
+//! tree is read from is defined in `specs/Grammar*.antt`, over the plain data that `specs/View.antt` makes of these types.
+
+use crate::token::Name;
+
+/// A name at a place of the text.
+#[derive(Debug, Drop)]
+pub struct Identifier {
+    pub name: Name,
+    pub at: usize,
+}
+
+/// A constant where it is written: in a definition, a subrange or a label.
+#[derive(Debug, Drop)]
+pub enum Constant {
+    Number { at: usize, value: u16 },
+    /// A number behind a `-`, which stands at the place.
+    Negative { at: usize, value: u16 },
+    Character { at: usize, ordinal: u8 },
+    Named(Identifier),
+}
+
+/// A type where it is written. An enumeration and a system type stand in definitions alone, each behind its name.
+#[cycle(types)]
+#[derive(Debug, Drop)]
+pub enum TypeExpression {
+    Named(Identifier),
+    Subrange(Constant, Constant),
+    /// The index types are one or more. `array [a, b] of t` means `array [a] of array [b] of t`.
+    Array {
+        at: usize,
+        indices: Vec<TypeExpression>,
+        element: Box<TypeExpression>,
+    },
+    Record { at: usize, groups: Vec<Fields> },
+}
+
+/// Fields of one type, or variables of one type.
+#[cycle(types)]
+#[derive(Debug, Drop)]
+pub struct Fields {
+    pub names: Vec<Identifier>,
+    pub of: TypeExpression,
+}
+
+/// An operator between two operands.
+#[derive(Clone, Copy, Debug, PartialEq, Eq)]
+pub enum Operator {
+    Equal,
+    Unequal,
+    Less,
+    Greater,
+    AtMost,
+    AtLeast,
+    Add,
+    Subtract,
+    Or,
+    Multiply,
+    Divide,
+    Modulo,
+    And,
+}
+
+/// A sign before a term.
+#[derive(Clone, Copy, Debug, PartialEq, Eq)]
+pub enum Sign {
+    Plus,
+    Minus,
+}
+
+/// An expression.
+#[cycle(expressions)]
+#[derive(Debug, Drop)]
+pub enum Expression {
+    Number { at: usize, value: u16 },
+    Character { at: usize, ordinal: u8 },
+    /// A constant, a variable or a part of one, or a function called without arguments.
+    Designated(Designator),
+    /// A function called with one argument or more.
+    Call(Designator, Vec<Expression>),
+    Parenthesized { at: usize, inner: Box<Expression> },
+    Not { at: usize, operand: Box<Expression> },
+    Signed {
+        sign: Sign,
+        at: usize,
+        operand: Box<Expression>,
+    },
+    /// Operands with operators between them, which group to the left: a chain of `*`, of `+`, or one relation.
+    Chain {
+        first: Box<Expression>,
+        rest: Vec<Operation>,
+    },
+}
+
+/// An operator, its place, and its right operand.
+#[cycle(expressions)]
+#[derive(Debug, Drop)]
+pub struct Operation {
+    pub operator: Operator,
+    pub at: usize,
+    pub operand: Expression,
+}
+
+/// A name, and the parts that are selected of what it names.
+#[cycle(expressions)]
+#[derive(Debug, Drop)]
+pub struct Designator {
+    pub root: Identifier,
+    pub selectors: Vec<Selector>,
+}
+
+/// A selected part. The place of a field is that of the `.`.
+#[cycle(expressions)]
+#[derive(Debug, Drop)]
+pub enum Selector {
+    Field { at: usize, name: Identifier },
+    /// One index or more between `[` and `]`. `v[i, j]` means `v[i][j]`.
+    Indexed(Vec<Index>),
+}
+
+/// An index. Its place is that of the `[` or the `,` before it.
+#[cycle(expressions)]
+#[derive(Debug, Drop)]
+pub struct Index {
+    pub at: usize,
+    pub value: Expression,
+}
+
+/// Which way the variable of a `for` counts.
+#[derive(Clone, Copy, Debug, PartialEq, Eq)]
+pub enum Direction {
+    Up,
+    Down,
+}
+
+/// A statement.
+#[cycle(statements)]
+#[derive(Debug, Drop)]
+pub enum Statement {
+    Empty,
+    /// The place is that of the `:=`.
+    Assign {
+        target: Designator,
+        at: usize,
+        value: Expression,
+    },
+    /// A procedure called, with or without arguments.
+    Call(Designator, Vec<Expression>),
+    Compound(Vec<Statement>),
+    If {
+        condition: Expression,
+        then: Box<Statement>,
+    },
+    IfElse {
+        condition: Expression,
+        then: Box<Statement>,
+        otherwise: Box<Statement>,
+    },
+    Case {
+        selector: Expression,
+        arms: Vec<Arm>,
+    },
+    While {
+        condition: Expression,
+        body: Box<Statement>,
+    },
+    Repeat {
+        body: Vec<Statement>,
+        condition: Expression,
+    },
+    For {
+        variable: Identifier,
+        from: Expression,
+        direction: Direction,
+        last: Expression,
+        body: Box<Statement>,
+    },
+    Cycle(Vec<Statement>),
+    /// The place is that of the word `init`. There is one item or more.
+    Init { at: usize, items: Vec<InitItem> },
+}
+
+/// One labelled statement of a `case`. The labels are one or more.
+#[cycle(statements)]
+#[derive(Debug, Drop)]
+pub struct Arm {
+    pub labels: Vec<Constant>,
+    pub body: Statement,
+}
+
+/// A component that an `init` names, with or without arguments.
+#[derive(Debug, Drop)]
+pub struct InitItem {
+    pub component: Identifier,
+    pub arguments: Vec<Expression>,
+}
+
+/// The statements between a `begin` and its `end`. The place is that of the `begin`.
+#[derive(Debug, Drop)]
+pub struct Body {
+    pub at: usize,
+    pub statements: Vec<Statement>,
+}
+
+/// Parameters of one type.
+#[derive(Debug, Drop)]
+pub struct Parameters {
+    /// The place of the word `var`, where it stands before them.
+    pub by_reference: Option<usize>,
+    pub names: Vec<Identifier>,
+    pub of: Identifier,
+}
+
+/// A procedure or a function.
+#[derive(Debug, Drop)]
+pub struct Routine {
+    /// The place of the word `entry`, where it stands.
+    pub entry: Option<usize>,
+    pub name: Identifier,
+    pub parameters: Vec<Parameters>,
+    /// The type of its result, where it is a function.
+    pub result_type: Option<Identifier>,
+    pub variables: Vec<Fields>,
+    pub body: Body,
+}
+
+/// What the components of a system type are.
+#[derive(Clone, Copy, Debug, PartialEq, Eq)]
+pub enum Sort {
+    Process,
+    Monitor,
+    Class,
+}
+
+/// A system type.
+#[derive(Debug, Drop)]
+pub struct System {
+    pub sort: Sort,
+    pub parameters: Vec<Parameters>,
+    pub variables: Vec<Fields>,
+    pub routines: Vec<Routine>,
+    pub body: Body,
+}
+
+/// What a type definition gives its name to.
+#[derive(Debug, Drop)]
+pub enum Defined {
+    Written(TypeExpression),
+    Enumeration(Vec<Identifier>),
+    System(System),
+}
+
+/// A constant's definition.
+#[derive(Debug, Drop)]
+pub struct ConstantDefinition {
+    pub name: Identifier,
+    pub value: Constant,
+}
+
+/// A type's definition.
+#[derive(Debug, Drop)]
+pub struct TypeDefinition {
+    pub name: Identifier,
+    pub defined: Defined,
+}
+
+/// The definitions behind one word `const` or `type`: one or more.
+#[derive(Debug, Drop)]
+pub enum Section {
+    Constants(Vec<ConstantDefinition>),
+    Types(Vec<TypeDefinition>),
+}
+
+/// The tree of a text. Its variables, routines and body are those of the initial process.
+#[derive(Debug, Drop)]
+pub struct Tree {
+    pub sections: Vec<Section>,
+    pub variables: Vec<Fields>,
+    pub routines: Vec<Routine>,
+    pub body: Body,
+}

@@ -1,0 +1,7 @@
+mod ClassesComputed
+mod ClockComputed
+mod MonitorsComputed
+mod NestingComputed
+mod OrdersComputed
+mod ProcessesComputed
+mod RefusalsComputed

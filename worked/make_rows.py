@@ -1,0 +1,153 @@
+#!/usr/bin/env python3
+"""Writes the worked texts of this folder as statements of the crate cp_rows.
+
+Each folder is a module of statements, each file a text with its answers:
+
+    == text                        the text, up to the next line that begins with ==, without its last line feed
+    == text of EXPRESSION          the text as a Python expression, for long ones
+    == check                       what `cpm check` answers: `accepted`, or the line of a refusal
+    == run --rounds N [--turn N] [--tick N] [--input STRING] [--chains]
+    == replay --order STRING [..]  strings are written as in Python
+    the answer, up to the next line that begins with ==
+
+Lines before the first == say what the text shows. `make_rows.py` writes crates/cp_rows/specs, proofs and src/rows.rt;
+`make_rows.py --list` prints the cases as JSON, for the tests of the program.
+"""
+import json, pathlib, re, sys
+
+HERE = pathlib.Path(__file__).resolve().parent
+CRATE = HERE.parent / 'crates' / 'cp_rows'
+DEFAULTS = {'rounds': '0', 'turn': '100', 'tick': '1', 'input': '', 'order': ''}
+
+
+def cases_of(path):
+    """The (text, words, answer) of a file."""
+    text, cases = None, []
+    for block in re.split(r'^== ', path.read_text(), flags=re.M)[1:]:
+        head, _, body = block.partition('\n')
+        if head == 'text':
+            text = body[:-1]
+        elif head.startswith('text of '):
+            text = eval(head[len('text of '):])
+        else:
+            cases.append((text, head, body))
+    return cases
+
+
+def options(head):
+    """The command and its options by name."""
+    words = re.findall(r"--order '[^']*'|--input '[^']*'|\S+", head)
+    command, found, k = words[0], dict(DEFAULTS), 1
+    while k < len(words):
+        word = words[k]
+        if word.startswith(('--order ', '--input ')):
+            found[word[2:7]] = eval(word[8:])
+            k += 1
+        elif word == '--chains':
+            found['chains'] = True
+            k += 1
+        else:
+            found[word[2:]] = words[k + 1]
+            k += 2
+    return command, found
+
+
+def as_bytes(text):
+    """A term for the bytes of a text."""
+    parts = []
+    for match in re.finditer(rb'[ -~\n]+|[^ -~\n]', text.encode('latin-1')):
+        piece = match.group()
+        if re.match(rb'[ -~\n]', piece):
+            quoted = piece.decode().replace('\\', '\\\\').replace('"', '\\"').replace('\n', '\\n')
+            parts.append(f'codes "{quoted}"')
+        else:
+            parts.append(f'({piece[0]} ∷ [])')
+    return '(' + ' ++ '.join(parts) + ')' if parts else '[]'
+
+
+def statement(text, head, answer):
+    """The statement that the definitions give this answer."""
+    command, found = options(head)
+    expected = as_bytes(answer if answer.startswith(('rounds ', 'accepted')) else answer[:-1])
+    chains = 'true' if found.get('chains') else 'false'
+    given = as_bytes(found['input'])
+    if command == 'check':
+        call = f'check_answer {as_bytes(text)}'
+    elif command == 'run':
+        call = f"run_answer {found['rounds']} {found['turn']} {found['tick']} {chains} {given} {as_bytes(text)}"
+    else:
+        call = f"replay_answer {found['turn']} {found['tick']} {chains} {given} {as_bytes(found['order'])} {as_bytes(text)}"
+    return f'{call} ≡ {expected}'
+
+
+def unfoldable():
+    """The reading functions that a computation has to unfold, by module."""
+    found = {}
+    for crate in ('cp_scan', 'cp_grammar'):
+        for path in sorted((HERE.parent / 'crates' / crate / 'specs').glob('*.antt')):
+            names = re.findall(r'^\s*unfoldable pub (\S+) :', path.read_text(), re.M)
+            if names:
+                found[f'Rattle.{crate}.specs.{path.stem}'] = names
+    return found
+
+
+def write_module(folder):
+    """One folder: its statements, their proof, and the public function that stands on them."""
+    name, title = folder.name, folder.name.capitalize()
+    lines = [f'-- Worked texts and their answers: {name}. Written by worked/make_rows.py.',
+             'use Rattle.std.specs.Prelude.{◌≡◌, true, false, [], ◌∷◌, ◌++◌, codes}',
+             'use Rattle.cp_rows.specs.Answers.{check_answer, run_answer, replay_answer}', '']
+    names = []
+    for path in sorted(folder.glob('*.txt')):
+        for k, case in enumerate(cases_of(path), 1):
+            own = f'{path.stem}_{k}'
+            names.append(own)
+            lines += [f'abbrev pub {own} : Type 0', f'{own} = {statement(*case)}', '']
+    lines += [f'abbrev pub {title} : Type 0', f'{title} = ' + ' × '.join(names), '']
+    (CRATE / 'specs' / f'{title}.antt').write_text('\n'.join(lines))
+    write_proofs(name, title, names)
+    return title, name, len(names)
+
+
+def write_proofs(name, title, names):
+    """A lemma for each statement, by computation, and the answer that puts them together."""
+    modules = unfoldable()
+    unfolding = 'unfolding ' + ' '.join(word for own in modules.values() for word in own)
+    lemmas = [f'-- The answers of {name}, computed. Written by worked/make_rows.py.', 'use Rattle.std.proofs.Common.{refl}',
+              f'use Rattle.cp_rows.specs.{title}.{{{", ".join(names)}}}']
+    lemmas += [f'use {module}.{{{", ".join(own)}}}' for module, own in modules.items()]
+    for own in names:
+        lemmas += ['', f'pub {own}-holds : {own}', unfolding, f'{own}-holds = refl']
+    (CRATE / 'proofs' / f'{title}Computed.antt').write_text('\n'.join(lemmas) + '\n')
+    folder = CRATE / 'proofs' / 'rows' / f'{name}_hold'
+    folder.mkdir(parents=True, exist_ok=True)
+    cited = [f'{own}-holds' for own in names]
+    answers = [f'use Rattle.cp_rows.proofs.{title}Computed.{{{", ".join(cited)}}}',
+               f'use Rattle.cp_rows.proofs.rows.{name}_hold.Goals as goal', '',
+               'pub returns : goal.returns', 'returns c = (' + ', '.join(cited) + ')', '']
+    (folder / 'Answers.antt').write_text('\n'.join(answers))
+
+
+def write_all():
+    modules = [write_module(folder) for folder in sorted(HERE.iterdir()) if list(folder.glob('*.txt'))]
+    (CRATE / 'proofs' / 'Lib.antt').write_text(''.join(f'mod {title}Computed\n' for title, _, _ in modules))
+    (CRATE / 'specs' / 'Lib.antt').write_text('pub mod Answers\n' + ''.join(f'pub mod {title}\n' for title, _, _ in modules))
+    code = ['//! The worked texts of the folder `worked`: each function says of one folder that the definitions give its answers.',
+            '//!', '//! Written by worked/make_rows.py.', '']
+    code += [f'ghost use Rattle.cp_rows.specs.{title}.{{{title}}};' for title, _, _ in modules]
+    for title, name, count in modules:
+        code += ['', f'/// The {count} answers of `worked/{name}`.', f'pub fn {name}_hold()', f'    ensures {{ {title} }}', '{', '}']
+    (CRATE / 'src' / 'rows.rt').write_text('\n'.join(code) + '\n')
+    print(sum(count for _, _, count in modules), 'answers in', len(modules), 'modules')
+
+
+def list_cases():
+    found = []
+    for path in sorted(HERE.glob('*/*.txt')):
+        for k, (text, head, answer) in enumerate(cases_of(path), 1):
+            found.append({'name': f'{path.parent.name}/{path.stem}', 'number': k, 'text': text, 'words': head, 'answer': answer})
+    print(json.dumps(found, indent=1))
+
+
+if __name__ == '__main__':
+    list_cases() if '--list' in sys.argv else write_all()
