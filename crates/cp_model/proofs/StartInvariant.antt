@@ -76,10 +76,6 @@ module _ (setup : Setup) where
       (EndProcess ∷ []) (record { component = refl; frame = tt })
       (record { tasks = (tt, tt); frames = tt; beyond = λ l j d n e f. absurd (Prim.grind arith) })
 
-  first_continuation_depth : depth first_continuation ≡ 0
-  unfolding first_continuation
-  first_continuation_depth = push_keeps (λ k. depth k ≡ 0) (initial_environment setup) (λ x k h. h) (λ a b x k h. h) (λ a b x k h. h) setup.tree.initial.body (EndProcess ∷ []) refl
-
   pub start_invariant : Invariant (start setup)
   unfolding first_continuation
   start_invariant = invariant_of setup (start setup) (put_all_store (initial_writes setup) nowhere writes nowhere_store)
