@@ -1,6 +1,6 @@
--- Worked texts, computed: a name means what is visible where it stands, whatever is declared with that name later in the text.
+-- Worked texts, computed: a name means what is visible where it stands, whatever is declared with that name later.
 use Rattle.std.specs.Prelude.{None, Some, [], codes, false, refl, true, ◌++◌, ◌∷◌, ◌≡◌}
-use Rattle.cp_model.specs.Abstract.{Add, Array, Assign, At, Binary, Call, Case, Class, ConstantDef, EnumDef, For, Greater, If, Init, Literal, Monitor, MoreArms, MoreExpressions, MoreFields, Multiply, Named, NoArm, NoExpression, NoFields, Nothing, Number, Part, Perform, Plain, Process, Range, Record, Seq, SystemDef, TypeDef, TypeName, Use}
+use Rattle.cp_model.specs.Abstract.{Add, Array, Assign, At, Binary, Character, Class, ConstantDef, EnumDef, For, Init, Literal, Monitor, MoreExpressions, MoreFields, NoExpression, NoFields, Nothing, Number, Part, Perform, Plain, Process, Range, Record, Seq, SystemDef, TypeDef, TypeName, Use}
 use Rattle.cp_model.specs.States.{Setup}
 use Rattle.cp_model.specs.Rounds.{run}
 use Rattle.cp_model.specs.Start.{start}
@@ -25,7 +25,7 @@ setup_later_routine_parameter = record {
             entry = false;
             parameters = (record {
               by_reference = false;
-              names = ((codes "q") ∷ []);
+              names = (codes "q" ∷ []);
               type = (TypeName (codes "integer"));
             } ∷ []);
             result = None;
@@ -50,9 +50,9 @@ setup_later_routine_parameter = record {
 }
 
 later_routine_parameter : report setup_later_routine_parameter false (run setup_later_routine_parameter 10 1 (start setup_later_routine_parameter)) ≡
-    line ((codes "rounds 1"))
-    ++ (line ((codes "process 1 initial ended"))
-    ++ (line ((codes "out '37'"))))
+    line (codes "rounds 1")
+    ++ (line (codes "process 1 initial ended")
+    ++ (line (codes "out '37'")))
 later_routine_parameter = refl
 
 -- A routine's variable has the name of a later routine: counted, referred to and read.
@@ -74,7 +74,7 @@ setup_later_routine_variable = record {
             entry = false;
             parameters = (record {
               by_reference = true;
-              names = ((codes "x") ∷ []);
+              names = (codes "x" ∷ []);
               type = (TypeName (codes "integer"));
             } ∷ []);
             result = None;
@@ -88,7 +88,7 @@ setup_later_routine_variable = record {
             result = None;
             variables = (record {
               by_reference = false;
-              names = ((codes "q") ∷ []);
+              names = (codes "q" ∷ []);
               type = (TypeName (codes
                   "integer"));
             } ∷ []);
@@ -113,9 +113,9 @@ setup_later_routine_variable = record {
 }
 
 later_routine_variable : report setup_later_routine_variable false (run setup_later_routine_variable 100 1 (start setup_later_routine_variable)) ≡
-    line ((codes "rounds 1"))
-    ++ (line ((codes "process 1 initial ended"))
-    ++ (line ((codes "out '1239'"))))
+    line (codes "rounds 1")
+    ++ (line (codes "process 1 initial ended")
+    ++ (line (codes "out '1239'")))
 later_routine_variable = refl
 
 -- Variables of a class have the names of a later constant, enumeration value, type and variable.
@@ -135,7 +135,7 @@ setup_later_definitions = record {
       parameters = ([]);
       variables = (record {
         by_reference = false;
-        names = ((codes "k") ∷ (codes "red") ∷ (codes "t") ∷ (codes "v") ∷ []);
+        names = (codes "k" ∷ (codes "red") ∷ (codes "t") ∷ (codes "v") ∷ []);
         type = (TypeName
             (codes "integer"));
       } ∷ []);
@@ -154,21 +154,21 @@ setup_later_definitions = record {
       } ∷ []);
       body = Nothing;
     }) ∷ ConstantDef (codes "k") (Number 50) ∷ EnumDef (codes
-        "color") ((codes "red") ∷ (codes "green") ∷ []) ∷ TypeDef (codes "t") (Range (Number 1) (Number 3)) ∷ []);
+        "color") (codes "red" ∷ (codes "green") ∷ []) ∷ TypeDef (codes "t") (Range (Number 1) (Number 3)) ∷ []);
     initial =
         record {
           sort = Process;
           parameters = [];
           variables = (record {
             by_reference = false;
-            names = ((codes "v") ∷ []);
+            names = (codes "v" ∷ []);
             type = (TypeName (codes "c"));
           } ∷ record {
             by_reference = false;
-            names = ((codes "w") ∷ []);
+            names = (codes "w" ∷ []);
             type = (TypeName (codes
                 "t"));
-          } ∷ record { by_reference = false; names = ((codes "x") ∷ []); type = (TypeName (codes "color")) } ∷ []);
+          } ∷ record { by_reference = false; names = (codes "x" ∷ []); type = (TypeName (codes "color")) } ∷ []);
           routines = ([]);
           body = (Seq (Init (codes "v") NoExpression) (Seq (Perform (Part (Plain (codes "v")) (codes "e"))
               NoExpression) (Seq (Perform (Plain (codes "display")) (MoreExpressions (Use (Plain (codes "k"))) NoExpression)) (Seq
@@ -183,15 +183,15 @@ setup_later_definitions = record {
 }
 
 later_definitions : report setup_later_definitions false (run setup_later_definitions 100 1 (start setup_later_definitions)) ≡
-    line ((codes "rounds 1"))
-    ++ (line ((codes "process 1 initial ended"))
-    ++ (line ((codes "out '1234500110'"))
-    ++ (line ((codes "var v.k = 1"))
-    ++ (line ((codes "var v.red = 2"))
-    ++ (line ((codes "var v.t = 3"))
-    ++ (line ((codes "var v.v = 4"))
-    ++ (line ((codes "var w = 1"))
-    ++ (line ((codes "var x = 0"))))))))))
+    line (codes "rounds 1")
+    ++ (line (codes "process 1 initial ended")
+    ++ (line (codes "out '1234500110'")
+    ++ (line (codes "var v.k = 1")
+    ++ (line (codes "var v.red = 2")
+    ++ (line (codes "var v.t = 3")
+    ++ (line (codes "var v.v = 4")
+    ++ (line (codes "var w = 1")
+    ++ (line (codes "var x = 0")))))))))
 later_definitions = refl
 
 -- A function of a class has the name of a later constant.
@@ -234,7 +234,7 @@ setup_later_constant_routine = record {
       parameters = [];
       variables = (record {
         by_reference = false;
-        names = ((codes "u") ∷ []);
+        names = (codes "u" ∷ []);
         type = (TypeName
             (codes "c"));
       } ∷ []);
@@ -249,9 +249,9 @@ setup_later_constant_routine = record {
 }
 
 later_constant_routine : report setup_later_constant_routine false (run setup_later_constant_routine 100 1 (start setup_later_constant_routine)) ≡
-    line ((codes "rounds 1"))
-    ++ (line ((codes "process 1 initial ended"))
-    ++ (line ((codes "out '58'"))))
+    line (codes "rounds 1")
+    ++ (line (codes "process 1 initial ended")
+    ++ (line (codes "out '58'")))
 later_constant_routine = refl
 
 -- A process type's parameter has the name of a later process variable.
@@ -281,7 +281,7 @@ setup_later_component = record {
           sort = Process;
           parameters = (record {
             by_reference = false;
-            names = ((codes "g") ∷
+            names = (codes "g" ∷
                 []);
             type = (TypeName (codes "m"));
           } ∷ []);
@@ -295,11 +295,11 @@ setup_later_component = record {
       parameters = [];
       variables = (record {
         by_reference = false;
-        names = ((codes "h") ∷ []);
+        names = (codes "h" ∷ []);
         type = (TypeName (codes "m"));
       } ∷ record {
         by_reference = false;
-        names = ((codes "g") ∷ []);
+        names = (codes "g" ∷ []);
         type = (TypeName (codes "p"));
       } ∷ []);
       routines = ([]);
@@ -312,12 +312,12 @@ setup_later_component = record {
 }
 
 later_component : report setup_later_component false (run setup_later_component 100 3 (start setup_later_component)) ≡
-    line ((codes "rounds 3"))
-    ++ (line ((codes "process 1 initial ended"))
-    ++ (line ((codes "out ''"))
-    ++ (line ((codes "process 2 g ended"))
-    ++ (line ((codes "out '1'"))
-    ++ (line ((codes "monitor h free askers -")))))))
+    line (codes "rounds 3")
+    ++ (line (codes "process 1 initial ended")
+    ++ (line (codes "out ''")
+    ++ (line (codes "process 2 g ended")
+    ++ (line (codes "out '1'")
+    ++ (line (codes "monitor h free askers -"))))))
 later_component = refl
 
 -- Fields have the names of a function, of a standard function and of their own variable.
@@ -328,13 +328,13 @@ later_component = refl
 abbrev setup_field_names : Setup
 setup_field_names = record {
   tree = record {
-    definitions = (TypeDef (codes "r") (Record (MoreFields ((codes "f") ∷ (codes "abs") ∷ (codes "v") ∷ [])
+    definitions = (TypeDef (codes "r") (Record (MoreFields (codes "f" ∷ (codes "abs") ∷ (codes "v") ∷ [])
         (TypeName (codes "integer")) NoFields)) ∷ []);
     initial = record {
       sort = Process;
       parameters = [];
       variables =
-          (record { by_reference = false; names = ((codes "v") ∷ []); type = (TypeName (codes "r")) } ∷ []);
+          (record { by_reference = false; names = (codes "v" ∷ []); type = (TypeName (codes "r")) } ∷ []);
       routines =
           (record {
             name = codes "f";
@@ -356,77 +356,13 @@ setup_field_names = record {
 }
 
 field_names : report setup_field_names false (run setup_field_names 100 1 (start setup_field_names)) ≡
-    line ((codes "rounds 1"))
-    ++ (line ((codes "process 1 initial ended"))
-    ++ (line ((codes "out '16'"))
-    ++ (line ((codes "var v.f = 1"))
-    ++ (line ((codes "var v.abs = 2"))
-    ++ (line ((codes "var v.v = 4")))))))
+    line (codes "rounds 1")
+    ++ (line (codes "process 1 initial ended")
+    ++ (line (codes "out '16'")
+    ++ (line (codes "var v.f = 1")
+    ++ (line (codes "var v.abs = 2")
+    ++ (line (codes "var v.v = 4"))))))
 field_names = refl
-
--- Two functions have each other's local names.
---     function f(a: integer): integer; var b: integer; begin b := a + 1; f := b end;
---     function g(b: integer): integer; var a: integer; begin a := f(b); g := a * 2 end;
---     begin display(g(3)) end.
-abbrev setup_same_local_names : Setup
-setup_same_local_names = record {
-  tree = record {
-    definitions = ([]);
-    initial = record {
-      sort = Process;
-      parameters = [];
-      variables = ([]);
-      routines =
-          (record {
-            name = codes "f";
-            entry = false;
-            parameters = (record {
-              by_reference = false;
-              names = ((codes "a") ∷ []);
-              type = (TypeName (codes "integer"));
-            } ∷ []);
-            result = (Some (codes "integer"));
-            variables = (record {
-              by_reference =
-                  false;
-              names = ((codes "b") ∷ []);
-              type = (TypeName (codes "integer"));
-            } ∷ []);
-            body = (Seq (Assign (Plain (codes
-                "b")) (Binary Add (Use (Plain (codes "a"))) (Literal 1))) (Assign (Plain (codes "f")) (Use (Plain (codes "b")))));
-          }
-          ∷ record {
-            name = codes "g";
-            entry = false;
-            parameters = (record {
-              by_reference = false;
-              names = ((codes "b") ∷ []);
-              type = (TypeName (codes "integer"));
-            } ∷ []);
-            result = (Some (codes "integer"));
-            variables = (record {
-              by_reference =
-                  false;
-              names = ((codes "a") ∷ []);
-              type = (TypeName (codes "integer"));
-            } ∷ []);
-            body = (Seq (Assign (Plain (codes
-                "a")) (Call (Plain (codes "f")) (MoreExpressions (Use (Plain (codes "b"))) NoExpression))) (Assign (Plain (codes
-                "g")) (Binary Multiply (Use (Plain (codes "a"))) (Literal 2))));
-          } ∷ []);
-      body = (Perform (Plain (codes "display"))
-          (MoreExpressions (Call (Plain (codes "g")) (MoreExpressions (Literal 3) NoExpression)) NoExpression));
-    };
-  };
-  inputs = cut [];
-  tick = 1;
-}
-
-same_local_names : report setup_same_local_names false (run setup_same_local_names 100 1 (start setup_same_local_names)) ≡
-    line ((codes "rounds 1"))
-    ++ (line ((codes "process 1 initial ended"))
-    ++ (line ((codes "out '8'"))))
-same_local_names = refl
 
 -- A function of the initial process has the name of a class's function that it calls.
 --     type c = class; function entry f: integer; begin f := 1 end; begin end;
@@ -456,7 +392,7 @@ setup_same_function_names = record {
       parameters = [];
       variables = (record {
         by_reference = false;
-        names = ((codes "u") ∷ []);
+        names = (codes "u" ∷ []);
         type = (TypeName (codes
             "c"));
       } ∷ []);
@@ -479,184 +415,10 @@ setup_same_function_names = record {
 }
 
 same_function_names : report setup_same_function_names false (run setup_same_function_names 100 1 (start setup_same_function_names)) ≡
-    line ((codes "rounds 1"))
-    ++ (line ((codes "process 1 initial ended"))
-    ++ (line ((codes "out '2'"))))
+    line (codes "rounds 1")
+    ++ (line (codes "process 1 initial ended")
+    ++ (line (codes "out '2'")))
 same_function_names = refl
-
--- A routine's record has the name of a later routine, and its field that of another.
---     type r = record q: integer end;
---     procedure p; var z: r; begin z.q := 3; display(z.q) end;
---     procedure q; begin display(5) end;
---     procedure z; begin q end;
---     begin p; z end.
-abbrev setup_local_record_field : Setup
-setup_local_record_field = record {
-  tree = record {
-    definitions = (TypeDef (codes "r") (Record (MoreFields ((codes "q") ∷ []) (TypeName (codes "integer"))
-        NoFields)) ∷ []);
-    initial = record {
-      sort = Process;
-      parameters = [];
-      variables = ([]);
-      routines = (record {
-        name =
-            codes "p";
-        entry = false;
-        parameters = ([]);
-        result = None;
-        variables = (record {
-          by_reference = false;
-          names =
-              ((codes "z") ∷ []);
-          type = (TypeName (codes "r"));
-        } ∷ []);
-        body = (Seq (Assign (Part (Plain (codes "z")) (codes
-            "q")) (Literal 3)) (Perform (Plain (codes "display")) (MoreExpressions (Use (Part (Plain (codes "z")) (codes "q")))
-            NoExpression)));
-      } ∷ record {
-        name = codes "q";
-        entry = false;
-        parameters = ([]);
-        result = None;
-        variables = ([]);
-        body = (Perform (Plain (codes "display")) (MoreExpressions (Literal 5) NoExpression));
-      } ∷ record {
-        name = codes "z";
-        entry = false;
-        parameters = ([]);
-        result = None;
-        variables = ([]);
-        body = (Perform (Plain (codes "q")) NoExpression);
-      } ∷ []);
-      body = (Seq (Perform (Plain (codes "p")) NoExpression) (Perform (Plain (codes "z")) NoExpression));
-    };
-  };
-  inputs = cut [];
-  tick = 1;
-}
-
-local_record_field : report setup_local_record_field false (run setup_local_record_field 100 1 (start setup_local_record_field)) ≡
-    line ((codes "rounds 1"))
-    ++ (line ((codes "process 1 initial ended"))
-    ++ (line ((codes "out '35'"))))
-local_record_field = refl
-
--- Labels are constants though the routine before has variables of later names.
---     const one = 1;
---     type c = class; var two: integer;
---       procedure entry e(k: integer);
---       begin case k of one: two := 10; 2, 3: two := 20 end; display(two) end;
---     begin end;
---     const two = 2;
---     var u: c;
---     begin init u; u.e(1); u.e(two) end.
-abbrev setup_label_constants : Setup
-setup_label_constants = record {
-  tree = record {
-    definitions = (ConstantDef (codes "one") (Number 1) ∷ SystemDef (codes "c") (record {
-      sort = Class;
-      parameters = ([]);
-      variables = (record {
-        by_reference = false;
-        names = ((codes "two") ∷ []);
-        type = (TypeName (codes
-            "integer"));
-      } ∷ []);
-      routines = (record {
-        name = codes "e";
-        entry = true;
-        parameters = (record {
-          by_reference =
-              false;
-          names = ((codes "k") ∷ []);
-          type = (TypeName (codes "integer"));
-        } ∷ []);
-        result = None;
-        variables = ([]);
-        body = (Seq (Case (Use (Plain (codes "k"))) (MoreArms ((Named (codes "one")) ∷ []) (Assign (Plain (codes "two"))
-            (Literal 10)) (MoreArms ((Number 2) ∷ (Number 3) ∷ []) (Assign (Plain (codes "two")) (Literal 20)) NoArm))) (Perform
-            (Plain (codes "display")) (MoreExpressions (Use (Plain (codes "two"))) NoExpression)));
-      } ∷ []);
-      body = Nothing;
-    }) ∷
-        ConstantDef (codes "two") (Number 2) ∷ []);
-    initial = record {
-      sort = Process;
-      parameters = [];
-      variables = (record
-          { by_reference = false; names = ((codes "u") ∷ []); type = (TypeName (codes "c")) } ∷ []);
-      routines = ([]);
-      body =
-          (Seq (Init (codes "u") NoExpression) (Seq (Perform (Part (Plain (codes "u")) (codes "e")) (MoreExpressions (Literal
-          1) NoExpression)) (Perform (Part (Plain (codes "u")) (codes "e")) (MoreExpressions (Use (Plain (codes "two")))
-          NoExpression))));
-    };
-  };
-  inputs = cut [];
-  tick = 1;
-}
-
-label_constants : report setup_label_constants false (run setup_label_constants 100 1 (start setup_label_constants)) ≡
-    line ((codes "rounds 1"))
-    ++ (line ((codes "process 1 initial ended"))
-    ++ (line ((codes "out '1020'"))
-    ++ (line ((codes "var u.two = 20")))))
-label_constants = refl
-
--- A function's own name on the left is its result, also where a later constant has the name.
---     type c = class;
---       function entry f(k: integer): integer; begin f := k; if k > 1 then f := k * 10 end;
---     begin end;
---     const f = 3;
---     var u: c;
---     begin init u; display(u.f(1) + u.f(f)) end.
-abbrev setup_result_named_later : Setup
-setup_result_named_later = record {
-  tree = record {
-    definitions = (SystemDef (codes "c") (record {
-      sort = Class;
-      parameters = ([]);
-      variables = ([]);
-      routines
-          = (record {
-            name = codes "f";
-            entry = true;
-            parameters = (record {
-              by_reference = false;
-              names = ((codes "k") ∷ []);
-              type = (TypeName (codes "integer"));
-            } ∷ []);
-            result = (Some (codes "integer"));
-            variables = ([]);
-            body = (Seq
-                (Assign (Plain (codes "f")) (Use (Plain (codes "k")))) (If (Binary Greater (Use (Plain (codes "k"))) (Literal 1))
-                (Assign (Plain (codes "f")) (Binary Multiply (Use (Plain (codes "k"))) (Literal 10))) Nothing));
-          } ∷ []);
-      body =
-          Nothing;
-    }) ∷ ConstantDef (codes "f") (Number 3) ∷ []);
-    initial = record {
-      sort = Process;
-      parameters = [];
-      variables
-          = (record { by_reference = false; names = ((codes "u") ∷ []); type = (TypeName (codes "c")) } ∷ []);
-      routines =
-          ([]);
-      body = (Seq (Init (codes "u") NoExpression) (Perform (Plain (codes "display")) (MoreExpressions (Binary Add
-          (Call (Part (Plain (codes "u")) (codes "f")) (MoreExpressions (Literal 1) NoExpression)) (Call (Part (Plain (codes
-          "u")) (codes "f")) (MoreExpressions (Use (Plain (codes "f"))) NoExpression))) NoExpression)));
-    };
-  };
-  inputs = cut [];
-  tick = 1;
-}
-
-result_named_later : report setup_result_named_later false (run setup_result_named_later 100 1 (start setup_result_named_later)) ≡
-    line ((codes "rounds 1"))
-    ++ (line ((codes "process 1 initial ended"))
-    ++ (line ((codes "out '31'"))))
-result_named_later = refl
 
 -- An index is a local of a later routine's name, an index of the left side is read after the calls.
 --     type a = array [1..3] of integer;
@@ -680,7 +442,7 @@ setup_index_by_local = record {
         type = (TypeName (codes "a"));
       } ∷ record {
         by_reference = false;
-        names = ((codes "i") ∷ []);
+        names = (codes "i" ∷ []);
         type =
             (TypeName (codes "integer"));
       } ∷ []);
@@ -697,7 +459,7 @@ setup_index_by_local = record {
         entry = false;
         parameters = ([]);
         result = None;
-        variables = (record { by_reference = false; names = ((codes "g") ∷ []); type = (TypeName (codes "integer")) } ∷ []);
+        variables = (record { by_reference = false; names = (codes "g" ∷ []); type = (TypeName (codes "integer")) } ∷ []);
         body = (Seq (Assign (Plain (codes "g")) (Literal 3)) (Assign (At (Plain (codes "v")) (Use (Plain (codes "g"))))
             (Literal 5)));
       } ∷ record {
@@ -719,11 +481,53 @@ setup_index_by_local = record {
 }
 
 index_by_local : report setup_index_by_local false (run setup_index_by_local 100 1 (start setup_index_by_local)) ≡
-    line ((codes "rounds 1"))
-    ++ (line ((codes "process 1 initial ended"))
-    ++ (line ((codes "out ''"))
-    ++ (line ((codes "var v[1] = 0"))
-    ++ (line ((codes "var v[2] = 7"))
-    ++ (line ((codes "var v[3] = 5"))
-    ++ (line ((codes "var i = 2"))))))))
+    line (codes "rounds 1")
+    ++ (line (codes "process 1 initial ended")
+    ++ (line (codes "out ''")
+    ++ (line (codes "var v[1] = 0")
+    ++ (line (codes "var v[2] = 7")
+    ++ (line (codes "var v[3] = 5")
+    ++ (line (codes "var i = 2")))))))
 index_by_local = refl
+
+-- Accept beyond the range of its variable takes no input.
+--     var c: 'a'..'c'; d: char;
+--     begin accept(d); accept(c) end.
+abbrev setup_input_in_subrange : Setup
+setup_input_in_subrange = record {
+  tree = record {
+    definitions = ([]);
+    initial = record {
+      sort = Process;
+      parameters = [];
+      variables = (record {
+        by_reference
+            = false;
+        names = (codes "c" ∷ []);
+        type = (Range (Character 97) (Character 99));
+      } ∷ record {
+        by_reference = false;
+        names = (codes "d" ∷ []);
+        type = (TypeName (codes "char"));
+      } ∷ []);
+      routines = ([]);
+      body = (Seq (Perform (Plain
+          (codes "accept")) (MoreExpressions (Use (Plain (codes "d"))) NoExpression)) (Perform (Plain (codes "accept"))
+          (MoreExpressions (Use (Plain (codes "c"))) NoExpression)));
+    };
+  };
+  inputs = cut (120 ∷ 121 ∷ 122 ∷ []);
+  tick = 1;
+}
+
+input_in_subrange : report setup_input_in_subrange false (run setup_input_in_subrange 100 1 (start setup_input_in_subrange)) ≡
+    line (codes "rounds 1")
+    ++ (line (codes "process 1 initial fault 1")
+    ++ (line (codes "out ''")
+    ++ (line (codes "var c = 97")
+    ++ (line (codes "var d = 120")))))
+input_in_subrange = refl
+
+-- The faulting step took no input: one character was taken before.
+no_input_taken : (run setup_input_in_subrange 100 1 (start setup_input_in_subrange)).consumed 1 ≡ 1
+no_input_taken = refl

@@ -3,10 +3,10 @@ use Rattle.std.specs.Prelude.{Bool, None, Option, Some, [], codes, false, if◌t
 use Rattle.std.proofs.Common.{ap, ◌∙◌}
 use Rattle.cp_model.specs.Abstract.{At, BaseType, Binary, Call, Designator, Expression, Expressions, Known, Letter, Literal, MoreExpressions, Name, Negative, NoExpression, Not, Part, Plain, Positive, Use}
 use Rattle.cp_model.specs.Names.{lookup, same_name}
-use Rattle.cp_model.specs.Locations.{Location, Owner, Path}
-use Rattle.cp_model.specs.Stores.{Absent, ClassRight, Initialised, MonitorRight, Ordinal, QueueHolds, Reference, Store, Value}
 use Rattle.cp_model.specs.Types.{ArrayOf, ComponentOf, NoType, Queue, RecordOf, ResolvedType, Simple}
 use Rattle.cp_model.specs.Declarations.{Variable}
+use Rattle.cp_model.specs.Locations.{Location, Owner, Path}
+use Rattle.cp_model.specs.Stores.{Absent, ClassRight, Initialised, MonitorRight, Ordinal, QueueHolds, Reference, Store, Value}
 use Rattle.cp_model.specs.Outcomes.{Fault, Gives, Outcome, and_then, provided}
 use Rattle.cp_model.specs.Environments.{Environment, Frame, IsConstant, IsUnknown, IsVariable, Meaning, constant_or_unknown, local_or, local_variables, meaning, permanent_variables, variable_or}
 use Rattle.cp_model.specs.Places.{Place, element_place, ordinal_of, place_of_meaning, read, referent, value_of_meaning, within}
@@ -32,10 +32,15 @@ variable_in t (Some v) w path x m h k = h
 pub meaning_in : (t : Owner → Bool) (env : Environment) (x : Name) → EnvironmentIn t env → MeaningIn t (meaning env x)
 meaning_in t env x h = go env.frame h.frame
   where
-    permanent_in : MeaningIn t (variable_or (lookup x (permanent_variables env.globals env.system)) env.component.owner env.component.path x (constant_or_unknown (lookup x env.globals.constants)))
-    permanent_in = variable_in t (lookup x (permanent_variables env.globals env.system)) env.component.owner env.component.path x (constant_or_unknown (lookup x env.globals.constants)) h.component (constant_in t (lookup x env.globals.constants))
+    permanent_in : MeaningIn t (variable_or (lookup x (permanent_variables env.globals env.system)) env.component.owner
+        env.component.path x (constant_or_unknown (lookup x env.globals.constants)))
+    permanent_in = variable_in t (lookup x (permanent_variables env.globals env.system)) env.component.owner
+        env.component.path x (constant_or_unknown (lookup x env.globals.constants)) h.component
+        (constant_in t (lookup x env.globals.constants))
 
-    go : (f : Option Frame) → FrameIn t f → MeaningIn t (local_or env.globals f x (variable_or (lookup x (permanent_variables env.globals env.system)) env.component.owner env.component.path x (constant_or_unknown (lookup x env.globals.constants))))
+    go : (f : Option Frame) → FrameIn t f → MeaningIn t (local_or env.globals f x
+        (variable_or (lookup x (permanent_variables env.globals env.system)) env.component.owner env.component.path x
+        (constant_or_unknown (lookup x env.globals.constants))))
     go None g = permanent_in
     go (Some f) g = variable_in t (lookup x (local_variables env.globals f.routine)) f.owner [] x _ g permanent_in
 
@@ -58,7 +63,8 @@ pub then_same : {A B : Type 0} (Q : A → Type 0) (o u : Outcome A) (f g : A →
 then_same Q o (Fault n) f g e h k = ap (λ x. and_then x f) e
 then_same Q o (Gives y) f g e h k = ap (λ x. and_then x f) e ∙ k y h
 
-referent_in : (t : Owner → Bool) (a : Store) (l : Location) (v : Value) → IsClosed t a → t l.owner ≡ true → a l ≡ v → t (referent l v).owner ≡ true
+referent_in : (t : Owner → Bool) (a : Store) (l : Location) (v : Value) → IsClosed t a → t l.owner ≡ true → a l ≡ v
+    → t (referent l v).owner ≡ true
 referent_in t a l (Reference k) c h e = c.references l k h e
 referent_in t a l Absent c h e = h
 referent_in t a l (Ordinal n) c h e = h
@@ -67,7 +73,8 @@ referent_in t a l (MonitorRight m) c h e = h
 referent_in t a l (ClassRight k) c h e = h
 referent_in t a l (Initialised b) c h e = h
 
-place_of_meaning_in : (t : Owner → Bool) (a : Store) (env : Environment) (m : Meaning) → IsClosed t a → EnvironmentIn t env → MeaningIn t m → PlaceIn t (place_of_meaning env a m)
+place_of_meaning_in : (t : Owner → Bool) (a : Store) (env : Environment) (m : Meaning) → IsClosed t a → EnvironmentIn t env
+    → MeaningIn t m → PlaceIn t (place_of_meaning env a m)
 place_of_meaning_in t a env (IsConstant b n) c s h = s.component
 place_of_meaning_in t a env IsUnknown c s h = s.component
 place_of_meaning_in t a env (IsVariable l v) c s h = go v.by_reference
@@ -76,7 +83,8 @@ place_of_meaning_in t a env (IsVariable l v) c s h = go v.by_reference
     go true = referent_in t a l (a l) c h refl
     go false = h
 
-place_of_meaning_same : (t : Owner → Bool) (a b : Store) (env : Environment) (m : Meaning) → MeaningIn t m → place_of_meaning env (mix t a b) m ≡ place_of_meaning env a m
+place_of_meaning_same : (t : Owner → Bool) (a b : Store) (env : Environment) (m : Meaning) → MeaningIn t m
+    → place_of_meaning env (mix t a b) m ≡ place_of_meaning env a m
 place_of_meaning_same t a b env (IsConstant c n) h = refl
 place_of_meaning_same t a b env IsUnknown h = refl
 place_of_meaning_same t a b env (IsVariable l v) h = rw h refl
@@ -88,7 +96,8 @@ provided_in : {A : Type 0} (Q : A → Type 0) (b : Bool) (n : ℕ) (x : A) → Q
 provided_in Q true n x h = h
 provided_in Q false n x h = tt
 
-element_place_in : (t : Owner → Bool) (at : Location) (s : ResolvedType) (n : ℤ) → t at.owner ≡ true → IfGives (PlaceIn t) (element_place at s n)
+element_place_in : (t : Owner → Bool) (at : Location) (s : ResolvedType) (n : ℤ) → t at.owner ≡ true
+    → IfGives (PlaceIn t) (element_place at s n)
 element_place_in t at (ArrayOf low high e) n h = provided_in (PlaceIn t) (within low high n) 2 _ h
 element_place_in t at (Simple b low high start) n h = tt
 element_place_in t at (RecordOf ps) n h = tt
@@ -100,7 +109,8 @@ pub anything : {A : Type 0} (o : Outcome A) → IfGives (λ v. Unit {0}) o
 anything (Fault n) = tt
 anything (Gives x) = tt
 
-module _ (t : Owner → Bool) (a b : Store) (c : Clock) (env : Environment) (closed : IsClosed t a) (within_reach : EnvironmentIn t env) where
+module _ (t : Owner → Bool) (a b : Store) (c : Clock) (env : Environment) (closed : IsClosed t a)
+    (within_reach : EnvironmentIn t env) where
   pub place_in : (d : Designator) → IfGives (PlaceIn t) (place c env a d)
   place_in (Plain x) = place_of_meaning_in t a env (meaning env x) closed within_reach (meaning_in t env x within_reach)
   place_in (Part d x) = then_gives (PlaceIn t) (PlaceIn t) (place c env a d) _ (place_in d) (λ p h. h)
@@ -113,7 +123,8 @@ module _ (t : Owner → Bool) (a b : Store) (c : Clock) (env : Environment) (clo
   value_of_meaning_same IsUnknown h = read_same t a b (place_of_meaning env a IsUnknown) within_reach.component
   value_of_meaning_same (IsVariable l v) h =
       ap (λ p. read (mix t a b) p) (place_of_meaning_same t a b env (IsVariable l v) h)
-      ∙ read_same t a b (place_of_meaning env a (IsVariable l v)) (place_of_meaning_in t a env (IsVariable l v) closed within_reach h)
+      ∙ read_same t a b (place_of_meaning env a (IsVariable l v))
+      (place_of_meaning_in t a env (IsVariable l v) closed within_reach h)
 
   mutual
     pub value_same : (e : Expression) → value c env (mix t a b) e ≡ value c env a e
@@ -123,9 +134,11 @@ module _ (t : Owner → Bool) (a b : Store) (c : Clock) (env : Environment) (clo
         ap (λ g. if same_name x (codes "realtime") then integer_result (pos (realtime c)) else Gives g)
         (value_of_meaning_same (meaning env x) (meaning_in t env x within_reach))
     value_same (Use (Part d x)) =
-        then_same (PlaceIn t) (place c env (mix t a b) (Part d x)) (place c env a (Part d x)) _ _ (place_same (Part d x)) (place_in (Part d x)) (λ p h. ap (λ g. Gives g) (read_same t a b p h))
+        then_same (PlaceIn t) (place c env (mix t a b) (Part d x)) (place c env a (Part d x)) _ _ (place_same (Part d x))
+        (place_in (Part d x)) (λ p h. ap (λ g. Gives g) (read_same t a b p h))
     value_same (Use (At d e)) =
-        then_same (PlaceIn t) (place c env (mix t a b) (At d e)) (place c env a (At d e)) _ _ (place_same (At d e)) (place_in (At d e)) (λ p h. ap (λ g. Gives g) (read_same t a b p h))
+        then_same (PlaceIn t) (place c env (mix t a b) (At d e)) (place c env a (At d e)) _ _ (place_same (At d e))
+        (place_in (At d e)) (λ p h. ap (λ g. Gives g) (read_same t a b p h))
     value_same (Call d arguments) = ap (λ o. and_then o (λ v. standard_function (name_of d) v)) (first_same arguments)
     value_same (Not e) = rw (value_same e) refl
     value_same (Negative e) = rw (value_same e) refl

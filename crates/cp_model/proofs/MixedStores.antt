@@ -5,7 +5,7 @@ use Rattle.std.proofs.lemmas.Bool.{eqb-true}
 use Rattle.cp_model.specs.Locations.{Location, OfActivation, OfMonitor, OfProcess, Owner, same_location, same_owner}
 use Rattle.cp_model.specs.Stores.{Absent, ClassRight, Reference, Store, Value, forget, put}
 
--- a at the owners that pass, b elsewhere.
+-- The store a at the owners that pass, b elsewhere.
 abbrev pub mix : (Owner → Bool) → Store → Store → Store
 mix t a b l = if t l.owner then a l else b l
 
@@ -36,10 +36,12 @@ and-left : (x y : Bool) → (x && y) ≡ true → x ≡ true
 and-left true y h = refl
 and-left false y h = h
 
-pub put_mix : (t : Owner → Bool) (l : Location) (v : Value) (a b : Store) → t l.owner ≡ true → put l v (mix t a b) ≡ mix t (put l v a) b
+pub put_mix : (t : Owner → Bool) (l : Location) (v : Value) (a b : Store) → t l.owner ≡ true → put l v (mix t a b)
+    ≡ mix t (put l v a) b
 put_mix t l v a b h = λ i k. go k (same_location l k) refl i
   where
-    go : (k : Location) (x : Bool) → same_location l k ≡ x → (if x then v else mix t a b k) ≡ (if t k.owner then (if x then v else a k) else b k)
+    go : (k : Location) (x : Bool) → same_location l k ≡ x → (if x then v else mix t a b k)
+        ≡ (if t k.owner then (if x then v else a k) else b k)
     go k true e =
         let o : l.owner ≡ k.owner = same_owner-eq l.owner k.owner (and-left _ _ e) in
         rw (subst (λ y. t y ≡ true) o h) refl
@@ -48,7 +50,8 @@ put_mix t l v a b h = λ i k. go k (same_location l k) refl i
 pub forget_mix : (t : Owner → Bool) (o : Owner) (a b : Store) → t o ≡ true → forget o (mix t a b) ≡ mix t (forget o a) b
 forget_mix t o a b h = λ i k. go k (same_owner o k.owner) refl i
   where
-    go : (k : Location) (x : Bool) → same_owner o k.owner ≡ x → (if x then Absent else mix t a b k) ≡ (if t k.owner then (if x then Absent else a k) else b k)
+    go : (k : Location) (x : Bool) → same_owner o k.owner ≡ x → (if x then Absent else mix t a b k)
+        ≡ (if t k.owner then (if x then Absent else a k) else b k)
     go k true e = rw (subst (λ y. t y ≡ true) (same_owner-eq o k.owner e) h) refl
     go k false e = refl
 

@@ -19,7 +19,8 @@ module _ (setup : Setup) where
   abbrev BlockedHoldsAt : State → ℕ → Type 0
   BlockedHoldsAt s p = IsBlocked (s.status p) → holds_gate (s.continuation p) ≡ true
 
-  made_ready_other : (x : Status) (k : List Task) → NotPrivate setup (kind_of x k) → (IsBlocked x → holds_gate k ≡ true) → NotPrivate setup (kind_of (made_ready x) k)
+  made_ready_other : (x : Status) (k : List Task) → NotPrivate setup (kind_of x k) → (IsBlocked x → holds_gate k ≡ true)
+      → NotPrivate setup (kind_of (made_ready x) k)
   made_ready_other Unstarted k o h = tt
   made_ready_other Fresh k o h = tt
   made_ready_other Ready k o h = o
@@ -32,7 +33,8 @@ module _ (setup : Setup) where
   make_ready_other : (p q : ℕ) (u : State) → NotPrivateAt u p → BlockedHoldsAt u p → NotPrivateAt (make_ready q u) p
   make_ready_other p q u o h = go (nat_eq q p) refl
     where
-      go : (b : Bool) → nat_eq q p ≡ b → NotPrivate setup (kind_of (if b then made_ready (u.status q) else u.status p) (u.continuation p))
+      go : (b : Bool) → nat_eq q p ≡ b → NotPrivate setup
+          (kind_of (if b then made_ready (u.status q) else u.status p) (u.continuation p))
       go true e = rw (eqb-true q p e) (made_ready_other (u.status p) (u.continuation p) o h)
       go false e = o
 
@@ -43,7 +45,8 @@ module _ (setup : Setup) where
   set_other : (p q : ℕ) (y : Status) (u : State) → p ≢ q → NotPrivateAt u p → NotPrivateAt (set_status q y u) p
   set_other p q y u d o = rw (differ q p (λ e. d (sym e))) o
 
-  effect_other : (p q : ℕ) (e : Effect) (u : State) → p ≢ q → NotPrivateAt u p → BlockedHoldsAt u p → NotPrivateAt (apply_effect q e u) p
+  effect_other : (p q : ℕ) (e : Effect) (u : State) → p ≢ q → NotPrivateAt u p → BlockedHoldsAt u p
+      → NotPrivateAt (apply_effect q e u) p
   effect_other p q Own u d o h = o
   effect_other p q Ends u d o h = set_other p q Ended u d o
   effect_other p q Waits u d o h = set_other p q Waiting u d o
@@ -55,7 +58,8 @@ module _ (setup : Setup) where
       go (HeldBy c) = set_other p q (Asking m) u d o
   effect_other p q (Leaves m) u d o h = pass_other p m (u.gates m).askers u o h
   effect_other p q (Delays m l) u d o h =
-      pass_other p m (u.gates m).askers (set_status q (Delayed m l) u) (set_other p q (Delayed m l) u d o) (rw (differ q p (λ e. d (sym e))) h)
+      pass_other p m (u.gates m).askers (set_status q (Delayed m l) u) (set_other p q (Delayed m l) u d o)
+      (rw (differ q p (λ e. d (sym e))) h)
   effect_other p q (Continues m None) u d o h = pass_other p m (u.gates m).askers u o h
   effect_other p q (Continues m (Some c)) u d o h = make_ready_other p c (set_gate m (HeldBy c) (u.gates m).askers u) o h
   effect_other p q (Opens m) u d o h = o
@@ -75,7 +79,9 @@ module _ (setup : Setup) where
       go (Delayed m l) = o
       go (Faulted n) = o
 
-  pub after_step_other : (p q : ℕ) (s : State) (o : StepResult) → p ≢ q → NotPrivateAt s p → BlockedHoldsAt s p → NotPrivateAt (after_step s q o) p
+  pub after_step_other : (p q : ℕ) (s : State) (o : StepResult) → p ≢ q → NotPrivateAt s p → BlockedHoldsAt s p
+      → NotPrivateAt (after_step s q o) p
   after_step_other p q s (Fault n) d a h = set_other p q (Faulted n) s d a
   after_step_other p q s (Gives (u, e)) d a h =
-      effect_other p q e (with_configuration s q u) d (rw (differ q p (λ f. d (sym f))) a) (rw (differ q p (λ f. d (sym f))) h)
+      effect_other p q e (with_configuration s q u) d
+      (rw (differ q p (λ f. d (sym f))) a) (rw (differ q p (λ f. d (sym f))) h)

@@ -15,7 +15,8 @@ no_line_feed = refl
 line_feed : order_text 2 (codes "K1" ++ (10 ∷ [])) ≡ Orders ((KernelTurn 1 ∷ []) ∷ [])
 line_feed = refl
 
-two_lines : order_text 2 (codes "P2 P1 K1" ++ (10 ∷ 10 ∷ [])) ≡ Orders ((PrivateStep 2 ∷ PrivateStep 1 ∷ KernelTurn 1 ∷ []) ∷ [] ∷ [])
+two_lines : order_text 2 (codes "P2 P1 K1" ++ (10 ∷ 10 ∷ []))
+    ≡ Orders ((PrivateStep 2 ∷ PrivateStep 1 ∷ KernelTurn 1 ∷ []) ∷ [] ∷ [])
 two_lines = refl
 
 lone_space : order_text 2 (codes " ") ≡ NotALine 0

@@ -67,7 +67,8 @@ module _ {S : Type 0} (one turn : S → ℕ → S) where
     none_left p (KernelTurn q ∷ es) h = ap (λ x. KernelTurn q ∷ x) (none_left p es h)
     none_left p (PrivateStep q ∷ es) h = go (nat_eq p q) h (none_left p es)
       where
-        go : (b : Bool) → (if b then suc (private_steps p es) else private_steps p es) ≡ 0 → (private_steps p es ≡ 0 → without p es ≡ es)
+        go : (b : Bool) → (if b then suc (private_steps p es) else private_steps p es) ≡ 0
+            → (private_steps p es ≡ 0 → without p es ≡ es)
             → (if b then without p es else PrivateStep q ∷ without p es) ≡ PrivateStep q ∷ es
         go true h ih = Prim.grind arith
         go false h ih = ap (λ x. PrivateStep q ∷ x) (ih h)
@@ -79,13 +80,15 @@ module _ {S : Type 0} (one turn : S → ℕ → S) where
     first_steps p (PrivateStep q ∷ es) s g b = go (nat_eq p q) refl (first_steps p es (one s q) (m.good_one s q g) b)
       where
         go : (e : Bool) → nat_eq p q ≡ e → after (one s q) es ≡ after (many (private_steps p es) (one s q) p) (without p es)
-            → after (one s q) es ≡ after (many (if e then suc (private_steps p es) else private_steps p es) s p) (if e then without p es else PrivateStep q ∷ without p es)
+            → after (one s q) es ≡ after (many (if e then suc (private_steps p es) else private_steps p es) s p)
+            (if e then without p es else PrivateStep q ∷ without p es)
         go true e ih = ih ∙ ap (λ x. after (many (private_steps p es) (one s x) p) (without p es)) (sym (eqb-true p q e))
         go false e ih =
             ih ∙ ap (λ x. after x (without p es)) (many_past_one (private_steps p es) s p q (λ f. eqb-false p q e (sym f)) g)
     first_steps p (KernelTurn q ∷ es) s g b = go (nat_eq p q) refl (first_steps p es (turn s q) (m.good_turn s q g) b.1)
       where
-        go : (e : Bool) → nat_eq p q ≡ e → after (turn s q) es ≡ after (many (private_steps p es) (turn s q) p) (without p es)
+        go : (e : Bool) → nat_eq p q ≡ e → after (turn s q) es ≡ after (many (private_steps p es) (turn s q) p)
+            (without p es)
             → after (turn s q) es ≡ after (many (private_steps p es) s p) (KernelTurn q ∷ without p es)
         go true e ih =
             let none : private_steps p es ≡ 0 = subst (λ x. private_steps x es ≡ 0) (sym (eqb-true p q e)) b.0 in
@@ -94,14 +97,16 @@ module _ {S : Type 0} (one turn : S → ℕ → S) where
             ih ∙ ap (λ x. after x (without p es)) (many_past_turn (private_steps p es) s p q (eqb-false p q e) g)
 
     -- Then the first kernel turn may come, where none of its process's steps is left.
-    then_turn : (p : ℕ) (ps : List ℕ) (es : List Event) (s : S) → Good s → private_steps p es ≡ 0 → kernel_turn_order es ≡ p ∷ ps
+    then_turn : (p : ℕ) (ps : List ℕ) (es : List Event) (s : S) → Good s → private_steps p es ≡ 0 → kernel_turn_order es
+        ≡ p ∷ ps
         → after s es ≡ after (turn s p) (past_turn es)
     then_turn p ps [] s g n k = Prim.grind arith
     then_turn p ps (KernelTurn q ∷ es) s g n k = ap (λ x. after (turn s x) es) (Prim.grind arith)
     then_turn p ps (PrivateStep q ∷ es) s g n k = go (nat_eq p q) refl n (then_turn p ps es (one s q) (m.good_one s q g))
       where
         go : (e : Bool) → nat_eq p q ≡ e → (if e then suc (private_steps p es) else private_steps p es) ≡ 0
-            → (private_steps p es ≡ 0 → kernel_turn_order es ≡ p ∷ ps → after (one s q) es ≡ after (turn (one s q) p) (past_turn es))
+            → (private_steps p es ≡ 0 → kernel_turn_order es ≡ p ∷ ps → after (one s q) es
+            ≡ after (turn (one s q) p) (past_turn es))
             → after (one s q) es ≡ after (one (turn s p) q) (past_turn es)
         go true e n ih = Prim.grind arith
         go false e n ih = ih n k ∙ ap (λ x. after x (past_turn es)) (m.turns s q p (λ f. eqb-false p q e (sym f)) g)
@@ -113,7 +118,8 @@ kernel_turn_order-without p [] = refl
 kernel_turn_order-without p (KernelTurn q ∷ es) = ap (λ x. q ∷ x) (kernel_turn_order-without p es)
 kernel_turn_order-without p (PrivateStep q ∷ es) = go (nat_eq p q) (kernel_turn_order-without p es)
   where
-    go : (b : Bool) → kernel_turn_order (without p es) ≡ kernel_turn_order es → kernel_turn_order (if b then without p es else PrivateStep q ∷ without p es) ≡ kernel_turn_order es
+    go : (b : Bool) → kernel_turn_order (without p es) ≡ kernel_turn_order es
+        → kernel_turn_order (if b then without p es else PrivateStep q ∷ without p es) ≡ kernel_turn_order es
     go true ih = ih
     go false ih = ih
 
@@ -122,17 +128,20 @@ private_steps-without p [] = refl
 private_steps-without p (KernelTurn q ∷ es) = private_steps-without p es
 private_steps-without p (PrivateStep q ∷ es) = go (nat_eq p q) refl (private_steps-without p es)
   where
-    go : (b : Bool) → nat_eq p q ≡ b → private_steps p (without p es) ≡ 0 → private_steps p (if b then without p es else PrivateStep q ∷ without p es) ≡ 0
+    go : (b : Bool) → nat_eq p q ≡ b → private_steps p (without p es) ≡ 0
+        → private_steps p (if b then without p es else PrivateStep q ∷ without p es) ≡ 0
     go true e ih = ih
     go false e ih = rw e ih
 
-other_private_steps-without : (p r : ℕ) (es : List Event) → nat_eq r p ≡ false → private_steps r (without p es) ≡ private_steps r es
+other_private_steps-without : (p r : ℕ) (es : List Event) → nat_eq r p ≡ false → private_steps r (without p es)
+    ≡ private_steps r es
 other_private_steps-without p r [] d = refl
 other_private_steps-without p r (KernelTurn q ∷ es) d = other_private_steps-without p r es d
 other_private_steps-without p r (PrivateStep q ∷ es) d = go (nat_eq p q) refl (other_private_steps-without p r es d)
   where
     go : (b : Bool) → nat_eq p q ≡ b → private_steps r (without p es) ≡ private_steps r es
-        → private_steps r (if b then without p es else PrivateStep q ∷ without p es) ≡ (if nat_eq r q then suc (private_steps r es) else private_steps r es)
+        → private_steps r (if b then without p es else PrivateStep q ∷ without p es)
+        ≡ (if nat_eq r q then suc (private_steps r es) else private_steps r es)
     go true e ih = rw (← eqb-true p q e, d) ih
     go false e ih = ap (λ x. if nat_eq r q then suc x else x) ih
 
@@ -145,11 +154,13 @@ in_order-without p (KernelTurn q ∷ es) b = (go (nat_eq q p) refl, in_order-wit
     go false e = other_private_steps-without p q es e ∙ b.0
 in_order-without p (PrivateStep q ∷ es) b = go (nat_eq p q) (in_order-without p es b)
   where
-    go : (e : Bool) → ArePrivateStepsFirst (without p es) → ArePrivateStepsFirst (if e then without p es else PrivateStep q ∷ without p es)
+    go : (e : Bool) → ArePrivateStepsFirst (without p es)
+        → ArePrivateStepsFirst (if e then without p es else PrivateStep q ∷ without p es)
     go true ih = ih
     go false ih = ih
 
-kernel_turn_order-past_turn : (p : ℕ) (ps : List ℕ) (es : List Event) → kernel_turn_order es ≡ p ∷ ps → kernel_turn_order (past_turn es) ≡ ps
+kernel_turn_order-past_turn : (p : ℕ) (ps : List ℕ) (es : List Event) → kernel_turn_order es ≡ p ∷ ps
+    → kernel_turn_order (past_turn es) ≡ ps
 kernel_turn_order-past_turn p ps [] h = Prim.grind arith
 kernel_turn_order-past_turn p ps (PrivateStep q ∷ es) h = kernel_turn_order-past_turn p ps es h
 kernel_turn_order-past_turn p ps (KernelTurn q ∷ es) h = Prim.grind arith
@@ -167,7 +178,8 @@ in_order-past_turn (KernelTurn q ∷ es) b = b.1
 rest_of : ℕ → List Event → List Event
 rest_of p es = past_turn (without p es)
 
-rest_is_lawful : (t p : ℕ) (ps : List ℕ) (es : List Event) → is_in p ps ≡ false → IsLawful t (p ∷ ps) es → IsLawful t ps (rest_of p es)
+rest_is_lawful : (t p : ℕ) (ps : List ℕ) (es : List Event) → is_in p ps ≡ false → IsLawful t (p ∷ ps) es
+    → IsLawful t ps (rest_of p es)
 unfolding rest_of
 rest_is_lawful t p ps es d h = record {
   order = kernel_turn_order-past_turn p ps (without p es) (kernel_turn_order-without p es ∙ h.order);
@@ -199,5 +211,7 @@ module _ {S : Type 0} (one turn : S → ℕ → S) (Good : S → Type 0) (m : Ma
   lawful_is_one_by_one t (p ∷ ps) es s d g h =
       first_steps one turn Good m p es s g h.in_order
       ∙ ap (λ n. after one turn (many one turn n s p) (without p es)) (rw (eq-eqb p p refl) at (h.steps p))
-      ∙ then_turn one turn Good m p ps (without p es) (many one turn t s p) (good_many one turn Good m t s p g) (private_steps-without p es) (kernel_turn_order-without p es ∙ h.order)
-      ∙ lawful_is_one_by_one t ps (rest_of p es) (turn (many one turn t s p) p) d.1 (good_past t s p g) (rest_is_lawful t p ps es d.0 h)
+      ∙ then_turn one turn Good m p ps (without p es) (many one turn t s p) (good_many one turn Good m t s p g)
+      (private_steps-without p es) (kernel_turn_order-without p es ∙ h.order)
+      ∙ lawful_is_one_by_one t ps (rest_of p es) (turn (many one turn t s p) p) d.1 (good_past t s p g)
+      (rest_is_lawful t p ps es d.0 h)

@@ -26,7 +26,13 @@ use Rattle.cp_model.proofs.StateInvariant.{kernel_step_keeps, may_commute}
 use Rattle.cp_model.proofs.LawfulRounds.{below_are_out}
 
 pub own_part_refl : (p : ℕ) (s : State) → SameOwnPart p s s
-own_part_refl p s = record { status = refl; transcript = refl; consumed = refl; store = λ a l h. refl; continuation = λ a. refl }
+own_part_refl p s = record {
+  status = refl;
+  transcript = refl;
+  consumed = refl;
+  store = λ a l h. refl;
+  continuation = λ a. refl;
+}
 
 pub own_part_trans : (p : ℕ) (s u v : State) → SameOwnPart p s u → SameOwnPart p u v → SameOwnPart p s v
 own_part_trans p s u v a b = record {
@@ -45,7 +51,8 @@ owner_of p (OfMonitor m) h = absurd (Prim.grind arith)
 module _ (setup : Setup) where
   -- ---- A private part in place
 
-  pub own_part_is_turned : (t : ℕ) (s : State) (p : ℕ) → is_in p (processes setup) ≡ true → SameOwnPart p (private_turn setup t s p) (own_parts setup t s)
+  pub own_part_is_turned : (t : ℕ) (s : State) (p : ℕ) → is_in p (processes setup) ≡ true
+      → SameOwnPart p (private_turn setup t s p) (own_parts setup t s)
   own_part_is_turned t s p h = record {
     status = ap own_status (part (λ x. x.status p));
     transcript = part (λ x. x.transcript p);
@@ -59,7 +66,8 @@ module _ (setup : Setup) where
 
   -- ---- Private turns and the kernel's part
 
-  private_turn_rests : (t : ℕ) (s : State) (p : ℕ) (k : Kind) → kind s p ≡ k → NotPrivate setup k → private_turn setup t s p ≡ s
+  private_turn_rests : (t : ℕ) (s : State) (p : ℕ) (k : Kind) → kind s p ≡ k → NotPrivate setup k → private_turn setup t s p
+      ≡ s
   private_turn_rests zero s p k h o = refl
   private_turn_rests (suc t) s p k h o = ap (λ x. private_turn setup t x p) (no_private_step setup p s k h o) ∙ private_turn_rests t s p k h o
 
@@ -75,10 +83,12 @@ module _ (setup : Setup) where
   kernel_status_by (Gives (r, Opens m)) = refl
   kernel_status_by (Gives (r, Starts x k)) = refl
 
-  private_step_kernel_status : (s : State) (p : ℕ) → kernel_status ((private_step setup s p).status p) ≡ kernel_status (s.status p)
+  private_step_kernel_status : (s : State) (p : ℕ) → kernel_status ((private_step setup s p).status p)
+      ≡ kernel_status (s.status p)
   private_step_kernel_status s p = go (kind s p) refl
     where
-      go : (k : Kind) → kind s p ≡ k → kernel_status ((if_private k (step setup s p) s).status p) ≡ kernel_status (s.status p)
+      go : (k : Kind) → kind s p ≡ k → kernel_status ((if_private k (step setup s p) s).status p)
+          ≡ kernel_status (s.status p)
       go NoStep h = refl
       go Kernel h = refl
       go Private h =
@@ -87,9 +97,11 @@ module _ (setup : Setup) where
           ∙ ap kernel_status (with_at_here p (result_status (step_of (context setup s p) (configuration s p))) s.status)
           ∙ kernel_status_by (step_of (context setup s p) (configuration s p)) ∙ sym (ap kernel_status r)
 
-  private_turn_kernel_status : (t : ℕ) (s : State) (p : ℕ) → kernel_status ((private_turn setup t s p).status p) ≡ kernel_status (s.status p)
+  private_turn_kernel_status : (t : ℕ) (s : State) (p : ℕ) → kernel_status ((private_turn setup t s p).status p)
+      ≡ kernel_status (s.status p)
   private_turn_kernel_status zero s p = refl
-  private_turn_kernel_status (suc t) s p = private_turn_kernel_status t (private_step setup s p) p ∙ private_step_kernel_status s p
+  private_turn_kernel_status (suc t) s p = private_turn_kernel_status t (private_step setup s p) p
+      ∙ private_step_kernel_status s p
 
   not_begun_rests : (x : Status) (k : List Task) → HasNotBegun x → kind_of x k ≡ NoStep
   not_begun_rests Unstarted k h = refl
@@ -116,11 +128,13 @@ module _ (setup : Setup) where
       outside : (l : Location) → is_in 0 (processes setup) ≡ false → after_own_turn setup t s (λ x. x.store l) 0 ≡ s.store l
       outside l h = ap (λ b. if b then (private_turn setup t s 0).store l else s.store l) h
 
-      kernel_status_part : (p : ℕ) (b : Bool) → kernel_status (if b then (private_turn setup t s p).status p else s.status p) ≡ kernel_status (s.status p)
+      kernel_status_part : (p : ℕ) (b : Bool) → kernel_status
+          (if b then (private_turn setup t s p).status p else s.status p) ≡ kernel_status (s.status p)
       kernel_status_part p true = private_turn_kernel_status t s p
       kernel_status_part p false = refl
 
-      rests : {A : Type 0} (p : ℕ) → HasNotBegun (s.status p) → (f : State → A) (b : Bool) → (if b then f (private_turn setup t s p) else f s) ≡ f s
+      rests : {A : Type 0} (p : ℕ) → HasNotBegun (s.status p) → (f : State → A) (b : Bool)
+          → (if b then f (private_turn setup t s p) else f s) ≡ f s
       rests p a f true = ap f (private_turn_rests t s p NoStep (not_begun_rests (s.status p) (s.continuation p) a) tt)
       rests p a f false = refl
 
@@ -144,10 +158,22 @@ module _ (setup : Setup) where
 -- ---- What the kernel does beside p
 
 gate_own : (p m : ℕ) (x : Holder) (qs : List ℕ) (v : State) → SameOwnPart p v (set_gate m x qs v)
-gate_own p m x qs v = record { status = refl; transcript = refl; consumed = refl; store = λ a l h. refl; continuation = λ a. refl }
+gate_own p m x qs v = record {
+  status = refl;
+  transcript = refl;
+  consumed = refl;
+  store = λ a l h. refl;
+  continuation = λ a. refl;
+}
 
 status_own : (p q : ℕ) (x : Status) (v : State) → q ≢ p → SameOwnPart p v (set_status q x v)
-status_own p q x v d = record { status = ap own_status (with_at_there q p x v.status (differ q p d)); transcript = refl; consumed = refl; store = λ a l h. refl; continuation = λ a. refl }
+status_own p q x v d = record {
+  status = ap own_status (with_at_there q p x v.status (differ q p d));
+  transcript = refl;
+  consumed = refl;
+  store = λ a l h. refl;
+  continuation = λ a. refl;
+}
 
 made_ready_own_status : (x : Status) → own_status (made_ready x) ≡ own_status x
 made_ready_own_status Unstarted = refl
@@ -160,20 +186,29 @@ made_ready_own_status (Delayed m q) = refl
 made_ready_own_status (Faulted n) = refl
 
 make_ready_own : (p r : ℕ) (v : State) → SameOwnPart p v (make_ready r v)
-make_ready_own p r v = record { status = at (nat_eq r p) refl; transcript = refl; consumed = refl; store = λ a l h. refl; continuation = λ a. refl }
+make_ready_own p r v = record {
+  status = at (nat_eq r p) refl;
+  transcript = refl;
+  consumed = refl;
+  store = λ a l h. refl;
+  continuation = λ a. refl;
+}
   where
-    at : (b : Bool) → nat_eq r p ≡ b → own_status (if b then made_ready (v.status r) else v.status p) ≡ own_status (v.status p)
+    at : (b : Bool) → nat_eq r p ≡ b → own_status (if b then made_ready (v.status r) else v.status p)
+        ≡ own_status (v.status p)
     at true e = made_ready_own_status (v.status r) ∙ ap (λ k. own_status (v.status k)) (eqb-true r p e)
     at false e = refl
 
 pass_own : (p m : ℕ) (qs : List ℕ) (v : State) → SameOwnPart p v (pass_to m qs v)
 pass_own p m [] v = gate_own p m Free [] v
-pass_own p m (r ∷ qs) v = own_part_trans p v (set_gate m (HeldBy r) qs v) _ (gate_own p m (HeldBy r) qs v) (make_ready_own p r (set_gate m (HeldBy r) qs v))
+pass_own p m (r ∷ qs) v = own_part_trans p v (set_gate m (HeldBy r) qs v) _ (gate_own p m (HeldBy r) qs v)
+    (make_ready_own p r (set_gate m (HeldBy r) qs v))
 
 enter_own : (p q m : ℕ) (x : Holder) (v : State) → q ≢ p → SameOwnPart p v (enter q m x v)
 enter_own p q m Unset v d = gate_own p m (HeldBy q) (v.gates m).askers v
 enter_own p q m Free v d = gate_own p m (HeldBy q) (v.gates m).askers v
-enter_own p q m (HeldBy c) v d = own_part_trans p v (set_gate m (HeldBy c) _ v) _ (gate_own p m (HeldBy c) _ v) (status_own p q (Asking m) (set_gate m (HeldBy c) _ v) d)
+enter_own p q m (HeldBy c) v d = own_part_trans p v (set_gate m (HeldBy c) _ v) _ (gate_own p m (HeldBy c) _ v)
+    (status_own p q (Asking m) (set_gate m (HeldBy c) _ v) d)
 
 start_own : (p r : ℕ) (k : List Task) (x : Status) (v : State) → v.status r ≡ x → SameOwnPart p v (start_process r k x v)
 start_own p r k Unstarted v e = record {
@@ -188,8 +223,10 @@ start_own p r k Unstarted v e = record {
     at true h = sym (ap own_status e) ∙ ap (λ j. own_status (v.status j)) (eqb-true r p h)
     at false h = refl
 
-    continuation : HasBegun (own_status (v.status p)) → (b : Bool) → nat_eq r p ≡ b → (if b then k else v.continuation p) ≡ v.continuation p
-    continuation a true h = absurd (subst HasBegun (ap (λ j. own_status (v.status j)) (sym (eqb-true r p h)) ∙ ap own_status e) a)
+    continuation : HasBegun (own_status (v.status p)) → (b : Bool) → nat_eq r p ≡ b → (if b then k else v.continuation p)
+        ≡ v.continuation p
+    continuation a true h = absurd (subst HasBegun (ap
+        (λ j. own_status (v.status j)) (sym (eqb-true r p h)) ∙ ap own_status e) a)
     continuation a false h = refl
 start_own p r k Fresh v e = own_part_refl p v
 start_own p r k Ready v e = own_part_refl p v
@@ -205,9 +242,11 @@ effect_own p q Ends v d = status_own p q Ended v d
 effect_own p q Waits v d = status_own p q Waiting v d
 effect_own p q (Enters m) v d = enter_own p q m (v.gates m).holder v d
 effect_own p q (Leaves m) v d = pass_own p m (v.gates m).askers v
-effect_own p q (Delays m l) v d = own_part_trans p v (set_status q (Delayed m l) v) _ (status_own p q (Delayed m l) v d) (pass_own p m (v.gates m).askers (set_status q (Delayed m l) v))
+effect_own p q (Delays m l) v d = own_part_trans p v (set_status q (Delayed m l) v) _ (status_own p q (Delayed m l) v d)
+    (pass_own p m (v.gates m).askers (set_status q (Delayed m l) v))
 effect_own p q (Continues m None) v d = pass_own p m (v.gates m).askers v
-effect_own p q (Continues m (Some r)) v d = own_part_trans p v (set_gate m (HeldBy r) (v.gates m).askers v) _ (gate_own p m (HeldBy r) (v.gates m).askers v) (make_ready_own p r (set_gate m (HeldBy r) (v.gates m).askers v))
+effect_own p q (Continues m (Some r)) v d = own_part_trans p v (set_gate m (HeldBy r) (v.gates m).askers v) _
+    (gate_own p m (HeldBy r) (v.gates m).askers v) (make_ready_own p r (set_gate m (HeldBy r) (v.gates m).askers v))
 effect_own p q (Opens m) v d = gate_own p m (HeldBy q) [] v
 effect_own p q (Starts r k) v d = start_own p r k (v.status r) v refl
 
@@ -225,7 +264,8 @@ module _ (setup : Setup) where
   abbrev outcome_of : State → ℕ → StepResult
   outcome_of s q = step_of (context setup s q) (configuration s q)
 
-  foreign_unstarted : (p : ℕ) (s : State) → is_started (s.status p) ≡ true → (r : ℕ) → is_started (s.status r) ≡ false → is_foreign p (OfProcess r) ≡ true
+  foreign_unstarted : (p : ℕ) (s : State) → is_started (s.status p) ≡ true → (r : ℕ) → is_started (s.status r) ≡ false
+      → is_foreign p (OfProcess r) ≡ true
   foreign_unstarted p s h r e = go (nat_eq p r) refl
     where
       clash : false ≡ true → ⊥
@@ -235,16 +275,21 @@ module _ (setup : Setup) where
       go true f = absurd (clash (sym e ∙ ap (λ k. is_started (s.status k)) (sym (eqb-true p r f)) ∙ h))
       go false f = refl
 
-  kernel_writes_beside : (p q : ℕ) (s : State) → p ≢ q → MayCommute s → kind s q ≡ Kernel → is_started (s.status p) ≡ true → outcome_of s q ≡ result_mixed (is_foreign p) s.store (outcome_of s q)
+  kernel_writes_beside : (p q : ℕ) (s : State) → p ≢ q → MayCommute s → kind s q ≡ Kernel → is_started (s.status p) ≡ true
+      → outcome_of s q ≡ result_mixed (is_foreign p) s.store (outcome_of s q)
   kernel_writes_beside p q s d g k h =
       let o : IsClosed (is_foreign p) s.store × ContinuationIn (is_foreign p) (s.continuation q) = g.others p q d k in
       ap (λ st. step_of (context setup s q) (record { store = st; continuation = s.continuation q; transcript = s.transcript q; consumed = s.consumed q })) (sym (mix_same (is_foreign p) s.store))
-      ∙ step_same (is_foreign p) s.store (context setup s q) (λ r. is_started (s.status r)) (λ m. is_set (s.gates m).holder) (configuration s q) o.0 (λ n. foreign_activation setup p q n d) o.1
+      ∙ step_same (is_foreign p) s.store (context setup s q)
+      (λ r. is_started (s.status r)) (λ m. is_set (s.gates m).holder) (configuration s q) o.0 (λ n. foreign_activation setup p q n d) o.1
       (λ a. record { monitors = λ m. refl; processes = foreign_unstarted p s h; same_started = refl; same_set = refl })
 
-  after_step_own : (p q : ℕ) (s : State) (o : StepResult) → q ≢ p → (HasBegun (own_status (s.status p)) → o ≡ result_mixed (is_foreign p) s.store o) → SameOwnPart p s (after_step s q o)
+  after_step_own : (p q : ℕ) (s : State) (o : StepResult) → q ≢ p
+      → (HasBegun (own_status (s.status p)) → o ≡ result_mixed (is_foreign p) s.store o)
+      → SameOwnPart p s (after_step s q o)
   after_step_own p q s (Fault n) d w = status_own p q (Faulted n) s d
-  after_step_own p q s (Gives (u, e)) d w = own_part_trans p s (with_configuration s q u) _ first (effect_own p q e (with_configuration s q u) d)
+  after_step_own p q s (Gives (u, e)) d w = own_part_trans p s (with_configuration s q u) _ first
+      (effect_own p q e (with_configuration s q u) d)
     where
       store_of : StepResult → Store
       store_of (Fault n) = s.store
@@ -272,17 +317,22 @@ module _ (setup : Setup) where
       go : (k : Kind) → kind s q ≡ k → SameOwnPart p s (if_kernel k (step setup s q) s)
       go NoStep h = own_part_refl p s
       go Private h = own_part_refl p s
-      go Kernel h = after_step_own p q s (outcome_of s q) d (λ a. kernel_writes_beside p q s (λ e. d (sym e)) (may_commute s i) h (begun_is_started (s.status p) a))
+      go Kernel h = after_step_own p q s (outcome_of s q) d
+          (λ a. kernel_writes_beside p q s (λ e. d (sym e)) (may_commute s i) h (begun_is_started (s.status p) a))
 
-  -- a kernel turn leaves every other process's own part as it was.
-  pub kernel_turn_other_parts : (t : ℕ) (p q : ℕ) (s : State) → q ≢ p → Invariant s → SameOwnPart p s (kernel_turn setup t s q)
+  -- A kernel turn leaves every other process's own part as it was.
+  pub kernel_turn_other_parts : (t : ℕ) (p q : ℕ) (s : State) → q ≢ p → Invariant s
+      → SameOwnPart p s (kernel_turn setup t s q)
   kernel_turn_other_parts zero p q s d i = own_part_refl p s
-  kernel_turn_other_parts (suc t) p q s d i = own_part_trans p s (kernel_step setup s q) _ (kernel_step_other_parts p q s d i) (kernel_turn_other_parts t p q (kernel_step setup s q) d (kernel_step_keeps setup s q i))
+  kernel_turn_other_parts (suc t) p q s d i = own_part_trans p s (kernel_step setup s q) _
+      (kernel_step_other_parts p q s d i) (kernel_turn_other_parts t p q (kernel_step setup s q) d
+      (kernel_step_keeps setup s q i))
 
   pub private_step_other_parts : (p q : ℕ) (s : State) → q ≢ p → Invariant s → SameOwnPart p s (private_step setup s q)
   private_step_other_parts p q s d i = go (kind s q) refl
     where
-      at : (l : Location) (b : Bool) → b ≡ false → (if b then (own_configuration setup s q).store l else s.store l) ≡ s.store l
+      at : (l : Location) (b : Bool) → b ≡ false → (if b then (own_configuration setup s q).store l else s.store l)
+          ≡ s.store l
       at l true h = absurd (clash h)
         where
           clash : true ≡ false → ⊥
@@ -309,7 +359,8 @@ module _ (setup : Setup) where
       same : SameKernelPart s s
       same = record { gates = refl; status = λ r. refl; monitor_store = λ l m e. refl; unbegun_store = λ r a l m. refl; unbegun_continuation = λ r a. refl }
 
-      at : (l : Location) (b : Bool) → b ≡ false → (if b then (own_configuration setup s p).store l else s.store l) ≡ s.store l
+      at : (l : Location) (b : Bool) → b ≡ false → (if b then (own_configuration setup s p).store l else s.store l)
+          ≡ s.store l
       at l true h = absurd (clash h)
       at l false h = refl
 
@@ -330,13 +381,16 @@ module _ (setup : Setup) where
           other : (r : ℕ) → HasNotBegun (s.status r) → r ≢ p
           other r a e = subst HasNotBegun (ap s.status e ∙ is_ready) a
 
-          told : (r : ℕ) (b : Bool) → nat_eq p r ≡ b → kernel_status (if b then status_after setup s p else s.status r) ≡ kernel_status (s.status r)
-          told r true e = kernel_status_by setup (outcome_of s p) ∙ sym (ap kernel_status (ap s.status (sym (eqb-true p r e)) ∙ is_ready))
+          told : (r : ℕ) (b : Bool) → nat_eq p r ≡ b → kernel_status (if b then status_after setup s p else s.status r)
+              ≡ kernel_status (s.status r)
+          told r true e = kernel_status_by setup (outcome_of s p)
+              ∙ sym (ap kernel_status (ap s.status (sym (eqb-true p r e)) ∙ is_ready))
           told r false e = refl
 
   -- ---- No process is made private
 
-  kernel_step_makes_none_private : (p q : ℕ) (s : State) → q ≢ p → Invariant s → kind s p ≢ Private → kind (kernel_step setup s q) p ≢ Private
+  kernel_step_makes_none_private : (p q : ℕ) (s : State) → q ≢ p → Invariant s → kind s p ≢ Private
+      → kind (kernel_step setup s q) p ≢ Private
   kernel_step_makes_none_private p q s d i h = go (kind s q)
     where
       by_kind : (k : Kind) → (k ≡ Private → ⊥) → NotPrivate setup k
@@ -354,9 +408,12 @@ module _ (setup : Setup) where
       go Private = h
       go Kernel =
           none (kind (step setup s q) p)
-          (after_step_other setup p q s (step_of (context setup s q) (configuration s q)) (λ e. d (sym e)) (by_kind (kind s p) h) (i.blocked p))
+          (after_step_other setup p q s (step_of (context setup s q) (configuration s q))
+          (λ e. d (sym e)) (by_kind (kind s p) h) (i.blocked p))
 
-  pub kernel_turn_makes_none_private : (t p q : ℕ) (s : State) → q ≢ p → Invariant s → kind s p ≢ Private → kind (kernel_turn setup t s q) p ≢ Private
+  pub kernel_turn_makes_none_private : (t p q : ℕ) (s : State) → q ≢ p → Invariant s → kind s p ≢ Private
+      → kind (kernel_turn setup t s q) p ≢ Private
   kernel_turn_makes_none_private zero p q s d i h = h
   kernel_turn_makes_none_private (suc t) p q s d i h =
-      kernel_turn_makes_none_private t p q (kernel_step setup s q) d (kernel_step_keeps setup s q i) (kernel_step_makes_none_private p q s d i h)
+      kernel_turn_makes_none_private t p q (kernel_step setup s q) d (kernel_step_keeps setup s q i)
+      (kernel_step_makes_none_private p q s d i h)

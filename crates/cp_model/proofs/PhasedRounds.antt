@@ -33,7 +33,9 @@ module _ (setup : Setup) where
   merge_self : (p : ℕ) (s s' : State) → IsSameFor setup p s s' → merge p s s' ≡ s'
   unfolding merge
   merge_self p s s' e =
-      state_is _ _ (sym e.store) (with_at_same p (s.continuation p) s'.continuation e.continuation) (with_at_same p (s.transcript p) s'.transcript e.transcript) (with_at_same p (s.consumed p) s'.consumed e.consumed)
+      state_is _ _ (sym e.store) (with_at_same p (s.continuation p) s'.continuation e.continuation)
+      (with_at_same p (s.transcript p) s'.transcript e.transcript)
+      (with_at_same p (s.consumed p) s'.consumed e.consumed)
       (with_at_same p (s.status p) s'.status e.status) refl refl
 
   with_at_twice : {A : Type 0} (p : ℕ) (v u : A) (f : ℕ → A) → with_at p v (with_at p u f) ≡ with_at p v f
@@ -53,11 +55,15 @@ module _ (setup : Setup) where
   merge_twice : (p : ℕ) (a b s : State) → merge p a (merge p b s) ≡ merge p a s
   unfolding merge
   merge_twice p a b s =
-      state_is _ _ (mix_twice (is_own p) a.store b.store s.store) (with_at_twice p (a.continuation p) (b.continuation p) s.continuation) (with_at_twice p (a.transcript p) (b.transcript p) s.transcript)
-      (with_at_twice p (a.consumed p) (b.consumed p) s.consumed) (with_at_twice p (a.status p) (b.status p) s.status) refl refl
+      state_is _ _ (mix_twice (is_own p) a.store b.store s.store)
+      (with_at_twice p (a.continuation p) (b.continuation p) s.continuation)
+      (with_at_twice p (a.transcript p) (b.transcript p) s.transcript)
+      (with_at_twice p (a.consumed p) (b.consumed p) s.consumed) (with_at_twice p (a.status p) (b.status p) s.status) refl
+      refl
 
-  -- a private step is the same wherever p's part is the same, and changes that part alone.
-  step_merges : (p : ℕ) (s s' : State) → Invariant s → IsSameFor setup p s s' → private_step setup s' p ≡ merge p (private_step setup s p) s'
+  -- A private step is the same wherever p's part is the same, and changes that part alone.
+  step_merges : (p : ℕ) (s s' : State) → Invariant s → IsSameFor setup p s s' → private_step setup s' p
+      ≡ merge p (private_step setup s p) s'
   unfolding merge
   step_merges p s s' i e = go (kind s p) refl
     where
@@ -65,19 +71,24 @@ module _ (setup : Setup) where
       x = own_configuration setup s p
 
       go : (k : Kind) → kind s p ≡ k → private_step setup s' p ≡ merge p (private_step setup s p) s'
-      go NoStep h = no_private_step setup p s' NoStep (same_kind setup p s s' e ∙ h) tt ∙ sym (merge_self p s s' e) ∙ ap (λ a. merge p a s') (sym (no_private_step setup p s NoStep h tt))
-      go Kernel h = no_private_step setup p s' Kernel (same_kind setup p s s' e ∙ h) tt ∙ sym (merge_self p s s' e) ∙ ap (λ a. merge p a s') (sym (no_private_step setup p s Kernel h tt))
+      go NoStep h = no_private_step setup p s' NoStep (same_kind setup p s s' e ∙ h) tt ∙ sym (merge_self p s s' e)
+          ∙ ap (λ a. merge p a s') (sym (no_private_step setup p s NoStep h tt))
+      go Kernel h = no_private_step setup p s' Kernel (same_kind setup p s s' e ∙ h) tt ∙ sym (merge_self p s s' e)
+          ∙ ap (λ a. merge p a s') (sym (no_private_step setup p s Kernel h tt))
       go Private h =
           private_step_is setup p s s' (may_commute s i) h e
           ∙ installed
           ∙ ap (λ a. merge p a s') (sym (private_step_is setup p s s (may_commute s i) h (same_for_self setup p s)))
         where
-          installed : install p (with_mixed_store (is_own p) s'.store (own_configuration setup s p)) (status_after setup s p) s' ≡ merge p (install p (with_mixed_store (is_own p) s.store (own_configuration setup s p)) (status_after setup s p) s) s'
+          installed : install p (with_mixed_store (is_own p) s'.store (own_configuration setup s p))
+              (status_after setup s p) s' ≡ merge p (install p
+              (with_mixed_store (is_own p) s.store (own_configuration setup s p)) (status_after setup s p) s) s'
           installed =
               state_is _ _ (λ i l. at l (is_own p l.owner) i) (ap (λ v. with_at p v s'.continuation) (sym (with_at_here p _ s.continuation))) (ap (λ v. with_at p v s'.transcript) (sym (with_at_here p _ s.transcript)))
               (ap (λ v. with_at p v s'.consumed) (sym (with_at_here p _ s.consumed))) (ap (λ v. with_at p v s'.status) (sym (with_at_here p _ s.status))) refl refl
             where
-              at : (l : Location) (b : Bool) → (if b then (own_configuration setup s p).store l else s'.store l) ≡ (if b then (if b then (own_configuration setup s p).store l else s.store l) else s'.store l)
+              at : (l : Location) (b : Bool) → (if b then (own_configuration setup s p).store l else s'.store l)
+                  ≡ (if b then (if b then (own_configuration setup s p).store l else s.store l) else s'.store l)
               at l true = refl
               at l false = refl
 
@@ -103,7 +114,8 @@ module _ (setup : Setup) where
       go Kernel h = ap (λ a. a.rounds) (no_private_step setup p s Kernel h tt)
       go Private h = ap (λ a. a.rounds) (private_step_is setup p s s (may_commute s i) h (same_for_self setup p s))
 
-  turn_merges : (n : ℕ) (p : ℕ) (s s' : State) → Invariant s → IsSameFor setup p s s' → private_turn setup n s' p ≡ merge p (private_turn setup n s p) s'
+  turn_merges : (n : ℕ) (p : ℕ) (s s' : State) → Invariant s → IsSameFor setup p s s' → private_turn setup n s' p
+      ≡ merge p (private_turn setup n s p) s'
   unfolding merge
   turn_merges zero p s s' i e = sym (merge_self p s s' e)
   turn_merges (suc n) p s s' i e =
@@ -117,10 +129,12 @@ module _ (setup : Setup) where
   all_private t s [] = s
   all_private t s (p ∷ ps) = all_private t (private_turn setup t s p) ps
 
-  turn_past_turn : (n t : ℕ) (s : State) (p q : ℕ) → p ≢ q → Invariant s → kernel_turn setup t (private_turn setup n s p) q ≡ private_turn setup n (kernel_turn setup t s q) p
+  turn_past_turn : (n t : ℕ) (s : State) (p q : ℕ) → p ≢ q → Invariant s → kernel_turn setup t (private_turn setup n s p) q
+      ≡ private_turn setup n (kernel_turn setup t s q) p
   turn_past_turn zero t s p q d i = refl
   turn_past_turn (suc n) t s p q d i =
-      turn_past_turn n t (private_step setup s p) p q d (private_step_keeps setup s p i) ∙ ap (λ x. private_turn setup n x p) (turn_past setup t s p q d i)
+      turn_past_turn n t (private_step setup s p) p q d (private_step_keeps setup s p i)
+      ∙ ap (λ x. private_turn setup n x p) (turn_past setup t s p q d i)
 
   not_in : (p q : ℕ) (ps : List ℕ) → is_in p (q ∷ ps) ≡ false → (q ≢ p) × (is_in p ps ≡ false)
   not_in p q ps h = go (nat_eq p q) refl h
@@ -129,19 +143,23 @@ module _ (setup : Setup) where
       go true e h = absurd (Prim.grind arith)
       go false e h = ((λ f. eqb-false p q e (sym f)), h)
 
-  turn_past_all : (t : ℕ) (ps : List ℕ) (s : State) (p : ℕ) → is_in p ps ≡ false → Invariant s → kernel_turn setup t (all_private t s ps) p ≡ all_private t (kernel_turn setup t s p) ps
+  turn_past_all : (t : ℕ) (ps : List ℕ) (s : State) (p : ℕ) → is_in p ps ≡ false → Invariant s
+      → kernel_turn setup t (all_private t s ps) p ≡ all_private t (kernel_turn setup t s p) ps
   unfolding all_private
   turn_past_all t [] s p h i = refl
   turn_past_all t (q ∷ qs) s p h i =
       let n = not_in p q qs h in
-      turn_past_all t qs (private_turn setup t s q) p n.1 (private_turn_keeps setup t s q i) ∙ ap (λ x. all_private t x qs) (turn_past_turn t t s q p n.0 i)
+      turn_past_all t qs (private_turn setup t s q) p n.1 (private_turn_keeps setup t s q i)
+      ∙ ap (λ x. all_private t x qs) (turn_past_turn t t s q p n.0 i)
 
-  first_private_is_all : (t : ℕ) (ps : List ℕ) (s : State) → AreDistinct ps → Invariant s → kernel_turns setup t (all_private t s ps) ps ≡ all_turns setup t s ps
+  first_private_is_all : (t : ℕ) (ps : List ℕ) (s : State) → AreDistinct ps → Invariant s
+      → kernel_turns setup t (all_private t s ps) ps ≡ all_turns setup t s ps
   unfolding all_private
   first_private_is_all t [] s d i = refl
   first_private_is_all t (p ∷ ps) s d i =
       ap (λ x. kernel_turns setup t x ps) (turn_past_all t ps (private_turn setup t s p) p d.0 (private_turn_keeps setup t s p i))
-      ∙ first_private_is_all t ps (kernel_turn setup t (private_turn setup t s p) p) d.1 (kernel_turn_keeps setup t (private_turn setup t s p) p (private_turn_keeps setup t s p i))
+      ∙ first_private_is_all t ps (kernel_turn setup t (private_turn setup t s p) p) d.1
+      (kernel_turn_keeps setup t (private_turn setup t s p) p (private_turn_keeps setup t s p i))
 
   -- ---- The parts that were replaced
 
@@ -172,14 +190,17 @@ module _ (setup : Setup) where
       → with_at p (new p) (λ k. if is_in k done then new k else old k) ≡ (λ k. if is_in k (p ∷ done) then new k else old k)
   with_at_part p done new old = λ i k. line k i
     where
-      go : (k : ℕ) (b : Bool) → nat_eq k p ≡ b → (if b then new p else (if is_in k done then new k else old k)) ≡ (if (if b then true else is_in k done) then new k else old k)
+      go : (k : ℕ) (b : Bool) → nat_eq k p ≡ b → (if b then new p else (if is_in k done then new k else old k))
+          ≡ (if (if b then true else is_in k done) then new k else old k)
       go k true e = ap new (sym (eqb-true k p e))
       go k false e = refl
 
-      line : (k : ℕ) → (if nat_eq p k then new p else (if is_in k done then new k else old k)) ≡ (if (if nat_eq k p then true else is_in k done) then new k else old k)
+      line : (k : ℕ) → (if nat_eq p k then new p else (if is_in k done then new k else old k))
+          ≡ (if (if nat_eq k p then true else is_in k done) then new k else old k)
       line k = ap (λ b. if b then new p else (if is_in k done then new k else old k)) (turned_eq p k) ∙ go k (nat_eq k p) refl
 
-  one_more : (t : ℕ) (done : List ℕ) (s : State) (p : ℕ) → nat_eq 0 p ≡ false → merge p (private_turn setup t s p) (turned_parts t done s) ≡ turned_parts t (p ∷ done) s
+  one_more : (t : ℕ) (done : List ℕ) (s : State) (p : ℕ) → nat_eq 0 p ≡ false
+      → merge p (private_turn setup t s p) (turned_parts t done s) ≡ turned_parts t (p ∷ done) s
   unfolding merge turned_parts
   one_more t done s p z =
       state_is _ _ (λ i l. line l i)
@@ -187,16 +208,23 @@ module _ (setup : Setup) where
       (with_at_part p done (λ k. (private_turn setup t s k).consumed k) s.consumed) (with_at_part p done (λ k. (private_turn setup t s k).status k) s.status) refl refl
     where
       at : (l : Location) (b : Bool) → nat_eq (owner_process l.owner) p ≡ b
-          → (if b then (private_turn setup t s p).store l else (if is_in (owner_process l.owner) done then (private_turn setup t s (owner_process l.owner)).store l else s.store l))
-          ≡ (if (if b then true else is_in (owner_process l.owner) done) then (private_turn setup t s (owner_process l.owner)).store l else s.store l)
+          → (if b then (private_turn setup t s p).store l else
+          (if is_in (owner_process l.owner) done then (private_turn setup t s (owner_process l.owner)).store l else
+          s.store l))
+          ≡ (if (if b then true else is_in (owner_process l.owner) done) then
+          (private_turn setup t s (owner_process l.owner)).store l else s.store l)
       at l true e = ap (λ k. (private_turn setup t s k).store l) (sym (eqb-true (owner_process l.owner) p e))
       at l false e = refl
 
-      line : (l : Location) → (if is_own p l.owner then (private_turn setup t s p).store l else (if is_in (owner_process l.owner) done then (private_turn setup t s (owner_process l.owner)).store l else s.store l))
-          ≡ (if (if nat_eq (owner_process l.owner) p then true else is_in (owner_process l.owner) done) then (private_turn setup t s (owner_process l.owner)).store l else s.store l)
+      line : (l : Location) → (if is_own p l.owner then (private_turn setup t s p).store l else
+          (if is_in (owner_process l.owner) done then (private_turn setup t s (owner_process l.owner)).store l else s.store
+          l))
+          ≡ (if (if nat_eq (owner_process l.owner) p then true else is_in (owner_process l.owner) done) then
+          (private_turn setup t s (owner_process l.owner)).store l else s.store l)
       line l = ap (λ b. if b then (private_turn setup t s p).store l else (if is_in (owner_process l.owner) done then (private_turn setup t s (owner_process l.owner)).store l else s.store l)) (is_own-owner_process p l.owner z) ∙ at l (nat_eq (owner_process l.owner) p) refl
 
-  not_yet : (t : ℕ) (done : List ℕ) (s : State) (p : ℕ) → nat_eq 0 p ≡ false → is_in p done ≡ false → IsSameFor setup p s (turned_parts t done s)
+  not_yet : (t : ℕ) (done : List ℕ) (s : State) (p : ℕ) → nat_eq 0 p ≡ false → is_in p done ≡ false
+      → IsSameFor setup p s (turned_parts t done s)
   unfolding turned_parts
   not_yet t done s p z h = record {
     store = λ i l. line l i;
@@ -208,14 +236,19 @@ module _ (setup : Setup) where
   }
     where
       at : (l : Location) (b : Bool) → nat_eq (owner_process l.owner) p ≡ b
-          → (if is_in (owner_process l.owner) done then (private_turn setup t s (owner_process l.owner)).store l else s.store l)
-          ≡ (if b then s.store l else (if is_in (owner_process l.owner) done then (private_turn setup t s (owner_process l.owner)).store l else s.store l))
+          → (if is_in (owner_process l.owner) done then (private_turn setup t s (owner_process l.owner)).store l else
+          s.store l)
+          ≡ (if b then s.store l else (if is_in (owner_process l.owner) done then
+          (private_turn setup t s (owner_process l.owner)).store l else s.store l))
       at l true e = rw (eqb-true (owner_process l.owner) p e, h) refl
       at l false e = refl
 
-      line : (l : Location) → (if is_in (owner_process l.owner) done then (private_turn setup t s (owner_process l.owner)).store l else s.store l)
-          ≡ (if is_own p l.owner then s.store l else (if is_in (owner_process l.owner) done then (private_turn setup t s (owner_process l.owner)).store l else s.store l))
-      line l = at l (nat_eq (owner_process l.owner) p) refl ∙ ap (λ b. if b then s.store l else (if is_in (owner_process l.owner) done then (private_turn setup t s (owner_process l.owner)).store l else s.store l)) (sym (is_own-owner_process p l.owner z))
+      line : (l : Location) → (if is_in (owner_process l.owner) done then
+          (private_turn setup t s (owner_process l.owner)).store l else s.store l)
+          ≡ (if is_own p l.owner then s.store l else (if is_in (owner_process l.owner) done then
+          (private_turn setup t s (owner_process l.owner)).store l else s.store l))
+      line l = at l (nat_eq (owner_process l.owner) p) refl
+          ∙ ap (λ b. if b then s.store l else (if is_in (owner_process l.owner) done then (private_turn setup t s (owner_process l.owner)).store l else s.store l)) (sym (is_own-owner_process p l.owner z))
 
   -- The processes of the list, in front of those done.
   put_before : List ℕ → List ℕ → List ℕ
@@ -226,7 +259,8 @@ module _ (setup : Setup) where
   AreFresh [] done = Unit {0}
   AreFresh (p ∷ ps) done = (nat_eq 0 p ≡ false) × (is_in p done ≡ false) × AreFresh ps (p ∷ done)
 
-  all_private_is_turned_parts : (t : ℕ) (ps done : List ℕ) (s : State) → AreFresh ps done → Invariant s → all_private t (turned_parts t done s) ps ≡ turned_parts t (put_before ps done) s
+  all_private_is_turned_parts : (t : ℕ) (ps done : List ℕ) (s : State) → AreFresh ps done → Invariant s
+      → all_private t (turned_parts t done s) ps ≡ turned_parts t (put_before ps done) s
   unfolding all_private put_before AreFresh
   all_private_is_turned_parts t [] done s f i = refl
   all_private_is_turned_parts t (p ∷ ps) done s f i =
@@ -251,10 +285,12 @@ module _ (setup : Setup) where
   unfolding turned_parts
   turned_parts_is_own_parts t s = state_is _ _ (λ i l. part (owner_process l.owner) (λ x. x.store l) i) (λ i p. part p (λ x. x.continuation p) i) (λ i p. part p (λ x. x.transcript p) i) (λ i p. part p (λ x. x.consumed p) i) (λ i p. part p (λ x. x.status p) i) refl refl
     where
-      part : {A : Type 0} (p : ℕ) (f : State → A) → (if is_in p (put_before (processes setup) []) then f (private_turn setup t s p) else f s) ≡ after_own_turn setup t s f p
+      part : {A : Type 0} (p : ℕ) (f : State → A) → (if is_in p (put_before (processes setup) []) then f
+          (private_turn setup t s p) else f s) ≡ after_own_turn setup t s f p
       part p f = ap (λ b. if b then f (private_turn setup t s p) else f s) (in_either p (processes setup) [] ∙ or-false (is_in p (processes setup)))
 
-  numbers_are_fresh : (p n : ℕ) (done : List ℕ) → 1 ≤ p → ((k : ℕ) → p ≤ k → is_in k done ≡ false) → AreFresh (numbers_from p n) done
+  numbers_are_fresh : (p n : ℕ) (done : List ℕ) → 1 ≤ p → ((k : ℕ) → p ≤ k → is_in k done ≡ false)
+      → AreFresh (numbers_from p n) done
   unfolding AreFresh
   numbers_are_fresh p zero done h f = tt
   numbers_are_fresh p (suc n) done h f = (
@@ -269,13 +305,15 @@ module _ (setup : Setup) where
   turned_parts_of_none t s = refl
 
   -- The phased round leaves what one processor's round leaves.
-  pub phased_round_is_sequential : (t : ℕ) (s : State) → Invariant (wake setup s) → phased_round setup t s ≡ sequential_round setup t s
+  pub phased_round_is_sequential : (t : ℕ) (s : State) → Invariant (wake setup s) → phased_round setup t s
+      ≡ sequential_round setup t s
   phased_round_is_sequential t s i =
       let n : ℕ = suc (count_components Process (initial_variables setup)) in
       let u : State = wake setup s in
       ap (λ x. close_round (kernel_turns setup t x (processes setup)))
       (sym (turned_parts_is_own_parts t u)
-      ∙ sym (all_private_is_turned_parts t (processes setup) [] u (numbers_are_fresh 1 n [] (Prim.omega arith) (λ k g. refl)) i)
+      ∙ sym (all_private_is_turned_parts t (processes setup) [] u
+      (numbers_are_fresh 1 n [] (Prim.omega arith) (λ k g. refl)) i)
       ∙ ap (λ x. all_private t x (processes setup)) (turned_parts_of_none t u))
       ∙ ap close_round (first_private_is_all t (processes setup) u (numbers_are_distinct 1 n) i)
 

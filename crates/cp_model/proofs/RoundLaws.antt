@@ -21,7 +21,8 @@ reached : (setup : Setup) (past : List (ℕ × List Event)) → Invariant (repla
 reached setup past = replay_keeps setup past (start setup) (start_invariant setup)
 
 pub lawful_from_start : LawfulRoundIsSequentialFromStart
-lawful_from_start setup past t es h = lawful_is_sequential setup t (replay setup (start setup) past) es (reached setup past) h
+lawful_from_start setup past t es h = lawful_is_sequential setup t (replay setup (start setup) past) es (reached setup past)
+    h
 
 pub phased_from_start : PhasedRoundIsSequentialFromStart
 phased_from_start setup past t = phased_is_sequential setup t (replay setup (start setup) past) (reached setup past)

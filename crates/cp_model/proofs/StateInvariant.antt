@@ -37,7 +37,8 @@ in_reach_foreign p r ms (OfProcess q) d h = rw (differ p q (λ e. d (e ∙ sym (
 in_reach_foreign p r ms (OfActivation q k) d h = rw (differ p q (λ e. d (e ∙ sym (eqb-true r q h)))) refl
 in_reach_foreign p r ms (OfMonitor m) d h = refl
 
-environment_more : (t v : Owner → Bool) (env : Environment) → ((o : Owner) → t o ≡ true → v o ≡ true) → EnvironmentIn t env → EnvironmentIn v env
+environment_more : (t v : Owner → Bool) (env : Environment) → ((o : Owner) → t o ≡ true → v o ≡ true) → EnvironmentIn t env
+    → EnvironmentIn v env
 environment_more t v env h s = record { component = h env.component.owner s.component; frame = go env.frame s.frame }
   where
     go : (f : Option Frame) → FrameIn t f → FrameIn v f
@@ -55,21 +56,32 @@ task_more t v EndProcess h g = tt
 
 tasks_own : (p : ℕ) (k : List Task) → gates_of k ≡ [] → TasksInReach p k → ContinuationIn (is_own p) k
 tasks_own p [] g h = tt
-tasks_own p (i ∷ k) g h =
-    (task_more (in_reach p (gates_of (i ∷ k))) (is_own p) i (λ o e. sym (in_reach_own p o) ∙ (subst (λ ms. in_reach p ms o ≡ true) g e)) h.0, tasks_own p k (no_gates-tail i k g) h.1)
+tasks_own p (i ∷ k) g h = (
+  task_more (in_reach p (gates_of (i ∷ k))) (is_own p) i
+      (λ o e. sym (in_reach_own p o) ∙ (subst (λ ms. in_reach p ms o ≡ true) g e)) h.0,
+  tasks_own p k (no_gates-tail i k g) h.1,
+)
 
-tasks_more : (p : ℕ) (v : Owner → Bool) (k : List Task) → ((ms : List ℕ) (o : Owner) → in_reach p ms o ≡ true → v o ≡ true) → TasksInReach p k → ContinuationIn v k
+tasks_more : (p : ℕ) (v : Owner → Bool) (k : List Task) → ((ms : List ℕ) (o : Owner) → in_reach p ms o ≡ true → v o ≡ true)
+    → TasksInReach p k → ContinuationIn v k
 tasks_more p v [] h g = tt
-tasks_more p v (i ∷ k) h g = (task_more (in_reach p (gates_of (i ∷ k))) v i (h (gates_of (i ∷ k))) g.0, tasks_more p v k h g.1)
+tasks_more p v (i ∷ k) h g = (
+  task_more (in_reach p (gates_of (i ∷ k))) v i (h (gates_of (i ∷ k))) g.0,
+  tasks_more p v k h
+      g.1,
+)
 
 -- All but what no reach of another process holds.
-closed_but : (s : State) → Invariant s → (v : Owner → Bool) → ((r d : ℕ) (ms : List ℕ) (o : Owner) → v (OfActivation r d) ≡ true → in_reach r ms o ≡ true → v o ≡ true) → IsClosed v s.store
+closed_but : (s : State) → Invariant s → (v : Owner → Bool)
+    → ((r d : ℕ) (ms : List ℕ) (o : Owner) → v (OfActivation r d) ≡ true → in_reach r ms o ≡ true → v o ≡ true)
+    → IsClosed v s.store
 closed_but s i v h = record {
   references = λ l j g e. go l j l.owner refl g e (i.store.references l j e);
   classes = λ l j g e. rw (i.store.classes l j e) g;
 }
   where
-    go : (l j : Location) (w : Owner) → l.owner ≡ w → v l.owner ≡ true → s.store l ≡ Reference j → IsActivation l.owner → v j.owner ≡ true
+    go : (l j : Location) (w : Owner) → l.owner ≡ w → v l.owner ≡ true → s.store l ≡ Reference j → IsActivation l.owner
+        → v j.owner ≡ true
     go l j (OfActivation r d) f g e a =
         h r d (gates_of (s.continuation r)) j.owner (subst (λ y. v y ≡ true) f g)
         ((is_closed r s.store (s.continuation r) i.store (i.continuations r)).references l j (rw f (eq-eqb r r refl)) e)
@@ -101,7 +113,12 @@ may_commute s i = record {
         clash x = Prim.grind arith
 
 pub close_round_keeps : (s : State) → Invariant s → Invariant (close_round s)
-close_round_keeps s i = record { store = i.store; continuations = i.continuations; blocked = λ p h. i.blocked p (at (s.status p) h); unstarted = λ p h. i.unstarted p (flat (s.status p) h) }
+close_round_keeps s i = record {
+  store = i.store;
+  continuations = i.continuations;
+  blocked = λ p h. i.blocked p (at (s.status p) h);
+  unstarted = λ p h. i.unstarted p (flat (s.status p) h);
+}
   where
     at : (x : Status) → IsBlocked (after_closing x) → IsBlocked x
     at Unstarted h = h
@@ -133,10 +150,12 @@ not_of q _ = true
 NoNewReferenceOf : ℕ → Store → Store → Type 0
 NoNewReferenceOf q st st' = (l j : Location) (d : ℕ) → l.owner ≡ OfActivation q d → st' l ≡ Reference j → st l ≡ Reference j
 
-frames_keep_store_of : (q : ℕ) (st st' : Store) (k : List Task) → NoNewReferenceOf q st st' → FramesInvariant q st k → FramesInvariant q st' k
+frames_keep_store_of : (q : ℕ) (st st' : Store) (k : List Task) → NoNewReferenceOf q st st' → FramesInvariant q st k
+    → FramesInvariant q st' k
 unfolding NoNewReferenceOf
 frames_keep_store_of q st st' [] n h = tt
-frames_keep_store_of q st st' (EndCall env gate ∷ k) n h = (record { frame = h.0.frame; references = λ l j o e. h.0.references l j o (n l j (depth k) o e) }, frames_keep_store_of q st st' k n h.1)
+frames_keep_store_of q st st' (EndCall env gate ∷ k) n
+    h = (record { frame = h.0.frame; references = λ l j o e. h.0.references l j o (n l j (depth k) o e) }, frames_keep_store_of q st st' k n h.1)
 frames_keep_store_of q st st' (Do s env ∷ k) n h = frames_keep_store_of q st st' k n h
 frames_keep_store_of q st st' (WhileTest now e s env ∷ k) n h = frames_keep_store_of q st st' k n h
 frames_keep_store_of q st st' (RepeatTest now s e env ∷ k) n h = frames_keep_store_of q st st' k n h
@@ -144,17 +163,24 @@ frames_keep_store_of q st st' (ForNext v down x last s env ∷ k) n h = frames_k
 frames_keep_store_of q st st' (EndBody gate ∷ k) n h = frames_keep_store_of q st st' k n h
 frames_keep_store_of q st st' (EndProcess ∷ k) n h = frames_keep_store_of q st st' k n h
 
-continuation_keeps_store_of : (q : ℕ) (st st' : Store) (k : List Task) → NoNewReferenceOf q st st' → ContinuationInvariant q st k → ContinuationInvariant q st' k
+continuation_keeps_store_of : (q : ℕ) (st st' : Store) (k : List Task) → NoNewReferenceOf q st st'
+    → ContinuationInvariant q st k → ContinuationInvariant q st' k
 unfolding NoNewReferenceOf
-continuation_keeps_store_of q st st' k n o = record { tasks = o.tasks; frames = frames_keep_store_of q st st' k n o.frames; beyond = λ l j d h e f. o.beyond l j d h e (n l j d e f) }
+continuation_keeps_store_of q st st' k n o = record {
+  tasks = o.tasks;
+  frames = frames_keep_store_of q st st' k n o.frames;
+  beyond = λ l j d h e f. o.beyond l j d h e (n l j d e f);
+}
 
 module _ (setup : Setup) where
   -- p's step changes no other process's activations.
-  beside : (p q : ℕ) (s : State) → p ≢ q → Invariant s → step_of (context setup s p) (configuration s p) ≡ result_mixed (not_of q) s.store (step_of (context setup s p) (configuration s p))
+  beside : (p q : ℕ) (s : State) → p ≢ q → Invariant s → step_of (context setup s p) (configuration s p)
+      ≡ result_mixed (not_of q) s.store (step_of (context setup s p) (configuration s p))
   unfolding not_of
   beside p q s d i =
       ap (λ st. step_of (context setup s p) (record { store = st; continuation = s.continuation p; transcript = s.transcript p; consumed = s.consumed p })) (sym (mix_same (not_of q) s.store))
-      ∙ step_same (not_of q) s.store (context setup s p) (λ r. is_started (s.status r)) (λ m. is_set (s.gates m).holder) (configuration s p)
+      ∙ step_same (not_of q) s.store (context setup s p)
+      (λ r. is_started (s.status r)) (λ m. is_set (s.gates m).holder) (configuration s p)
       (closed_but s i (not_of q) (λ r n ms o h e. other r ms o h e)) (λ n. rw (differ q p (λ e. d (sym e))) refl)
       (tasks_more p (not_of q) (s.continuation p) (λ ms o e. other p ms o (rw (differ q p (λ f. d (sym f))) refl) e) (i.continuations p).tasks)
       (λ a. record { monitors = λ m. refl; processes = λ r e. refl; same_started = refl; same_set = refl })
@@ -190,17 +216,21 @@ module _ (setup : Setup) where
   made_ready_unstarted (Delayed m q) h = absurd (Prim.grind arith)
   made_ready_unstarted (Faulted n) h = h
 
-  pub invariant_of : (u : State) → StoreInvariant u.store → ((q : ℕ) → ContinuationInvariant q u.store (u.continuation q)) → BlockedHoldsIn u → UnstartedIsFlatIn u → Invariant u
+  pub invariant_of : (u : State) → StoreInvariant u.store → ((q : ℕ) → ContinuationInvariant q u.store (u.continuation q))
+      → BlockedHoldsIn u → UnstartedIsFlatIn u → Invariant u
   invariant_of u s o h f = record { store = s; continuations = o; blocked = h; unstarted = f }
 
   make_ready_keeps : (r : ℕ) (u : State) → Invariant u → Invariant (make_ready r u)
-  make_ready_keeps r u i = invariant_of (make_ready r u) i.store i.continuations (λ q h. at q (nat_eq r q) refl h) (λ q h. flat q (nat_eq r q) refl h)
+  make_ready_keeps r u i = invariant_of (make_ready r u) i.store i.continuations
+      (λ q h. at q (nat_eq r q) refl h) (λ q h. flat q (nat_eq r q) refl h)
     where
-      at : (q : ℕ) (b : Bool) → nat_eq r q ≡ b → IsBlocked (if b then made_ready (u.status r) else u.status q) → holds_gate (u.continuation q) ≡ true
+      at : (q : ℕ) (b : Bool) → nat_eq r q ≡ b → IsBlocked (if b then made_ready (u.status r) else u.status q)
+          → holds_gate (u.continuation q) ≡ true
       at q true e h = absurd (made_ready_not_blocked (u.status r) h)
       at q false e h = i.blocked q h
 
-      flat : (q : ℕ) (b : Bool) → nat_eq r q ≡ b → (if b then made_ready (u.status r) else u.status q) ≡ Unstarted → depth (u.continuation q) ≡ 0
+      flat : (q : ℕ) (b : Bool) → nat_eq r q ≡ b → (if b then made_ready (u.status r) else u.status q) ≡ Unstarted
+          → depth (u.continuation q) ≡ 0
       flat q true e h = rw (← eqb-true r q e) (i.unstarted r (made_ready_unstarted (u.status r) h))
       flat q false e h = i.unstarted q h
 
@@ -211,11 +241,14 @@ module _ (setup : Setup) where
   pass_to_keeps m [] u i = set_gate_keeps m Free [] u i
   pass_to_keeps m (r ∷ qs) u i = make_ready_keeps r (set_gate m (HeldBy r) qs u) (set_gate_keeps m (HeldBy r) qs u i)
 
-  -- a status that wants a gate is only for who holds one.
-  set_status_keeps : (p : ℕ) (x : Status) (u : State) → (IsBlocked x → holds_gate (u.continuation p) ≡ true) → x ≢ Unstarted → Invariant u → Invariant (set_status p x u)
-  set_status_keeps p x u g n i = invariant_of (set_status p x u) i.store i.continuations (λ q h. at q (nat_eq p q) refl h) (λ q h. flat q (nat_eq p q) h)
+  -- A status that wants a gate is only for who holds one.
+  set_status_keeps : (p : ℕ) (x : Status) (u : State) → (IsBlocked x → holds_gate (u.continuation p) ≡ true) → x ≢ Unstarted
+      → Invariant u → Invariant (set_status p x u)
+  set_status_keeps p x u g n i = invariant_of (set_status p x u) i.store i.continuations
+      (λ q h. at q (nat_eq p q) refl h) (λ q h. flat q (nat_eq p q) h)
     where
-      at : (q : ℕ) (b : Bool) → nat_eq p q ≡ b → IsBlocked (if b then x else u.status q) → holds_gate (u.continuation q) ≡ true
+      at : (q : ℕ) (b : Bool) → nat_eq p q ≡ b → IsBlocked (if b then x else u.status q) → holds_gate (u.continuation q)
+          ≡ true
       at q true e h = rw (← eqb-true p q e) (g h)
       at q false e h = i.blocked q h
 
@@ -223,7 +256,8 @@ module _ (setup : Setup) where
       flat q true h = absurd (n h)
       flat q false h = i.unstarted q h
 
-  effect_keeps : (p : ℕ) (e : Effect) (u : State) → EffectInvariant (u.continuation p) e → Invariant u → Invariant (apply_effect p e u)
+  effect_keeps : (p : ℕ) (e : Effect) (u : State) → EffectInvariant (u.continuation p) e → Invariant u
+      → Invariant (apply_effect p e u)
   effect_keeps p Own u h i = i
   effect_keeps p Ends u h i = set_status_keeps p Ended u (λ x. absurd x) (λ x. Prim.grind arith) i
   effect_keeps p Waits u h i = set_status_keeps p Waiting u (λ x. absurd x) (λ x. Prim.grind arith) i
@@ -234,27 +268,38 @@ module _ (setup : Setup) where
       go Free = set_gate_keeps m (HeldBy p) (u.gates m).askers u i
       go (HeldBy q) = set_status_keeps p (Asking m) _ (λ x. h) (λ x. Prim.grind arith) (set_gate_keeps m (HeldBy q) _ u i)
   effect_keeps p (Leaves m) u h i = pass_to_keeps m (u.gates m).askers u i
-  effect_keeps p (Delays m q) u h i = pass_to_keeps m (u.gates m).askers (set_status p (Delayed m q) u) (set_status_keeps p (Delayed m q) u (λ x. h) (λ x. Prim.grind arith) i)
+  effect_keeps p (Delays m q) u h i = pass_to_keeps m (u.gates m).askers (set_status p (Delayed m q) u)
+      (set_status_keeps p (Delayed m q) u (λ x. h) (λ x. Prim.grind arith) i)
   effect_keeps p (Continues m None) u h i = pass_to_keeps m (u.gates m).askers u i
-  effect_keeps p (Continues m (Some r)) u h i = make_ready_keeps r (set_gate m (HeldBy r) (u.gates m).askers u) (set_gate_keeps m (HeldBy r) (u.gates m).askers u i)
+  effect_keeps p (Continues m (Some r)) u h i = make_ready_keeps r (set_gate m (HeldBy r) (u.gates m).askers u)
+      (set_gate_keeps m (HeldBy r) (u.gates m).askers u i)
   effect_keeps p (Opens m) u h i = set_gate_keeps m (HeldBy p) [] u i
   effect_keeps p (Starts r k) u h i = go (u.status r) refl
     where
-      started : u.status r ≡ Unstarted → Invariant (set_status r Fresh (record u { continuation = with_at r k u.continuation }))
-      started e = invariant_of (set_status r Fresh (record u { continuation = with_at r k u.continuation })) i.store (λ q. ok q (nat_eq r q) refl) (λ q g. at q (nat_eq r q) g) (λ q g. flat q (nat_eq r q) g)
+      started : u.status r ≡ Unstarted → Invariant (set_status r Fresh
+          (record u { continuation = with_at r k u.continuation }))
+      started e = invariant_of (set_status r Fresh (record u { continuation = with_at r k u.continuation })) i.store
+          (λ q. ok q (nat_eq r q) refl) (λ q g. at q (nat_eq r q) g) (λ q g. flat q (nat_eq r q) g)
         where
           new : ContinuationInvariant r u.store k
-          new = record { tasks = h.tasks; frames = h.frames u.store; beyond = subst (λ n. NoneBeyond r u.store n) (i.unstarted r e ∙ sym h.deep) (i.continuations r).beyond }
+          new = record {
+            tasks = h.tasks;
+            frames = h.frames u.store;
+            beyond = subst
+                (λ n. NoneBeyond r u.store n) (i.unstarted r e ∙ sym h.deep) (i.continuations r).beyond;
+          }
 
           ok : (q : ℕ) (b : Bool) → nat_eq r q ≡ b → ContinuationInvariant q u.store (if b then k else u.continuation q)
           ok q true g = subst (λ n. ContinuationInvariant n u.store k) (eqb-true r q g) new
           ok q false g = i.continuations q
 
-          at : (q : ℕ) (b : Bool) → IsBlocked (if b then Fresh else u.status q) → holds_gate (if b then k else u.continuation q) ≡ true
+          at : (q : ℕ) (b : Bool) → IsBlocked (if b then Fresh else u.status q)
+              → holds_gate (if b then k else u.continuation q) ≡ true
           at q true g = absurd g
           at q false g = i.blocked q g
 
-          flat : (q : ℕ) (b : Bool) → (if b then Fresh else u.status q) ≡ Unstarted → depth (if b then k else u.continuation q) ≡ 0
+          flat : (q : ℕ) (b : Bool) → (if b then Fresh else u.status q) ≡ Unstarted
+              → depth (if b then k else u.continuation q) ≡ 0
           flat q true g = absurd (Prim.grind arith)
           flat q false g = i.unstarted q g
 
@@ -268,18 +313,25 @@ module _ (setup : Setup) where
       go (Delayed m q) e = i
       go (Faulted n) e = i
 
-  -- a step of a process that is ready.
+  -- A step of a process that is ready.
   pub ready_step_invariant : (s : State) (p : ℕ) → s.status p ≡ Ready → Invariant s → Invariant (step setup s p)
   unfolding not_of NoNewReferenceOf
-  ready_step_invariant s p h i = go (step_of (context setup s p) (configuration s p)) (step_invariant (context setup s p) (configuration s p) i.store (i.continuations p)) (λ q d. beside p q s d i)
+  ready_step_invariant s p h i = go (step_of (context setup s p) (configuration s p))
+      (step_invariant (context setup s p) (configuration s p) i.store (i.continuations p)) (λ q d. beside p q s d i)
     where
-      go : (o : StepResult) → IfGives (StepInvariant p) o → ((q : ℕ) → p ≢ q → o ≡ result_mixed (not_of q) s.store o) → Invariant (after_step s p o)
+      go : (o : StepResult) → IfGives (StepInvariant p) o → ((q : ℕ) → p ≢ q → o ≡ result_mixed (not_of q) s.store o)
+          → Invariant (after_step s p o)
       go (Fault n) a b = set_status_keeps p (Faulted n) s (λ x. absurd x) (λ x. Prim.grind arith) i
-      go (Gives (r, e)) a b = effect_keeps p e (with_configuration s p r) (rw (with_at_here p r.continuation s.continuation) a.effect) (invariant_of (with_configuration s p r) a.store (λ q. ok q (nat_eq p q) refl) (λ q g. at q (nat_eq p q) refl g) (λ q g. flat q (nat_eq p q) refl g))
+      go (Gives (r, e)) a b = effect_keeps p e (with_configuration s p r)
+          (rw (with_at_here p r.continuation s.continuation) a.effect)
+          (invariant_of (with_configuration s p r) a.store
+          (λ q. ok q (nat_eq p q) refl) (λ q g. at q (nat_eq p q) refl g) (λ q g. flat q (nat_eq p q) refl g))
         where
-          ok : (q : ℕ) (x : Bool) → nat_eq p q ≡ x → ContinuationInvariant q r.store (if x then r.continuation else s.continuation q)
+          ok : (q : ℕ) (x : Bool) → nat_eq p q ≡ x
+              → ContinuationInvariant q r.store (if x then r.continuation else s.continuation q)
           ok q true g = subst (λ n. ContinuationInvariant n r.store r.continuation) (eqb-true p q g) a.ok
-          ok q false g = continuation_keeps_store_of q s.store r.store (s.continuation q) (λ l j d f y. sym (same l d f) ∙ y) (i.continuations q)
+          ok q false g = continuation_keeps_store_of q s.store r.store (s.continuation q)
+              (λ l j d f y. sym (same l d f) ∙ y) (i.continuations q)
             where
               w : r.store ≡ mix (not_of q) r.store s.store
               w = ap (λ o. (result (configuration s p) o).store) (b q (eqb-false p q g))
@@ -291,11 +343,13 @@ module _ (setup : Setup) where
                   transcript true z = absurd (Prim.grind arith)
                   transcript false z = refl
 
-          at : (q : ℕ) (x : Bool) → nat_eq p q ≡ x → IsBlocked (s.status q) → holds_gate (if x then r.continuation else s.continuation q) ≡ true
+          at : (q : ℕ) (x : Bool) → nat_eq p q ≡ x → IsBlocked (s.status q)
+              → holds_gate (if x then r.continuation else s.continuation q) ≡ true
           at q true g y = absurd (subst (λ z. IsBlocked z) (ap s.status (sym (eqb-true p q g)) ∙ h) y)
           at q false g y = i.blocked q y
 
-          flat : (q : ℕ) (x : Bool) → nat_eq p q ≡ x → s.status q ≡ Unstarted → depth (if x then r.continuation else s.continuation q) ≡ 0
+          flat : (q : ℕ) (x : Bool) → nat_eq p q ≡ x → s.status q ≡ Unstarted
+              → depth (if x then r.continuation else s.continuation q) ≡ 0
           flat q true g y = absurd (Prim.grind (arith, h, y, ap s.status (eqb-true p q g)))
           flat q false g y = i.unstarted q y
 
@@ -361,7 +415,12 @@ module _ (setup : Setup) where
       flat (Faulted n) h = h
 
       go : (b : Bool) → Invariant (if b then record s { status = λ p. awakened (s.status p) } else s)
-      go true = record { store = i.store; continuations = i.continuations; blocked = λ p h. i.blocked p (at (s.status p) h); unstarted = λ p h. i.unstarted p (flat (s.status p) h) }
+      go true = record {
+        store = i.store;
+        continuations = i.continuations;
+        blocked = λ p h. i.blocked p (at (s.status p) h);
+        unstarted = λ p h. i.unstarted p (flat (s.status p) h);
+      }
       go false = i
 
   pub event_keeps : (t : ℕ) (s : State) (e : Event) → Invariant s → Invariant (replay_event setup t s e)

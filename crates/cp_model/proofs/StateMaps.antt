@@ -37,10 +37,12 @@ with_at_same p v f h = λ i k. go k (nat_eq p k) refl i
     go k true e = sym h ∙ ap f (eqb-true p k e)
     go k false e = refl
 
-pub with_at_swap : {A : Type 0} (p q : ℕ) (v u : A) (f : ℕ → A) → p ≢ q → with_at p v (with_at q u f) ≡ with_at q u (with_at p v f)
+pub with_at_swap : {A : Type 0} (p q : ℕ) (v u : A) (f : ℕ → A) → p ≢ q → with_at p v (with_at q u f)
+    ≡ with_at q u (with_at p v f)
 with_at_swap p q v u f d = λ i k. go k (nat_eq p k) (nat_eq q k) refl refl i
   where
-    go : (k : ℕ) (a b : Bool) → nat_eq p k ≡ a → nat_eq q k ≡ b → (if a then v else (if b then u else f k)) ≡ (if b then u else (if a then v else f k))
+    go : (k : ℕ) (a b : Bool) → nat_eq p k ≡ a → nat_eq q k ≡ b → (if a then v else (if b then u else f k))
+        ≡ (if b then u else (if a then v else f k))
     go k true true e g = absurd (d (eqb-true p k e ∙ sym (eqb-true q k g)))
     go k true false e g = refl
     go k false true e g = refl
@@ -48,5 +50,6 @@ with_at_swap p q v u f d = λ i k. go k (nat_eq p k) (nat_eq q k) refl refl i
 
 -- ---- States
 
-pub state_is : (a b : State) → a.store ≡ b.store → a.continuation ≡ b.continuation → a.transcript ≡ b.transcript → a.consumed ≡ b.consumed → a.status ≡ b.status → a.gates ≡ b.gates → a.rounds ≡ b.rounds → a ≡ b
+pub state_is : (a b : State) → a.store ≡ b.store → a.continuation ≡ b.continuation → a.transcript ≡ b.transcript
+    → a.consumed ≡ b.consumed → a.status ≡ b.status → a.gates ≡ b.gates → a.rounds ≡ b.rounds → a ≡ b
 state_is a b s l o t u g r = λ i. record { store = s i; continuation = l i; transcript = o i; consumed = t i; status = u i; gates = g i; rounds = r i }

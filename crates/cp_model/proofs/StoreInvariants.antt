@@ -3,16 +3,16 @@ use Rattle.std.specs.Prelude.{Bool, List, None, Some, [], false, flat_map, if◌
 use Rattle.std.proofs.Common.{ap, arith, subst, sym, ◌∙◌}
 use Rattle.std.proofs.lemmas.Bool.{eq-eqb, eqb-false, eqb-true}
 use Rattle.cp_model.specs.Abstract.{Assign, Case, Class, Cycle, Expression, For, If, Init, Monitor, Name, Nothing, Perform, Process, Repeat, Seq, Sort, Statement, While}
-use Rattle.cp_model.specs.Locations.{ByIndex, ByName, Location, OfActivation, OfMonitor, OfProcess, Owner, PathStep, same_location, same_owner, under}
-use Rattle.cp_model.specs.Stores.{Absent, ClassRight, Initialised, MonitorRight, Ordinal, QueueHolds, Reference, Store, Value, forget, put, put_all}
 use Rattle.cp_model.specs.Types.{ArrayOf, ComponentOf, Members, MoreMembers, NoMembers, NoType, Queue, RecordOf, ResolvedType, Simple}
 use Rattle.cp_model.specs.Declarations.{Variable}
+use Rattle.cp_model.specs.Locations.{ByIndex, ByName, Location, OfActivation, OfMonitor, OfProcess, Owner, PathStep, same_location, same_owner, under}
+use Rattle.cp_model.specs.Stores.{Absent, ClassRight, Initialised, MonitorRight, Ordinal, QueueHolds, Reference, Store, Value, Writes, forget, put, put_all}
 use Rattle.cp_model.specs.Leaves.{Leaf, below_step, component_leaves, count_between, integers_from, leaves, leaves_of_members}
 use Rattle.cp_model.specs.Outcomes.{provided}
 use Rattle.cp_model.specs.Environments.{Environment}
 use Rattle.cp_model.specs.Places.{TypedValue, ordinal_in, ordinal_of, within}
 use Rattle.cp_model.specs.Continuations.{Do, EndBody, EndCall, EndProcess, ForNext, RepeatTest, Task, WhileTest, depth, gates_of, push}
-use Rattle.cp_model.specs.Assignments.{Writes, starting_writes, writes_of}
+use Rattle.cp_model.specs.Assignments.{starting_writes, writes_of}
 use Rattle.cp_model.specs.States.{is_in}
 use Rattle.cp_model.specs.Start.{start}
 use Rattle.cp_model.specs.Reach.{in_reach}
@@ -21,7 +21,7 @@ use Rattle.cp_model.specs.Laws.{ReferencesAreInReach}
 use Rattle.cp_model.proofs.MixedStores.{IsClosed, same_owner-eq}
 use Rattle.cp_model.proofs.ExpressionReach.{IfGives}
 
--- What holds of a list holds of it behind statements of a scope.
+-- What holds of a list holds of it behind statements of an environment.
 pub push_keeps : (Q : List Task → Type 0) (env : Environment)
     → ((s : Statement) (k : List Task) → Q k → Q (Do s env ∷ k))
     → ((now e : Expression) (s : Statement) (k : List Task) → Q k → Q (WhileTest now e s env ∷ k))
@@ -39,14 +39,15 @@ push_keeps Q env a b c (For v down e f s) k h = a (For v down e f s) k h
 push_keeps Q env a b c (Cycle s) k h = a (Cycle s) k h
 push_keeps Q env a b c (Init x arguments) k h = a (Init x arguments) k h
 
--- a list with more tasks and no more marks.
+-- A list with more tasks and no more marks.
 record Behind (p : ℕ) (st : Store) (ms : List ℕ) (n : ℕ) (k : List Task) : Type 0 where
   pub gates : gates_of k ≡ ms
   pub deep : depth k ≡ n
   pub tasks : TasksInReach p k
   pub frames : FramesInvariant p st k
 
-pub push_continuation : (p : ℕ) (st : Store) (s : Statement) (env : Environment) (k : List Task) → EnvironmentIn (in_reach p (gates_of k)) env → ContinuationInvariant p st k → ContinuationInvariant p st (push s env k)
+pub push_continuation : (p : ℕ) (st : Store) (s : Statement) (env : Environment) (k : List Task)
+    → EnvironmentIn (in_reach p (gates_of k)) env → ContinuationInvariant p st k → ContinuationInvariant p st (push s env k)
 push_continuation p st s env k h o =
     let b = push_keeps (Behind p st (gates_of k) (depth k)) env
     (λ x l g. record { gates = g.gates; deep = g.deep; tasks = (subst (λ ms. EnvironmentIn (in_reach p ms) env) (sym g.gates) h, g.tasks); frames = g.frames })
@@ -55,14 +56,19 @@ push_continuation p st s env k h o =
     s k (record { gates = refl; deep = refl; tasks = o.tasks; frames = o.frames })
     in record { tasks = b.tasks; frames = b.frames; beyond = subst (λ n. NoneBeyond p st n) (sym b.deep) o.beyond }
 
--- ---- Stores with no new refers
+-- ---- Stores with no new references
 
 abbrev pub NoNewReference : Store → Store → Type 0
 NoNewReference st st' = (l j : Location) → st' l ≡ Reference j → st l ≡ Reference j
 
-pub frames_keep_store : (p : ℕ) (st st' : Store) (k : List Task) → NoNewReference st st' → FramesInvariant p st k → FramesInvariant p st' k
+pub frames_keep_store : (p : ℕ) (st st' : Store) (k : List Task) → NoNewReference st st' → FramesInvariant p st k
+    → FramesInvariant p st' k
 frames_keep_store p st st' [] n h = tt
-frames_keep_store p st st' (EndCall env gate ∷ k) n h = (record { frame = h.0.frame; references = λ l j o e. h.0.references l j o (n l j e) }, frames_keep_store p st st' k n h.1)
+frames_keep_store p st st' (EndCall env gate ∷ k) n h = (
+  record
+      { frame = h.0.frame; references = λ l j o e. h.0.references l j o (n l j e) },
+  frames_keep_store p st st' k n h.1,
+)
 frames_keep_store p st st' (Do s env ∷ k) n h = frames_keep_store p st st' k n h
 frames_keep_store p st st' (WhileTest now e s env ∷ k) n h = frames_keep_store p st st' k n h
 frames_keep_store p st st' (RepeatTest now s e env ∷ k) n h = frames_keep_store p st st' k n h
@@ -70,10 +76,15 @@ frames_keep_store p st st' (ForNext v down x last s env ∷ k) n h = frames_keep
 frames_keep_store p st st' (EndBody gate ∷ k) n h = frames_keep_store p st st' k n h
 frames_keep_store p st st' (EndProcess ∷ k) n h = frames_keep_store p st st' k n h
 
-pub continuation_keeps_store : (p : ℕ) (st st' : Store) (k : List Task) → NoNewReference st st' → ContinuationInvariant p st k → ContinuationInvariant p st' k
-continuation_keeps_store p st st' k n o = record { tasks = o.tasks; frames = frames_keep_store p st st' k n o.frames; beyond = λ l j d h e f. o.beyond l j d h e (n l j f) }
+pub continuation_keeps_store : (p : ℕ) (st st' : Store) (k : List Task) → NoNewReference st st'
+    → ContinuationInvariant p st k → ContinuationInvariant p st' k
+continuation_keeps_store p st st' k n o = record {
+  tasks = o.tasks;
+  frames = frames_keep_store p st st' k n o.frames;
+  beyond = λ l j d h e f. o.beyond l j d h e (n l j f);
+}
 
--- a write of what is no reference, and of a right to a class of the same owner.
+-- A write of what is no reference, and of a right to a class of the same owner.
 abbrev pub KeepsStore : Location → Value → Type 0
 KeepsStore l (Reference j) = ⊥
 KeepsStore l (ClassRight j) = j.owner ≡ l.owner
@@ -127,7 +138,8 @@ put_store st l v h o = record {
 
 pub put_all_no_new_reference : (ws : Writes) (st : Store) → AllKeepStore ws → NoNewReference st (put_all ws st)
 put_all_no_new_reference [] st h l j e = e
-put_all_no_new_reference (w ∷ ws) st h l j e = put_no_new_reference st w.0 w.1 h.0 l j (put_all_no_new_reference ws (put w.0 w.1 st) h.1 l j e)
+put_all_no_new_reference (w ∷ ws) st h l j e = put_no_new_reference st w.0 w.1 h.0 l j
+    (put_all_no_new_reference ws (put w.0 w.1 st) h.1 l j e)
 
 pub put_all_store : (ws : Writes) (st : Store) → AllKeepStore ws → StoreInvariant st → StoreInvariant (put_all ws st)
 put_all_store [] st h o = o
@@ -172,7 +184,8 @@ in_reach_more p m ms (OfMonitor n) h = go (nat_eq n m)
     go true = refl
     go false = h
 
-in_reach_tail : (p : ℕ) (i : Task) (k : List Task) (o : Owner) → in_reach p (gates_of k) o ≡ true → in_reach p (gates_of (i ∷ k)) o ≡ true
+in_reach_tail : (p : ℕ) (i : Task) (k : List Task) (o : Owner) → in_reach p (gates_of k) o ≡ true
+    → in_reach p (gates_of (i ∷ k)) o ≡ true
 in_reach_tail p (EndCall env (Some m)) k o h = in_reach_more p m (gates_of k) o h
 in_reach_tail p (EndCall env None) k o h = h
 in_reach_tail p (EndBody (Some m)) k o h = in_reach_more p m (gates_of k) o h
@@ -183,12 +196,15 @@ in_reach_tail p (RepeatTest now s e env) k o h = h
 in_reach_tail p (ForNext v down x last s env) k o h = h
 in_reach_tail p EndProcess k o h = h
 
-pub frame_refers : (p : ℕ) (st : Store) (k : List Task) (l j : Location) (d : ℕ) → FramesInvariant p st k → d < depth k → l.owner ≡ OfActivation p d → st l ≡ Reference j
+pub frame_refers : (p : ℕ) (st : Store) (k : List Task) (l j : Location) (d : ℕ) → FramesInvariant p st k → d < depth k
+    → l.owner ≡ OfActivation p d → st l ≡ Reference j
     → in_reach p (gates_of k) j.owner ≡ true
 frame_refers p st [] l j d f h o e = absurd (Prim.omega arith)
-frame_refers p st (EndCall env gate ∷ k) l j d f h o e = in_reach_tail p (EndCall env gate) k j.owner (go (nat_eq d (depth k)) refl (λ g. frame_refers p st k l j d f.1 g o e))
+frame_refers p st (EndCall env gate ∷ k) l j d f h o e = in_reach_tail p (EndCall env gate) k j.owner
+    (go (nat_eq d (depth k)) refl (λ g. frame_refers p st k l j d f.1 g o e))
   where
-    go : (b : Bool) → nat_eq d (depth k) ≡ b → (d < depth k → in_reach p (gates_of k) j.owner ≡ true) → in_reach p (gates_of k) j.owner ≡ true
+    go : (b : Bool) → nat_eq d (depth k) ≡ b → (d < depth k → in_reach p (gates_of k) j.owner ≡ true)
+        → in_reach p (gates_of k) j.owner ≡ true
     go true g ih = f.0.references l j (o ∙ ap (λ n. OfActivation p n) (eqb-true d (depth k) g)) e
     go false g ih = ih (lesser (eqb-false d (depth k) g))
       where
@@ -198,21 +214,25 @@ frame_refers p st (Do s env ∷ k) l j d f h o e = frame_refers p st k l j d f h
 frame_refers p st (WhileTest now x s env ∷ k) l j d f h o e = frame_refers p st k l j d f h o e
 frame_refers p st (RepeatTest now s x env ∷ k) l j d f h o e = frame_refers p st k l j d f h o e
 frame_refers p st (ForNext v down x last s env ∷ k) l j d f h o e = frame_refers p st k l j d f h o e
-frame_refers p st (EndBody gate ∷ k) l j d f h o e = in_reach_tail p (EndBody gate) k j.owner (frame_refers p st k l j d f h o e)
+frame_refers p st (EndBody gate ∷ k) l j d f h o e = in_reach_tail p (EndBody gate) k j.owner
+    (frame_refers p st k l j d f h o e)
 frame_refers p st (EndProcess ∷ k) l j d f h o e = frame_refers p st k l j d f h o e
 
 -- What a process names in its reach stays in it.
-pub is_closed : (p : ℕ) (st : Store) (k : List Task) → StoreInvariant st → ContinuationInvariant p st k → IsClosed (in_reach p (gates_of k)) st
+pub is_closed : (p : ℕ) (st : Store) (k : List Task) → StoreInvariant st → ContinuationInvariant p st k
+    → IsClosed (in_reach p (gates_of k)) st
 is_closed p st k s o = record { references = λ l j h e. go l j l.owner refl h e (s.references l j e); classes = λ l j h e. rw (s.classes l j e) h }
   where
-    lesser : (l j : Location) (d : ℕ) → l.owner ≡ OfActivation p d → st l ≡ Reference j → in_reach p (gates_of k) j.owner ≡ true
+    lesser : (l j : Location) (d : ℕ) → l.owner ≡ OfActivation p d → st l ≡ Reference j → in_reach p (gates_of k) j.owner
+        ≡ true
     lesser l j d f e = by (nat_lt d (depth k)) refl
       where
         by : (b : Bool) → nat_lt d (depth k) ≡ b → in_reach p (gates_of k) j.owner ≡ true
         by true g = frame_refers p st k l j d o.frames (Prim.grind arith) f e
         by false g = absurd (o.beyond l j d (Prim.grind arith) f e)
 
-    go : (l j : Location) (w : Owner) → l.owner ≡ w → in_reach p (gates_of k) l.owner ≡ true → st l ≡ Reference j → IsActivation l.owner → in_reach p (gates_of k) j.owner ≡ true
+    go : (l j : Location) (w : Owner) → l.owner ≡ w → in_reach p (gates_of k) l.owner ≡ true → st l ≡ Reference j
+        → IsActivation l.owner → in_reach p (gates_of k) j.owner ≡ true
     go l j (OfActivation q d) f h e a =
         let x : nat_eq p q ≡ true = subst (λ y. in_reach p (gates_of k) y ≡ true) f h in
         lesser l j d (f ∙ ap (λ n. OfActivation n d) (sym (eqb-true p q x))) e
@@ -221,7 +241,8 @@ is_closed p st k s o = record { references = λ l j h e. go l j l.owner refl h e
 
 -- ---- Writes
 
-zip_keeps_store : (at : Location) (ps : List Leaf) (vs : List Value) → AllKeepStore (zip (map (λ leaf. under at leaf.0) ps) (map (λ x. Ordinal (ordinal_in x)) vs))
+zip_keeps_store : (at : Location) (ps : List Leaf) (vs : List Value)
+    → AllKeepStore (zip (map (λ leaf. under at leaf.0) ps) (map (λ x. Ordinal (ordinal_in x)) vs))
 zip_keeps_store at [] vs = tt
 zip_keeps_store at (p ∷ ps) [] = tt
 zip_keeps_store at (p ∷ ps) (v ∷ vs) = (tt, zip_keeps_store at ps vs)
@@ -258,7 +279,8 @@ plain_below_step s (p ∷ ps) h = (h.0, plain_below_step s ps h.1)
 
 plain_flat : (is : List ℤ) (ps : List Leaf) → AllPlain ps → AllPlain (flat_map (λ i. map (below_step (ByIndex i)) ps) is)
 plain_flat [] ps h = tt
-plain_flat (i ∷ is) ps h = plain_append (map (below_step (ByIndex i)) ps) _ (plain_below_step (ByIndex i) ps h) (plain_flat is ps h)
+plain_flat (i ∷ is) ps h = plain_append (map (below_step (ByIndex i)) ps) _ (plain_below_step (ByIndex i) ps h)
+    (plain_flat is ps h)
 
 mutual
   pub leaves_plain : (s : ResolvedType) → AllPlain (leaves s)
@@ -276,9 +298,11 @@ mutual
 
   pub leaves_of_members_plain : (ps : Members) → AllPlain (leaves_of_members ps)
   leaves_of_members_plain NoMembers = tt
-  leaves_of_members_plain (MoreMembers x s ps) = plain_append (map (below_step (ByName x)) (leaves s)) _ (plain_below_step (ByName x) (leaves s) (leaves_plain s)) (leaves_of_members_plain ps)
+  leaves_of_members_plain (MoreMembers x s ps) = plain_append (map (below_step (ByName x)) (leaves s)) _
+      (plain_below_step (ByName x) (leaves s) (leaves_plain s)) (leaves_of_members_plain ps)
 
-starting_writes_keep_one : (at : Location) (x : Name) (ps : List Leaf) (rest : Writes) → AllPlain ps → AllKeepStore rest → AllKeepStore (map (λ leaf. (under at (ByName x ∷ leaf.0), leaf.1)) ps ++ rest)
+starting_writes_keep_one : (at : Location) (x : Name) (ps : List Leaf) (rest : Writes) → AllPlain ps → AllKeepStore rest
+    → AllKeepStore (map (λ leaf. (under at (ByName x ∷ leaf.0), leaf.1)) ps ++ rest)
 starting_writes_keep_one at x [] rest h k = k
 starting_writes_keep_one at x (p ∷ ps) rest h k = (plain_keeps p.1 h.0, starting_writes_keep_one at x ps rest h.1 k)
   where
@@ -293,7 +317,8 @@ starting_writes_keep_one at x (p ∷ ps) rest h k = (plain_keeps p.1 h.0, starti
 
 pub starting_writes_keep : (at : Location) (vs : List (Name × Variable)) → AllKeepStore (starting_writes at vs)
 starting_writes_keep at [] = tt
-starting_writes_keep at (v ∷ vs) = starting_writes_keep_one at v.0 (leaves v.1.type) (starting_writes at vs) (leaves_plain v.1.type) (starting_writes_keep at vs)
+starting_writes_keep at (v ∷ vs) = starting_writes_keep_one at v.0 (leaves v.1.type) (starting_writes at vs)
+    (leaves_plain v.1.type) (starting_writes_keep at vs)
 
 -- ---- Reach
 

@@ -51,7 +51,6 @@ mutual
     Negative : (e : Expression) → Expression
     Positive : (e : Expression) → Expression
     Binary : (o : Operator) (a b : Expression) → Expression
-    -- the value of a call that was made. No text has it
     Known : (base : BaseType) (ordinal : ℤ) → Expression
 
   pub data Designator : Type 0 where
@@ -79,7 +78,6 @@ mutual
     Repeat : (s : Statement) (e : Expression) → Statement
     For : (v : Name) (down : Bool) (a b : Expression) (s : Statement) → Statement
     Cycle : (s : Statement) → Statement
-    -- one item
     Init : (name : Name) (arguments : Expressions) → Statement
 
   pub data Arms : Type 0 where

@@ -8,11 +8,8 @@ use Rattle.cp_model.specs.Calls.{UserCall, call_in_task, is_monitor_call, proced
 
 -- Nothing is left; or a call is made, with what is left behind it; or the first task itself is done.
 pub data Action : Type 0 where
-  -- nothing is left
   Rests : Action
-  -- a call, and what is left behind it
   Calls : (u : UserCall) (k : List Task) → Action
-  -- the item itself
   Acts : (i : Task) (k : List Task) → Action
 
 abbrev pub action : List Task → Action

@@ -4,17 +4,17 @@
 -- end a function's result takes the place of the call in what is left; a function that set none is fault 9.
 use Rattle.std.specs.Prelude.{Bool, List, None, Option, Some, [], false, if◌then◌else◌, true, ℕ, ◌∷◌}
 use Rattle.cp_model.specs.Abstract.{Class, Expression, Known, Monitor, Name, Process, Sort, System}
-use Rattle.cp_model.specs.Locations.{ByName, Location, OfActivation, Owner}
-use Rattle.cp_model.specs.Stores.{Initialised, Ordinal, Store, Value, forget, put_all}
 use Rattle.cp_model.specs.Types.{base_of_type, named_type}
 use Rattle.cp_model.specs.Declarations.{declarations}
+use Rattle.cp_model.specs.Locations.{ByName, Location, OfActivation, Owner, root, under}
+use Rattle.cp_model.specs.Stores.{Initialised, Ordinal, Store, Value, Writes, forget, put_all}
 use Rattle.cp_model.specs.Outcomes.{Fault, Gives, Outcome, and_then}
-use Rattle.cp_model.specs.Environments.{Environment}
+use Rattle.cp_model.specs.Environments.{Environment, Frame}
 use Rattle.cp_model.specs.Continuations.{EndCall, Task, depth, push}
 use Rattle.cp_model.specs.Components.{Component, class_location, monitor_location, monitor_number}
 use Rattle.cp_model.specs.Calls.{UserCall, call_in_task}
 use Rattle.cp_model.specs.Configurations.{Configuration, Context, Effect, Enters, Leaves, Own, StepResult}
-use Rattle.cp_model.specs.Assignments.{Writes, starting_writes}
+use Rattle.cp_model.specs.Assignments.{starting_writes}
 use Rattle.cp_model.specs.Arguments.{argument_writes, bind}
 
 -- ---- Where a call goes
@@ -32,11 +32,13 @@ pub record Target : Type 0 where
 
 abbrev pub component_target : Context → Environment → Store → Sort → Component → Target
 component_target context env store Class n =
-    record { component = class_location env store n; system = n.system; is_callable = is_initialised (store (class_location env store n)); gate = None }
+    let at = class_location env store n in
+    record { component = at; system = n.system; is_callable = is_initialised (store at); gate = None }
 component_target context env store Monitor n =
     let m = monitor_number env store n in
     record { component = monitor_location m; system = n.system; is_callable = context.is_set m; gate = Some m }
-component_target context env store Process n = record { component = env.component; system = n.system; is_callable = false; gate = None }
+component_target context env store Process n =
+    record { component = env.component; system = n.system; is_callable = false; gate = None }
 
 -- A routine called by its name alone belongs to the running component.
 abbrev pub target : Context → Store → Environment → Option Component → Target
@@ -51,16 +53,22 @@ entering (Some m) = Enters m
 
 abbrev pub activation_environment : UserCall → Target → Owner → Environment
 activation_environment u t o =
-    record { globals = u.environment.globals; system = t.system; component = t.component; frame = Some (record { owner = o; routine = u.callee.routine }) }
+    record {
+      globals = u.environment.globals;
+      system = t.system;
+      component = t.component;
+      frame = Some (record { owner = o; routine = u.callee.routine });
+    }
 
 -- The parameters are written, the variables start, and the body is left in front of the end mark.
-abbrev pub called_configuration : Configuration → UserCall → List Task → Target → Owner → Writes → Configuration × Effect
+abbrev pub called_configuration
+    : Configuration → UserCall → List Task → Target → Owner → Writes → Configuration × Effect
 called_configuration config u k t o ws =
-    let g = u.environment.globals in
     let r = u.callee.routine in
-    let env = activation_environment u t o in (
+    let env = activation_environment u t o in
+    let variables = declarations u.environment.globals r.variables in (
       record config {
-        store = put_all (starting_writes (record { owner = o; path = [] }) (declarations g r.variables)) (put_all ws (forget o config.store));
+        store = put_all (starting_writes (root o) variables) (put_all ws (forget o config.store));
         continuation = push r.body env (EndCall env t.gate ∷ k);
       },
       entering t.gate,
@@ -70,9 +78,10 @@ abbrev pub call : Context → Configuration → UserCall → List Task → StepR
 call context config u k =
     let t = target context config.store u.environment u.callee.of in
     let o = OfActivation context.process (depth k) in
+    let parameters = declarations u.environment.globals u.callee.routine.parameters in
     if t.is_callable
     then and_then
-    (bind (argument_writes context.clock u.environment config.store) (record { owner = o; path = [] }) (declarations u.environment.globals u.callee.routine.parameters) u.arguments)
+    (bind (argument_writes context.clock u.environment config.store) (root o) parameters u.arguments)
     (λ ws. Gives (called_configuration config u k t o ws))
     else Fault 6
 
@@ -89,8 +98,12 @@ with_answer v (i ∷ k) = elim (call_in_task v i) [ None ↦ i ∷ k | Some f �
 
 abbrev pub return_value : Configuration → Environment → Owner → List Task → Name → Value → Outcome Configuration
 return_value config env o k t (Ordinal n) =
-    Gives (record config { store = forget o config.store; continuation = with_answer (Known (base_of_type (named_type env.globals t)) n) k })
+    let answer = Known (base_of_type (named_type env.globals t)) n in
+    Gives (record config { store = forget o config.store; continuation = with_answer answer k })
 return_value config env o k t _ = Fault 9
+
+abbrev pub result_location : Frame → Location
+result_location f = under (root f.owner) (ByName f.routine.name ∷ [])
 
 -- The routine of an environment returns to k.
 abbrev pub returns : Configuration → Environment → List Task → Outcome Configuration
@@ -98,7 +111,7 @@ returns config env k = elim env.frame [
   | None ↦ Gives config
   | Some f ↦ elim f.routine.result [
     | None ↦ Gives (record config { store = forget f.owner config.store; continuation = k })
-    | Some t ↦ return_value config env f.owner k t (config.store (record { owner = f.owner; path = ByName f.routine.name ∷ [] }))
+    | Some t ↦ return_value config env f.owner k t (config.store (result_location f))
   ]
 ]
 

@@ -35,7 +35,11 @@ own_routine true x s = None
 own_routine false x s = routine_named x s
 
 abbrev pub callee : Environment → Designator → Option Callee
-callee env (Plain f) = elim (own_routine (is_local env.globals env.frame f) f env.system) [ None ↦ None | Some r ↦ Some (record { routine = r; of = None }) ]
+callee env (Plain f) =
+    elim (own_routine (is_local env.globals env.frame f) f env.system) [
+      | None ↦ None
+      | Some r ↦ Some (record { routine = r; of = None })
+    ]
 callee env (Part (Plain x) f) =
     elim (component_named env x) [
       | None ↦ None
@@ -71,7 +75,8 @@ user_call env d arguments v = elim (callee env d) [ None ↦ None | Some c ↦ S
 abbrev mutual
   pub first_call : Environment → Expression → Expression → Found Expression
   first_call env v (Use d) = or_else (in_context Use (call_in_designator env v d)) (user_call env d NoExpression v)
-  first_call env v (Call d arguments) = or_else (in_context (Call d) (call_in_arguments env v arguments)) (user_call env d arguments v)
+  first_call env v (Call d arguments) =
+      or_else (in_context (Call d) (call_in_arguments env v arguments)) (user_call env d arguments v)
   first_call env v (Not e) = in_context Not (first_call env v e)
   first_call env v (Negative e) = in_context Negative (first_call env v e)
   first_call env v (Positive e) = in_context Positive (first_call env v e)
@@ -88,16 +93,21 @@ abbrev mutual
   pub call_in_arguments : Environment → Expression → Expressions → Found Expressions
   call_in_arguments env v NoExpression = None
   call_in_arguments env v (MoreExpressions e es) =
-      or_else (in_context (λ y. MoreExpressions y es) (first_call env v e)) (in_context (MoreExpressions e) (call_in_arguments env v es))
+      or_else
+      (in_context (λ y. MoreExpressions y es) (first_call env v e))
+      (in_context (MoreExpressions e) (call_in_arguments env v es))
 
 -- Left before right. The tests of `while` and `repeat` are tasks of their own.
 abbrev pub call_in_statement : Environment → Expression → Statement → Found Statement
-call_in_statement env v (Assign d e) = or_else (in_context (λ y. Assign y e) (call_in_designator env v d)) (in_context (Assign d) (first_call env v e))
+call_in_statement env v (Assign d e) =
+    or_else (in_context (λ y. Assign y e) (call_in_designator env v d)) (in_context (Assign d) (first_call env v e))
 call_in_statement env v (Perform d arguments) = in_context (Perform d) (call_in_arguments env v arguments)
 call_in_statement env v (If e a b) = in_context (λ y. If y a b) (first_call env v e)
 call_in_statement env v (Case e arms) = in_context (λ y. Case y arms) (first_call env v e)
 call_in_statement env v (For x down a b s) =
-    or_else (in_context (λ y. For x down y b s) (first_call env v a)) (in_context (λ y. For x down a y s) (first_call env v b))
+    or_else
+    (in_context (λ y. For x down y b s) (first_call env v a))
+    (in_context (λ y. For x down a y s) (first_call env v b))
 call_in_statement env v (Init x arguments) = in_context (Init x) (call_in_arguments env v arguments)
 call_in_statement env v _ = None
 
@@ -109,5 +119,9 @@ call_in_task v _ = None
 
 -- A procedure statement of a user's procedure, once its arguments hold no call.
 abbrev pub procedure_call : Task → Option UserCall
-procedure_call (Do (Perform d arguments) env) = elim (callee env d) [ None ↦ None | Some c ↦ Some (record { callee = c; arguments = arguments; environment = env }) ]
+procedure_call (Do (Perform d arguments) env) =
+    elim (callee env d) [
+      | None ↦ None
+      | Some c ↦ Some (record { callee = c; arguments = arguments; environment = env })
+    ]
 procedure_call _ = None

@@ -3,10 +3,10 @@ use Rattle.std.specs.Prelude.{Bool, List, None, Option, Some, [], false, if◌th
 use Rattle.std.specs.Option.{option_or}
 use Rattle.cp_model.specs.Abstract.{Class, Monitor, Name, Process, Sort, System}
 use Rattle.cp_model.specs.Names.{lookup, same_name}
-use Rattle.cp_model.specs.Locations.{ByName, Location, OfMonitor, OfProcess, under}
-use Rattle.cp_model.specs.Stores.{ClassRight, MonitorRight, Store, Value}
 use Rattle.cp_model.specs.Types.{ComponentOf, ResolvedType}
 use Rattle.cp_model.specs.Declarations.{Variable, declarations}
+use Rattle.cp_model.specs.Locations.{ByName, Location, OfMonitor, OfProcess, root, under}
+use Rattle.cp_model.specs.Stores.{ClassRight, MonitorRight, Store, Value}
 use Rattle.cp_model.specs.Environments.{Environment}
 
 abbrev pub same_sort : Sort → Sort → Bool
@@ -47,29 +47,36 @@ class_or_here l _ = l
 
 -- A class lies at its variable, or where the right points.
 abbrev pub class_location : Environment → Store → Component → Location
-class_location env store n = if n.is_parameter then class_or_here (name_location env n) (store (name_location env n)) else name_location env n
+class_location env store n =
+    let at = name_location env n in
+    if n.is_parameter then class_or_here at (store at) else at
 
 abbrev pub process_location : ℕ → Location
-process_location p = record { owner = OfProcess p; path = [] }
+process_location p = root (OfProcess p)
 
 abbrev pub monitor_location : ℕ → Location
-monitor_location m = record { owner = OfMonitor m; path = [] }
+monitor_location m = root (OfMonitor m)
 
 -- ---- Numbers
 
 -- How many components of a sort are declared before a name.
 abbrev pub count_before : Sort → Name → List (Name × Variable) → ℕ
 count_before s x [] = 0
-count_before s x (v ∷ vs) = if same_name x v.0 then 0 else if is_component_of s v.1.type then suc (count_before s x vs) else count_before s x vs
+count_before s x (v ∷ vs) =
+    if same_name x v.0 then 0
+    else if is_component_of s v.1.type then suc (count_before s x vs)
+    else count_before s x vs
 
 abbrev pub monitor_right : Value → ℕ
 monitor_right (MonitorRight m) = m
 monitor_right _ = 0
 
 -- Monitors are numbered from 1 in order of declaration.
+abbrev pub declared_monitor : Environment → Component → ℕ
+declared_monitor env n = 1 + count_before Monitor n.name (declarations env.globals env.system.variables)
+
 abbrev pub monitor_number : Environment → Store → Component → ℕ
-monitor_number env store n =
-    if n.is_parameter then monitor_right (store (name_location env n)) else 1 + count_before Monitor n.name (declarations env.globals env.system.variables)
+monitor_number env store n = if n.is_parameter then monitor_right (store (name_location env n)) else declared_monitor env n
 
 -- Processes are numbered from 2 in order of declaration: 1 is the initial process.
 abbrev pub process_number : Environment → Component → ℕ

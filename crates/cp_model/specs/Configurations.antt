@@ -1,9 +1,13 @@
 -- What one step of a process works on, what it reads beside, and what it leaves to the kernel.
 use Rattle.std.specs.Prelude.{Bool, List, Option, ℕ}
+use Rattle.cp_model.specs.Abstract.{Designator, Expression}
 use Rattle.cp_model.specs.Locations.{Location}
-use Rattle.cp_model.specs.Stores.{Store}
+use Rattle.cp_model.specs.Stores.{Store, Writes, put_all}
 use Rattle.cp_model.specs.Outcomes.{Gives, Outcome}
+use Rattle.cp_model.specs.Environments.{Environment}
+use Rattle.cp_model.specs.Places.{Place, TypedValue}
 use Rattle.cp_model.specs.Operators.{Clock}
+use Rattle.cp_model.specs.Expressions.{place, value}
 use Rattle.cp_model.specs.Continuations.{Task}
 
 -- Unstarted; fresh, which is started in the running round; ready; asking for a monitor's gate; delayed in a queue of a
@@ -44,5 +48,19 @@ pub data Effect : Type 0 where
 abbrev pub StepResult : Type 0
 StepResult = Outcome (Configuration × Effect)
 
-abbrev pub own_step : Configuration → Outcome (Configuration × Effect)
+-- A step that leaves nothing to the kernel.
+abbrev pub own_step : Configuration → StepResult
 own_step config = Gives (config, Own)
+
+abbrev pub with_continuation : Configuration → List Task → Configuration
+with_continuation config k = record config { continuation = k }
+
+abbrev pub with_writes : Configuration → Writes → List Task → Configuration
+with_writes config ws k = record config { store = put_all ws config.store; continuation = k }
+
+-- The value of an expression, and the place of a designator, in a configuration.
+abbrev pub evaluation : Context → Configuration → Environment → Expression → Outcome TypedValue
+evaluation context config env e = value context.clock env config.store e
+
+abbrev pub designation : Context → Configuration → Environment → Designator → Outcome Place
+designation context config env d = place context.clock env config.store d

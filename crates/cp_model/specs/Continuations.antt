@@ -12,12 +12,9 @@ use Rattle.cp_model.specs.Environments.{Environment}
 -- or body names that monitor, whose gate is held till then.
 pub data Task : Type 0 where
   Do : (s : Statement) (env : Environment) → Task
-  -- the test of a while, of which calls may have been made already, and the whole test
   WhileTest : (now e : Expression) (s : Statement) (env : Environment) → Task
   RepeatTest : (now : Expression) (s : Statement) (e : Expression) (env : Environment) → Task
-  -- the next test of a for, behind the counter
   ForNext : (v : Name) (down : Bool) (counter last : ℤ) (s : Statement) (env : Environment) → Task
-  -- end marks, with the monitor whose gate they hold
   EndCall : (env : Environment) (gate : Option ℕ) → Task
   EndBody : (gate : Option ℕ) → Task
   EndProcess : Task

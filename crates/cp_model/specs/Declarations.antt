@@ -31,7 +31,9 @@ members_from (v ∷ vs) rest = MoreMembers v.0 v.1.type (members_from vs rest)
 
 -- The members of a component that are its own: all parameters but rights to components, then all variables.
 abbrev pub reported_members : GlobalScope → System → Members
-reported_members g s = members_from (filter (λ v. not (is_component v.1.type)) (declarations g s.parameters)) (members_from (declarations g s.variables) NoMembers)
+reported_members g s =
+    members_from (filter (λ v. not (is_component v.1.type)) (declarations g s.parameters))
+    (members_from (declarations g s.variables) NoMembers)
 
 -- ---- Definitions
 

@@ -6,9 +6,9 @@
 use Rattle.std.specs.Prelude.{List, None, Option, Some, [], false, ℤ, ◌++◌, ◌∷◌}
 use Rattle.cp_model.specs.Abstract.{BaseType, Name, Routine, System}
 use Rattle.cp_model.specs.Names.{lookup}
-use Rattle.cp_model.specs.Locations.{ByName, Location, Owner, Path}
 use Rattle.cp_model.specs.Types.{GlobalScope, named_type}
 use Rattle.cp_model.specs.Declarations.{Variable, declarations}
+use Rattle.cp_model.specs.Locations.{ByName, Location, Owner, Path}
 
 -- An activation: its owner, and the routine that is activated.
 pub record Frame : Type 0 where

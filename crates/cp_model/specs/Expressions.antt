@@ -13,7 +13,9 @@ use Rattle.cp_model.specs.Operators.{Clock, apply_operator, integer_result, real
 
 abbrev pub value_of_name : Clock → Environment → Store → Name → Outcome TypedValue
 value_of_name clock env store x =
-    if same_name x (codes "realtime") then integer_result (pos (realtime clock)) else Gives (value_of_meaning env store (meaning env x))
+    if same_name x (codes "realtime")
+    then integer_result (pos (realtime clock))
+    else Gives (value_of_meaning env store (meaning env x))
 
 -- The name of a designator that is a name alone, as of a standard routine or of a component.
 abbrev pub name_of : Designator → Name
@@ -21,21 +23,21 @@ name_of (Plain x) = x
 name_of _ = []
 
 abbrev mutual
-  -- the value of an expression without user calls
   pub value : Clock → Environment → Store → Expression → Outcome TypedValue
   value clock env store (Literal n) = Gives (simple_value Integer (pos n))
   value clock env store (Letter n) = Gives (simple_value Char (pos n))
   value clock env store (Use (Plain x)) = value_of_name clock env store x
   value clock env store (Use d) = and_then (place clock env store d) (λ p. Gives (read store p))
-  value clock env store (Call d arguments) = and_then (first_argument clock env store arguments) (λ v. standard_function (name_of d) v)
-  value clock env store (Not e) = and_then (value clock env store e) (λ v. Gives (truth_value (same_integer (ordinal_of v) (pos 0))))
+  value clock env store (Call d arguments) =
+      and_then (first_argument clock env store arguments) (λ v. standard_function (name_of d) v)
+  value clock env store (Not e) =
+      and_then (value clock env store e) (λ v. Gives (truth_value (same_integer (ordinal_of v) (pos 0))))
   value clock env store (Negative e) = and_then (value clock env store e) (λ v. integer_result (neg_ℤ (ordinal_of v)))
   value clock env store (Positive e) = value clock env store e
   value clock env store (Binary o a b) =
       and_then (value clock env store a) (λ v. and_then (value clock env store b) (λ w. apply_operator o v w))
   value clock env store (Known b n) = Gives (simple_value b n)
 
-  -- the place of a variable
   pub place : Clock → Environment → Store → Designator → Outcome Place
   place clock env store (Plain x) = Gives (place_of_meaning env store (meaning env x))
   place clock env store (Part d x) = and_then (place clock env store d) (λ p. Gives (field_place x p))

@@ -58,7 +58,8 @@ IsFrameOf (Some f) o = f.owner ≡ o
 -- An end mark of a routine is of the activation of its depth, whose parameters refer into the caller's reach.
 pub record FrameInvariant (p : ℕ) (store : Store) (env : Environment) (k : List Task) : Type 0 where
   pub frame : IsFrameOf env.frame (OfActivation p (depth k))
-  pub references : (l j : Location) → l.owner ≡ OfActivation p (depth k) → store l ≡ Reference j → in_reach p (gates_of k) j.owner ≡ true
+  pub references : (l j : Location) → l.owner ≡ OfActivation p (depth k) → store l ≡ Reference j
+      → in_reach p (gates_of k) j.owner ≡ true
 
 abbrev pub FramesInvariant : ℕ → Store → List Task → Type 0
 FramesInvariant p store [] = Unit {0}

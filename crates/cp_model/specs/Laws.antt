@@ -29,7 +29,8 @@ abbrev pub LawfulRoundIsSequentialFromStart : Type 0
 LawfulRoundIsSequentialFromStart =
     (setup : Setup) (past : List (ℕ × List Event)) (t : ℕ) (events : List Event)
     → IsLawful t (processes setup) events
-    → replay_round setup t (replay setup (start setup) past) events ≡ sequential_round setup t (replay setup (start setup) past)
+    → replay_round setup t (replay setup (start setup) past) events
+    ≡ sequential_round setup t (replay setup (start setup) past)
 
 abbrev pub PhasedRoundIsSequentialFromStart : Type 0
 PhasedRoundIsSequentialFromStart =
@@ -84,7 +85,8 @@ RunKeepsInvariant = (setup : Setup) (t n : ℕ) → KeepsInvariant (run setup t 
 -- Each location that a `var` parameter of p names is in p's reach.
 abbrev pub ReferencesAreInReach : Type 0
 ReferencesAreInReach =
-    (s : State) (p d : ℕ) (l j : Location) → Invariant s → l.owner ≡ OfActivation p d → s.store l ≡ Reference j → reach s p j ≡ true
+    (s : State) (p d : ℕ) (l j : Location)
+    → Invariant s → l.owner ≡ OfActivation p d → s.store l ≡ Reference j → reach s p j ≡ true
 
 -- Only variables of activations refer to others.
 abbrev pub OnlyActivationsRefer : Type 0
@@ -99,7 +101,8 @@ ClassRightsKeepOwner = (s : State) (l j : Location) → Invariant s → s.store 
 -- In `own_parts` each process has the own part that its private turn makes, and the kernel's part is as it was.
 abbrev pub OwnPartIsTurned : Type 0
 OwnPartIsTurned =
-    (setup : Setup) (t : ℕ) (s : State) (p : ℕ) → is_in p (processes setup) ≡ true → SameOwnPart p (private_turn setup t s p) (own_parts setup t s)
+    (setup : Setup) (t : ℕ) (s : State) (p : ℕ)
+    → is_in p (processes setup) ≡ true → SameOwnPart p (private_turn setup t s p) (own_parts setup t s)
 
 abbrev pub OwnPartsKeepKernelPart : Type 0
 OwnPartsKeepKernelPart = (setup : Setup) (t : ℕ) (s : State) → SameKernelPart s (own_parts setup t s)
@@ -112,7 +115,8 @@ PrivateStepKeepsKernelPart = (setup : Setup) (p : ℕ) (s : State) → Invariant
 
 -- A private step and a kernel turn of q leave the own part of every other process as it was.
 abbrev pub PrivateStepKeepsOtherParts : Type 0
-PrivateStepKeepsOtherParts = (setup : Setup) (p q : ℕ) (s : State) → q ≢ p → Invariant s → SameOwnPart p s (private_step setup s q)
+PrivateStepKeepsOtherParts =
+    (setup : Setup) (p q : ℕ) (s : State) → q ≢ p → Invariant s → SameOwnPart p s (private_step setup s q)
 
 abbrev pub KernelTurnKeepsOtherParts : Type 0
 KernelTurnKeepsOtherParts =
@@ -121,7 +125,8 @@ KernelTurnKeepsOtherParts =
 -- A kernel turn of q makes no other process privately ready.
 abbrev pub KernelTurnMakesNonePrivate : Type 0
 KernelTurnMakesNonePrivate =
-    (setup : Setup) (t p q : ℕ) (s : State) → q ≢ p → Invariant s → kind s p ≢ Private → kind (kernel_turn setup t s q) p ≢ Private
+    (setup : Setup) (t p q : ℕ) (s : State)
+    → q ≢ p → Invariant s → kind s p ≢ Private → kind (kernel_turn setup t s q) p ≢ Private
 
 -- ---- The count of rounds
 

@@ -1,12 +1,12 @@
 -- The leaves of a variable: its simple parts, queues and marks, each with its path and start value, in the report's order.
 --
--- Fields come in text order, elements by rising index. A class is a part for its mark and then its members; what a process or
+-- Fields come in text order, elements by rising index. A class is a leaf for its mark and then its members; what a process or
 -- a monitor owns does not lie at its variable.
 use Rattle.std.specs.Prelude.{List, None, [], false, flat_map, map, negsuc, pos, suc, zero, ℕ, ℤ, ◌++◌, ◌+◌, ◌-◌, ◌∷◌}
 use Rattle.cp_model.specs.Abstract.{Class, Monitor, Process, Sort}
+use Rattle.cp_model.specs.Types.{ArrayOf, ComponentOf, Members, MoreMembers, NoMembers, NoType, Queue, RecordOf, ResolvedType, Simple}
 use Rattle.cp_model.specs.Locations.{ByIndex, ByName, Path, PathStep}
 use Rattle.cp_model.specs.Stores.{Initialised, Ordinal, QueueHolds, Value}
-use Rattle.cp_model.specs.Types.{ArrayOf, ComponentOf, Members, MoreMembers, NoMembers, NoType, Queue, RecordOf, ResolvedType, Simple}
 
 -- So many integers, rising, from the lowest.
 abbrev pub integers_from : ℤ → ℕ → List ℤ
@@ -25,6 +25,7 @@ count_between (negsuc a) (pos b) = suc a + suc b
 count_between (negsuc a) (negsuc b) = suc a - b
 count_between (pos a) (negsuc b) = 0
 
+-- A path within the variable, and the start value there.
 abbrev pub Leaf : Type 0
 Leaf = Path × Value
 

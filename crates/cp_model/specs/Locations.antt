@@ -25,6 +25,10 @@ pub record Location : Type 0 where
   pub owner : Owner
   pub path : Path
 
+-- Where the variables of an owner begin.
+abbrev pub root : Owner → Location
+root o = record { owner = o; path = [] }
+
 -- The location that is reached from another by a path.
 abbrev pub under : Location → Path → Location
 under l path = record { owner = l.owner; path = l.path ++ path }

@@ -4,9 +4,9 @@
 use Rattle.std.specs.Prelude.{Bool, Some, codes, false, if◌then◌else◌, int_div, int_le, int_lt, int_rem, nat_abs, negsuc, not, pos, true, ℕ, ℤ, ◌&&◌, ◌*ℤ◌, ◌+ℤ◌, ◌-ℤ◌, ◌/◌, ◌||◌}
 use Rattle.cp_model.specs.Abstract.{Add, And, AtLeast, AtMost, Char, Divide, Equal, Greater, Integer, Less, Modulo, Multiply, Name, Operator, Or, Subtract, Unequal}
 use Rattle.cp_model.specs.Names.{same_name}
+use Rattle.cp_model.specs.Types.{first_ordinal, last_ordinal}
 use Rattle.cp_model.specs.Locations.{same_integer}
 use Rattle.cp_model.specs.Stores.{QueueHolds, Value}
-use Rattle.cp_model.specs.Types.{first_ordinal, last_ordinal}
 use Rattle.cp_model.specs.Outcomes.{Fault, Gives, Outcome, provided}
 use Rattle.cp_model.specs.Places.{TypedValue, base_of_value, head_value, ordinal_of, simple_value, truth_value, within}
 

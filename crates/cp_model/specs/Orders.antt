@@ -1,7 +1,7 @@
 -- Lawful orders of a round.
 --
--- An order is lawful where each process has as many events `PrivateStep` as the turn length, all of them before its one `KernelTurn`,
--- and the kernel turns stand in order of number.
+-- An order is lawful where each process has as many events `PrivateStep` as the turn length, all of them before its one
+-- `KernelTurn`, and the kernel turns stand in order of number.
 use Rattle.std.specs.Prelude.{List, [], if◌then◌else◌, nat_eq, suc, ℕ, ◌∷◌, ◌≡◌}
 use Rattle.cp_model.specs.States.{Setup, State, is_in}
 use Rattle.cp_model.specs.Rounds.{Event, KernelTurn, PrivateStep, replay_round}
@@ -24,6 +24,7 @@ ArePrivateStepsFirst [] = Unit {0}
 ArePrivateStepsFirst (PrivateStep q ∷ es) = ArePrivateStepsFirst es
 ArePrivateStepsFirst (KernelTurn q ∷ es) = (private_steps q es ≡ 0) × ArePrivateStepsFirst es
 
+-- Lawful for the turn length t and the processes ps.
 pub record IsLawful (t : ℕ) (ps : List ℕ) (es : List Event) : Type 0 where
   pub order : kernel_turn_order es ≡ ps
   pub steps : (p : ℕ) → private_steps p es ≡ (if is_in p ps then t else 0)

@@ -1,7 +1,7 @@
 -- The parts of a state that a machine keeps apart: the own part of each process, and the part of the kernel.
 --
--- A process's own part tells neither whether it is ready, asking or delayed, nor whether it is unstarted or fresh. While it is not
--- running its store and what is left belong to the kernel's part, so that the kernel can start it.
+-- A process's own part tells neither whether it is ready, asking or delayed, nor whether it is unstarted or fresh. Before it
+-- has begun, its store and what it has left to do belong to the kernel's part, so that the kernel can start it.
 use Rattle.std.specs.Prelude.{Bool, false, nat_eq, true, ℕ, ◌≡◌}
 use Rattle.cp_model.specs.Locations.{Location, OfActivation, OfMonitor, OfProcess, Owner}
 use Rattle.cp_model.specs.Configurations.{Asking, Delayed, Ended, Faulted, Fresh, Ready, Status, Unstarted, Waiting}
@@ -61,5 +61,6 @@ pub record SameKernelPart (s u : State) : Type 0 where
   pub gates : u.gates ≡ s.gates
   pub status : (p : ℕ) → kernel_status (u.status p) ≡ kernel_status (s.status p)
   pub monitor_store : (l : Location) (m : ℕ) → l.owner ≡ OfMonitor m → u.store l ≡ s.store l
-  pub unbegun_store : (p : ℕ) → HasNotBegun (s.status p) → (l : Location) → is_own p l.owner ≡ true → u.store l ≡ s.store l
+  pub unbegun_store : (p : ℕ) → HasNotBegun (s.status p) → (l : Location) → is_own p l.owner ≡ true
+      → u.store l ≡ s.store l
   pub unbegun_continuation : (p : ℕ) → HasNotBegun (s.status p) → u.continuation p ≡ s.continuation p

@@ -2,9 +2,9 @@
 use Rattle.std.specs.Prelude.{Bool, List, [], if◌then◌else◌, int_le, map, pos, ℤ, ◌&&◌, ◌∷◌}
 use Rattle.cp_model.specs.Abstract.{BaseType, Boolean, Name}
 use Rattle.cp_model.specs.Names.{same_name}
+use Rattle.cp_model.specs.Types.{ArrayOf, Members, MoreMembers, NoMembers, NoType, RecordOf, ResolvedType, base_of_type, full_range}
 use Rattle.cp_model.specs.Locations.{ByIndex, ByName, Location, under}
 use Rattle.cp_model.specs.Stores.{Absent, Ordinal, Reference, Store, Value}
-use Rattle.cp_model.specs.Types.{ArrayOf, Members, MoreMembers, NoMembers, NoType, RecordOf, ResolvedType, base_of_type, full_range}
 use Rattle.cp_model.specs.Leaves.{leaves}
 use Rattle.cp_model.specs.Outcomes.{Fault, Outcome, provided}
 use Rattle.cp_model.specs.Environments.{Environment, IsConstant, IsVariable, Meaning}

@@ -4,16 +4,16 @@
 -- variables; and where chains are wanted one line for each asking process. Each line ends with one line feed.
 use Rattle.std.specs.Prelude.{Bool, List, None, Option, Some, [], codes, false, filter, flat_map, if◌then◌else◌, nat_eq, nat_le, nat_lt, not, suc, true, zero, ℕ, ◌%◌, ◌&&◌, ◌++◌, ◌+◌, ◌-◌, ◌/◌, ◌∷◌}
 use Rattle.cp_model.specs.Abstract.{Monitor, Name, Process, Sort}
-use Rattle.cp_model.specs.Locations.{ByIndex, ByName, Location, Path, under}
-use Rattle.cp_model.specs.Stores.{Ordinal, QueueHolds, Store, Value}
 use Rattle.cp_model.specs.Types.{ComponentOf, Members, NoMembers, ResolvedType}
 use Rattle.cp_model.specs.Declarations.{Variable, globals, reported_members}
+use Rattle.cp_model.specs.Locations.{ByIndex, ByName, Location, Path, under}
+use Rattle.cp_model.specs.Stores.{Ordinal, QueueHolds, Store, Value}
 use Rattle.cp_model.specs.Leaves.{leaves_of_members}
 use Rattle.cp_model.specs.Components.{is_component_of, monitor_location, process_location}
 use Rattle.cp_model.specs.Configurations.{Asking, Delayed, Ended, Faulted, Fresh, Ready, Status, Unstarted, Waiting}
 use Rattle.cp_model.specs.Decimal.{decimal, natural}
-use Rattle.cp_model.specs.States.{Free, HeldBy, Holder, Setup, State, Unset, initial_variables}
-use Rattle.cp_model.specs.Chains.{chain}
+use Rattle.cp_model.specs.States.{Free, HeldBy, Holder, Setup, State, Unset, initial_variables, processes}
+use Rattle.cp_model.specs.Chains.{asking_chain}
 
 abbrev pub Text : Type 0
 Text = List ℕ
@@ -89,7 +89,8 @@ status_text setup (Faulted n) = codes "fault " ++ natural n
 abbrev pub process_text : Setup → State → ℕ → Name → Members → Text
 process_text setup s p x ps =
     line (codes "process " ++ (natural p ++ (codes " " ++ (x ++ (codes " " ++ status_text setup (s.status p))))))
-    ++ (line (codes "out '" ++ (flat_map escaped (s.transcript p) ++ codes "'")) ++ variable_lines s.store (process_location p) ps)
+    ++ (line (codes "out '" ++ (flat_map escaped (s.transcript p) ++ codes "'"))
+    ++ variable_lines s.store (process_location p) ps)
 
 abbrev pub processes_text : Setup → State → ℕ → List (Name × Variable) → Text
 processes_text setup s p [] = []
@@ -112,7 +113,8 @@ askers_text (p ∷ ps) = numbers_text (p ∷ ps)
 
 abbrev pub monitor_text : State → ℕ → Name → Members → Text
 monitor_text s m x ps =
-    line (codes "monitor " ++ (x ++ (codes " " ++ (gate_text (s.gates m).holder ++ (codes " askers" ++ askers_text (s.gates m).askers)))))
+    let gate = s.gates m in
+    line (codes "monitor " ++ (x ++ (codes " " ++ (gate_text gate.holder ++ (codes " askers" ++ askers_text gate.askers)))))
     ++ variable_lines s.store (monitor_location m) ps
 
 abbrev pub monitors_text : State → ℕ → List (Name × Variable) → Text
@@ -125,18 +127,13 @@ abbrev pub is_asking : Status → Bool
 is_asking (Asking m) = true
 is_asking _ = false
 
-abbrev pub chain_line : ℕ → State → ℕ → Text
-chain_line n s p = if is_asking (s.status p) then line (codes "chain" ++ numbers_text (chain n s p)) else []
+abbrev pub chain_line : Setup → State → ℕ → Text
+chain_line setup s p = if is_asking (s.status p) then line (codes "chain" ++ numbers_text (asking_chain setup s p)) else []
 
-abbrev pub chain_lines : ℕ → ℕ → State → ℕ → Text
-chain_lines monitors zero s p = []
-chain_lines monitors (suc n) s p = chain_line monitors s p ++ chain_lines monitors n s (suc p)
+abbrev pub chain_lines : Setup → State → List ℕ → Text
+chain_lines setup s ps = flat_map (chain_line setup s) ps
 
 -- ---- The whole report
-
-abbrev pub count_of : List (Name × Variable) → ℕ
-count_of [] = 0
-count_of (v ∷ vs) = suc (count_of vs)
 
 abbrev pub report : Setup → Bool → State → Text
 report setup chains s =
@@ -144,4 +141,4 @@ report setup chains s =
     ++ (process_text setup s 1 (codes "initial") (reported_members (globals setup.tree) setup.tree.initial)
     ++ (processes_text setup s 2 (components_of setup Process)
     ++ (monitors_text s 1 (components_of setup Monitor)
-    ++ (if chains then chain_lines (count_of (components_of setup Monitor)) (suc (count_of (components_of setup Process))) s 1 else []))))
+    ++ (if chains then chain_lines setup s (processes setup) else []))))

@@ -50,7 +50,7 @@ owner_process (OfMonitor m) = 0
 
 -- A part of the state as the private turn of p leaves it, where p is a process.
 abbrev pub after_own_turn : {A : Type 0} → Setup → ℕ → State → (State → A) → ℕ → A
-after_own_turn setup t s leaf p = if is_in p (processes setup) then leaf (private_turn setup t s p) else leaf s
+after_own_turn setup t s part p = if is_in p (processes setup) then part (private_turn setup t s p) else part s
 
 -- All private turns on one state: each process's own part is what its turn makes of it, all else is as before.
 abbrev pub own_parts : Setup → ℕ → State → State

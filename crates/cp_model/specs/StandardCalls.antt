@@ -2,16 +2,16 @@
 --
 -- A step that faults takes no input and writes nothing.
 use Rattle.std.specs.Prelude.{List, None, Option, Some, [], codes, if◌then◌else◌, negsuc, pos, slice_get, suc, ℕ, ℤ, ◌++◌, ◌∷◌}
-use Rattle.cp_model.specs.Abstract.{Boolean, Char, Designator, Enumeration, Expression, Expressions, Integer, MoreExpressions, Name, NoExpression}
+use Rattle.cp_model.specs.Abstract.{Char, Designator, Expression, Expressions, MoreExpressions, Name, NoExpression}
 use Rattle.cp_model.specs.Names.{same_name}
 use Rattle.cp_model.specs.Locations.{Location}
-use Rattle.cp_model.specs.Stores.{QueueHolds, Value, put, put_all}
+use Rattle.cp_model.specs.Stores.{QueueHolds, Value, put}
 use Rattle.cp_model.specs.Outcomes.{Fault, Gives, and_then}
 use Rattle.cp_model.specs.Environments.{Environment}
 use Rattle.cp_model.specs.Places.{TypedValue, base_of_value, ordinal_of, simple_value}
-use Rattle.cp_model.specs.Expressions.{name_of, place, value}
+use Rattle.cp_model.specs.Expressions.{name_of}
 use Rattle.cp_model.specs.Continuations.{Task, gates_of}
-use Rattle.cp_model.specs.Configurations.{Configuration, Context, Continues, Delays, StepResult, Waits, own_step}
+use Rattle.cp_model.specs.Configurations.{Configuration, Context, Continues, Delays, StepResult, Waits, designation, evaluation, own_step, with_continuation, with_writes}
 use Rattle.cp_model.specs.Assignments.{writes_of}
 use Rattle.cp_model.specs.Arguments.{designator_of}
 use Rattle.cp_model.specs.CallSteps.{innermost_call, returns}
@@ -25,7 +25,7 @@ byte (negsuc n) = 0
 
 -- A character is displayed as its byte, any other simple value as the decimal number of its ordinal.
 abbrev pub display_text : TypedValue → List ℕ
-display_text v = elim (base_of_value v) [ Char ↦ byte (ordinal_of v) ∷ [] | Integer ↦ decimal (ordinal_of v) | Boolean ↦ decimal (ordinal_of v) | Enumeration x n ↦ decimal (ordinal_of v) ]
+display_text v = elim (base_of_value v) [ Char ↦ byte (ordinal_of v) ∷ [] | _ ↦ decimal (ordinal_of v) ]
 
 -- At the end of the input each character is 25.
 abbrev pub next_input : List ℕ → ℕ → ℤ
@@ -34,13 +34,13 @@ next_input input i = elim (slice_get input i) [ None ↦ pos 25 | Some b ↦ pos
 -- ---- delay and continue
 
 abbrev pub process_in_queue : Value → Option ℕ
-process_in_queue (QueueHolds occupant_text) = occupant_text
+process_in_queue (QueueHolds p) = p
 process_in_queue _ = None
 
 -- Into a queue where nobody stands; a taken queue is fault 5.
 abbrev pub enqueue : ℕ → Configuration → List Task → Location → ℕ → Option ℕ → StepResult
 enqueue p config k q m (Some r) = Fault 5
-enqueue p config k q m None = Gives (record config { store = put q (QueueHolds (Some p)) config.store; continuation = k }, Delays m q)
+enqueue p config k q m None = Gives (with_writes config ((q, QueueHolds (Some p)) ∷ []) k, Delays m q)
 
 -- The process stands in the queue, and the kernel passes on the gate of the innermost monitor. Outer gates stay held.
 abbrev pub delay : ℕ → Configuration → List Task → Location → List ℕ → StepResult
@@ -59,16 +59,20 @@ continue config q _ = own_step config
 abbrev pub standard_procedure : Context → Configuration → Environment → List Task → Name → Expression → StepResult
 standard_procedure context config env k x e =
     if same_name x (codes "display")
-    then and_then (value context.clock env config.store e) (λ v. own_step (record config { continuation = k; transcript = config.transcript ++ display_text v }))
+    then and_then (evaluation context config env e) (λ v.
+    own_step (record config { continuation = k; transcript = config.transcript ++ display_text v }))
     else if same_name x (codes "accept")
-    then and_then (place context.clock env config.store (designator_of e)) (λ at.
+    then and_then (designation context config env (designator_of e)) (λ at.
     and_then (writes_of at.at at.type (simple_value Char (next_input context.input config.consumed))) (λ ws.
-    own_step (record config { continuation = k; store = put_all ws config.store; consumed = suc config.consumed })))
+    own_step (record (with_writes config ws k) { consumed = suc config.consumed })))
     else if same_name x (codes "delay")
-    then and_then (place context.clock env config.store (designator_of e)) (λ at. delay context.process config k at.at (gates_of k))
-    else and_then (place context.clock env config.store (designator_of e)) (λ at. continue config at.at (innermost_call k))
+    then and_then (designation context config env (designator_of e)) (λ at.
+    delay context.process config k at.at (gates_of k))
+    else and_then (designation context config env (designator_of e)) (λ at.
+    continue config at.at (innermost_call k))
 
--- Only `wait` has no argument.
-abbrev pub standard_statement : Context → Configuration → Environment → List Task → Designator → Expressions → StepResult
-standard_statement context config env k d NoExpression = Gives (record config { continuation = k }, Waits)
+-- `wait` is the only one without an argument. The process then waits for the clock.
+abbrev pub standard_statement
+    : Context → Configuration → Environment → List Task → Designator → Expressions → StepResult
+standard_statement context config env k d NoExpression = Gives (with_continuation config k, Waits)
 standard_statement context config env k d (MoreExpressions e es) = standard_procedure context config env k (name_of d) e

@@ -1,8 +1,8 @@
 -- States of a whole system, and what stays the same from round to round.
 use Rattle.std.specs.Prelude.{Bool, List, [], false, if◌then◌else◌, nat_eq, suc, true, zero, ℕ, ◌∷◌}
-use Rattle.cp_model.specs.Abstract.{Name, Process, Sort, Tree}
-use Rattle.cp_model.specs.Stores.{Store}
+use Rattle.cp_model.specs.Abstract.{Monitor, Name, Process, Sort, Tree}
 use Rattle.cp_model.specs.Declarations.{Variable, declarations, globals}
+use Rattle.cp_model.specs.Stores.{Store}
 use Rattle.cp_model.specs.Operators.{Clock}
 use Rattle.cp_model.specs.Continuations.{Task}
 use Rattle.cp_model.specs.Components.{is_component_of}
@@ -49,7 +49,12 @@ set_status p x s = record s { status = with_at p x s.status }
 -- ---- One process's view
 
 abbrev pub configuration : State → ℕ → Configuration
-configuration s p = record { store = s.store; continuation = s.continuation p; transcript = s.transcript p; consumed = s.consumed p }
+configuration s p = record {
+  store = s.store;
+  continuation = s.continuation p;
+  transcript = s.transcript p;
+  consumed = s.consumed p;
+}
 
 abbrev pub with_configuration : State → ℕ → Configuration → State
 with_configuration s p r =
@@ -89,6 +94,13 @@ abbrev pub count_components : Sort → List (Name × Variable) → ℕ
 count_components s [] = 0
 count_components s (v ∷ vs) = if is_component_of s v.1.type then suc (count_components s vs) else count_components s vs
 
+-- How many processes there are, with the initial one, and how many monitors.
+abbrev pub process_count : Setup → ℕ
+process_count setup = suc (count_components Process (initial_variables setup))
+
+abbrev pub monitor_count : Setup → ℕ
+monitor_count setup = count_components Monitor (initial_variables setup)
+
 -- So many numbers, rising, from p.
 abbrev pub numbers_from : ℕ → ℕ → List ℕ
 numbers_from p zero = []
@@ -96,7 +108,7 @@ numbers_from p (suc n) = p ∷ numbers_from (suc p) n
 
 -- The numbers of all processes, rising: 1 is the initial process.
 abbrev pub processes : Setup → List ℕ
-processes setup = numbers_from 1 (suc (count_components Process (initial_variables setup)))
+processes setup = numbers_from 1 (process_count setup)
 
 abbrev pub is_in : ℕ → List ℕ → Bool
 is_in p [] = false

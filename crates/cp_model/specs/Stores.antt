@@ -8,7 +8,7 @@ use Rattle.cp_model.specs.Locations.{Location, Owner, same_location, same_owner}
 pub data Value : Type 0 where
   Absent : Value
   Ordinal : (n : ℤ) → Value
-  QueueHolds : (occupant_text : Option ℕ) → Value
+  QueueHolds : (process : Option ℕ) → Value
   MonitorRight : (m : ℕ) → Value
   ClassRight : (at : Location) → Value
   Reference : (to : Location) → Value
@@ -22,8 +22,11 @@ Store = Location → Value
 abbrev pub put : Location → Value → Store → Store
 put l v store k = if same_location l k then v else store k
 
+abbrev pub Writes : Type 0
+Writes = List (Location × Value)
+
 -- The store after writes, one after another.
-abbrev pub put_all : List (Location × Value) → Store → Store
+abbrev pub put_all : Writes → Store → Store
 put_all [] store = store
 put_all (w ∷ ws) store = put_all ws (put w.0 w.1 store)
 

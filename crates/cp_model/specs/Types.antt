@@ -6,15 +6,14 @@ use Rattle.cp_model.specs.Names.{lookup}
 -- ---- Resolved types
 
 -- What a written type stands for. A simple type has its base type, its bounds and its start value. A component has its system
--- type, and the members that are its own: its parameters but the rights to components, then its variables.
+-- type, and the members that are its own: its parameters but the rights to components, then its variables. What names nothing
+-- is `NoType`; no accepted text has it.
 mutual
   pub data ResolvedType : Type 0 where
-    -- the base, the bounds and the start value
     Simple : (base : BaseType) (low high start : ℤ) → ResolvedType
     ArrayOf : (low high : ℤ) (element : ResolvedType) → ResolvedType
     RecordOf : (members : Members) → ResolvedType
     Queue : ResolvedType
-    -- a system type, with the simple parameters and the variables of its components
     ComponentOf : (system : System) (members : Members) → ResolvedType
     NoType : ResolvedType
 
@@ -51,7 +50,12 @@ pub record GlobalScope : Type 0 where
 abbrev pub standard_scope : GlobalScope
 standard_scope = record {
   constants = (codes "false", (Boolean, pos 0)) ∷ (codes "true", (Boolean, pos 1)) ∷ [];
-  types = (codes "integer", full_range Integer) ∷ (codes "boolean", full_range Boolean) ∷ (codes "char", full_range Char) ∷ (codes "queue", Queue) ∷ [];
+  types =
+      (codes "integer", full_range Integer)
+      ∷ (codes "boolean", full_range Boolean)
+      ∷ (codes "char", full_range Char)
+      ∷ (codes "queue", Queue)
+      ∷ [];
 }
 
 -- ---- What a written type stands for
