@@ -6,6 +6,7 @@ ghost use Rattle.cp_rows.specs.Calls.{Calls};
 ghost use Rattle.cp_rows.specs.Classes.{Classes};
 ghost use Rattle.cp_rows.specs.Clock.{Clock};
 ghost use Rattle.cp_rows.specs.Components.{Components};
+ghost use Rattle.cp_rows.specs.Meaning.{Meaning};
 ghost use Rattle.cp_rows.specs.Monitors.{Monitors};
 ghost use Rattle.cp_rows.specs.Names.{Names};
 ghost use Rattle.cp_rows.specs.Nesting.{Nesting};
@@ -33,6 +34,11 @@ pub fn clock_hold()
 /// Each of the answers of `worked/components`.
 pub fn components_hold()
     ensures { Components }
+{}
+
+/// Each of the answers of `worked/meaning`.
+pub fn meaning_hold()
+    ensures { Meaning }
 {}
 
 /// Each of the answers of `worked/monitors`.
