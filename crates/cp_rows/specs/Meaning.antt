@@ -2,6 +2,15 @@
 use Rattle.std.specs.Prelude.{◌≡◌, true, false, [], ◌∷◌, ◌++◌, codes}
 use Rattle.cp_rows.specs.Answers.{check_answer, run_answer, replay_answer}
 
+abbrev pub an_array_of_queues_1 : Type 0
+an_array_of_queues_1 = run_answer 3 2 1 false [] (codes "type m = monitor; var q: array [1..2] of queue;\n  procedure entry w(i: integer); begin delay(q[i]) end;\n  procedure entry s(i: integer); begin if empty(q[i]) then display(0) else continue(q[i]) end; begin end;\np = process(a: m; i: integer); begin a.w(i); display(5) end;\nr = process(a: m); begin a.s(1); a.s(2); display(6) end;\nvar g: m; b: p; c: r;\nbegin init g, b(g, 2), c(g) end.") ≡ (codes "rounds 3\nprocess 1 initial ended\nout ''\nprocess 2 b delayed g q[2]\nout ''\nvar i = 2\nprocess 3 c ready\nout ''\nmonitor g held 3 askers -\nqueue q[1] = -\nqueue q[2] = 2\n")
+
+abbrev pub an_array_of_queues_2 : Type 0
+an_array_of_queues_2 = run_answer 2 10 1 false [] (codes "type m = monitor; var q: array [1..2] of queue;\n  procedure entry w(i: integer); begin delay(q[i]) end;\n  procedure entry s(i: integer); begin if empty(q[i]) then display(0) else continue(q[i]) end; begin end;\np = process(a: m; i: integer); begin a.w(i); display(5) end;\nr = process(a: m); begin a.s(1); a.s(2); display(6) end;\nvar g: m; b: p; c: r;\nbegin init g, b(g, 2), c(g) end.") ≡ (codes "rounds 2\nprocess 1 initial ended\nout ''\nprocess 2 b ready\nout ''\nvar i = 2\nprocess 3 c ready\nout '0'\nmonitor g held 2 askers -\nqueue q[1] = -\nqueue q[2] = -\n")
+
+abbrev pub an_array_of_queues_3 : Type 0
+an_array_of_queues_3 = run_answer 4 10 1 false [] (codes "type m = monitor; var q: array [1..2] of queue;\n  procedure entry w(i: integer); begin delay(q[i]) end;\n  procedure entry s(i: integer); begin if empty(q[i]) then display(0) else continue(q[i]) end; begin end;\np = process(a: m; i: integer); begin a.w(i); display(5) end;\nr = process(a: m); begin a.s(1); a.s(2); display(6) end;\nvar g: m; b: p; c: r;\nbegin init g, b(g, 2), c(g) end.") ≡ (codes "rounds 4\nprocess 1 initial ended\nout ''\nprocess 2 b ended\nout '5'\nvar i = 2\nprocess 3 c ended\nout '06'\nmonitor g free askers -\nqueue q[1] = -\nqueue q[2] = -\n")
+
 abbrev pub argument_range_first_1 : Type 0
 argument_range_first_1 = run_answer 1 100 1 false [] (codes "type t = 1..3;\nvar x: integer;\nprocedure f(a: t; b: integer); begin end;\nbegin f(9, 1 div x) end.") ≡ (codes "rounds 1\nprocess 1 initial fault 1\nout ''\nvar x = 0\n")
 
@@ -23,6 +32,9 @@ body_that_waits_3 = run_answer 3 10 1 false [] (codes "type m = monitor; var q: 
 abbrev pub call_test_after_arguments_1 : Type 0
 call_test_after_arguments_1 = run_answer 1 100 1 false [] (codes "type e = class; procedure entry z(k: integer); begin end; begin end;\nvar u: e;\nfunction f: integer; begin display(9); f := 1 end;\nbegin u.z(f) end.") ≡ (codes "rounds 1\nprocess 1 initial fault 6\nout '9'\n")
 
+abbrev pub calls_in_bounds_and_selectors_1 : Type 0
+calls_in_bounds_and_selectors_1 = run_answer 1 100 1 false [] (codes "var n, i: integer;\nfunction f(k: integer): integer; begin n := n + 1; f := k end;\nbegin for i := f(1) to f(3) do display(i); display(n);\n  case f(2) of 1: display(10); 2: display(20) end; display(n) end.") ≡ (codes "rounds 1\nprocess 1 initial ended\nout '1232203'\nvar n = 3\nvar i = 3\n")
+
 abbrev pub calls_left_to_right_1 : Type 0
 calls_left_to_right_1 = run_answer 1 100 1 false [] (codes "var v: array [1..2] of integer;\nfunction f(k: integer): integer; begin display(k); f := k end;\nbegin v[f(1)] := f(f(2)) + f(3) end.") ≡ (codes "rounds 1\nprocess 1 initial ended\nout '1223'\nvar v[1] = 5\nvar v[2] = 0\n")
 
@@ -32,6 +44,12 @@ case_of_negative_1 = run_answer 1 100 1 false [] (codes "type e = (a, b, c);\nva
 abbrev pub class_in_monitor_1 : Type 0
 class_in_monitor_1 = run_answer 4 100 1 false [] (codes "type c = class; var k: 0..3; procedure entry up; begin k := k + 1 end; function entry get: integer; begin get := k end; begin end;\nm = monitor; var u: c; procedure entry e; begin u.up; display(u.get) end; begin init u end;\np = process(a: m); begin cycle a.e end end;\nvar g: m; b, d: p;\nbegin init g, b(g), d(g) end.") ≡ (codes "rounds 4\nprocess 1 initial ended\nout ''\nprocess 2 b asking g\nout '13'\nprocess 3 d fault 1\nout '2'\nmonitor g held 3 askers 2\nvar u.k = 3\n")
 
+abbrev pub counting_down_1 : Type 0
+counting_down_1 = run_answer 1 100 1 false [] (codes "var i, j: integer;\nbegin for i := 3 downto 1 do begin display(i); i := 7 end; j := i;\n  for i := 1 downto 2 do display(9) end.") ≡ (codes "rounds 1\nprocess 1 initial ended\nout '321'\nvar i = 7\nvar j = 7\n")
+
+abbrev pub cycle_in_a_monitor_1 : Type 0
+cycle_in_a_monitor_1 = run_answer 3 4 1 false [] (codes "type m = monitor; var n: integer; procedure entry e; begin cycle n := n + 1 end end; begin end;\np = process(a: m); begin a.e end;\nvar g: m; b, c: p;\nbegin init g, b(g), c(g) end.") ≡ (codes "rounds 3\nprocess 1 initial ended\nout ''\nprocess 2 b ready\nout ''\nprocess 3 c asking g\nout ''\nmonitor g held 2 askers 3\nvar n = 3\n")
+
 abbrev pub division_1 : Type 0
 division_1 = run_answer 1 100 1 false [] (codes "var x: integer;\nbegin x := -32767 - 1; display((-7) div 2); display((-7) mod 2); display(7 mod (-2)); display(x mod (-1)); display(x div (-1)) end.") ≡ (codes "rounds 1\nprocess 1 initial fault 3\nout '-3-110'\nvar x = -32768\n")
 
@@ -40,6 +58,9 @@ early_class_1 = run_answer 1 100 1 false [] (codes "type n = class; begin end;\n
 
 abbrev pub early_handing_on_1 : Type 0
 early_handing_on_1 = run_answer 2 100 1 false [] (codes "type m = monitor; begin end;\nc = class(x: m); begin end;\nvar g: m; u: c;\nbegin init u(g), g end.") ≡ (codes "rounds 2\nprocess 1 initial ended\nout ''\nmonitor g free askers -\n")
+
+abbrev pub fault_with_outer_gates_1 : Type 0
+fault_with_outer_gates_1 = run_answer 2 10 1 true [] (codes "type n = monitor; var x: integer; procedure entry w; begin x := 1 div x end; begin end;\nm = monitor(i: n); procedure entry e; begin i.w end; begin end;\np = process(a: m); begin a.e end;\nq = process(i: n); begin i.w end;\nvar h: n; g: m; b, c: p; d: q;\nbegin init h, g(h), b(g), c(g), d(h) end.") ≡ (codes "rounds 2\nprocess 1 initial ended\nout ''\nprocess 2 b fault 4\nout ''\nprocess 3 c asking g\nout ''\nprocess 4 d asking h\nout ''\nmonitor h held 2 askers 4\nvar x = 0\nmonitor g held 2 askers 3\nchain 3 2\nchain 4 2\n")
 
 abbrev pub field_names_1 : Type 0
 field_names_1 = run_answer 1 100 1 false [] (codes "type r = record f, abs, v: integer end;\nvar v: r;\nfunction f: integer; begin f := 4 end;\nbegin v.f := 1; v.abs := 2; v.v := f; display(v.f); display(v.abs + v.v) end.") ≡ (codes "rounds 1\nprocess 1 initial ended\nout '16'\nvar v.f = 1\nvar v.abs = 2\nvar v.v = 4\n")
@@ -110,6 +131,9 @@ same_local_names_1 = run_answer 1 100 1 false [] (codes "function f(a: integer):
 abbrev pub structures_1 : Type 0
 structures_1 = run_answer 1 200 1 false [] (codes "type color = (red, green, blue);\nrow = array [color] of integer;\nrec = record a: row; b: char end;\ntab = array [1..2] of rec;\nvar t: tab; r: rec;\nfunction sum(x: rec): integer; var c: color; s: integer;\nbegin s := 0; for c := red to blue do s := s + x.a[c]; sum := s end;\nprocedure change(var x: rec; y: rec); begin x.a := y.a; x.a[red] := 9 end;\nbegin r.a[green] := 5; r.a[blue] := 6; r.b := 'q'; t[2] := r; r.a[green] := 1;\n  display(sum(t[2])); display(sum(r)); change(t[1], t[2]); display(t[2].b); display(sum(t[1])) end.") ≡ (codes "rounds 1\nprocess 1 initial ended\nout '117q20'\nvar t[1].a[0] = 9\nvar t[1].a[1] = 5\nvar t[1].a[2] = 6\nvar t[1].b = 0\nvar t[2].a[0] = 0\nvar t[2].a[1] = 5\nvar t[2].a[2] = 6\nvar t[2].b = 113\nvar r.a[0] = 0\nvar r.a[1] = 1\nvar r.a[2] = 6\nvar r.b = 113\n")
 
+abbrev pub subranges_of_characters_and_enumerations_1 : Type 0
+subranges_of_characters_and_enumerations_1 = run_answer 1 100 1 false [] (codes "type color = (red, green, blue); warm = red..green; low = 'a'..'c';\nvar w: warm; c: low; x: color;\nbegin x := blue; c := succ(c); display(c); w := pred(x); display(w); w := x end.") ≡ (codes "rounds 1\nprocess 1 initial fault 1\nout 'b1'\nvar w = 1\nvar c = 98\nvar x = 2\n")
+
 abbrev pub tests_anew_1 : Type 0
 tests_anew_1 = run_answer 1 200 1 false [] (codes "var n: integer;\nfunction f: integer; begin n := n + 1; display(n); f := n end;\nbegin while f < 3 do display('w'); repeat display('r') until f = 5; for n := f to f do display('f') end.") ≡ (codes "rounds 1\nprocess 1 initial ended\nout '1w2w3r4r567ff'\nvar n = 7\n")
 
@@ -120,4 +144,4 @@ abbrev pub waiting_processes_wake_at_the_tick_2 : Type 0
 waiting_processes_wake_at_the_tick_2 = run_answer 6 100 2 false [] (codes "type p = process; begin wait; display(realtime); wait; display(realtime) end;\nvar a: p;\nbegin init a; wait; display(realtime) end.") ≡ (codes "rounds 6\nprocess 1 initial ended\nout '2'\nprocess 2 a ended\nout '23'\n")
 
 abbrev pub Meaning : Type 0
-Meaning = argument_range_first_1 × askers_in_order_1 × askers_in_order_2 × body_that_waits_1 × body_that_waits_2 × body_that_waits_3 × call_test_after_arguments_1 × calls_left_to_right_1 × case_of_negative_1 × class_in_monitor_1 × division_1 × early_class_1 × early_handing_on_1 × field_names_1 × for_subrange_1 × function_that_continues_1 × index_by_local_1 × inner_rights_1 × input_in_subrange_1 × label_constants_1 × later_component_1 × later_constant_routine_1 × later_definitions_1 × later_routine_parameter_1 × later_routine_variable_1 × local_record_field_1 × monitor_variable_handed_down_1 × nested_delay_1 × nested_delay_2 × overflow_signs_1 × parameters_of_init_1 × references_of_references_1 × result_named_later_1 × same_function_names_1 × same_local_names_1 × structures_1 × tests_anew_1 × waiting_processes_wake_at_the_tick_1 × waiting_processes_wake_at_the_tick_2
+Meaning = an_array_of_queues_1 × an_array_of_queues_2 × an_array_of_queues_3 × argument_range_first_1 × askers_in_order_1 × askers_in_order_2 × body_that_waits_1 × body_that_waits_2 × body_that_waits_3 × call_test_after_arguments_1 × calls_in_bounds_and_selectors_1 × calls_left_to_right_1 × case_of_negative_1 × class_in_monitor_1 × counting_down_1 × cycle_in_a_monitor_1 × division_1 × early_class_1 × early_handing_on_1 × fault_with_outer_gates_1 × field_names_1 × for_subrange_1 × function_that_continues_1 × index_by_local_1 × inner_rights_1 × input_in_subrange_1 × label_constants_1 × later_component_1 × later_constant_routine_1 × later_definitions_1 × later_routine_parameter_1 × later_routine_variable_1 × local_record_field_1 × monitor_variable_handed_down_1 × nested_delay_1 × nested_delay_2 × overflow_signs_1 × parameters_of_init_1 × references_of_references_1 × result_named_later_1 × same_function_names_1 × same_local_names_1 × structures_1 × subranges_of_characters_and_enumerations_1 × tests_anew_1 × waiting_processes_wake_at_the_tick_1 × waiting_processes_wake_at_the_tick_2
