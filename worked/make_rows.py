@@ -8,6 +8,7 @@ Each folder is a module of statements, each file a text with its answers:
     == check                       what `cpm check` answers: `accepted`, or the line of a refusal
     == run --rounds N [--turn N] [--tick N] [--input STRING] [--chains]
     == replay --order STRING [..]  strings are written as in Python
+    == consumed --rounds N [..]    how much of its input each process has taken, which no report tells: no command of the program
     the answer, up to the next line that begins with ==
 
 Lines before the first == say what the text shows. `make_rows.py` writes crates/cp_rows/specs, proofs and src/rows.rt;
@@ -70,13 +71,15 @@ def as_bytes(text):
 def statement(text, head, answer):
     """The statement that the definitions give this answer."""
     command, found = options(head)
-    expected = as_bytes(answer if answer.startswith(('rounds ', 'accepted')) else answer[:-1])
+    expected = as_bytes(answer if answer.startswith(('rounds ', 'accepted', 'consumed ')) else answer[:-1])
     chains = 'true' if found.get('chains') else 'false'
     given = as_bytes(found['input'])
     if command == 'check':
         call = f'check_answer {as_bytes(text)}'
     elif command == 'run':
         call = f"run_answer {found['rounds']} {found['turn']} {found['tick']} {chains} {given} {as_bytes(text)}"
+    elif command == 'consumed':
+        call = f"consumed_answer {found['rounds']} {found['turn']} {found['tick']} {given} {as_bytes(text)}"
     else:
         call = f"replay_answer {found['turn']} {found['tick']} {chains} {given} {as_bytes(found['order'])} {as_bytes(text)}"
     return f'{call} ≡ {expected}'
@@ -103,7 +106,7 @@ def write_module(folder):
     name, title = folder.name, folder.name.capitalize()
     lines = [f'-- Worked texts and their answers: {name}. Written by worked/make_rows.py.',
              'use Rattle.std.specs.Prelude.{◌≡◌, true, false, [], ◌∷◌, ◌++◌, codes}',
-             'use Rattle.cp_rows.specs.Answers.{check_answer, run_answer, replay_answer}', '']
+             'use Rattle.cp_rows.specs.Answers.{check_answer, run_answer, replay_answer, consumed_answer}', '']
     names = []
     for path in sorted(folder.glob('*.txt')):
         for k, case in enumerate(cases_of(path), 1):

@@ -21,4 +21,3 @@ pub mod RoundLaws
 pub mod PartsKept
 pub mod RoundCount
 pub mod OrderRows
-pub mod Corners

@@ -95,6 +95,16 @@ replayed turn tick chains input order (Ok t) =
     let setup = setup_of t input tick in ordered setup turn chains (order_text (length (processes setup)) order)
 replayed turn tick chains input order (Err refusal) = refusal
 
+-- how much of its input each process has taken, which no report tells
+abbrev pub counts : State → List ℕ → Text
+counts s [] = []
+counts s (p ∷ ps) = codes " " ++ (natural (s.consumed p) ++ counts s ps)
+
+abbrev pub consumed : ℕ → ℕ → ℕ → Text → Result s.Tree Text → Text
+consumed rounds turn tick input (Ok t) =
+    let setup = setup_of t input tick in line (codes "consumed" ++ counts (run setup turn rounds (start setup)) (processes setup))
+consumed rounds turn tick input (Err refusal) = refusal
+
 -- the answer of `cpm check`
 abbrev pub check_answer : Text → Text
 check_answer text = checked (tree_of text)
@@ -106,3 +116,7 @@ run_answer rounds turn tick chains input text = ran rounds turn tick chains inpu
 -- the answer of `cpm replay`
 abbrev pub replay_answer : (turn tick : ℕ) (chains : Bool) (input order text : Text) → Text
 replay_answer turn tick chains input order text = replayed turn tick chains input order (tree_of text)
+
+-- how much of its input each process has taken after a run
+abbrev pub consumed_answer : (rounds turn tick : ℕ) (input text : Text) → Text
+consumed_answer rounds turn tick input text = consumed rounds turn tick input (tree_of text)

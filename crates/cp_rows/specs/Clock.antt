@@ -1,6 +1,6 @@
 -- Worked texts and their answers: clock. Written by worked/make_rows.py.
 use Rattle.std.specs.Prelude.{◌≡◌, true, false, [], ◌∷◌, ◌++◌, codes}
-use Rattle.cp_rows.specs.Answers.{check_answer, run_answer, replay_answer}
+use Rattle.cp_rows.specs.Answers.{check_answer, run_answer, replay_answer, consumed_answer}
 
 abbrev pub waiting_for_a_tick_1 : Type 0
 waiting_for_a_tick_1 = run_answer 2 10 3 false [] (codes "begin display(realtime); wait; display(realtime) end.") ≡ (codes "rounds 2\nprocess 1 initial waiting\nout '0'\n")

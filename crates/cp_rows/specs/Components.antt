@@ -1,6 +1,6 @@
 -- Worked texts and their answers: components. Written by worked/make_rows.py.
 use Rattle.std.specs.Prelude.{◌≡◌, true, false, [], ◌∷◌, ◌++◌, codes}
-use Rattle.cp_rows.specs.Answers.{check_answer, run_answer, replay_answer}
+use Rattle.cp_rows.specs.Answers.{check_answer, run_answer, replay_answer, consumed_answer}
 
 abbrev pub initialisation_1 : Type 0
 initialisation_1 = check_answer (codes "type c = class(k: integer); var n: integer; procedure h; begin end; procedure entry e; begin n := k end; function entry g(i: integer): integer; begin g := i end; begin end; var u: c; procedure p; begin init u(1) end; begin end.") ≡ (codes "refused C12 at 202")

@@ -1,6 +1,6 @@
 -- Worked texts and their answers: meaning. Written by worked/make_rows.py.
 use Rattle.std.specs.Prelude.{◌≡◌, true, false, [], ◌∷◌, ◌++◌, codes}
-use Rattle.cp_rows.specs.Answers.{check_answer, run_answer, replay_answer}
+use Rattle.cp_rows.specs.Answers.{check_answer, run_answer, replay_answer, consumed_answer}
 
 abbrev pub an_array_of_queues_1 : Type 0
 an_array_of_queues_1 = run_answer 3 2 1 false [] (codes "type m = monitor; var q: array [1..2] of queue;\n  procedure entry w(i: integer); begin delay(q[i]) end;\n  procedure entry s(i: integer); begin if empty(q[i]) then display(0) else continue(q[i]) end; begin end;\np = process(a: m; i: integer); begin a.w(i); display(5) end;\nr = process(a: m); begin a.s(1); a.s(2); display(6) end;\nvar g: m; b: p; c: r;\nbegin init g, b(g, 2), c(g) end.") ≡ (codes "rounds 3\nprocess 1 initial ended\nout ''\nprocess 2 b delayed g q[2]\nout ''\nvar i = 2\nprocess 3 c ready\nout ''\nmonitor g held 3 askers -\nqueue q[1] = -\nqueue q[2] = 2\n")
@@ -80,6 +80,9 @@ inner_rights_1 = run_answer 1 100 1 false [] (codes "type n = class; var k: inte
 abbrev pub input_in_subrange_1 : Type 0
 input_in_subrange_1 = run_answer 1 100 1 false (codes "xyz") (codes "var c: 'a'..'c'; d: char;\nbegin accept(d); accept(c) end.") ≡ (codes "rounds 1\nprocess 1 initial fault 1\nout ''\nvar c = 97\nvar d = 120\n")
 
+abbrev pub input_in_subrange_2 : Type 0
+input_in_subrange_2 = consumed_answer 1 100 1 (codes "xyz") (codes "var c: 'a'..'c'; d: char;\nbegin accept(d); accept(c) end.") ≡ (codes "consumed 1\n")
+
 abbrev pub label_constants_1 : Type 0
 label_constants_1 = run_answer 1 100 1 false [] (codes "const one = 1;\ntype c = class; var two: integer;\n  procedure entry e(k: integer);\n  begin case k of one: two := 10; 2, 3: two := 20 end; display(two) end;\nbegin end;\nconst two = 2;\nvar u: c;\nbegin init u; u.e(1); u.e(two) end.") ≡ (codes "rounds 1\nprocess 1 initial ended\nout '1020'\nvar u.two = 20\n")
 
@@ -144,4 +147,4 @@ abbrev pub waiting_processes_wake_at_the_tick_2 : Type 0
 waiting_processes_wake_at_the_tick_2 = run_answer 6 100 2 false [] (codes "type p = process; begin wait; display(realtime); wait; display(realtime) end;\nvar a: p;\nbegin init a; wait; display(realtime) end.") ≡ (codes "rounds 6\nprocess 1 initial ended\nout '2'\nprocess 2 a ended\nout '23'\n")
 
 abbrev pub Meaning : Type 0
-Meaning = an_array_of_queues_1 × an_array_of_queues_2 × an_array_of_queues_3 × argument_range_first_1 × askers_in_order_1 × askers_in_order_2 × body_that_waits_1 × body_that_waits_2 × body_that_waits_3 × call_test_after_arguments_1 × calls_in_bounds_and_selectors_1 × calls_left_to_right_1 × case_of_negative_1 × class_in_monitor_1 × counting_down_1 × cycle_in_a_monitor_1 × division_1 × early_class_1 × early_handing_on_1 × fault_with_outer_gates_1 × field_names_1 × for_subrange_1 × function_that_continues_1 × index_by_local_1 × inner_rights_1 × input_in_subrange_1 × label_constants_1 × later_component_1 × later_constant_routine_1 × later_definitions_1 × later_routine_parameter_1 × later_routine_variable_1 × local_record_field_1 × monitor_variable_handed_down_1 × nested_delay_1 × nested_delay_2 × overflow_signs_1 × parameters_of_init_1 × references_of_references_1 × result_named_later_1 × same_function_names_1 × same_local_names_1 × structures_1 × subranges_of_characters_and_enumerations_1 × tests_anew_1 × waiting_processes_wake_at_the_tick_1 × waiting_processes_wake_at_the_tick_2
+Meaning = an_array_of_queues_1 × an_array_of_queues_2 × an_array_of_queues_3 × argument_range_first_1 × askers_in_order_1 × askers_in_order_2 × body_that_waits_1 × body_that_waits_2 × body_that_waits_3 × call_test_after_arguments_1 × calls_in_bounds_and_selectors_1 × calls_left_to_right_1 × case_of_negative_1 × class_in_monitor_1 × counting_down_1 × cycle_in_a_monitor_1 × division_1 × early_class_1 × early_handing_on_1 × fault_with_outer_gates_1 × field_names_1 × for_subrange_1 × function_that_continues_1 × index_by_local_1 × inner_rights_1 × input_in_subrange_1 × input_in_subrange_2 × label_constants_1 × later_component_1 × later_constant_routine_1 × later_definitions_1 × later_routine_parameter_1 × later_routine_variable_1 × local_record_field_1 × monitor_variable_handed_down_1 × nested_delay_1 × nested_delay_2 × overflow_signs_1 × parameters_of_init_1 × references_of_references_1 × result_named_later_1 × same_function_names_1 × same_local_names_1 × structures_1 × subranges_of_characters_and_enumerations_1 × tests_anew_1 × waiting_processes_wake_at_the_tick_1 × waiting_processes_wake_at_the_tick_2

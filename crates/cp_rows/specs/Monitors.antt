@@ -1,6 +1,6 @@
 -- Worked texts and their answers: monitors. Written by worked/make_rows.py.
 use Rattle.std.specs.Prelude.{◌≡◌, true, false, [], ◌∷◌, ◌++◌, codes}
-use Rattle.cp_rows.specs.Answers.{check_answer, run_answer, replay_answer}
+use Rattle.cp_rows.specs.Answers.{check_answer, run_answer, replay_answer, consumed_answer}
 
 abbrev pub a_chain_of_askers_1 : Type 0
 a_chain_of_askers_1 = run_answer 2 10 1 false [] (codes "type n = monitor; var x: integer;\n  procedure entry w; begin x := 1 div x end; begin end;\nm = monitor(i: n); procedure entry e; begin i.w end; begin end;\npn = process(i: n); begin i.w end;\npm = process(a: m); begin a.e end;\nvar h: n; g: m; b: pn; c, d: pm;\nbegin init h, g(h), b(h), c(g), d(g) end.") ≡ (codes "rounds 2\nprocess 1 initial ended\nout ''\nprocess 2 b fault 4\nout ''\nprocess 3 c asking h\nout ''\nprocess 4 d asking g\nout ''\nmonitor h held 2 askers 3\nvar x = 0\nmonitor g held 3 askers 4\n")

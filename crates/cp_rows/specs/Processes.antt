@@ -1,6 +1,6 @@
 -- Worked texts and their answers: processes. Written by worked/make_rows.py.
 use Rattle.std.specs.Prelude.{◌≡◌, true, false, [], ◌∷◌, ◌++◌, codes}
-use Rattle.cp_rows.specs.Answers.{check_answer, run_answer, replay_answer}
+use Rattle.cp_rows.specs.Answers.{check_answer, run_answer, replay_answer, consumed_answer}
 
 abbrev pub a_cycle_never_ends_1 : Type 0
 a_cycle_never_ends_1 = run_answer 5 1 1 false [] (codes "begin cycle end end.") ≡ (codes "rounds 5\nprocess 1 initial ready\nout ''\n")

@@ -1,6 +1,6 @@
 -- Worked texts and their answers: types. Written by worked/make_rows.py.
 use Rattle.std.specs.Prelude.{◌≡◌, true, false, [], ◌∷◌, ◌++◌, codes}
-use Rattle.cp_rows.specs.Answers.{check_answer, run_answer, replay_answer}
+use Rattle.cp_rows.specs.Answers.{check_answer, run_answer, replay_answer, consumed_answer}
 
 abbrev pub system_types_where_they_may_not_stand_1 : Type 0
 system_types_where_they_may_not_stand_1 = check_answer (codes "type c = class; begin end; r = record x: c end; begin end.") ≡ (codes "refused C6 at 41")
