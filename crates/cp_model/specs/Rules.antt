@@ -18,7 +18,7 @@ use Rattle.cp_model.specs.declared.rules.Position.{Position}
 use Rattle.cp_model.specs.declared.rules.Position.TheVariants as position
 use Rattle.cp_model.specs.declared.rules.Part.TheVariants as part
 use Rattle.cp_model.specs.RulesJudged.{Violations, violation, unless, least, IsAmong, violations_of}
-use Rattle.cp_model.specs.RulesEnvironment.{Environment, Text, Names, MemberRow, simple_row, declare, c1_declared, entity_of, is_process, process_body, standard_environment}
+use Rattle.cp_model.specs.RulesEnvironment.{Environment, Text, Names, Members, simple_row, declare, c1_declared, entity_of, is_process, process_body, standard_environment}
 use Rattle.cp_model.specs.RulesTypes.{constant, type_placed, add_type, capped, is_within}
 use Rattle.cp_model.specs.RulesStatements.{statements}
 use Rattle.cp_model.specs.RulesNeeds.{need_statements}
@@ -57,13 +57,13 @@ define_type env x t =
 -- ---- system types
 
 -- the routines among these names, as members of the type
-abbrev pub routine_member : ℕ → Text → Entity → List MemberRow
-routine_member t x (entity.Routine r) = record { of = t; name = x; member = member.Routine r } ∷ []
-routine_member t x e = []
+abbrev pub routine_member : Text → Entity → Members
+routine_member x (entity.Routine r) = (x, member.Routine r) ∷ []
+routine_member x e = []
 
-abbrev pub routine_members : ℕ → Names → List MemberRow
-routine_members t [] = []
-routine_members t (e ∷ es) = routine_member t e.0 e.1 ++ routine_members t es
+abbrev pub routine_members : Names → Members
+routine_members [] = []
+routine_members (e ∷ es) = routine_member e.0 e.1 ++ routine_members es
 
 abbrev pub variable_position : Sort → Position
 variable_position sort.Monitor = position.MonitorVariable
@@ -82,14 +82,13 @@ define_system env x y =
     let body_need = need_statements all.env y.body.list in
     let count = length head.rows in
     let words = capped (1 + count + own.words + (if is_process y.sort then body_need else 0)) in
-    let t = length all.env.types in
     let row : TypeRow = record { structure = structure.System (length all.env.systems); words = words; has_queues = false } in
-    let system : SystemRow = record { sort = y.sort; first = length env.parameters; count = count; words = words; body_need = body_need } in
+    let system : SystemRow = record { sort = y.sort; first = length env.parameters; count = count; words = words; body_need = body_need; members = length all.env.members } in
     record {
-      env = declare x (entity.Type t) (record all.env {
+      env = declare x (entity.Type (length all.env.types)) (record all.env {
         names = env.names;
         types = all.env.types ++ row ∷ [];
-        members = all.env.members ++ routine_members t (drop (length named.names) all.env.names);
+        members = all.env.members ++ routine_members (drop (length named.names) all.env.names) ∷ [];
         systems = all.env.systems ++ system ∷ [];
         region = env.region;
       });

@@ -34,16 +34,14 @@ abbrev pub lookup : {A : Type 0} → Text → List (Text × A) → Option A
 lookup x [] = None
 lookup x (e ∷ es) = if bytes_eq x e.0 then Some e.1 else lookup x es
 
--- a field of a record type, or a routine of a system type, by the number of the type and its name
-pub record MemberRow : Type 0 where
-  pub of : ℕ
-  pub name : Text
-  pub member : Member
+-- the fields of a record type, or the routines of a system type, by their names
+abbrev pub Members : Type 0
+Members = List (Text × Member)
 
 pub record Environment : Type 0 where
   pub names : Names
   pub types : List TypeRow
-  pub members : List MemberRow
+  pub members : List Members
   pub routines : List RoutineRow
   pub parameters : List ParameterRow
   pub systems : List SystemRow
@@ -95,7 +93,7 @@ is_simple env t = is_some (base_of env t)
 
 abbrev pub is_structured : Structure → Bool
 is_structured (structure.Array index element) = true
-is_structured structure.Record = true
+is_structured (structure.Record k) = true
 is_structured _ = false
 
 abbrev pub system_in : Structure → Option ℕ
@@ -126,7 +124,7 @@ abbrev pub routine_of : Environment → ℕ → RoutineRow
 routine_of env r = get_or env.routines r no_routine
 
 abbrev pub no_system : SystemRow
-no_system = record { sort = sort.Process; first = 0; count = 0; words = 0; body_need = 0 }
+no_system = record { sort = sort.Process; first = 0; count = 0; words = 0; body_need = 0; members = 0 }
 
 abbrev pub system_row : Environment → ℕ → SystemRow
 system_row env s = get_or env.systems s no_system
@@ -134,9 +132,11 @@ system_row env s = get_or env.systems s no_system
 abbrev pub parameters_from : Environment → ℕ → ℕ → List ParameterRow
 parameters_from env first count = take count (drop first env.parameters)
 
-abbrev pub find_member : ℕ → Text → List MemberRow → Option Member
-find_member t x [] = None
-find_member t x (m ∷ ms) = if nat_eq t m.of && bytes_eq x m.name then Some m.member else find_member t x ms
+-- what has members: a record or a component
+abbrev pub members_in : Environment → Structure → Option Members
+members_in env (structure.Record k) = Some (get_or env.members k [])
+members_in env (structure.System y) = Some (get_or env.members (system_row env y).members [])
+members_in env _ = None
 
 -- ---- names that are used
 

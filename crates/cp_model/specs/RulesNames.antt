@@ -26,7 +26,7 @@ use Rattle.cp_model.specs.declared.rules.Mode.TheVariants as mode
 use Rattle.cp_model.specs.declared.rules.Standard.{Standard}
 use Rattle.cp_model.specs.declared.rules.Standard.TheVariants as standard
 use Rattle.cp_model.specs.RulesJudged.{Judged, Sound, Broken, Violations, violation, unless, breaks, also, then_judge, provided}
-use Rattle.cp_model.specs.RulesEnvironment.{Environment, integer, boolean, char, row_of, base_of, agree, is_component, routine_of, parameters_from, find_member, c1_named, c4_unfinished, c9_standard, c4_c9_named}
+use Rattle.cp_model.specs.RulesEnvironment.{Environment, Members, lookup, integer, boolean, char, row_of, base_of, agree, is_component, routine_of, parameters_from, members_in, c1_named, c4_unfinished, c9_standard, c4_c9_named}
 
 -- ---- where names stand
 
@@ -73,14 +73,12 @@ member_named env x a None = breaks C1 x.at
 member_named env x a (Some (member.Field t)) = Sound (entity.Variable t a)
 member_named env x a (Some (member.Routine r)) = routine_behind_dot env x r
 
-abbrev pub has_members : Structure → Bool
-has_members structure.Record = true
-has_members (structure.System y) = true
-has_members _ = false
+abbrev pub member_among : Environment → ℕ → Identifier → Access → Option Members → Judged Entity
+member_among env at x a None = breaks C2 at
+member_among env at x a (Some ms) = member_named env x a (lookup x.name ms)
 
 abbrev pub member_of : Environment → ℕ → Identifier → Entity → Judged Entity
-member_of env at x (entity.Variable t a) =
-    if has_members (row_of env t).structure then member_named env x a (find_member t x.name env.members) else breaks C2 at
+member_of env at x (entity.Variable t a) = member_among env at x a (members_in env (row_of env t).structure)
 member_of env at x e = breaks C2 at
 
 -- C2: `[` behind what is no array; one index more than dimensions

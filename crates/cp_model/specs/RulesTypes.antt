@@ -17,7 +17,7 @@ use Rattle.cp_model.specs.declared.rules.Member.TheVariants as member
 use Rattle.cp_model.specs.declared.rules.Position.{Position}
 use Rattle.cp_model.specs.declared.rules.Position.TheVariants as position
 use Rattle.cp_model.specs.RulesJudged.{Judged, Sound, Broken, Violations, violation, unless, breaks, also, both, then_judge, provided, violations_of}
-use Rattle.cp_model.specs.RulesEnvironment.{Environment, Text, MemberRow, integer, char, row_of, is_simple, system_of, system_row, c1_named, c4_unfinished}
+use Rattle.cp_model.specs.RulesEnvironment.{Environment, Text, Members, integer, char, row_of, is_simple, system_of, system_row, c1_named, c4_unfinished}
 
 -- ---- words, counted to one above the limit
 
@@ -182,10 +182,10 @@ words_of_fields env [] = 0
 words_of_fields env (f ∷ fs) = (row_of env f.1).words + words_of_fields env fs
 
 abbrev pub record_row : Environment → FieldList → TypeRow
-record_row env fs = record { structure = structure.Record; words = capped (words_of_fields env fs); has_queues = false }
+record_row env fs = record { structure = structure.Record (length env.members); words = capped (words_of_fields env fs); has_queues = false }
 
-abbrev pub field_rows : ℕ → FieldList → List MemberRow
-field_rows t fs = map (λ f. record { of = t; name = f.0; member = member.Field f.1 }) fs
+abbrev pub field_members : FieldList → Members
+field_members fs = map (λ f. (f.0, member.Field f.1)) fs
 
 abbrev pub c13_record : Environment → ℕ → FieldList → Judged FieldList
 c13_record env at fs = provided (is_within (record_row env fs).words) C13 at fs
@@ -193,7 +193,7 @@ c13_record env at fs = provided (is_within (record_row env fs).words) C13 at fs
 abbrev pub made_record : Environment → Judged FieldList → Made (Judged ℕ)
 made_record env (Broken v vs) = record { env = env; of = Broken v vs }
 made_record env (Sound fs) = record {
-  env = record (add_type env (record_row env fs)) { members = env.members ++ field_rows (length env.types) fs };
+  env = record (add_type env (record_row env fs)) { members = env.members ++ field_members fs ∷ [] };
   of = Sound (length env.types);
 }
 

@@ -94,6 +94,8 @@ pub struct SystemRow {
     pub count: usize,
     pub words: usize,
     pub body_need: usize,
+    /// The number of its members, which are its routines.
+    pub members: usize,
 }
 
 /// What a type is.
@@ -103,7 +105,8 @@ pub enum Structure {
     Simple(usize, i32, i32),
     /// The index type and the element type.
     Array(usize, usize),
-    Record,
+    /// A record type, by the number of its members.
+    Record(usize),
     Queue,
     /// A system type, by its row.
     System(usize),
