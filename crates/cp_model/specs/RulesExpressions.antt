@@ -103,7 +103,7 @@ abbrev mutual
   -- the arguments are judged whatever is broken in the name
   judge env m (s.Call d es) =
       let callee = also (c2_indexed env m d) (then_judge (designated env d) (function_of env m d (count_of es))) in
-      also (c8_named env mode.Value (first_name d)) (both callee (passed env (wants_in callee) es) (result_of env))
+      also (c8_named env mode.Value (first_name d)) (both callee (arguments env (wants_in callee) es) (result_of env))
   judge env m (s.Parenthesized at e) = judge env mode.Value e
   judge env m (s.Not at e) = then_judge (judge env mode.Value e) (c2_operand env boolean at)
   judge env m (s.Signed sign at e) = then_judge (judge env mode.Value e) (c2_operand env integer at)
@@ -127,7 +127,14 @@ abbrev mutual
       indexed env (both (then_judge e (c2_array env at)) (judge env mode.Value i) (c2_index env (first_token i))) is
 
   -- the arguments, against what they have to meet: the type of the first
-  pub passed : Environment → List Want → s.Expressions → Judged ℕ
-  passed env ws s.NoExpressions = Sound integer
-  passed env [] (s.MoreExpressions e es) = both (judge env mode.Value e) (passed env [] es) first_type
-  passed env (w ∷ ws) (s.MoreExpressions e es) = both (argument env w e (judge env (mode_of w) e)) (passed env ws es) first_type
+  pub arguments : Environment → List Want → s.Expressions → Judged ℕ
+  arguments env ws s.NoExpressions = Sound integer
+  arguments env [] (s.MoreExpressions e es) = more_arguments env (judge env mode.Value e) [] es
+  arguments env (w ∷ ws) (s.MoreExpressions e es) = more_arguments env (argument env w e (judge env (mode_of w) e)) ws es
+
+  -- the arguments behind those that were judged so far
+  pub more_arguments : Environment → Judged ℕ → List Want → s.Expressions → Judged ℕ
+  more_arguments env j ws s.NoExpressions = j
+  more_arguments env j [] (s.MoreExpressions e es) = more_arguments env (both j (judge env mode.Value e) first_type) [] es
+  more_arguments env j (w ∷ ws) (s.MoreExpressions e es) =
+      more_arguments env (both j (argument env w e (judge env (mode_of w) e)) first_type) ws es

@@ -16,7 +16,7 @@ use Rattle.cp_model.specs.declared.rules.Mode.TheVariants as mode
 use Rattle.cp_model.specs.RulesJudged.{Judged, Sound, Broken, Violations, violation, unless, breaks, also, both, then_judge, provided, violations_of}
 use Rattle.cp_model.specs.RulesEnvironment.{Environment, boolean, base_of, is_base, is_simple, agree, is_component, system_of, system_row, parameters_from, c1_named, c4_c9_named, is_in_routine}
 use Rattle.cp_model.specs.RulesNames.{first_name, last_name, first_token, count_of, c8_named, c10_designator, c2_indexed, procedure_of, value_of}
-use Rattle.cp_model.specs.RulesExpressions.{judge, designated, passed, wants_in, result_of}
+use Rattle.cp_model.specs.RulesExpressions.{judge, designated, arguments, wants_in, result_of}
 use Rattle.cp_model.specs.RulesTypes.{constant, constant_at}
 
 abbrev pub plain : Identifier → s.Designator
@@ -141,7 +141,7 @@ bound env (Broken v vs) e = judge env mode.Value e
 abbrev pub performed : Environment → s.Designator → s.Expressions → Violations
 performed env d es =
     let callee = also (c2_indexed env mode.Value d) (then_judge (designated env d) (procedure_of env d (count_of es))) in
-    c8_named env mode.Value (first_name d) ++ violations_of (both callee (passed env (wants_in callee) es) (result_of env))
+    c8_named env mode.Value (first_name d) ++ violations_of (both callee (arguments env (wants_in callee) es) (result_of env))
 
 -- ---- `init`
 
