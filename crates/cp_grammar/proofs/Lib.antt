@@ -1,4 +1,10 @@
 pub mod Tokens
 pub mod Ensures
+pub mod Lists
+pub mod Ends
 pub mod NamesSound
+pub mod NamesComplete
 pub mod ExpressionsSound
+pub mod ExpressionsShrink
+pub mod ExpressionsComplete
+pub mod FactorsComplete

@@ -1,9 +1,17 @@
 -- That the reading functions read exactly what the grammar allows.
-use Rattle.std.specs.Prelude.{◌≡◌, ℕ, List, Ok}
+use Rattle.std.specs.Prelude.{◌≡◌, ℕ, Bool, true, false, List, Option, Some, Ok}
 use Rattle.cp_model.specs.Syntax as s
 use Rattle.cp_model.specs.GrammarExpressions as g
 use Rattle.cp_model.specs.declared.token.Token.{Token}
+use Rattle.cp_model.specs.declared.token.Kind.{Kind}
+use Rattle.cp_model.specs.declared.token.Kind.TheVariants as kind
+use Rattle.cp_model.specs.declared.token.Symbol.TheVariants as symbol
+use Rattle.cp_grammar.specs.Reading.{kind_at}
 use Rattle.cp_grammar.specs.Expressions.{expression_at}
+use Rattle.cp_grammar.specs.Follows.{ends_expression}
 
 abbrev pub ExpressionsAreSound : Type 0
 ExpressionsAreSound = (room : ℕ) (ts rest : List Token) (e : s.Expression) → expression_at room ts ≡ Ok (e, rest) → g.expression room e ts rest
+
+abbrev pub ExpressionsAreComplete : Type 0
+ExpressionsAreComplete = (room : ℕ) (ts rest : List Token) (e : s.Expression) → g.expression room e ts rest → ends_expression (kind_at rest) ≡ true → expression_at room ts ≡ Ok (e, rest)
