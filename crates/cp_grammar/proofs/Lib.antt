@@ -8,3 +8,4 @@ pub mod ExpressionsSound
 pub mod ExpressionsShrink
 pub mod ExpressionsComplete
 pub mod FactorsComplete
+pub mod StatementsSound

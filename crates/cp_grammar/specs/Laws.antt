@@ -2,12 +2,14 @@
 use Rattle.std.specs.Prelude.{◌≡◌, ℕ, Bool, true, false, List, Option, Some, Ok}
 use Rattle.cp_model.specs.Syntax as s
 use Rattle.cp_model.specs.GrammarExpressions as g
+use Rattle.cp_model.specs.GrammarStatements.{statement, ends_open}
 use Rattle.cp_model.specs.declared.token.Token.{Token}
 use Rattle.cp_model.specs.declared.token.Kind.{Kind}
 use Rattle.cp_model.specs.declared.token.Kind.TheVariants as kind
 use Rattle.cp_model.specs.declared.token.Symbol.TheVariants as symbol
 use Rattle.cp_grammar.specs.Reading.{kind_at}
 use Rattle.cp_grammar.specs.Expressions.{expression_at}
+use Rattle.cp_grammar.specs.Statements.{statement_at}
 use Rattle.cp_grammar.specs.Follows.{ends_expression}
 
 abbrev pub ExpressionsAreSound : Type 0
@@ -15,3 +17,6 @@ ExpressionsAreSound = (room : ℕ) (ts rest : List Token) (e : s.Expression) →
 
 abbrev pub ExpressionsAreComplete : Type 0
 ExpressionsAreComplete = (room : ℕ) (ts rest : List Token) (e : s.Expression) → g.expression room e ts rest → ends_expression (kind_at rest) ≡ true → expression_at room ts ≡ Ok (e, rest)
+
+abbrev pub StatementsAreSound : Type 0
+StatementsAreSound = (room : ℕ) (ts rest : List Token) (x : s.Statement) → statement_at room ts ≡ Ok (x, rest) → statement room x ts rest

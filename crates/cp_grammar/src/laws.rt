@@ -1,10 +1,16 @@
 //! The laws of the reading functions, each family on a function of its own with nothing to do.
 
-ghost use Rattle.cp_grammar.specs.Laws.{ExpressionsAreComplete, ExpressionsAreSound};
+ghost use Rattle.cp_grammar.specs.Laws.{ExpressionsAreComplete, ExpressionsAreSound, StatementsAreSound};
 
-/// What is read as an expression is in the grammar.
+/// An expression is read exactly where the grammar has one.
 pub fn expression_laws()
     ensures sound { ExpressionsAreSound }
     ensures complete { ExpressionsAreComplete }
+{
+}
+
+/// A statement is read exactly where the grammar has one.
+pub fn statement_laws()
+    ensures sound { StatementsAreSound }
 {
 }
