@@ -202,7 +202,7 @@ designator_complete x xs all room ts rest h stop =
 
 -- ---- factors
 
-name_begins : (d : s.Designator) (room : ℕ) (ts rest : List Token) → designator room d ts rest → (name : List ℕ) × (kind_at ts ≡ Some (kind.Name name))
+pub name_begins : (d : s.Designator) (room : ℕ) (ts rest : List Token) → designator room d ts rest → (name : List ℕ) × (kind_at ts ≡ Some (kind.Name name))
 name_begins (s.Designate x xs) room ts rest h = (x.name, kind_of (kind.Name x.name) x.at ts h.0 h.1)
 
 module _ (inner : Option (Reader s.Expression)) (name : List ℕ) (d : s.Designator) (ts mid : List Token) (n : kind_at ts ≡ Some (kind.Name name)) (one : designator_of inner ts ≡ Ok (d, mid)) where

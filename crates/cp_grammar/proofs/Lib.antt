@@ -9,3 +9,5 @@ pub mod ExpressionsShrink
 pub mod ExpressionsComplete
 pub mod FactorsComplete
 pub mod StatementsSound
+pub mod StatementsShrink
+pub mod StatementsComplete

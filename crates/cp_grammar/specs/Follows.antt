@@ -1,8 +1,13 @@
--- What may follow an expression, so that it is read to its end and no further: no token that would carry it on.
-use Rattle.std.specs.Prelude.{Bool, true, false, Option, Some}
+-- What may follow an expression or a statement, so that it is read to its end and no further.
+use Rattle.std.specs.Prelude.{◌≡◌, Bool, true, false, Option, Some}
+use Rattle.cp_model.specs.Syntax as s
+use Rattle.cp_model.specs.GrammarStatements.{ends_open}
 use Rattle.cp_model.specs.declared.token.Kind.{Kind}
 use Rattle.cp_model.specs.declared.token.Kind.TheVariants as kind
 use Rattle.cp_model.specs.declared.token.Symbol.TheVariants as symbol
+use Rattle.cp_grammar.specs.Kinds.{is_symbol}
+
+-- ---- expressions: no token that would carry it on
 
 abbrev pub ends_factor : Option Kind → Bool
 ends_factor (Some (kind.Symbol symbol.Dot)) = false
@@ -31,3 +36,16 @@ ends_expression (Some (kind.Symbol symbol.Greater)) = false
 ends_expression (Some (kind.Symbol symbol.AtMost)) = false
 ends_expression (Some (kind.Symbol symbol.AtLeast)) = false
 ends_expression k = ends_simple k
+
+-- ---- statements
+
+abbrev pub ends_statement : Option Kind → Bool
+ends_statement (Some (kind.Symbol symbol.Semicolon)) = true
+ends_statement (Some (kind.Symbol symbol.End)) = true
+ends_statement (Some (kind.Symbol symbol.Until)) = true
+ends_statement (Some (kind.Symbol symbol.Else)) = true
+ends_statement _ = false
+
+-- an `else` that follows belongs to no `if` inside
+abbrev pub MayFollow : s.Statement → Option Kind → Type 0
+MayFollow x k = (ends_statement k ≡ true) × (ends_open x ≡ true → is_symbol symbol.Else k ≡ false)

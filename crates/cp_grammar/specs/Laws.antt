@@ -10,7 +10,7 @@ use Rattle.cp_model.specs.declared.token.Symbol.TheVariants as symbol
 use Rattle.cp_grammar.specs.Reading.{kind_at}
 use Rattle.cp_grammar.specs.Expressions.{expression_at}
 use Rattle.cp_grammar.specs.Statements.{statement_at}
-use Rattle.cp_grammar.specs.Follows.{ends_expression}
+use Rattle.cp_grammar.specs.Follows.{ends_expression, MayFollow}
 
 abbrev pub ExpressionsAreSound : Type 0
 ExpressionsAreSound = (room : ℕ) (ts rest : List Token) (e : s.Expression) → expression_at room ts ≡ Ok (e, rest) → g.expression room e ts rest
@@ -20,3 +20,6 @@ ExpressionsAreComplete = (room : ℕ) (ts rest : List Token) (e : s.Expression) 
 
 abbrev pub StatementsAreSound : Type 0
 StatementsAreSound = (room : ℕ) (ts rest : List Token) (x : s.Statement) → statement_at room ts ≡ Ok (x, rest) → statement room x ts rest
+
+abbrev pub StatementsAreComplete : Type 0
+StatementsAreComplete = (room : ℕ) (ts rest : List Token) (x : s.Statement) → statement room x ts rest → MayFollow x (kind_at rest) → statement_at room ts ≡ Ok (x, rest)

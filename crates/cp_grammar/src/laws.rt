@@ -1,6 +1,6 @@
 //! The laws of the reading functions, each family on a function of its own with nothing to do.
 
-ghost use Rattle.cp_grammar.specs.Laws.{ExpressionsAreComplete, ExpressionsAreSound, StatementsAreSound};
+ghost use Rattle.cp_grammar.specs.Laws.{ExpressionsAreComplete, ExpressionsAreSound, StatementsAreComplete, StatementsAreSound};
 
 /// An expression is read exactly where the grammar has one.
 pub fn expression_laws()
@@ -12,5 +12,6 @@ pub fn expression_laws()
 /// A statement is read exactly where the grammar has one.
 pub fn statement_laws()
     ensures sound { StatementsAreSound }
+    ensures complete { StatementsAreComplete }
 {
 }
