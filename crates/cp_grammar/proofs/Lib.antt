@@ -11,3 +11,5 @@ pub mod FactorsComplete
 pub mod StatementsSound
 pub mod StatementsShrink
 pub mod StatementsComplete
+pub mod TypesSound
+pub mod TypesComplete

@@ -22,7 +22,7 @@ use Rattle.cp_grammar.specs.Expressions.{expression_of, factor_of, begins_select
 use Rattle.cp_grammar.specs.Statements.{Deeper, direction_of, statements_from, arm_of, else_part, block_of, compound_of, if_of, case_of, while_of, repeat_of, for_of, cycle_of, assign_or_perform, designated_of, init_item_of, init_of, statement_by, statement_of, deeper_at, statement_at}
 use Rattle.cp_grammar.specs.Follows.{ends_expression, ends_statement, MayFollow}
 use Rattle.cp_grammar.specs.Laws.{StatementsAreComplete}
-use Rattle.cp_grammar.proofs.Tokens.{is_symbol_refl, kind_of, kind_of_symbol, expect_reads}
+use Rattle.cp_grammar.proofs.Tokens.{is_symbol_refl, kind_of, kind_of_symbol, symbol_shrinks, expect_reads}
 use Rattle.cp_grammar.proofs.Lists.{Each, each_imply, each_of, ItemReads, separated_reads}
 use Rattle.cp_grammar.proofs.NamesComplete.{identifier_reads, constants_reads, constants_shrink}
 use Rattle.cp_grammar.proofs.FactorsComplete.{listed, expressions_listed, designators_complete, expression_complete, arguments_complete, name_begins}
@@ -150,11 +150,7 @@ arm_complete room a r ts rest h follows =
 arm_shrinks : (room : ℕ) (a : LabelledStatement) (ts rest : List Token) → arm room a ts rest → length rest ≤ length ts
 arm_shrinks room a ts rest h =
     let g = h.2 in
-    let colon = symbol_less symbol.Colon h.0 g.0 g.1 in
-    omega (arith, constants_shrink a.labels ts h.0 h.1, colon, statement_shrinks a.body room g.0 rest g.2)
-  where
-    symbol_less : (x : Symbol) (ts rest : List Token) → symbol x ts rest → length rest < length ts
-    symbol_less x ts rest h = rw h.1.1 (omega arith)
+    omega (arith, constants_shrink a.labels ts h.0 h.1, symbol_shrinks symbol.Colon h.0 g.0 g.1, statement_shrinks a.body room g.0 rest g.2)
 
 arms_reads : (a : s.Arms) → Each ArmReads (listed_arms a) → (room : ℕ) (ts rest : List Token) → arms room a ts rest → ((x : LabelledStatement) → ArmFollows x (kind_at rest))
     → is_symbol symbol.Semicolon (kind_at rest) ≡ false → separated_by symbol.Semicolon (arm_of (statement_at room)) ts ≡ Ok (listed_arms a, rest)

@@ -1,4 +1,4 @@
--- What may follow an expression or a statement, so that it is read to its end and no further.
+-- What may follow an expression, a statement or a type, so that it is read to its end and no further.
 use Rattle.std.specs.Prelude.{◌≡◌, Bool, true, false, Option, Some}
 use Rattle.cp_model.specs.Syntax as s
 use Rattle.cp_model.specs.GrammarStatements.{ends_open}
@@ -49,3 +49,9 @@ ends_statement _ = false
 -- an `else` that follows belongs to no `if` inside
 abbrev pub MayFollow : s.Statement → Option Kind → Type 0
 MayFollow x k = (ends_statement k ≡ true) × (ends_open x ≡ true → is_symbol symbol.Else k ≡ false)
+
+-- ---- types: after a name, `..` would carry it on
+
+abbrev pub ends_type : Option Kind → Bool
+ends_type (Some (kind.Symbol symbol.DotDot)) = false
+ends_type _ = true

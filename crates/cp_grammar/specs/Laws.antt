@@ -2,6 +2,7 @@
 use Rattle.std.specs.Prelude.{◌≡◌, ℕ, Bool, true, false, List, Option, Some, Ok}
 use Rattle.cp_model.specs.Syntax as s
 use Rattle.cp_model.specs.GrammarExpressions as g
+use Rattle.cp_model.specs.GrammarTypes.{type_expression}
 use Rattle.cp_model.specs.GrammarStatements.{statement, ends_open}
 use Rattle.cp_model.specs.declared.token.Token.{Token}
 use Rattle.cp_model.specs.declared.token.Kind.{Kind}
@@ -9,8 +10,9 @@ use Rattle.cp_model.specs.declared.token.Kind.TheVariants as kind
 use Rattle.cp_model.specs.declared.token.Symbol.TheVariants as symbol
 use Rattle.cp_grammar.specs.Reading.{kind_at}
 use Rattle.cp_grammar.specs.Expressions.{expression_at}
+use Rattle.cp_grammar.specs.Types.{type_at}
 use Rattle.cp_grammar.specs.Statements.{statement_at}
-use Rattle.cp_grammar.specs.Follows.{ends_expression, MayFollow}
+use Rattle.cp_grammar.specs.Follows.{ends_expression, ends_type, MayFollow}
 
 abbrev pub ExpressionsAreSound : Type 0
 ExpressionsAreSound = (room : ℕ) (ts rest : List Token) (e : s.Expression) → expression_at room ts ≡ Ok (e, rest) → g.expression room e ts rest
@@ -23,3 +25,9 @@ StatementsAreSound = (room : ℕ) (ts rest : List Token) (x : s.Statement) → s
 
 abbrev pub StatementsAreComplete : Type 0
 StatementsAreComplete = (room : ℕ) (ts rest : List Token) (x : s.Statement) → statement room x ts rest → MayFollow x (kind_at rest) → statement_at room ts ≡ Ok (x, rest)
+
+abbrev pub TypesAreSound : Type 0
+TypesAreSound = (room : ℕ) (ts rest : List Token) (t : s.TypeExpression) → type_at room ts ≡ Ok (t, rest) → type_expression room t ts rest
+
+abbrev pub TypesAreComplete : Type 0
+TypesAreComplete = (room : ℕ) (ts rest : List Token) (t : s.TypeExpression) → type_expression room t ts rest → ends_type (kind_at rest) ≡ true → type_at room ts ≡ Ok (t, rest)

@@ -1,6 +1,6 @@
 //! The laws of the reading functions, each family on a function of its own with nothing to do.
 
-ghost use Rattle.cp_grammar.specs.Laws.{ExpressionsAreComplete, ExpressionsAreSound, StatementsAreComplete, StatementsAreSound};
+ghost use Rattle.cp_grammar.specs.Laws.{ExpressionsAreComplete, ExpressionsAreSound, StatementsAreComplete, StatementsAreSound, TypesAreComplete, TypesAreSound};
 
 /// An expression is read exactly where the grammar has one.
 pub fn expression_laws()
@@ -13,5 +13,12 @@ pub fn expression_laws()
 pub fn statement_laws()
     ensures sound { StatementsAreSound }
     ensures complete { StatementsAreComplete }
+{
+}
+
+/// A type is read exactly where the grammar has one.
+pub fn type_laws()
+    ensures sound { TypesAreSound }
+    ensures complete { TypesAreComplete }
 {
 }
