@@ -13,3 +13,5 @@ pub mod StatementsShrink
 pub mod StatementsComplete
 pub mod TypesSound
 pub mod TypesComplete
+pub mod DeclarationsSound
+pub mod TextSound

@@ -1,9 +1,10 @@
 -- That the reading functions read exactly what the grammar allows.
-use Rattle.std.specs.Prelude.{◌≡◌, ℕ, Bool, true, false, List, Option, Some, Ok}
+use Rattle.std.specs.Prelude.{◌≡◌, ℕ, Bool, true, false, List, [], Option, Some, Ok}
 use Rattle.cp_model.specs.Syntax as s
 use Rattle.cp_model.specs.GrammarExpressions as g
 use Rattle.cp_model.specs.GrammarTypes.{type_expression}
 use Rattle.cp_model.specs.GrammarStatements.{statement, ends_open}
+use Rattle.cp_model.specs.Grammar.{text}
 use Rattle.cp_model.specs.declared.token.Token.{Token}
 use Rattle.cp_model.specs.declared.token.Kind.{Kind}
 use Rattle.cp_model.specs.declared.token.Kind.TheVariants as kind
@@ -12,6 +13,7 @@ use Rattle.cp_grammar.specs.Reading.{kind_at}
 use Rattle.cp_grammar.specs.Expressions.{expression_at}
 use Rattle.cp_grammar.specs.Types.{type_at}
 use Rattle.cp_grammar.specs.Statements.{statement_at}
+use Rattle.cp_grammar.specs.Text.{text_at}
 use Rattle.cp_grammar.specs.Follows.{ends_expression, ends_type, MayFollow}
 
 abbrev pub ExpressionsAreSound : Type 0
@@ -31,3 +33,6 @@ TypesAreSound = (room : ℕ) (ts rest : List Token) (t : s.TypeExpression) → t
 
 abbrev pub TypesAreComplete : Type 0
 TypesAreComplete = (room : ℕ) (ts rest : List Token) (t : s.TypeExpression) → type_expression room t ts rest → ends_type (kind_at rest) ≡ true → type_at room ts ≡ Ok (t, rest)
+
+abbrev pub TextIsSound : Type 0
+TextIsSound = (room : ℕ) (ts rest : List Token) (t : s.Tree) → text_at room ts ≡ Ok (t, rest) → text room t ts []

@@ -1,6 +1,6 @@
 //! The laws of the reading functions, each family on a function of its own with nothing to do.
 
-ghost use Rattle.cp_grammar.specs.Laws.{ExpressionsAreComplete, ExpressionsAreSound, StatementsAreComplete, StatementsAreSound, TypesAreComplete, TypesAreSound};
+ghost use Rattle.cp_grammar.specs.Laws.{ExpressionsAreComplete, ExpressionsAreSound, StatementsAreComplete, StatementsAreSound, TextIsSound, TypesAreComplete, TypesAreSound};
 
 /// An expression is read exactly where the grammar has one.
 pub fn expression_laws()
@@ -20,5 +20,11 @@ pub fn statement_laws()
 pub fn type_laws()
     ensures sound { TypesAreSound }
     ensures complete { TypesAreComplete }
+{
+}
+
+/// A text is read exactly where the grammar has one.
+pub fn text_laws()
+    ensures sound { TextIsSound }
 {
 }

@@ -1,0 +1,5 @@
+use Rattle.cp_grammar.proofs.TextSound.{text_is_sound}
+use Rattle.cp_grammar.proofs.laws.text_laws.Goals as goal
+
+pub returns : goal.returns
+returns c = record { sound = text_is_sound }
