@@ -15,3 +15,6 @@ pub mod TypesSound
 pub mod TypesComplete
 pub mod DeclarationsSound
 pub mod TextSound
+pub mod DeclarationsShrink
+pub mod DeclarationsComplete
+pub mod TextComplete

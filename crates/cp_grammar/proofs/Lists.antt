@@ -24,6 +24,21 @@ module _ {A : Type 0} (goes_on : Option Kind → Bool) (item : Reader A) where
   unfolding repeat
   repeat_goes n found ts rest x go one = rw (go, one) refl
 
+-- ---- a list stands for no more tokens than there are
+
+module _ {A : Type 0} (f : A → Language) where
+  behind_shrinks : (x : Symbol) → ((a : A) (ts rest : List Token) → f a ts rest → length rest ≤ length ts) → (as' : List A) (ts rest : List Token) → each_behind x f as' ts rest → length rest ≤ length ts
+  behind_shrinks x shrinks [] ts rest h = rw h (omega arith)
+  behind_shrinks x shrinks (a ∷ as') ts rest h = omega (arith, symbol_shrinks x ts h.0 h.1, shrinks a h.0 h.2.0 h.2.1, behind_shrinks x shrinks as' h.2.0 rest h.2.2)
+
+  pub separated_shrinks : (x : Symbol) → ((a : A) (ts rest : List Token) → f a ts rest → length rest ≤ length ts) → (as' : List A) (ts rest : List Token) → separated x f as' ts rest → length rest ≤ length ts
+  separated_shrinks x shrinks [] ts rest h = absurd h
+  separated_shrinks x shrinks (a ∷ as') ts rest h = omega (arith, shrinks a ts h.0 h.1, behind_shrinks x shrinks as' h.0 rest h.2)
+
+  pub each_shrinks : ((a : A) (ts rest : List Token) → f a ts rest → length rest ≤ length ts) → (as' : List A) (ts rest : List Token) → each f as' ts rest → length rest ≤ length ts
+  each_shrinks shrinks [] ts rest h = rw h (omega arith)
+  each_shrinks shrinks (a ∷ as') ts rest h = omega (arith, shrinks a ts h.0 h.1, each_shrinks shrinks as' h.0 rest h.2)
+
 -- ---- lists of items
 
 abbrev pub Each : {A : Type 0} → (A → Type 0) → List A → Type 0
@@ -69,14 +84,6 @@ module _ {A : Type 0} (f : A → Language) (item : Reader A) (Follows : A → Op
     separated_reads (a ∷ as') all ts rest h ends stop =
         rw (all.0 ts h.0 h.1 (behind_follows as' h.0 rest h.2 a (ends a))) (behind_reads as' all.1 h.0 rest (length h.0) (a ∷ []) h.2 ends stop (omega arith))
 
-    pub separated_shrinks : (as' : List A) (ts rest : List Token) → separated x f as' ts rest → length rest ≤ length ts
-    separated_shrinks [] ts rest h = absurd h
-    separated_shrinks (a ∷ as') ts rest h = omega (arith, shrinks a ts h.0 h.1, behind_shrinks as' h.0 h.2)
-      where
-        behind_shrinks : (as' : List A) (ts : List Token) → each_behind x f as' ts rest → length rest ≤ length ts
-        behind_shrinks [] ts h = rw h (omega arith)
-        behind_shrinks (a ∷ as') ts h = omega (arith, symbol_shrinks x ts h.0 h.1, shrinks a h.0 h.2.0 h.2.1, behind_shrinks as' h.2.0 h.2.2)
-
   module _ (goes_on : Option Kind → Bool) (begins : (a : A) (ts rest : List Token) → f a ts rest → goes_on (kind_at ts) ≡ true)
       (between : (a : A) (k : Option Kind) → goes_on k ≡ true → Follows a k) (shrinks : (a : A) (ts rest : List Token) → f a ts rest → length rest < length ts) where
     each_follows : (as' : List A) (ts rest : List Token) → each f as' ts rest → (a : A) → Follows a (kind_at rest) → Follows a (kind_at ts)
@@ -104,7 +111,3 @@ module _ {A : Type 0} (f : A → Language) (item : Reader A) (Follows : A → Op
     some_reads [] all ts rest h ends stop = absurd h
     some_reads (a ∷ as') all ts rest h ends stop =
         rw (all.0 ts h.0 h.1 (each_follows as' h.0 rest h.2 a (ends a))) (each_reads_from as' all.1 h.0 rest (length h.0) (a ∷ []) h.2 ends stop (omega arith))
-
-    pub each_shrinks : (as' : List A) (ts rest : List Token) → each f as' ts rest → length rest ≤ length ts
-    each_shrinks [] ts rest h = rw h (omega arith)
-    each_shrinks (a ∷ as') ts rest h = omega (arith, shrinks a ts h.0 h.1, each_shrinks as' h.0 rest h.2)

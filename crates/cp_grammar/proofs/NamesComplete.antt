@@ -32,7 +32,7 @@ names_reads xs ts rest h stop = separated_reads identifier identifier_of (λ x k
     (each_of (ItemReads identifier identifier_of (λ x k. Unit {0})) (λ x ts rest h u. identifier_reads x ts rest h) xs) ts rest h (λ x. tt) stop
 
 pub names_shrink : (xs : List Identifier) (ts rest : List Token) → names xs ts rest → length rest ≤ length ts
-names_shrink xs ts rest h = separated_shrinks identifier identifier_of (λ x k. Unit {0}) symbol.Comma (λ x. tt) identifier_is_no_more xs ts rest h
+names_shrink xs ts rest h = separated_shrinks identifier symbol.Comma identifier_is_no_more xs ts rest h
 
 pub constant_reads : (c : Constant) (ts rest : List Token) → constant c ts rest → constant_of ts ≡ Ok (c, rest)
 unfolding constant_of
@@ -56,4 +56,4 @@ constants_reads cs ts rest h stop = separated_reads constant constant_of (λ x k
     (each_of (ItemReads constant constant_of (λ x k. Unit {0})) (λ c ts rest h u. constant_reads c ts rest h) cs) ts rest h (λ x. tt) stop
 
 pub constants_shrink : (cs : List Constant) (ts rest : List Token) → separated symbol.Comma constant cs ts rest → length rest ≤ length ts
-constants_shrink cs ts rest h = separated_shrinks constant constant_of (λ x k. Unit {0}) symbol.Comma (λ x. tt) constant_is_no_more cs ts rest h
+constants_shrink cs ts rest h = separated_shrinks constant symbol.Comma constant_is_no_more cs ts rest h

@@ -6,8 +6,6 @@ use Rattle.cp_model.specs.GrammarStatements.{direction_symbol, init_item, statem
 use Rattle.cp_model.specs.declared.token.Token.{Token}
 use Rattle.cp_model.specs.declared.token.Kind.TheVariants as kind
 use Rattle.cp_model.specs.declared.token.Symbol.TheVariants as symbol
-use Rattle.cp_grammar.specs.Expressions.{inner_at}
-use Rattle.cp_grammar.specs.Statements.{init_item_of}
 use Rattle.cp_grammar.proofs.Tokens.{token_shrinks, symbol_shrinks}
 use Rattle.cp_grammar.proofs.Lists.{separated_shrinks}
 use Rattle.cp_grammar.proofs.NamesComplete.{identifier_shrinks, constants_shrink}
@@ -17,8 +15,7 @@ pub init_item_shrinks : (room : ℕ) (i : s.InitItem) (ts rest : List Token) →
 init_item_shrinks room i ts rest h = omega (arith, identifier_shrinks i.component ts h.0 h.1, arguments_shrink i.arguments room h.0 rest h.2)
 
 init_items_shrink : (room : ℕ) (is : List s.InitItem) (ts rest : List Token) → separated symbol.Comma (init_item room) is ts rest → length rest ≤ length ts
-init_items_shrink room is ts rest h =
-    separated_shrinks (init_item room) (init_item_of (inner_at room)) (λ i k. Unit {0}) symbol.Comma (λ i. tt) (init_item_shrinks room) is ts rest h
+init_items_shrink room is ts rest h = separated_shrinks (init_item room) symbol.Comma (init_item_shrinks room) is ts rest h
 
 mutual
   pub statement_shrinks : (x : s.Statement) (room : ℕ) (ts rest : List Token) → statement room x ts rest → length rest ≤ length ts
@@ -58,7 +55,7 @@ mutual
   statement_shrinks (s.Cycle l) (suc room) ts rest h = omega (arith, symbol_shrinks symbol.Cycle ts h.0 h.1, statements_shrink l room h.0 h.2.0 h.2.1, symbol_shrinks symbol.End h.2.0 rest h.2.2)
   statement_shrinks (s.Init at is) room ts rest h = omega (arith, token_shrinks (kind.Symbol symbol.Init) at ts h.0 h.1, init_items_shrink room is h.0 rest h.2)
 
-  statements_shrink : (xs : s.Statements) (room : ℕ) (ts rest : List Token) → statements room xs ts rest → length rest ≤ length ts
+  pub statements_shrink : (xs : s.Statements) (room : ℕ) (ts rest : List Token) → statements room xs ts rest → length rest ≤ length ts
   statements_shrink s.NoStatements room ts rest h = absurd h
   statements_shrink (s.MoreStatements x xs) room ts rest h = omega (arith, statement_shrinks x room ts h.0 h.1, more_statements_shrink xs room h.0 rest h.2)
 

@@ -36,3 +36,10 @@ TypesAreComplete = (room : ℕ) (ts rest : List Token) (t : s.TypeExpression) �
 
 abbrev pub TextIsSound : Type 0
 TextIsSound = (room : ℕ) (ts rest : List Token) (t : s.Tree) → text_at room ts ≡ Ok (t, rest) → text room t ts []
+
+abbrev pub TextIsComplete : Type 0
+TextIsComplete = (room : ℕ) (ts : List Token) (t : s.Tree) → text room t ts [] → text_at room ts ≡ Ok (t, [])
+
+-- the tokens have one tree at most
+abbrev pub TreeIsUnique : Type 0
+TreeIsUnique = (room : ℕ) (ts : List Token) (t u : s.Tree) → text room t ts [] → text room u ts [] → t ≡ u

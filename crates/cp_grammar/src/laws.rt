@@ -1,6 +1,6 @@
 //! The laws of the reading functions, each family on a function of its own with nothing to do.
 
-ghost use Rattle.cp_grammar.specs.Laws.{ExpressionsAreComplete, ExpressionsAreSound, StatementsAreComplete, StatementsAreSound, TextIsSound, TypesAreComplete, TypesAreSound};
+ghost use Rattle.cp_grammar.specs.Laws.{ExpressionsAreComplete, ExpressionsAreSound, StatementsAreComplete, StatementsAreSound, TextIsComplete, TextIsSound, TreeIsUnique, TypesAreComplete, TypesAreSound};
 
 /// An expression is read exactly where the grammar has one.
 pub fn expression_laws()
@@ -26,5 +26,7 @@ pub fn type_laws()
 /// A text is read exactly where the grammar has one.
 pub fn text_laws()
     ensures sound { TextIsSound }
+    ensures complete { TextIsComplete }
+    ensures unique { TreeIsUnique }
 {
 }
