@@ -7,3 +7,4 @@ pub mod GrammarExpressions
 pub mod GrammarTypes
 pub mod GrammarStatements
 pub mod Grammar
+pub mod Levels
