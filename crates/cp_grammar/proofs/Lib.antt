@@ -18,3 +18,4 @@ pub mod TextSound
 pub mod DeclarationsShrink
 pub mod DeclarationsComplete
 pub mod TextComplete
+pub mod Steady
