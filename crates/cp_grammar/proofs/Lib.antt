@@ -19,3 +19,6 @@ pub mod DeclarationsShrink
 pub mod DeclarationsComplete
 pub mod TextComplete
 pub mod Steady
+pub mod SteadyLists
+pub mod NamesSteady
+pub mod ExpressionsSteady

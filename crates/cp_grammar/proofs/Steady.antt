@@ -59,7 +59,7 @@ stop_weaken Memory front mid ts e h = tt
 stop_weaken (Wrong n) front mid ts e h = rw e (omega (arith, length-append front mid))
 stop_weaken (Deep n) front mid ts e h = rw e (omega (arith, length-append front mid))
 
-tame_imply : {A : Type 0} (T U : A → List ℕ → Type 0) (o : Outcome A) (ts : List Token) → ((x : A) (l : List ℕ) → T x l → U x l) → Tame T o ts → Tame U o ts
+pub tame_imply : {A : Type 0} (T U : A → List ℕ → Type 0) (o : Outcome A) (ts : List Token) → ((x : A) (l : List ℕ) → T x l → U x l) → Tame T o ts → Tame U o ts
 tame_imply T U (Ok x) ts h g = (g.0, g.1, g.2, h x.0 g.2 g.3, g.4)
 tame_imply T U (Err s) ts h g = g
 
@@ -70,7 +70,7 @@ module _ {A B : Type 0} (T : A → List ℕ → Type 0) (U : B → List ℕ → 
         l ++ h.2, h.3, omega (arith, length-append l h.2, length-append front h.0, h.4))
   tame_behind (Err s) x l front mid ts e n h = stop_weaken s front mid ts e h
 
-  tame_then : (o : Outcome A) (k : A → Reader B) (ts : List Token) → Tame T o ts → ((x : A) (l : List ℕ) → T x l → (mid : List Token) → Tame (λ y m. U y (l ++ m)) (k x mid) mid) → Tame U (and_then o k) ts
+  pub tame_then : (o : Outcome A) (k : A → Reader B) (ts : List Token) → Tame T o ts → ((x : A) (l : List ℕ) → T x l → (mid : List Token) → Tame (λ y m. U y (l ++ m)) (k x mid) mid) → Tame U (and_then o k) ts
   tame_then (Ok x) k ts h g = tame_behind (k x.0 x.1) x.0 h.2 h.0 x.1 ts h.1 h.4 (g x.0 h.2 h.3 x.1)
   tame_then (Err s) k ts h g = h
 
@@ -122,7 +122,7 @@ module _ (c : Cut) where
       let e : l ++ p.0 ≡ (l ++ p.2) ++ c.top ∷ p.3 = ap (λ (m : List ℕ). l ++ m) p.4 ∙ sym (append_assoc l p.2 (c.top ∷ p.3)) in
       (l ++ p.0, h x p.0 p.1, l ++ p.2, p.3, e, p.5))
 
-  like_imply : {A : Type 0} (m : Mode) (T U : A → List ℕ → Type 0) (l : List ℕ) (o o' : Outcome A) → ((x : A) (k : List ℕ) → T x k → U x (l ++ k)) → Like m T o o' → Like m U o o'
+  pub like_imply : {A : Type 0} (m : Mode) (T U : A → List ℕ → Type 0) (l : List ℕ) (o o' : Outcome A) → ((x : A) (k : List ℕ) → T x k → U x (l ++ k)) → Like m T o o' → Like m U o o'
   like_imply m T U l (Ok x) o' h g = g
   like_imply m T U l (Err Memory) o' h g = tt
   like_imply m T U l (Err (Wrong n)) o' h g = g
@@ -151,7 +151,7 @@ module _ (c : Cut) where
     stop_then Equal (Deep n) o' k' h g = λ e. ap (λ o. and_then o k') (h e)
     stop_then Wider (Deep n) o' k' h g = λ e. opened_then o' k' (h e) g
 
-    like_then : (m : Mode) (o o' : Outcome A) (k k' : A → Reader B) (f : List Token) → Tame T o (f ++ c.token ∷ c.here) → Like m T o o'
+    pub like_then : (m : Mode) (o o' : Outcome A) (k k' : A → Reader B) (f : List Token) → Tame T o (f ++ c.token ∷ c.here) → Like m T o o'
         → ((x : A) (l : List ℕ) → T x l → (mid : List Token) → Tame (λ y m. U y (l ++ m)) (k x mid) mid)
         → ((x : A) (l : List ℕ) → T x l → (mid : List Token) → Tame (λ y m. U y (l ++ m)) (k' x mid) mid)
         → ((x : A) (l : List ℕ) → T x l → (g : List Token) → length l + length g ≡ length f
@@ -181,7 +181,7 @@ pub record Steady (c : Cut) (m : Mode) (w : Start) {A : Type 0} (T : A → List 
 abbrev pub Has : {A : Type 0} → (A → List ℕ) → A → List ℕ → Type 0
 Has g x l = l ≡ g x
 
-at_cut : (w : Start) (f : List Token) (t : Token) (a : List Token) → At w (f ++ t ∷ a)
+pub at_cut : (w : Start) (f : List Token) (t : Token) (a : List Token) → At w (f ++ t ∷ a)
 at_cut Anywhere f t a = tt
 at_cut Before [] t a = tt
 at_cut Before (x ∷ f) t a = tt
@@ -196,16 +196,19 @@ imply {c} {m} {w} {A} {T} {p} {q} U s h = record {
 pub before : {c : Cut} {m : Mode} {A : Type 0} {T : A → List ℕ → Type 0} {p q : Reader A} → Steady c m Anywhere T p q → Steady c m Before T p q
 before s = record { tame = λ ts k. s.tame ts tt; tame' = λ ts k. s.tame' ts tt; like = s.like }
 
+pub then_any : {c : Cut} {m : Mode} {w : Start} {A B : Type 0} {T : A → List ℕ → Type 0} {U : B → List ℕ → Type 0} {p q : Reader A} {k k' : A → Reader B} → Steady c m w T p q
+    → ((x : A) (l : List ℕ) → T x l → Steady c m Anywhere (λ y j. U y (l ++ j)) (k x) (k' x)) → Steady c m w U (p >>= k) (q >>= k')
+then_any {c} {m} {w} {A} {B} {T} {U} {p} {q} {k} {k'} s next = record {
+  tame = λ ts at. tame_then T U (p ts) k ts (s.tame ts at) (λ x l h mid. (next x l h).tame mid tt);
+  tame' = λ ts at. tame_then T U (q ts) k' ts (s.tame' ts at) (λ x l h mid. (next x l h).tame' mid tt);
+  like = λ f. like_then c T U m (p (f ++ c.token ∷ c.here)) (q (f ++ c.token ∷ c.there)) k k' f (s.tame (f ++ c.token ∷ c.here) (at_cut w f c.token c.here)) (s.like f)
+    (λ x l h mid. (next x l h).tame mid tt) (λ x l h mid. (next x l h).tame' mid tt) (λ x l h r e. (next x l h).like r);
+}
+
 pub then : {c : Cut} {m : Mode} {w : Start} {A B : Type 0} {g : A → List ℕ} {U : B → List ℕ → Type 0} {p q : Reader A} {k k' : A → Reader B} → Steady c m w (Has g) p q
     → ((x : A) → Steady c m Anywhere (λ y l. U y (g x ++ l)) (k x) (k' x)) → Steady c m w U (p >>= k) (q >>= k')
-then {c} {m} {w} {A} {B} {g} {U} {p} {q} {k} {k'} s next = record {
-  tame = λ ts at. tame_then (Has g) U (p ts) k ts (s.tame ts at) (λ x l h mid. subst (λ (l : List ℕ). Tame (λ y m. U y (l ++ m)) (k x mid) mid) (sym h) ((next x).tame mid tt));
-  tame' = λ ts at. tame_then (Has g) U (q ts) k' ts (s.tame' ts at) (λ x l h mid. subst (λ (l : List ℕ). Tame (λ y m. U y (l ++ m)) (k' x mid) mid) (sym h) ((next x).tame' mid tt));
-  like = λ f. like_then c (Has g) U m (p (f ++ c.token ∷ c.here)) (q (f ++ c.token ∷ c.there)) k k' f (s.tame (f ++ c.token ∷ c.here) (at_cut w f c.token c.here)) (s.like f)
-    (λ x l h mid. subst (λ (l : List ℕ). Tame (λ y m. U y (l ++ m)) (k x mid) mid) (sym h) ((next x).tame mid tt))
-    (λ x l h mid. subst (λ (l : List ℕ). Tame (λ y m. U y (l ++ m)) (k' x mid) mid) (sym h) ((next x).tame' mid tt))
-    (λ x l h r e. subst (λ (l : List ℕ). Like c m (λ y m. U y (l ++ m)) (k x (r ++ c.token ∷ c.here)) (k' x (r ++ c.token ∷ c.there))) (sym h) ((next x).like r));
-}
+then {c} {m} {w} {A} {B} {g} {U} {p} {q} {k} {k'} s next =
+    then_any s (λ x l h. subst (λ (l : List ℕ). Steady c m Anywhere (λ y j. U y (l ++ j)) (k x) (k' x)) (sym h) (next x))
 
 -- ---- the steps
 
