@@ -22,3 +22,5 @@ pub mod Steady
 pub mod SteadyLists
 pub mod NamesSteady
 pub mod ExpressionsSteady
+pub mod TypesSteady
+pub mod StatementsSteady

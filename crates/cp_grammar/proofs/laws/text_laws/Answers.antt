@@ -1,6 +1,7 @@
 use Rattle.cp_grammar.proofs.TextSound.{text_is_sound}
 use Rattle.cp_grammar.proofs.TextComplete.{text_is_complete, tree_is_unique}
-use Rattle.cp_grammar.proofs.ExpressionsSteady.{factor_of_steady}
+use Rattle.cp_grammar.proofs.TypesSteady.{type_of_steady}
+use Rattle.cp_grammar.proofs.StatementsSteady.{statement_of_steady}
 use Rattle.cp_grammar.proofs.laws.text_laws.Goals as goal
 
 pub returns : goal.returns
