@@ -24,3 +24,5 @@ pub mod NamesSteady
 pub mod ExpressionsSteady
 pub mod TypesSteady
 pub mod StatementsSteady
+pub mod DeclarationsSteady
+pub mod TextSteady

@@ -1,7 +1,6 @@
 use Rattle.cp_grammar.proofs.TextSound.{text_is_sound}
 use Rattle.cp_grammar.proofs.TextComplete.{text_is_complete, tree_is_unique}
-use Rattle.cp_grammar.proofs.TypesSteady.{type_of_steady}
-use Rattle.cp_grammar.proofs.StatementsSteady.{statement_of_steady}
+use Rattle.cp_grammar.proofs.TextSteady.{text_steady, text_wider}
 use Rattle.cp_grammar.proofs.laws.text_laws.Goals as goal
 
 pub returns : goal.returns
