@@ -26,3 +26,5 @@ pub mod TypesSteady
 pub mod StatementsSteady
 pub mod DeclarationsSteady
 pub mod TextSteady
+pub mod Wider
+pub mod Refusals
