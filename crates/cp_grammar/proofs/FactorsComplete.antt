@@ -107,12 +107,13 @@ bracket_is_no_comma : is_symbol symbol.Comma (Some (kind.Symbol symbol.CloseBrac
 unfolding is_symbol
 bracket_is_no_comma = refl
 
-module _ (f : Reader s.Expression) (ts mid last rest : List Token) where
-  indexed_reads : (at close : ℕ) (is : List PlacedIndex) → kind_at ts ≡ Some (kind.Symbol symbol.OpenBracket) → indices_from f ts ≡ Ok (is, last) → symbol_at symbol.CloseBracket close last rest
+module _ (f : Reader s.Expression) (ts last rest : List Token) where
+  indexed_reads : (close : ℕ) (is : List PlacedIndex) → kind_at ts ≡ Some (kind.Symbol symbol.OpenBracket) → indices_from f ts ≡ Ok (is, last) → symbol_at symbol.CloseBracket close last rest
       → selector_of (Some f) ts ≡ Ok (s.Indexed (indices_of is), rest)
   unfolding selector_of selector_by indexed_of
-  indexed_reads at close is k one c = rw (k, one, expect_reads symbol.CloseBracket close last rest c) refl
+  indexed_reads close is k one c = rw (k, one, expect_reads symbol.CloseBracket close last rest c) refl
 
+module _ (f : Reader s.Expression) (ts mid last rest : List Token) where
   pub arguments_reads : (at close : ℕ) (es : List s.Expression) → symbol_at symbol.OpenParenthesis at ts mid → expressions_from f mid ≡ Ok (es, last) → symbol_at symbol.CloseParenthesis close last rest
       → arguments_of (Some f) ts ≡ Ok (es, rest)
   unfolding arguments_of
@@ -123,6 +124,7 @@ module _ (f : Reader s.Expression) (ts mid last rest : List Token) where
   unfolding factor_of factor_by parenthesized_of
   parenthesized_reads at close e t one c = rw (t.1, one, expect_reads symbol.CloseParenthesis close last rest c) refl
 
+module _ (f : Reader s.Expression) (ts mid rest : List Token) where
   not_reads : (at : ℕ) (e : s.Expression) → symbol_at symbol.Not at ts mid → f mid ≡ Ok (e, rest) → factor_of (Some f) ts ≡ Ok (s.Not at e, rest)
   unfolding factor_of factor_by not_of
   not_reads at e t one = rw (t.1, one) refl
@@ -139,7 +141,7 @@ parenthesized_complete at e c (suc room) ts rest h ends =
 not_complete : (at : ℕ) (e : s.Expression) → Complete e → FactorReads (s.Not at e)
 not_complete at e c zero ts rest h ends = absurd h.1
 not_complete at e c (suc room) ts rest h ends =
-    rw (inner_suc room) (not_reads (factor_at room) ts h.1.0 rest rest at e h.1.1 (c.factor h.0 room h.1.0 rest h.1.2 ends))
+    rw (inner_suc room) (not_reads (factor_at room) ts h.1.0 rest at e h.1.1 (c.factor h.0 room h.1.0 rest h.1.2 ends))
 
 -- ---- designators
 
@@ -161,7 +163,7 @@ indexed_complete : (is : s.Indices) → AllIndices is → SelectorReads (s.Index
 indexed_complete is all zero ts rest h = absurd h
 indexed_complete is all (suc room) ts rest h =
     rw (inner_suc room)
-    (indexed_reads (factor_at room) ts ts h.0 rest 0 h.2.0 (placed is) (indices_begin is room ts h.0 h.1) (indices_reads is all room ts h.0 h.1 (rw h.2.1.1 refl) (rw h.2.1.1 bracket_is_no_comma)) h.2.1
+    (indexed_reads (factor_at room) ts h.0 rest h.2.0 (placed is) (indices_begin is room ts h.0 h.1) (indices_reads is all room ts h.0 h.1 (rw h.2.1.1 refl) (rw h.2.1.1 bracket_is_no_comma)) h.2.1
     ∙ ap (λ (is : s.Indices). Ok (s.Indexed is, rest)) (indices_placed is))
 
 abbrev listed_selectors : s.Selectors → List s.Selector

@@ -166,7 +166,7 @@ unfolding direction_of
 direction_reads direction.Up at ts rest h = rw h.1 refl
 direction_reads direction.Down at ts rest h = rw h.1 refl
 
-module _ (inner : Option (Reader s.Expression)) (d : Deeper) (at place : ℕ) (ts mid last behind rest : List Token) where
+module _ (inner : Option (Reader s.Expression)) (d : Deeper) (at place : ℕ) (ts mid last rest : List Token) where
   compound_reads : (l : List s.Statement) → symbol_at symbol.Begin at ts mid → statements_from d.statement mid ≡ Ok (l, last) → symbol_at symbol.End place last rest
       → statement_of inner (Some d) ts ≡ Ok (s.Compound (statements_of l), rest)
   unfolding statement_of statement_by compound_of block_of
@@ -177,6 +177,7 @@ module _ (inner : Option (Reader s.Expression)) (d : Deeper) (at place : ℕ) (t
   unfolding statement_of statement_by cycle_of
   cycle_reads l t one k = rw (t.1, one, expect_reads symbol.End place last rest k) refl
 
+module _ (inner : Option (Reader s.Expression)) (d : Deeper) (at place : ℕ) (ts mid last behind rest : List Token) where
   while_reads : (c : s.Expression) (x : s.Statement) → symbol_at symbol.While at ts mid → d.expression mid ≡ Ok (c, last) → symbol_at symbol.Do place last behind → d.statement behind ≡ Ok (x, rest)
       → statement_of inner (Some d) ts ≡ Ok (s.While c x, rest)
   unfolding statement_of statement_by while_of
@@ -223,7 +224,7 @@ compound_complete l all zero ts rest h follows = absurd h
 compound_complete l all (suc room) ts rest h follows =
     let e = h.2.2 in
     rw (deeper_suc room)
-    (compound_reads (inner_at (suc room)) (readers room) h.1.0 e.0 ts h.0 h.2.0 h.2.0 rest (listed_statements l) h.1.1
+    (compound_reads (inner_at (suc room)) (readers room) h.1.0 e.0 ts h.0 h.2.0 rest (listed_statements l) h.1.1
       (statements_reads l all room h.0 h.2.0 h.2.1 (rw (kind_of_symbol symbol.End h.2.0 rest e) end_follows) (rw (kind_of_symbol symbol.End h.2.0 rest e) end_is_no_semicolon)) e.1
     ∙ ap (λ (l : s.Statements). Ok (s.Compound l, rest)) (statements_listed l))
 
@@ -232,7 +233,7 @@ cycle_complete l all zero ts rest h follows = absurd h
 cycle_complete l all (suc room) ts rest h follows =
     let e = h.2.2 in
     rw (deeper_suc room)
-    (cycle_reads (inner_at (suc room)) (readers room) h.1.0 e.0 ts h.0 h.2.0 h.2.0 rest (listed_statements l) h.1.1
+    (cycle_reads (inner_at (suc room)) (readers room) h.1.0 e.0 ts h.0 h.2.0 rest (listed_statements l) h.1.1
       (statements_reads l all room h.0 h.2.0 h.2.1 (rw (kind_of_symbol symbol.End h.2.0 rest e) end_follows) (rw (kind_of_symbol symbol.End h.2.0 rest e) end_is_no_semicolon)) e.1
     ∙ ap (λ (l : s.Statements). Ok (s.Cycle l, rest)) (statements_listed l))
 

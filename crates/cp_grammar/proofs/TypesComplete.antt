@@ -63,9 +63,6 @@ group_shrinks room g ts rest h = omega (arith, names_shrink g.names ts h.0 h.1, 
 
 -- ---- lists
 
-pub comma_ends_type : ends_type (Some (kind.Symbol symbol.Comma)) ≡ true
-comma_ends_type = refl
-
 bracket_is_no_comma : is_symbol symbol.Comma (Some (kind.Symbol symbol.CloseBracket)) ≡ false
 unfolding is_symbol
 bracket_is_no_comma = refl
@@ -197,6 +194,7 @@ module _ (p : Reader s.TypeExpression) (ts t1 t2 t3 t4 t5 rest : List Token) whe
   unfolding type_of type_by array_of
   array_reads at p2 p3 p4 is e h1 h2 h3 h4 h5 h6 = rw (h1.1, expect_reads symbol.OpenBracket p2 t1 t2 h2, h3, expect_reads symbol.CloseBracket p3 t3 t4 h4, expect_reads symbol.Of p4 t4 t5 h5, h6) refl
 
+module _ (p : Reader s.TypeExpression) (ts t1 t2 rest : List Token) where
   record_reads : (at end : ℕ) (gs : List s.Variables) → symbol_at symbol.Record at ts t1 → separated_by symbol.Semicolon (group_of p) t1 ≡ Ok (gs, t2) → symbol_at symbol.End end t2 rest
       → type_of (Some p) ts ≡ Ok (s.Record at (fields_of gs), rest)
   unfolding type_of type_by record_of
@@ -221,7 +219,7 @@ record_complete at gs all zero ts rest h ends = absurd h
 record_complete at gs all (suc room) ts rest h ends =
     let e = h.2.2 in
     rw (inner_type_suc room)
-    (record_reads (type_at room) ts h.0 h.2.0 h.2.0 h.2.0 h.2.0 rest at e.0 (listed_fields gs) h.1
+    (record_reads (type_at room) ts h.0 h.2.0 rest at e.0 (listed_fields gs) h.1
       (fields_reads gs all room h.0 h.2.0 h.2.1 (rw (kind_of_symbol symbol.End h.2.0 rest e) refl) (rw (kind_of_symbol symbol.End h.2.0 rest e) end_is_no_semicolon)) e.1
     ∙ ap (λ (gs : s.FieldGroups). Ok (s.Record at gs, rest)) (fields_listed gs))
 

@@ -15,17 +15,17 @@ opens_wider (suc room) zero f ts rest le k h = absurd (omega arith)
 opens_wider (suc room) (suc wide) f ts rest le k h = k room wide (omega arith) h
 
 module _ {A : Type 0} (f g : A → Language) (k : (a : A) (ts rest : List Token) → f a ts rest → g a ts rest) where
-  each_wider : (as' : List A) (ts rest : List Token) → each f as' ts rest → each g as' ts rest
+  each_wider : (items : List A) (ts rest : List Token) → each f items ts rest → each g items ts rest
   each_wider [] ts rest h = h
-  each_wider (a ∷ as') ts rest h = (h.0, k a ts h.0 h.1, each_wider as' h.0 rest h.2)
+  each_wider (a ∷ items) ts rest h = (h.0, k a ts h.0 h.1, each_wider items h.0 rest h.2)
 
-  behind_wider : (x : Symbol) (as' : List A) (ts rest : List Token) → each_behind x f as' ts rest → each_behind x g as' ts rest
+  behind_wider : (x : Symbol) (items : List A) (ts rest : List Token) → each_behind x f items ts rest → each_behind x g items ts rest
   behind_wider x [] ts rest h = h
-  behind_wider x (a ∷ as') ts rest h = (h.0, h.1, (h.2.0, k a h.0 h.2.0 h.2.1, behind_wider x as' h.2.0 rest h.2.2))
+  behind_wider x (a ∷ items) ts rest h = (h.0, h.1, (h.2.0, k a h.0 h.2.0 h.2.1, behind_wider x items h.2.0 rest h.2.2))
 
-  separated_wider : (x : Symbol) (as' : List A) (ts rest : List Token) → separated x f as' ts rest → separated x g as' ts rest
+  separated_wider : (x : Symbol) (items : List A) (ts rest : List Token) → separated x f items ts rest → separated x g items ts rest
   separated_wider x [] ts rest h = h
-  separated_wider x (a ∷ as') ts rest h = (h.0, k a ts h.0 h.1, behind_wider x as' h.0 rest h.2)
+  separated_wider x (a ∷ items) ts rest h = (h.0, k a ts h.0 h.1, behind_wider x items h.0 rest h.2)
 
 -- ---- expressions
 
