@@ -1,13 +1,13 @@
 -- A list of the grammar is read, where each of its items is.
-use Rattle.std.proofs.Common.{◌≡◌, ℕ, zero, suc, ◌<◌, ◌≤◌, Bool, true, false, cond, List, [], ◌∷◌, ◌++◌, length, Option, Some, None, Ok, refl, sym, ap, ◌∙◌, append_assoc, arith}
+use Rattle.std.proofs.Common.{◌≡◌, ℕ, zero, suc, ◌<◌, ◌≤◌, Bool, true, false, List, [], ◌∷◌, ◌++◌, length, Option, Some, Ok, refl, sym, ap, ◌∙◌, append_assoc, arith}
 use Rattle.std.proofs.lemmas.List.{append-nil}
-use Rattle.cp_model.specs.Languages.{Language, symbol, each, each_behind, separated}
+use Rattle.cp_model.specs.Languages.{Language, each, each_behind, separated}
 use Rattle.cp_model.specs.declared.token.Token.{Token}
 use Rattle.cp_model.specs.declared.token.Kind.{Kind}
 use Rattle.cp_model.specs.declared.token.Kind.TheVariants as kind
 use Rattle.cp_model.specs.declared.token.Symbol.{Symbol}
 use Rattle.cp_grammar.specs.Kinds.{is_symbol}
-use Rattle.cp_grammar.specs.Reading.{Outcome, Reader, and_then, ◌>>=◌, pure, take_token, by_kind, kind_at, repeat, repeated, one_or_more, separated_by}
+use Rattle.cp_grammar.specs.Reading.{Reader, and_then, ◌>>=◌, take_token, kind_at, repeat, repeated, one_or_more, separated_by}
 use Rattle.cp_grammar.proofs.Tokens.{is_symbol_refl, kind_of_symbol, symbol_shrinks}
 use Rattle.cp_grammar.proofs.Ensures.{some}
 
@@ -27,15 +27,19 @@ module _ {A : Type 0} (goes_on : Option Kind → Bool) (item : Reader A) where
 -- ---- a list stands for no more tokens than there are
 
 module _ {A : Type 0} (f : A → Language) where
-  behind_shrinks : (x : Symbol) → ((a : A) (ts rest : List Token) → f a ts rest → length rest ≤ length ts) → (items : List A) (ts rest : List Token) → each_behind x f items ts rest → length rest ≤ length ts
+  behind_shrinks : (x : Symbol) → ((a : A) (ts rest : List Token) → f a ts rest → length rest ≤ length ts) → (items : List A) (ts rest : List Token)
+      → each_behind x f items ts rest → length rest ≤ length ts
   behind_shrinks x shrinks [] ts rest h = rw h (omega arith)
-  behind_shrinks x shrinks (a ∷ items) ts rest h = omega (arith, symbol_shrinks x ts h.0 h.1, shrinks a h.0 h.2.0 h.2.1, behind_shrinks x shrinks items h.2.0 rest h.2.2)
+  behind_shrinks x shrinks (a ∷ items) ts rest h =
+      omega (arith, symbol_shrinks x ts h.0 h.1, shrinks a h.0 h.2.0 h.2.1, behind_shrinks x shrinks items h.2.0 rest h.2.2)
 
-  pub separated_shrinks : (x : Symbol) → ((a : A) (ts rest : List Token) → f a ts rest → length rest ≤ length ts) → (items : List A) (ts rest : List Token) → separated x f items ts rest → length rest ≤ length ts
+  pub separated_shrinks : (x : Symbol) → ((a : A) (ts rest : List Token) → f a ts rest → length rest ≤ length ts)
+      → (items : List A) (ts rest : List Token) → separated x f items ts rest → length rest ≤ length ts
   separated_shrinks x shrinks [] ts rest h = absurd h
   separated_shrinks x shrinks (a ∷ items) ts rest h = omega (arith, shrinks a ts h.0 h.1, behind_shrinks x shrinks items h.0 rest h.2)
 
-  pub each_shrinks : ((a : A) (ts rest : List Token) → f a ts rest → length rest ≤ length ts) → (items : List A) (ts rest : List Token) → each f items ts rest → length rest ≤ length ts
+  pub each_shrinks : ((a : A) (ts rest : List Token) → f a ts rest → length rest ≤ length ts) → (items : List A) (ts rest : List Token)
+      → each f items ts rest → length rest ≤ length ts
   each_shrinks shrinks [] ts rest h = rw h (omega arith)
   each_shrinks shrinks (a ∷ items) ts rest h = omega (arith, shrinks a ts h.0 h.1, each_shrinks shrinks items h.0 rest h.2)
 
@@ -58,8 +62,10 @@ module _ {A : Type 0} (f : A → Language) (item : Reader A) (Follows : A → Op
   abbrev pub ItemReads : A → Type 0
   ItemReads a = (ts rest : List Token) → f a ts rest → Follows a (kind_at rest) → item ts ≡ Ok (a, rest)
 
-  module _ (x : Symbol) (between : (a : A) → Follows a (Some (kind.Symbol x))) (shrinks : (a : A) (ts rest : List Token) → f a ts rest → length rest ≤ length ts) where
-    behind_follows : (items : List A) (ts rest : List Token) → each_behind x f items ts rest → (a : A) → Follows a (kind_at rest) → Follows a (kind_at ts)
+  module _ (x : Symbol) (between : (a : A) → Follows a (Some (kind.Symbol x)))
+      (shrinks : (a : A) (ts rest : List Token) → f a ts rest → length rest ≤ length ts) where
+    behind_follows : (items : List A) (ts rest : List Token) → each_behind x f items ts rest → (a : A) → Follows a (kind_at rest)
+        → Follows a (kind_at ts)
     behind_follows [] ts rest h a ok = rw h ok
     behind_follows (y ∷ ys) ts rest h a ok = rw (kind_of_symbol x ts h.0 h.1) (between a)
 
@@ -82,16 +88,19 @@ module _ {A : Type 0} (f : A → Language) (item : Reader A) (Follows : A → Op
         → ((a : A) → Follows a (kind_at rest)) → is_symbol x (kind_at rest) ≡ false → separated_by x item ts ≡ Ok (items, rest)
     separated_reads [] all ts rest h ends stop = absurd h
     separated_reads (a ∷ items) all ts rest h ends stop =
-        rw (all.0 ts h.0 h.1 (behind_follows items h.0 rest h.2 a (ends a))) (behind_reads items all.1 h.0 rest (length h.0) (a ∷ []) h.2 ends stop (omega arith))
+        rw (all.0 ts h.0 h.1 (behind_follows items h.0 rest h.2 a (ends a)))
+            (behind_reads items all.1 h.0 rest (length h.0) (a ∷ []) h.2 ends stop (omega arith))
 
   module _ (goes_on : Option Kind → Bool) (begins : (a : A) (ts rest : List Token) → f a ts rest → goes_on (kind_at ts) ≡ true)
-      (between : (a : A) (k : Option Kind) → goes_on k ≡ true → Follows a k) (shrinks : (a : A) (ts rest : List Token) → f a ts rest → length rest < length ts) where
+      (between : (a : A) (k : Option Kind) → goes_on k ≡ true → Follows a k)
+          (shrinks : (a : A) (ts rest : List Token) → f a ts rest → length rest < length ts) where
     each_follows : (items : List A) (ts rest : List Token) → each f items ts rest → (a : A) → Follows a (kind_at rest) → Follows a (kind_at ts)
     each_follows [] ts rest h a ok = rw h ok
     each_follows (y ∷ ys) ts rest h a ok = between a (kind_at ts) (begins y ts h.0 h.1)
 
     each_reads_from : (items : List A) → Each ItemReads items → (ts rest : List Token) (n : ℕ) (found : List A) → each f items ts rest
-        → ((a : A) → Follows a (kind_at rest)) → goes_on (kind_at rest) ≡ false → length ts ≤ n → repeat goes_on item n found ts ≡ Ok (found ++ items, rest)
+        → ((a : A) → Follows a (kind_at rest)) → goes_on (kind_at rest) ≡ false → length ts ≤ n
+        → repeat goes_on item n found ts ≡ Ok (found ++ items, rest)
     each_reads_from [] all ts rest n found h ends stop le =
         rw h (repeat_stops goes_on item n found rest stop ∙ ap (λ (l : List A). Ok (l, rest)) (sym (append-nil found)))
     each_reads_from (a ∷ items) all ts rest zero found h ends stop le = absurd (omega (arith, shrinks a ts h.0 h.1))
@@ -110,4 +119,5 @@ module _ {A : Type 0} (f : A → Language) (item : Reader A) (Follows : A → Op
         → ((a : A) → Follows a (kind_at rest)) → goes_on (kind_at rest) ≡ false → one_or_more goes_on item ts ≡ Ok (items, rest)
     some_reads [] all ts rest h ends stop = absurd h
     some_reads (a ∷ items) all ts rest h ends stop =
-        rw (all.0 ts h.0 h.1 (each_follows items h.0 rest h.2 a (ends a))) (each_reads_from items all.1 h.0 rest (length h.0) (a ∷ []) h.2 ends stop (omega arith))
+        rw (all.0 ts h.0 h.1 (each_follows items h.0 rest h.2 a (ends a)))
+            (each_reads_from items all.1 h.0 rest (length h.0) (a ∷ []) h.2 ends stop (omega arith))

@@ -1,13 +1,13 @@
 -- The token at the head of a list: which it is, and that it is one token.
-use Rattle.std.proofs.Common.{◌≡◌, ℕ, ◌<◌, Bool, true, false, List, [], ◌∷◌, length, get_or, Option, Some, None, Ok, refl, sym, ap, ◌∙◌, arith}
+use Rattle.std.proofs.Common.{◌≡◌, ℕ, ◌<◌, true, false, List, [], ◌∷◌, length, get_or, Option, Some, None, Ok, refl, sym, ap, ◌∙◌, arith}
 use Rattle.std.proofs.lemmas.Bool.{eqb-true}
-use Rattle.cp_model.specs.Languages.{token, symbol, symbol_at, identifier}
+use Rattle.cp_model.specs.Languages.{token, symbol, symbol_at}
 use Rattle.cp_model.specs.declared.token.Token.{Token}
 use Rattle.cp_model.specs.declared.token.Kind.{Kind}
 use Rattle.cp_model.specs.declared.token.Kind.TheVariants as kind
 use Rattle.cp_model.specs.declared.token.Symbol.{Symbol}
 use Rattle.cp_model.specs.declared.token.Symbol.TheVariants as symbol
-use Rattle.cp_grammar.specs.Kinds.{code, is_symbol, is_name}
+use Rattle.cp_grammar.specs.Kinds.{code, is_symbol}
 use Rattle.cp_grammar.specs.Reading.{kind_at, place_at, tail, take_token, expect}
 
 -- ---- a symbol is known by its number
