@@ -135,8 +135,12 @@ constant_definition_reads : (d : ConstantDefinition) (ts rest : List Token) → 
 unfolding constant_definition_of
 constant_definition_reads d ts rest h =
     let h1 = h.2 in let h2 = h1.2 in
-    rw (identifier_reads d.name ts h.0 h.1, expect_reads symbol.Equal h1.1.0 h.0 h1.0 h1.1.1, constant_reads d.value h1.0 h2.0 h2.1,
-        expect_reads symbol.Semicolon h2.2.0 h2.0 rest h2.2.1) refl
+    rw (
+      identifier_reads d.name ts h.0 h.1,
+      expect_reads symbol.Equal h1.1.0 h.0 h1.0 h1.1.1,
+      constant_reads d.value h1.0 h2.0 h2.1,
+      expect_reads symbol.Semicolon h2.2.0 h2.0 rest h2.2.1,
+    ) refl
 
 -- ---- parameters and headings
 
@@ -151,9 +155,12 @@ unfolding parameter_group_of
 parameter_group_reads p ts rest h =
     let h1 = h.2 in let h2 = h1.2 in
     let name = names_begin p.names h.0 h1.0 h1.1 in
-    rw (optional_reads symbol.Var p.by_reference ts h.0 h.1 (rw name.1 (name_is_no symbol.Var name.0)),
-        names_reads p.names h.0 h1.0 h1.1 (rw (kind_of_symbol symbol.Colon h1.0 h2.0 h2.1) colon_is_no_comma),
-            expect_reads symbol.Colon h2.1.0 h1.0 h2.0 h2.1.1, identifier_reads p.of h2.0 rest h2.2) refl
+    rw (
+      optional_reads symbol.Var p.by_reference ts h.0 h.1 (rw name.1 (name_is_no symbol.Var name.0)),
+      names_reads p.names h.0 h1.0 h1.1 (rw (kind_of_symbol symbol.Colon h1.0 h2.0 h2.1) colon_is_no_comma),
+      expect_reads symbol.Colon h2.1.0 h1.0 h2.0 h2.1.1,
+      identifier_reads p.of h2.0 rest h2.2,
+    ) refl
 
 parameters_go : (ps : List s.Parameters) (at close : ℕ) (ts t1 t2 rest : List Token) → symbol_at symbol.OpenParenthesis at ts t1
     → separated_by symbol.Semicolon parameter_group_of t1 ≡ Ok (ps, t2)
@@ -169,10 +176,10 @@ parameters_reads [] ts rest h stop = rw (h, stop) refl
 parameters_reads (p ∷ ps) ts rest h stop =
     let h1 = h.2 in
     parameters_go (p ∷ ps) h.1.0 h1.2.0 ts h.0 h1.0 rest h.1.1
-      (separated_reads parameter_group parameter_group_of Anything symbol.Semicolon (λ p. tt) parameter_group_shrinks (p ∷ ps)
-        (each_of (ItemReads parameter_group parameter_group_of Anything) (λ p ts rest h u. parameter_group_reads p ts rest h) (p ∷ ps)) h.0 h1.0 h1.1
-            (λ p. tt)
-        (rw (kind_of_symbol symbol.CloseParenthesis h1.0 rest h1.2) close_is_no_semicolon)) h1.2.1
+    (separated_reads parameter_group parameter_group_of Anything symbol.Semicolon (λ p. tt) parameter_group_shrinks (p ∷ ps)
+    (each_of (ItemReads parameter_group parameter_group_of Anything) (λ p ts rest h u. parameter_group_reads p ts rest h) (p ∷ ps)) h.0 h1.0 h1.1
+    (λ p. tt)
+    (rw (kind_of_symbol symbol.CloseParenthesis h1.0 rest h1.2) close_is_no_semicolon)) h1.2.1
 
 -- the word before a routine says whether it has a result
 abbrev has_result : Option Identifier → Bool
@@ -209,11 +216,11 @@ heading_reads h ts rest g =
     let g1 = g.2 in let g2 = g1.2 in let g3 = g2.2 in let g4 = g3.2 in
     let taken = word_taken h.result_type ts g.0 g.1 in
     let entry_stops : is_symbol symbol.Entry (kind_at g1.0) ≡ false =
-        rw (kind_of (kind.Name h.name.name) h.name.at g1.0 g2.0 g2.1) (name_is_no symbol.Entry h.name.name) in
+    rw (kind_of (kind.Name h.name.name) h.name.at g1.0 g2.0 g2.1) (name_is_no symbol.Entry h.name.name) in
     heading_go (has_result h.result_type) h ts g.0 g1.0 g2.0 g3.0 g4.0 rest (word_tells h.result_type ts g.0 g.1) taken
-        (optional_reads symbol.Entry h.entry g.0 g1.0 g1.1 entry_stops)
-      (identifier_reads h.name g1.0 g2.0 g2.1) (parameters_reads h.parameters g2.0 g3.0 g3.1 (result_ends h.result_type g3.0 g4.0 rest g4.1 g4.2))
-          (result_reads h.result_type g3.0 g4.0 g4.1) g4.2
+    (optional_reads symbol.Entry h.entry g.0 g1.0 g1.1 entry_stops)
+    (identifier_reads h.name g1.0 g2.0 g2.1) (parameters_reads h.parameters g2.0 g3.0 g3.1 (result_ends h.result_type g3.0 g4.0 rest g4.1 g4.2))
+    (result_reads h.result_type g3.0 g4.0 g4.1) g4.2
 
 -- ---- variables, bodies and routines
 
@@ -230,8 +237,8 @@ variable_group_reads : (limit : ℕ) (g : s.Variables) (ts rest : List Token) �
 variable_group_reads limit g ts rest h =
     let h1 = h.2 in let h2 = h1.2 in
     variable_group_go (type_at limit) g ts h2.0 rest
-      (group_complete limit g (type_complete g.of) ts h2.0 (h.0, h.1, (h1.0, h1.1, h2.1))
-          (rw (kind_of_symbol symbol.Semicolon h2.0 rest h2.2) semicolon_ends_type)) h2.2
+    (group_complete limit g (type_complete g.of) ts h2.0 (h.0, h.1, (h1.0, h1.1, h2.1))
+    (rw (kind_of_symbol symbol.Semicolon h2.0 rest h2.2) semicolon_ends_type)) h2.2
 
 group_begins : (limit : ℕ) (g : s.Variables) (ts rest : List Token) → variable_group limit g ts rest → is_name (kind_at ts) ≡ true
 group_begins limit g ts rest h = let name = names_begin g.names ts h.0 h.1 in rw name.1 refl
@@ -250,11 +257,11 @@ pub variables_reads : (limit : ℕ) (gs : List s.Variables) (ts rest : List Toke
 variables_reads limit [] ts rest h block = rw h (variables_stop (type_at limit) rest (block_is_no_var (kind_at rest) block))
 variables_reads limit (g ∷ gs) ts rest h block =
     variables_go (type_at limit) (g ∷ gs) ts h.0 rest h.1
-      (some_reads (variable_group limit) (variable_group_of (type_at limit)) Anything is_name (group_begins limit) (λ g k go. tt)
-          (variable_group_shrinks limit) (g ∷ gs)
-        (each_of (ItemReads (variable_group limit) (variable_group_of (type_at limit)) Anything)
-            (λ g ts rest h u. variable_group_reads limit g ts rest h) (g ∷ gs))
-        h.0 rest h.2 (λ g. tt) (block_is_no_name (kind_at rest) block))
+    (some_reads (variable_group limit) (variable_group_of (type_at limit)) Anything is_name (group_begins limit) (λ g k go. tt)
+    (variable_group_shrinks limit) (g ∷ gs)
+    (each_of (ItemReads (variable_group limit) (variable_group_of (type_at limit)) Anything)
+    (λ g ts rest h u. variable_group_reads limit g ts rest h) (g ∷ gs))
+    h.0 rest h.2 (λ g. tt) (block_is_no_name (kind_at rest) block))
 
 -- what follows the definitions before variables: none that begins with a name
 pub variables_begin : (limit : ℕ) (gs : List s.Variables) (ts mid : List Token) → variables limit gs ts mid → begins_block (kind_at mid) ≡ true
@@ -274,8 +281,8 @@ body_reads (suc room) b ts rest h =
     let e = h.2.2 in
     rw (deeper_suc room)
     (body_go (readers room) b.at e.0 (listed_statements b.list) ts h.0 h.2.0 rest h.1
-      (statements_reads b.list (statements.all_complete b.list) room h.0 h.2.0 h.2.1 (rw (kind_of_symbol symbol.End h.2.0 rest e) end_follows)
-          (rw (kind_of_symbol symbol.End h.2.0 rest e) end_is_no_semicolon)) e.1
+    (statements_reads b.list (statements.all_complete b.list) room h.0 h.2.0 h.2.1 (rw (kind_of_symbol symbol.End h.2.0 rest e) end_follows)
+    (rw (kind_of_symbol symbol.End h.2.0 rest e) end_is_no_semicolon)) e.1
     ∙ ap (λ (l : s.Statements). Ok (record { at = b.at; list = l }, rest)) (statements_listed b.list))
 
 routine_go : (p : Reader s.TypeExpression) (d : Option Deeper) (r : s.Routine) (h : Heading) (ts t1 t2 t3 rest : List Token)
@@ -294,17 +301,17 @@ routine_reads limit r ts rest h =
     let one = heading_reads top ts h5.0 (h.0, h.1, (h1.0, h1.1, (h2.0, h2.1, (h3.0, h3.1, (h4.0, h4.1, h5.1))))) in
     let block : begins_block (kind_at h6.0) ≡ true = rw (body_begins limit r.body h6.0 h7.0 h7.1) body_is_block in
     routine_go (type_at limit) (deeper_at limit) r top ts h5.0 h6.0 h7.0 rest refl one (variables_reads limit r.variables h5.0 h6.0 h6.1 block)
-        (body_reads limit r.body h6.0 h7.0 h7.1) h7.2
+    (body_reads limit r.body h6.0 h7.0 h7.1) h7.2
 
 pub routines_reads : (limit : ℕ) (rs : List s.Routine) (b : s.Body) (ts mid rest : List Token) → each (routine limit) rs ts mid
     → body limit b mid rest → routines_of (type_at limit) (deeper_at limit) ts ≡ Ok (rs, mid)
 unfolding routines_of
 routines_reads limit rs b ts mid rest h g =
     each_reads (routine limit) (routine_of (type_at limit) (deeper_at limit)) Anything begins_routine (routine_begins limit) (λ r k go. tt)
-        (routine_shrinks limit) rs
-      (each_of (ItemReads (routine limit) (routine_of (type_at limit) (deeper_at limit)) Anything)
-          (λ r ts rest h u. routine_reads limit r ts rest h) rs)
-      ts mid h (λ r. tt) (rw (body_begins limit b mid rest g) refl)
+    (routine_shrinks limit) rs
+    (each_of (ItemReads (routine limit) (routine_of (type_at limit) (deeper_at limit)) Anything)
+    (λ r ts rest h u. routine_reads limit r ts rest h) rs)
+    ts mid h (λ r. tt) (rw (body_begins limit b mid rest g) refl)
 
 -- ---- types
 
@@ -320,9 +327,9 @@ system_reads : (limit : ℕ) (y : s.System) (ts rest : List Token) → system li
 system_reads limit y ts rest h =
     let h1 = h.2 in let h2 = h1.2 in let h3 = h2.2 in let h4 = h3.2 in
     system_go (type_at limit) (deeper_at limit) y ts h.0 h1.0 h2.0 h3.0 h4.0 rest h.1
-      (parameters_reads y.parameters h.0 h1.0 h1.1 (rw (kind_of_symbol symbol.Semicolon h1.0 h2.0 h2.1) semicolon_is_no_parenthesis)) h2.1
-      (variables_reads limit y.variables h2.0 h3.0 h3.1 (block_begins limit y.routines y.body h3.0 h4.0 rest h4.1 h4.2))
-          (routines_reads limit y.routines y.body h3.0 h4.0 rest h4.1 h4.2) (body_reads limit y.body h4.0 rest h4.2)
+    (parameters_reads y.parameters h.0 h1.0 h1.1 (rw (kind_of_symbol symbol.Semicolon h1.0 h2.0 h2.1) semicolon_is_no_parenthesis)) h2.1
+    (variables_reads limit y.variables h2.0 h3.0 h3.1 (block_begins limit y.routines y.body h3.0 h4.0 rest h4.1 h4.2))
+    (routines_reads limit y.routines y.body h3.0 h4.0 rest h4.1 h4.2) (body_reads limit y.body h4.0 rest h4.2)
 
 sort_by : (p : Reader s.TypeExpression) (d : Option Deeper) (x : Sort) → defined_by p d (Some (kind.Symbol (sort_symbol x))) ≡ system_type p d x
 unfolding defined_by
@@ -386,19 +393,19 @@ defined_reads : (limit : ℕ) (x : s.Defined) (ts rest : List Token) → defined
     → defined_of (type_at limit) (deeper_at limit) ts ≡ Ok (x, rest)
 defined_reads limit (s.Written t) ts rest h ends =
     by_defined (type_at limit) (deeper_at limit) (kind_at ts) (written_type (type_at limit) (deeper_at limit)) (s.Written t) ts rest refl
-      (written_by (type_at limit) (deeper_at limit) (kind_at ts) (type_begins limit t ts rest h))
-          (written_reads (type_at limit) (deeper_at limit) t ts rest (type_complete t limit ts rest h ends))
+    (written_by (type_at limit) (deeper_at limit) (kind_at ts) (type_begins limit t ts rest h))
+    (written_reads (type_at limit) (deeper_at limit) t ts rest (type_complete t limit ts rest h ends))
 defined_reads limit (s.Enumeration xs) ts rest h ends =
     by_defined (type_at limit) (deeper_at limit) (Some (kind.Symbol symbol.OpenParenthesis)) (enumeration_of (type_at limit) (deeper_at limit))
-        (s.Enumeration xs) ts rest (kind_of_symbol symbol.OpenParenthesis ts h.0 h.1)
-      (enumeration_by (type_at limit) (deeper_at limit))
-      (enumeration_reads (type_at limit) (deeper_at limit) xs ts h.0 h.2.0 rest h.1
-          (names_reads xs h.0 h.2.0 h.2.1 (rw (kind_of_symbol symbol.CloseParenthesis h.2.0 rest h.2.2) close_is_no_comma)) h.2.2)
+    (s.Enumeration xs) ts rest (kind_of_symbol symbol.OpenParenthesis ts h.0 h.1)
+    (enumeration_by (type_at limit) (deeper_at limit))
+    (enumeration_reads (type_at limit) (deeper_at limit) xs ts h.0 h.2.0 rest h.1
+    (names_reads xs h.0 h.2.0 h.2.1 (rw (kind_of_symbol symbol.CloseParenthesis h.2.0 rest h.2.2) close_is_no_comma)) h.2.2)
 defined_reads limit (s.SystemType y) ts rest h ends =
     by_defined (type_at limit) (deeper_at limit) (Some (kind.Symbol (sort_symbol y.sort))) (system_type (type_at limit) (deeper_at limit) y.sort)
-        (s.SystemType y) ts rest (kind_of_symbol (sort_symbol y.sort) ts h.0 h.1)
-      (sort_by (type_at limit) (deeper_at limit) y.sort)
-          (system_type_reads (type_at limit) (deeper_at limit) y ts rest (system_reads limit y ts rest h))
+    (s.SystemType y) ts rest (kind_of_symbol (sort_symbol y.sort) ts h.0 h.1)
+    (sort_by (type_at limit) (deeper_at limit) y.sort)
+    (system_type_reads (type_at limit) (deeper_at limit) y ts rest (system_reads limit y ts rest h))
 
 type_definition_go : (p : Reader s.TypeExpression) (d : Option Deeper) (x : s.TypeDefinition) (ts t1 t2 t3 rest : List Token)
     → identifier x.name ts t1 → symbol symbol.Equal t1 t2 → defined_of p d t2 ≡ Ok (x.defined, t3)
@@ -412,7 +419,7 @@ type_definition_reads : (limit : ℕ) (x : s.TypeDefinition) (ts rest : List Tok
 type_definition_reads limit x ts rest h =
     let h1 = h.2 in let h2 = h1.2 in
     type_definition_go (type_at limit) (deeper_at limit) x ts h.0 h1.0 h2.0 rest h.1 h1.1
-        (defined_reads limit x.defined h1.0 h2.0 h2.1 (rw (kind_of_symbol symbol.Semicolon h2.0 rest h2.2) semicolon_ends_type)) h2.2
+    (defined_reads limit x.defined h1.0 h2.0 h2.1 (rw (kind_of_symbol symbol.Semicolon h2.0 rest h2.2) semicolon_ends_type)) h2.2
 
 -- ---- sections
 
@@ -442,23 +449,23 @@ section_reads : (limit : ℕ) (x : s.Section) → ItemReads (section limit) (sec
 section_reads limit (s.Constants []) ts rest h stop = absurd h
 section_reads limit (s.Constants (d ∷ ds)) ts rest h stop =
     constants_go (type_at limit) (deeper_at limit) (d ∷ ds) ts h.0 rest h.1
-      (some_reads constant_definition constant_definition_of Anything is_name (λ d ts rest h. rw h.1.1 refl)
-          (λ d k go. tt) constant_definition_shrinks (d ∷ ds)
-        (each_of (ItemReads constant_definition constant_definition_of Anything) (λ d ts rest h u. constant_definition_reads d ts rest h)
-            (d ∷ ds)) h.0 rest h.2 (λ d. tt) stop)
+    (some_reads constant_definition constant_definition_of Anything is_name (λ d ts rest h. rw h.1.1 refl)
+    (λ d k go. tt) constant_definition_shrinks (d ∷ ds)
+    (each_of (ItemReads constant_definition constant_definition_of Anything) (λ d ts rest h u. constant_definition_reads d ts rest h)
+    (d ∷ ds)) h.0 rest h.2 (λ d. tt) stop)
 section_reads limit (s.Types []) ts rest h stop = absurd h
 section_reads limit (s.Types (d ∷ ds)) ts rest h stop =
     types_go (type_at limit) (deeper_at limit) (d ∷ ds) ts h.0 rest h.1
-      (some_reads (type_definition limit) (type_definition_of (type_at limit) (deeper_at limit)) Anything is_name (λ d ts rest h. rw h.1.1 refl)
-          (λ d k go. tt) (type_definition_shrinks limit) (d ∷ ds)
-        (each_of (ItemReads (type_definition limit) (type_definition_of (type_at limit) (deeper_at limit)) Anything)
-            (λ d ts rest h u. type_definition_reads limit d ts rest h) (d ∷ ds)) h.0 rest h.2 (λ d. tt) stop)
+    (some_reads (type_definition limit) (type_definition_of (type_at limit) (deeper_at limit)) Anything is_name (λ d ts rest h. rw h.1.1 refl)
+    (λ d k go. tt) (type_definition_shrinks limit) (d ∷ ds)
+    (each_of (ItemReads (type_definition limit) (type_definition_of (type_at limit) (deeper_at limit)) Anything)
+    (λ d ts rest h u. type_definition_reads limit d ts rest h) (d ∷ ds)) h.0 rest h.2 (λ d. tt) stop)
 
 pub sections_reads : (limit : ℕ) (xs : List s.Section) (ts rest : List Token) → each (section limit) xs ts rest → is_name (kind_at rest) ≡ false
     → begins_section (kind_at rest) ≡ false
     → repeated begins_section (section_of (type_at limit) (deeper_at limit)) [] ts ≡ Ok (xs, rest)
 sections_reads limit xs ts rest h no_name stop =
     each_reads (section limit) (section_of (type_at limit) (deeper_at limit)) NoName begins_section (section_begins limit)
-        (λ x k go. section_is_no_name k go) (section_shrinks limit) xs
-      (each_of (ItemReads (section limit) (section_of (type_at limit) (deeper_at limit)) NoName) (section_reads limit) xs) ts rest h
-          (λ x. no_name) stop
+    (λ x k go. section_is_no_name k go) (section_shrinks limit) xs
+    (each_of (ItemReads (section limit) (section_of (type_at limit) (deeper_at limit)) NoName) (section_reads limit) xs) ts rest h
+    (λ x. no_name) stop

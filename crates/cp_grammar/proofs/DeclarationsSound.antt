@@ -95,7 +95,7 @@ heading_from_sound b ts word = ensures_then _ _ _ _ (optional_sound symbol.Entry
     ensures_then _ _ (λ t rest. result_type t t3 rest × Returns b t) _ (result_type_sound b t3) (λ t t4 h4.
     ensures_then _ _ _ _ (expect_sound symbol.Semicolon t4) (λ p5 t5 h5.
     let made : heading (record { entry = e; name = x; parameters = ps; result_type = t }) ts t5 =
-        (tail ts, word t h4.1, (t1, h1, (t2, h2, (t3, h3, (t4, h4.0, (p5, h5)))))) in made)))))
+    (tail ts, word t h4.1, (t1, h1, (t2, h2, (t3, h3, (t4, h4.0, (p5, h5)))))) in made)))))
 
 procedure_word : (ts : List Token) → kind_at ts ≡ Some (kind.Symbol symbol.Procedure) → WordAt false ts
 procedure_word ts k (Some t) r = absurd r
@@ -163,9 +163,16 @@ module _ (limit : ℕ) (p : Reader s.TypeExpression) (ok : SoundType limit p) (d
       ensures_then _ _ _ _ (body_sound limit deeper okd t2) (λ b t3 h3.
       ensures_then _ _ _ _ (expect_sound symbol.Semicolon t3) (λ p4 t4 h4.
       let a = h1.2 in let b' = a.2 in let c = b'.2 in let d = c.2 in
-      let made : routine limit (record { entry = h.entry; name = h.name; parameters = h.parameters; result_type = h.result_type; variables =
-          vs; body = b }) ts t4 =
-        (h1.0, h1.1, (a.0, a.1, (b'.0, b'.1, (c.0, c.1, (d.0, d.1, (t1, d.2, (t2, h2, (t3, h3, (p4, h4))))))))) in made))))
+      let made : routine limit (record {
+        entry = h.entry;
+        name = h.name;
+        parameters = h.parameters;
+        result_type = h.result_type;
+        variables =
+            vs;
+        body = b;
+      }) ts t4 =
+      (h1.0, h1.1, (a.0, a.1, (b'.0, b'.1, (c.0, c.1, (d.0, d.1, (t1, d.2, (t2, h2, (t3, h3, (p4, h4))))))))) in made))))
 
   pub routines_sound : Sound (routines_of p deeper) (each (routine limit))
   unfolding routines_of
@@ -180,7 +187,7 @@ module _ (limit : ℕ) (p : Reader s.TypeExpression) (ok : SoundType limit p) (d
       ensures_then _ _ _ _ (routines_sound t3) (λ rs t4 h4.
       ensures_then _ _ _ _ (body_sound limit deeper okd t4) (λ b t5 h5.
       let made : system limit (record { sort = sort; parameters = ps; variables = vs; routines = rs; body = b }) ts t5 =
-        (tail ts, (place_at ts, head ts (kind.Symbol (sort_symbol sort)) k), (t1, h1, (t2, (p2, h2), (t3, h3, (t4, h4, h5))))) in made)))))
+      (tail ts, (place_at ts, head ts (kind.Symbol (sort_symbol sort)) k), (t1, h1, (t2, (p2, h2), (t3, h3, (t4, h4, h5))))) in made)))))
 
   system_type_sound : (sort : Sort) (ts : List Token) → kind_at ts ≡ Some (kind.Symbol (sort_symbol sort))
       → Ensures (system_type p deeper sort ts) (λ d rest. defined limit d ts rest)
@@ -194,7 +201,7 @@ module _ (limit : ℕ) (p : Reader s.TypeExpression) (ok : SoundType limit p) (d
   enumeration_sound ts k = ensures_then _ _ _ _ (names_sound (tail ts)) (λ xs t1 h1.
       ensures_then _ _ _ _ (expect_sound symbol.CloseParenthesis t1) (λ p2 t2 h2.
       let made : defined limit (s.Enumeration xs) ts t2 =
-          (tail ts, (place_at ts, head ts (kind.Symbol symbol.OpenParenthesis) k), (t1, h1, (p2, h2))) in made))
+      (tail ts, (place_at ts, head ts (kind.Symbol symbol.OpenParenthesis) k), (t1, h1, (p2, h2))) in made))
 
   written_sound : (ts : List Token) → Ensures (written_type p deeper ts) (λ d rest. defined limit d ts rest)
   unfolding written_type

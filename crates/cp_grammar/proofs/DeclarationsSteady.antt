@@ -26,7 +26,7 @@ behind_heading : (h : Heading) (l : List ℕ) → (heading_levels h ++ l) ≡ 0 
 behind_heading h l =
     let e = optional_levels h.entry in let p = parameters_levels h.parameters in let r = result_type_levels h.result_type in
     ap (λ (l : List ℕ). 0 ∷ l) (append_assoc e (0 ∷ (p ++ (r ++ (0 ∷ [])))) l
-      ∙ ap (λ (l : List ℕ). e ++ (0 ∷ l)) (append_assoc p (r ++ (0 ∷ [])) l ∙ ap (λ (l : List ℕ). p ++ l) (append_assoc r (0 ∷ []) l)))
+    ∙ ap (λ (l : List ℕ). e ++ (0 ∷ l)) (append_assoc p (r ++ (0 ∷ [])) l ∙ ap (λ (l : List ℕ). p ++ l) (append_assoc r (0 ∷ []) l)))
 
 some_parameters_have : (ps : List s.Parameters) (l : List ℕ) → SeparatedHas parameter_group_levels ps l → (0 ∷ (l ++ (0 ∷ []))) ≡ parameters_levels ps
 some_parameters_have [] l h = absurd h
@@ -89,8 +89,8 @@ module _ {c : Cut} {m : Mode} {p q : Reader s.TypeExpression} (r : TypesRelated 
   unfolding some_variables_of
   some_variables_steady = then (take_steady 0) (λ _. imply (λ gs l. (0 ∷ l) ≡ variables_levels gs)
       (some_steady variable_group_levels is_name refl
-          (λ g. omega (arith, length-append (names_levels g.names) (0 ∷ (type_levels 0 g.of ++ (0 ∷ []))))) variable_group_steady
-          (before variable_group_steady)) some_variables_have)
+      (λ g. omega (arith, length-append (names_levels g.names) (0 ∷ (type_levels 0 g.of ++ (0 ∷ []))))) variable_group_steady
+      (before variable_group_steady)) some_variables_have)
 
   pub variables_steady : Steady c m Anywhere (Has variables_levels) (variables_of p) (variables_of q)
   unfolding variables_of
@@ -108,8 +108,8 @@ module _ {c : Cut} (m : Mode) (d d' : Option Deeper) (rd : SteadyInner c (Deeper
     unfolding routine_of
     routine_steady = then heading_steady (λ h. then (variables_steady r) (λ vs. then body_steady (λ b.
         finish (λ _. record { entry = h.entry; name = h.name; parameters = h.parameters; result_type = h.result_type; variables = vs; body = b })
-            (expect_steady symbol.Semicolon)
-          (λ _. behind_heading h (variables_levels vs ++ (body_levels b ++ (0 ∷ [])))))))
+        (expect_steady symbol.Semicolon)
+        (λ _. behind_heading h (variables_levels vs ++ (body_levels b ++ (0 ∷ [])))))))
 
     pub routines_steady : Steady c m Anywhere (Has (each_levels routine_levels)) (routines_of p d) (routines_of q d')
     unfolding routines_of
@@ -152,12 +152,12 @@ module _ {c : Cut} (m : Mode) (d d' : Option Deeper) (rd : SteadyInner c (Deeper
     unfolding section_by
     section_by_steady (Some (kind.Symbol symbol.Const)) = then (take_steady 0) (λ _. finish (λ ds. s.Constants ds)
         (imply (Has (each_levels constant_definition_levels))
-            (some_steady constant_definition_levels is_name refl (λ x. omega arith) constant_definition_steady (before constant_definition_steady))
-            (some_has constant_definition_levels)) (λ ds. refl))
+        (some_steady constant_definition_levels is_name refl (λ x. omega arith) constant_definition_steady (before constant_definition_steady))
+        (some_has constant_definition_levels)) (λ ds. refl))
     section_by_steady (Some (kind.Symbol symbol.Type)) = then (take_steady 0) (λ _. finish (λ ds. s.Types ds)
         (imply (Has (each_levels type_definition_levels))
-            (some_steady type_definition_levels is_name refl (λ x. omega arith) type_definition_steady (before type_definition_steady))
-            (some_has type_definition_levels)) (λ ds. refl))
+        (some_steady type_definition_levels is_name refl (λ x. omega arith) type_definition_steady (before type_definition_steady))
+        (some_has type_definition_levels)) (λ ds. refl))
     section_by_steady _ = refuse_steady
 
     pub sections_steady : Steady c m Anywhere (Has (each_levels section_levels)) (repeated begins_section (section_of p d) [])

@@ -94,9 +94,9 @@ module _ {A : Type 0} (f : A → Language) (x : Symbol) where
   separated_sound item ok ts = ensures_then (item ts) (λ a. repeated (is_symbol x) (take_token >>= λ _. item) (a ∷ [])) (λ a rest. f a ts rest) _
       (ok ts)
       (λ a mid h. repeat_sound (is_symbol x) (take_token >>= λ _. item) (λ items rest. separated x f items ts rest)
-        (λ items at g c. ensures_weaker (item (tail at)) (λ a rest. f a (tail at) rest) _ (ok (tail at))
-          (λ a rest one. separated_push items a ts at (tail at) rest g (place_at at, head_symbol at x c) one))
-        (length mid) (a ∷ []) mid (mid, h, refl))
+      (λ items at g c. ensures_weaker (item (tail at)) (λ a rest. f a (tail at) rest) _ (ok (tail at))
+      (λ a rest one. separated_push items a ts at (tail at) rest g (place_at at, head_symbol at x c) one))
+      (length mid) (a ∷ []) mid (mid, h, refl))
 
 module _ {A : Type 0} (f : A → Language) (goes_on : Option Kind → Bool) (item : Reader A) where
   each_push : (items : List A) (a : A) (ts mid rest : List Token) → each f items ts mid → f a mid rest → each f (items ++ a ∷ []) ts rest
@@ -122,5 +122,5 @@ module _ {A : Type 0} (f : A → Language) (goes_on : Option Kind → Bool) (ite
   pub some_sound : Sound (one_or_more goes_on item) (some f)
   some_sound ts = ensures_then (item ts) (λ a. repeated goes_on item (a ∷ [])) (λ a rest. f a ts rest) _ (ok ts)
       (λ a mid h. repeat_sound goes_on item (λ items rest. some f items ts rest)
-        (λ items at g c. ensures_weaker (item at) (λ a rest. f a at rest) _ (ok at) (λ a rest one. some_push items a ts at rest g one))
-        (length mid) (a ∷ []) mid (mid, h, refl))
+      (λ items at g c. ensures_weaker (item at) (λ a rest. f a at rest) _ (ok at) (λ a rest one. some_push items a ts at rest g one))
+      (length mid) (a ∷ []) mid (mid, h, refl))

@@ -40,7 +40,7 @@ module _ (operators : Option Kind → Option Operator) (operand : Reader s.Expre
   comes_done reader e ts rest none c =
       let stop : goes_on operators operand (kind_at rest) ≡ false = rw none refl in
       c.5 ∙ rw (repeat_stops (goes_on operators operand) (operation_of operators operand) c.0 c.2 rest stop)
-          (ap (λ (e : s.Expression). Ok (e, rest)) c.3)
+      (ap (λ (e : s.Expression). Ok (e, rest)) c.3)
 
   operation_reads : (o : Operator) (at : ℕ) (b : s.Expression) (ts mid rest : List Token) → symbol_at (operator_symbol o) at ts mid
       → operators (Some (kind.Symbol (operator_symbol o))) ≡ Some o
@@ -59,12 +59,16 @@ module _ (operators : Option Kind → Option Operator) (operand : Reader s.Expre
       turn zero le so_far = absurd (omega (arith, token_shrinks _ at mid last t))
       turn (suc n) le so_far =
           let go : goes_on operators operand (kind_at mid) ≡ true = rw (t.1, some) refl in
-          let next : s.Operation = record { operator = o; at = at; operand = b } in
-          (n, c.1, c.2 ++ next ∷ [], chain_push c.1 c.2 next ∙ ap (λ (a : s.Expression). s.Binary a o at b) c.3,
-              omega (arith, token_shrinks _ at mid last t),
+          let next : s.Operation = record { operator = o; at = at; operand = b } in (
+            n,
+            c.1,
+            c.2 ++ next ∷ [],
+            chain_push c.1 c.2 next ∙ ap (λ (a : s.Expression). s.Binary a o at b) c.3,
+            omega (arith, token_shrinks _ at mid last t),
             so_far ∙ ap (λ (r : Outcome (List s.Operation)). and_then r (λ os. pure (chain_of c.1 os)))
-              (repeat_goes (goes_on operators operand) (operation_of operators operand) n c.2 mid rest next go
-                  (operation_reads o at b mid last rest t some one)))
+                (repeat_goes (goes_on operators operand) (operation_of operators operand) n c.2 mid rest next go
+                (operation_reads o at b mid last rest t some one)),
+          )
 
 abbrev pub TermReads : s.Expression → Type 0
 TermReads e = (room : ℕ) (ts rest : List Token) → expression room e ts rest → ends_factor (kind_at rest) ≡ true
@@ -92,13 +96,13 @@ term_done : (e : s.Expression) → TermReads e → (room : ℕ) (ts rest : List 
     → term_of (factor_at room) ts ≡ Ok (e, rest)
 term_done e reads room ts rest h ends =
     comes_done product_operator (factor_at room) (term_of (factor_at room)) e ts rest (ends_product (kind_at rest) ends)
-        (reads room ts rest h (term_then_factor (kind_at rest) ends))
+    (reads room ts rest h (term_then_factor (kind_at rest) ends))
 
 simple_done : (e : s.Expression) → SimpleReads e → (room : ℕ) (ts rest : List Token) → expression room e ts rest → ends_simple (kind_at rest) ≡ true
     → simple_of (factor_at room) ts ≡ Ok (e, rest)
 simple_done e reads room ts rest h ends =
     comes_done sum_operator (term_of (factor_at room)) (simple_of (factor_at room)) e ts rest (ends_sum (kind_at rest) ends)
-        (reads room ts rest h (simple_then_term (kind_at rest) ends))
+    (reads room ts rest h (simple_then_term (kind_at rest) ends))
 
 -- a term begins with no sign
 no_sign : (e : s.Expression) (room : ℕ) (ts rest : List Token) → IsTerm e → expression room e ts rest → sign_of (kind_at ts) ≡ None
@@ -146,16 +150,28 @@ module _ (f : Reader s.Expression) (e : s.Expression) (ts rest : List Token) whe
 by_simple : (e : s.Expression) → SimpleReads e → WholeReads e
 by_simple e reads room ts rest h ends =
     whole_from_simple (factor_at room) e ts rest (simple_done e reads room ts rest h (expression_then_simple (kind_at rest) ends))
-        (ends_relation (kind_at rest) ends)
+    (ends_relation (kind_at rest) ends)
 
 by_term : (e : s.Expression) → IsTerm e → TermReads e → SimpleReads e
-by_term e t reads room ts rest h ends =
-    (length rest, e, [], refl, omega arith, simple_from_term (factor_at room) e ts rest (no_sign e room ts rest t h)
-        (term_done e reads room ts rest h ends))
+by_term e t reads room ts rest h ends = (
+  length rest,
+  e,
+  [],
+  refl,
+  omega arith,
+  simple_from_term (factor_at room) e ts rest (no_sign e room ts rest t h)
+      (term_done e reads room ts rest h ends),
+)
 
 by_factor : (e : s.Expression) → FactorReads e → TermReads e
-by_factor e reads room ts rest h ends = (length rest, e, [], refl, omega arith,
-    term_from_factor (factor_at room) e ts rest (reads room ts rest h ends))
+by_factor e reads room ts rest h ends = (
+  length rest,
+  e,
+  [],
+  refl,
+  omega arith,
+  term_from_factor (factor_at room) e ts rest (reads room ts rest h ends),
+)
 
 pub complete_factor : (e : s.Expression) → IsTerm e → FactorReads e → Complete e
 complete_factor e t reads = record {
@@ -173,15 +189,15 @@ module _ (a : s.Expression) (o : Operator) (at : ℕ) (b : s.Expression) (room :
       → Comes product_operator (factor_at room) (term_of (factor_at room)) (s.Binary a o at b) ts rest
   product_turn k ra rb ends =
       comes_on product_operator (factor_at room) (term_of (factor_at room)) a o at b ts mid last rest
-        (ra room ts mid ha (rw (kind_of (kind.Symbol (operator_symbol o)) at mid last t) (ends_at_operator o))) t (product_is o k)
-            (rb room last rest hb ends) (expression_shrinks b room last rest hb)
+      (ra room ts mid ha (rw (kind_of (kind.Symbol (operator_symbol o)) at mid last t) (ends_at_operator o))) t (product_is o k)
+      (rb room last rest hb ends) (expression_shrinks b room last rest hb)
 
   sum_turn : is_sum o ≡ true → SimpleReads a → TermReads b → ends_term (kind_at rest) ≡ true
       → Comes sum_operator (term_of (factor_at room)) (simple_of (factor_at room)) (s.Binary a o at b) ts rest
   sum_turn k ra rb ends =
       comes_on sum_operator (term_of (factor_at room)) (simple_of (factor_at room)) a o at b ts mid last rest
-        (ra room ts mid ha (rw (kind_of (kind.Symbol (operator_symbol o)) at mid last t) (ends_at_sum o k))) t (sum_is o k)
-            (term_done b rb room last rest hb ends) (expression_shrinks b room last rest hb)
+      (ra room ts mid ha (rw (kind_of (kind.Symbol (operator_symbol o)) at mid last t) (ends_at_sum o k))) t (sum_is o k)
+      (term_done b rb room last rest hb ends) (expression_shrinks b room last rest hb)
 
   relation_turn : is_relation o ≡ true → SimpleReads a → SimpleReads b → ends_expression (kind_at rest) ≡ true
       → expression_at room ts ≡ Ok (s.Binary a o at b, rest)
@@ -264,6 +280,11 @@ module _ (a : s.Expression) (at : ℕ) (b : s.Expression) (ca : Complete a) (cb 
   binary_complete operator.AtLeast = relation_case operator.AtLeast refl (λ h. h) (λ h. h) refl refl
 
 pub sign_complete : (x : Sign) (at : ℕ) (e : s.Expression) → Complete e → Complete (s.Signed x at e)
-sign_complete x at e c = sum_complete (s.Signed x at e) refl refl (λ room ts rest h ends.
-    (length rest, s.Signed x at e, [], refl, omega arith,
-        simple_from_sign (factor_at room) e ts rest x at h.1.0 h.1.1 (term_done e (c.term h.0) room h.1.0 rest h.1.2 ends)))
+sign_complete x at e c = sum_complete (s.Signed x at e) refl refl (λ room ts rest h ends. (
+  length rest,
+  s.Signed x at e,
+  [],
+  refl,
+  omega arith,
+  simple_from_sign (factor_at room) e ts rest x at h.1.0 h.1.1 (term_done e (c.term h.0) room h.1.0 rest h.1.2 ends),
+))

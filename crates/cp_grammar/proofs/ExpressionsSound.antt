@@ -164,28 +164,29 @@ module _ (room : ℕ) (operators : Option Kind → Option Operator) (class : Ope
     where
       go : (o : Option Operator) → operators (kind_at ts) ≡ o
           → Ensures (if_some o refuse (λ o. take_token >>= λ at. operand >>= λ e. pure (record { operator = o; at = at; operand = e })) ts)
-              (λ o rest. OperationAt ts o rest)
+          (λ o rest. OperationAt ts o rest)
       go None e = tt
       go (Some o) e =
           let k = table.kind (kind_at ts) o e in
           ensures_then (operand (tail ts)) (λ b. pure (record { operator = o; at = place_at ts; operand = b }))
-              (λ b rest. expression room b (tail ts) rest × R b) _ (ok (tail ts))
-            (λ b rest g. (k.1, head ts (kind.Symbol (operator_symbol o)) k.0, g.0, g.1))
+          (λ b rest. expression room b (tail ts) rest × R b) _ (ok (tail ts))
+          (λ b rest g. (k.1, head ts (kind.Symbol (operator_symbol o)) k.0, g.0, g.1))
 
   chain_sound : (start ts : List Token) (e : s.Expression) → expression room e start ts → L e
       → Ensures (chain_from operators operand e ts) (λ x rest. expression room x start rest × L x)
   unfolding chain_from
   chain_sound start ts e h l =
       ensures_then (repeated (goes_on operators operand) (operation_of operators operand) [] ts) (λ os. pure (chain_of e os))
-        (λ os rest. expression room (chain_of e os) start rest × L (chain_of e os)) _
-        (repeat_sound (goes_on operators operand) (operation_of operators operand)
-            (λ os rest. expression room (chain_of e os) start rest × L (chain_of e os))
-          (λ os at g c. ensures_weaker (operation_of operators operand at) (λ o rest. OperationAt at o rest) _ (operation_sound at)
-            (λ o rest one. rw (chain_push e os o)
-              ((table.left o.operator (chain_of e os) one.0 g.1, (table.right o.operator o.operand one.0 one.3, (at, g.0, (tail at, one.1, one.2)))),
-               table.makes o.operator (chain_of e os) o.at o.operand one.0)))
-          (length ts) [] ts (h, l))
-        (λ os rest g. g)
+      (λ os rest. expression room (chain_of e os) start rest × L (chain_of e os)) _
+      (repeat_sound (goes_on operators operand) (operation_of operators operand)
+      (λ os rest. expression room (chain_of e os) start rest × L (chain_of e os))
+      (λ os at g c. ensures_weaker (operation_of operators operand at) (λ o rest. OperationAt at o rest) _ (operation_sound at)
+      (λ o rest one. rw (chain_push e os o) (
+        (table.left o.operator (chain_of e os) one.0 g.1, (table.right o.operator o.operand one.0 one.3, (at, g.0, (tail at, one.1, one.2)))),
+        table.makes o.operator (chain_of e os) o.at o.operand one.0,
+      )))
+      (length ts) [] ts (h, l))
+      (λ os rest g. g)
 
 -- ---- from terms to expressions
 
@@ -215,13 +216,13 @@ module _ (room : ℕ) (f : Reader s.Expression) (ok : SoundFactor room f) where
   relation_sound : (ts mid : List Token) (a : s.Expression) (o : Option Operator) → relation_operator (kind_at mid) ≡ o → expression room a ts mid
       → IsSimple a
       → Ensures (if_some o (pure a) (λ o. take_token >>= λ at. simple_of f >>= λ b. pure (s.Binary a o at b)) mid)
-          (λ e rest. expression room e ts rest)
+      (λ e rest. expression room e ts rest)
   relation_sound ts mid a None e h x = h
   relation_sound ts mid a (Some o) e h x =
       let k = relation_kind (kind_at mid) o e in
       ensures_then (simple_of f (tail mid)) (λ b. pure (s.Binary a o (place_at mid) b)) _ _ (simple_sound (tail mid))
       (λ b rest g. let sides = relation_sides o a b k.1 x g.1 in
-          (sides.0, (sides.1, (mid, h, (tail mid, head mid (kind.Symbol (operator_symbol o)) k.0, g.0)))))
+      (sides.0, (sides.1, (mid, h, (tail mid, head mid (kind.Symbol (operator_symbol o)) k.0, g.0)))))
 
   pub expression_of_sound : Sound (expression_of f) (expression room)
   unfolding expression_of
@@ -276,9 +277,9 @@ module _ (room : ℕ) (f : Reader s.Expression) (ok : SoundFactor room f) where
   indices_sound ts k = ensures_then (index_of f ts) (λ i. repeated (is_symbol symbol.Comma) (index_of f) (i ∷ [])) _ _
       (index_sound symbol.OpenBracket ts k)
       (λ i mid h. repeat_sound (is_symbol symbol.Comma) (index_of f) (λ is rest. indices room (indices_of is) ts rest)
-        (λ is at g c. ensures_weaker (index_of f at) (λ i rest. IndexAt symbol.Comma i at rest) _ (index_sound symbol.Comma at c)
-          (λ i rest one. indices_push room is i ts at (tail at) rest g one.0 one.1))
-        (length mid) (i ∷ []) mid (tail ts, h.0, (mid, h.1, refl)))
+      (λ is at g c. ensures_weaker (index_of f at) (λ i rest. IndexAt symbol.Comma i at rest) _ (index_sound symbol.Comma at c)
+      (λ i rest one. indices_push room is i ts at (tail at) rest g one.0 one.1))
+      (length mid) (i ∷ []) mid (tail ts, h.0, (mid, h.1, refl)))
 
 -- ---- what opens a level
 
@@ -289,19 +290,19 @@ module _ (room : ℕ) (inner : Option (Reader s.Expression)) (ok : SoundInner So
   indexed_sound ts k = inside_sound SoundFactor (λ room x rest. selector room x ts rest) _ ts (λ room f ok.
       ensures_then _ _ _ _ (indices_sound room f ok ts k) (λ is mid h.
       ensures_then _ _ _ _ (expect_sound symbol.CloseBracket mid)
-          (λ at rest c. let made : selector (suc room) (s.Indexed (indices_of is)) ts rest = (mid, h, (at, c)) in made))) room inner ok
+      (λ at rest c. let made : selector (suc room) (s.Indexed (indices_of is)) ts rest = (mid, h, (at, c)) in made))) room inner ok
 
   pub arguments_sound : (ts : List Token) → is_symbol symbol.OpenParenthesis (kind_at ts) ≡ true
       → Ensures (arguments_of inner ts) (λ es rest. opens room
-          (λ r. symbol symbol.OpenParenthesis ⋅ expressions r (expressions_of es) ⋅ symbol symbol.CloseParenthesis) ts rest)
+      (λ r. symbol symbol.OpenParenthesis ⋅ expressions r (expressions_of es) ⋅ symbol symbol.CloseParenthesis) ts rest)
   unfolding arguments_of
   arguments_sound ts k = inside_sound SoundFactor
       (λ room es rest. opens room (λ r. symbol symbol.OpenParenthesis ⋅ expressions r
-          (expressions_of es) ⋅ symbol symbol.CloseParenthesis) ts rest) _ ts (λ room f ok.
+      (expressions_of es) ⋅ symbol symbol.CloseParenthesis) ts rest) _ ts (λ room f ok.
       ensures_then _ _ _ _ (expressions_sound room f ok (tail ts)) (λ es mid h.
       ensures_then _ _ _ _ (expect_sound symbol.CloseParenthesis mid) (λ at rest c.
       let made : (symbol symbol.OpenParenthesis ⋅ expressions room (expressions_of es) ⋅ symbol symbol.CloseParenthesis) ts rest =
-          (tail ts, (place_at ts, head_symbol ts symbol.OpenParenthesis k), (mid, h, (at, c))) in made))) room inner ok
+      (tail ts, (place_at ts, head_symbol ts symbol.OpenParenthesis k), (mid, h, (at, c))) in made))) room inner ok
 
   parenthesized_sound : (ts : List Token) → kind_at ts ≡ Some (kind.Symbol symbol.OpenParenthesis)
       → Ensures (parenthesized_of inner ts) (λ e rest. expression room e ts rest × IsFactor e)
@@ -309,8 +310,8 @@ module _ (room : ℕ) (inner : Option (Reader s.Expression)) (ok : SoundInner So
   parenthesized_sound ts k = inside_sound SoundFactor (λ room e rest. expression room e ts rest × IsFactor e) _ ts (λ room f ok.
       ensures_then _ _ _ _ (expression_of_sound room f ok (tail ts)) (λ e mid h.
       ensures_then _ _ _ _ (expect_sound symbol.CloseParenthesis mid)
-          (λ at rest c. let made : expression (suc room) (s.Parenthesized (place_at ts) e) ts rest × IsFactor (s.Parenthesized (place_at ts) e) =
-          ((tail ts, head ts (kind.Symbol symbol.OpenParenthesis) k, (mid, h, (at, c))), refl) in made))) room inner ok
+      (λ at rest c. let made : expression (suc room) (s.Parenthesized (place_at ts) e) ts rest × IsFactor (s.Parenthesized (place_at ts) e) =
+      ((tail ts, head ts (kind.Symbol symbol.OpenParenthesis) k, (mid, h, (at, c))), refl) in made))) room inner ok
 
   not_sound : (ts : List Token) → kind_at ts ≡ Some (kind.Symbol symbol.Not)
       → Ensures (not_of inner ts) (λ e rest. expression room e ts rest × IsFactor e)
@@ -318,7 +319,7 @@ module _ (room : ℕ) (inner : Option (Reader s.Expression)) (ok : SoundInner So
   not_sound ts k = inside_sound SoundFactor (λ room e rest. expression room e ts rest × IsFactor e) _ ts (λ room f ok.
       ensures_then _ _ (λ e rest. expression room e (tail ts) rest × IsFactor e) _ (ok (tail ts)) (λ e rest h.
       let made : expression (suc room) (s.Not (place_at ts) e) ts rest × IsFactor (s.Not (place_at ts) e) =
-          ((h.1, (tail ts, head ts (kind.Symbol symbol.Not) k, h.0)), refl) in made)) room inner ok
+      ((h.1, (tail ts, head ts (kind.Symbol symbol.Not) k, h.0)), refl) in made)) room inner ok
 
   -- ---- designators and factors
 
@@ -355,6 +356,7 @@ module _ (room : ℕ) (inner : Option (Reader s.Expression)) (ok : SoundInner So
       some_arguments zero [] rest h = absurd h
       some_arguments (suc room) [] rest h = absurd h.2.1
       some_arguments room (e ∷ es) rest h = h
+
       go : (b : Bool) → is_symbol symbol.OpenParenthesis (kind_at ts) ≡ b
           → Ensures (cond b (arguments_of inner) (pure []) ts) (λ es rest. arguments room (expressions_of es) ts rest)
       go true e = ensures_weaker _ _ _ (arguments_sound ts e) (λ es rest h. some_arguments room es rest h)

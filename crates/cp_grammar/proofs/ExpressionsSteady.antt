@@ -53,7 +53,7 @@ more_push depth [] i = ap (λ (l : List ℕ). 0 ∷ l) (append-nil (expression_l
 more_push depth (x ∷ xs) i =
     ap (λ (l : List ℕ). 0 ∷ expression_levels depth x.value ++ l) (more_push depth xs i)
     ∙ ap (λ (l : List ℕ). 0 ∷ l) (sym (append_assoc (expression_levels depth x.value) (more_indices_levels depth (indices_of xs))
-        (index_levels depth i)))
+    (index_levels depth i)))
 
 -- the levels behind the `[`
 abbrev IndicesHave : ℕ → List PlacedIndex → List ℕ → Type 0
@@ -66,8 +66,8 @@ indices_grow depth [] l i h = absurd h
 indices_grow depth (x ∷ xs) l i h =
     ap (λ (l : List ℕ). l ++ index_levels (suc depth) i) h
     ∙ ap (λ (l : List ℕ). suc depth ∷ l) (append_assoc (expression_levels (suc depth) x.value) (more_indices_levels (suc depth) (indices_of xs))
-        (index_levels (suc depth) i)
-      ∙ ap (λ (l : List ℕ). expression_levels (suc depth) x.value ++ l) (sym (more_push (suc depth) xs i)))
+    (index_levels (suc depth) i)
+    ∙ ap (λ (l : List ℕ). expression_levels (suc depth) x.value ++ l) (sym (more_push (suc depth) xs i)))
 
 some_selector : (depth : ℕ) (x : s.Selector) → 0 < length (selector_levels depth x)
 some_selector depth (s.Field at name) = omega arith
@@ -95,11 +95,11 @@ module _ {c : Cut} {m : Mode} (depth : ℕ) {f f' : Reader s.Expression} (r : Re
   chain_steady : (operators : Option Kind → Option Operator) → operators None ≡ None → {p p' : Reader s.Expression} → Related c m depth p p'
       → (e : s.Expression)
       → Steady c m Anywhere (λ x l. (expression_levels depth e ++ l) ≡ expression_levels depth x) (chain_from operators p e)
-          (chain_from operators p' e)
+      (chain_from operators p' e)
   unfolding chain_from
   chain_steady operators none {p} {p'} s e = finish (λ os. chain_of e os)
       (each_steady (operation_levels depth) (goes_on operators p) (rw none refl) (λ o. omega arith) (before (operation_steady operators none s)))
-          (λ os. sym (chain_levels depth e os))
+      (λ os. sym (chain_levels depth e os))
 
   term_steady : Related c m depth (term_of f) (term_of f')
   unfolding term_of
@@ -168,30 +168,30 @@ indexed_has depth (i ∷ is) l h = ap (λ (l : List ℕ). l ++ 0 ∷ []) h
 module _ {c : Cut} (m : Mode) (depth : ℕ) (i i' : Option (Reader s.Expression)) (r : SteadyInner c (Related c) m depth i i') where
   indices_behind : (m : Mode) (f f' : Reader s.Expression) → Related c m (suc depth) f f' → (at : ℕ)
       → Steady c m Anywhere (IndicesHave depth) ((expression_of f >>= λ e. pure (record { at = at; value = e })) >>= λ i. repeated
-          (is_symbol symbol.Comma) (index_of f) (i ∷ []))
-          ((expression_of f' >>= λ e. pure (record { at = at; value = e })) >>= λ i. repeated (is_symbol symbol.Comma) (index_of f') (i ∷ []))
+      (is_symbol symbol.Comma) (index_of f) (i ∷ []))
+      ((expression_of f' >>= λ e. pure (record { at = at; value = e })) >>= λ i. repeated (is_symbol symbol.Comma) (index_of f') (i ∷ []))
   indices_behind m f f' r at =
       then {g = λ i. expression_levels (suc depth) i.value}
-          (finish (λ e. record { at = at; value = e }) (expression_of_steady (suc depth) r) (λ e. refl)) (λ i.
+      (finish (λ e. record { at = at; value = e }) (expression_of_steady (suc depth) r) (λ e. refl)) (λ i.
       repeated_steady (is_symbol symbol.Comma) (no_symbol symbol.Comma) (index_levels (suc depth)) (λ i. omega arith) (IndicesHave depth)
-          (indices_grow depth) (index_of f) (index_of f')
-        (index_steady (suc depth) r) (i ∷ []) (expression_levels (suc depth) i.value)
-            (ap (λ (l : List ℕ). suc depth ∷ l) (sym (append-nil (expression_levels (suc depth) i.value)))))
+      (indices_grow depth) (index_of f) (index_of f')
+      (index_steady (suc depth) r) (i ∷ []) (expression_levels (suc depth) i.value)
+      (ap (λ (l : List ℕ). suc depth ∷ l) (sym (append-nil (expression_levels (suc depth) i.value)))))
 
   indexed_steady : Steady c m Before (Has (selector_levels depth)) (indexed_of i) (indexed_of i')
   unfolding indexed_of indices_from index_of
   indexed_steady = opening_steady (Has (selector_levels depth)) (Related c) depth
       (λ f at. ((expression_of f >>= λ e. pure (record { at = at; value = e })) >>= λ i. repeated (is_symbol symbol.Comma) (index_of f)
-          (i ∷ [])) >>= λ is. expect symbol.CloseBracket >>= λ _. pure (s.Indexed (indices_of is)))
+      (i ∷ [])) >>= λ is. expect symbol.CloseBracket >>= λ _. pure (s.Indexed (indices_of is)))
       (λ m f f' r at. then_any (indices_behind m f f' r at)
-          (λ is l h. finish (λ _. s.Indexed (indices_of is)) (expect_steady symbol.CloseBracket) (λ _. indexed_has depth is l h))) m i i' r
+      (λ is l h. finish (λ _. s.Indexed (indices_of is)) (expect_steady symbol.CloseBracket) (λ _. indexed_has depth is l h))) m i i' r
 
   arguments_steady : Steady c m Before (Called depth) (arguments_of i) (arguments_of i')
   unfolding arguments_of
   arguments_steady = opening_steady (Called depth) (Related c) depth
       (λ f at. expressions_from f >>= λ es. expect symbol.CloseParenthesis >>= λ _. pure es)
       (λ m f f' r at. then_any (expressions_steady (suc depth) r)
-          (λ es l h. finish (λ _. es) (expect_steady symbol.CloseParenthesis) (λ _. called depth es l h))) m i i' r
+      (λ es l h. finish (λ _. es) (expect_steady symbol.CloseParenthesis) (λ _. called depth es l h))) m i i' r
 
   pub optional_arguments_steady : Steady c m Anywhere (Has (λ es. arguments_levels depth (expressions_of es))) (optional_arguments_of i)
       (optional_arguments_of i')
@@ -204,7 +204,7 @@ module _ {c : Cut} (m : Mode) (depth : ℕ) (i i' : Option (Reader s.Expression)
   parenthesized_steady = opening_steady (Has (expression_levels depth)) (Related c) depth
       (λ f at. expression_of f >>= λ e. expect symbol.CloseParenthesis >>= λ _. pure (s.Parenthesized at e))
       (λ m f f' r at. then (expression_of_steady (suc depth) r)
-          (λ e. finish (λ _. s.Parenthesized at e) (expect_steady symbol.CloseParenthesis) (λ _. refl))) m i i' r
+      (λ e. finish (λ _. s.Parenthesized at e) (expect_steady symbol.CloseParenthesis) (λ _. refl))) m i i' r
 
   not_steady : Steady c m Before (Has (expression_levels depth)) (not_of i) (not_of i')
   unfolding not_of
@@ -231,13 +231,13 @@ module _ {c : Cut} (m : Mode) (depth : ℕ) (i i' : Option (Reader s.Expression)
   unfolding designator_of
   designator_steady = then identifier_steady (λ root. finish (λ xs. s.Designate root (selectors_of xs))
       (each_steady (selector_levels depth) begins_selector refl (some_selector depth) (before selector_steady))
-          (λ xs. ap (λ (l : List ℕ). 0 ∷ l) (sym (selectors_are_each depth xs))))
+      (λ xs. ap (λ (l : List ℕ). 0 ∷ l) (sym (selectors_are_each depth xs))))
 
   named_steady : Steady c m Anywhere (Has (expression_levels depth)) (named_of i) (named_of i')
   unfolding named_of call_or_part
   named_steady = then designator_steady (λ d. symbol_steady symbol.OpenParenthesis (call_or_part i d) (call_or_part i' d)
       (then_any arguments_steady (λ es l h. pure_steady (s.Call d (expressions_of es))
-          (ap (λ (l : List ℕ). designator_levels depth d ++ l) (append-nil l) ∙ called_in depth d es l h)))
+      (ap (λ (l : List ℕ). designator_levels depth d ++ l) (append-nil l) ∙ called_in depth d es l h)))
       (pure_steady (s.Designated d) (append-nil (designator_levels depth d))))
 
   factor_by_steady : (k : Option Kind) → Steady c m (start_of k) (Has (expression_levels depth)) (factor_by i k) (factor_by i' k)

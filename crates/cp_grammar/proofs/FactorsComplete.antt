@@ -52,10 +52,10 @@ pub expressions_reads : (es : s.Expressions) → Each Complete (listed es) → (
 unfolding expressions_from
 expressions_reads es all room ts rest h ends stop =
     separated_reads (expression room) (expression_at room) Ends symbol.Comma (λ e. refl)
-        (λ e ts rest h. omega (arith, expression_shrinks e room ts rest h)) (listed es)
-      (each_imply Complete (ItemReads (expression room) (expression_at room) Ends) (λ e c ts rest h ends. c.whole room ts rest h ends)
-          (listed es) all)
-      ts rest (listed_separated room es ts rest h) (λ e. ends) stop
+    (λ e ts rest h. omega (arith, expression_shrinks e room ts rest h)) (listed es)
+    (each_imply Complete (ItemReads (expression room) (expression_at room) Ends) (λ e c ts rest h ends. c.whole room ts rest h ends)
+    (listed es) all)
+    ts rest (listed_separated room es ts rest h) (λ e. ends) stop
 
 -- ---- lists of indices
 
@@ -87,12 +87,12 @@ more_indices_reads : (is : s.Indices) → AllIndices is → (room : ℕ) (ts res
     → repeat (is_symbol symbol.Comma) (index_of (factor_at room)) n found ts ≡ Ok (found ++ placed is, rest)
 more_indices_reads s.NoIndices all room ts rest n found h ends stop le =
     rw h (repeat_stops (is_symbol symbol.Comma) (index_of (factor_at room)) n found rest stop
-        ∙ ap (λ (l : List PlacedIndex). Ok (l, rest)) (sym (append-nil found)))
+    ∙ ap (λ (l : List PlacedIndex). Ok (l, rest)) (sym (append-nil found)))
 more_indices_reads (s.MoreIndices at e is) all room ts rest zero found h ends stop le =
     absurd (omega (arith, token_shrinks (kind.Symbol symbol.Comma) at ts h.0 h.1))
 more_indices_reads (s.MoreIndices at e is) all room ts rest (suc n) found h ends stop le =
     let one = index_reads (kind.Symbol symbol.Comma) (factor_at room) at e ts h.0 h.2.0 h.1
-        (all.0.whole room h.0 h.2.0 h.2.1 (more_indices_kind is room h.2.0 rest h.2.2 ends)) in
+    (all.0.whole room h.0 h.2.0 h.2.1 (more_indices_kind is room h.2.0 rest h.2.2 ends)) in
     let next : PlacedIndex = record { at = at; value = e } in
     let go : is_symbol symbol.Comma (kind_at ts) ≡ true = rw h.1.1 (is_symbol_refl symbol.Comma) in
     let less : length h.2.0 ≤ n = omega (arith, token_shrinks (kind.Symbol symbol.Comma) at ts h.0 h.1, expression_shrinks e room h.0 h.2.0 h.2.1) in
@@ -107,7 +107,7 @@ unfolding indices_from
 indices_reads s.NoIndices all room ts rest h ends stop = absurd h
 indices_reads (s.MoreIndices at e is) all room ts rest h ends stop =
     let one = index_reads (kind.Symbol symbol.OpenBracket) (factor_at room) at e ts h.0 h.2.0 h.1
-        (all.0.whole room h.0 h.2.0 h.2.1 (more_indices_kind is room h.2.0 rest h.2.2 ends)) in
+    (all.0.whole room h.0 h.2.0 h.2.1 (more_indices_kind is room h.2.0 rest h.2.2 ends)) in
     rw one (more_indices_reads is all.1 room h.2.0 rest (length h.2.0) (record { at = at; value = e } ∷ []) h.2.2 ends stop (omega arith))
 
 -- ---- what opens a level
@@ -153,7 +153,7 @@ parenthesized_complete : (at : ℕ) (e : s.Expression) → Complete e → Factor
 parenthesized_complete at e c zero ts rest h ends = absurd h
 parenthesized_complete at e c (suc room) ts rest h ends =
     rw (inner_suc room) (parenthesized_reads (factor_at room) ts h.0 h.2.0 rest at h.2.2.0 e h.1
-        (c.whole room h.0 h.2.0 h.2.1 (rw h.2.2.1.1 refl)) h.2.2.1)
+    (c.whole room h.0 h.2.0 h.2.1 (rw h.2.2.1.1 refl)) h.2.2.1)
 
 not_complete : (at : ℕ) (e : s.Expression) → Complete e → FactorReads (s.Not at e)
 not_complete at e c zero ts rest h ends = absurd h.1
@@ -182,7 +182,7 @@ indexed_complete is all zero ts rest h = absurd h
 indexed_complete is all (suc room) ts rest h =
     rw (inner_suc room)
     (indexed_reads (factor_at room) ts h.0 rest h.2.0 (placed is) (indices_begin is room ts h.0 h.1)
-        (indices_reads is all room ts h.0 h.1 (rw h.2.1.1 refl) (rw h.2.1.1 bracket_is_no_comma)) h.2.1
+    (indices_reads is all room ts h.0 h.1 (rw h.2.1.1 refl) (rw h.2.1.1 bracket_is_no_comma)) h.2.1
     ∙ ap (λ (is : s.Indices). Ok (s.Indexed is, rest)) (indices_placed is))
 
 abbrev listed_selectors : s.Selectors → List s.Selector
@@ -218,11 +218,11 @@ designator_reads inner x xs ts mid rest t h = rw (identifier_reads x ts mid t, h
 designator_complete : (x : Identifier) (xs : s.Selectors) → Each SelectorReads (listed_selectors xs) → DesignatorReads (s.Designate x xs)
 designator_complete x xs all room ts rest h stop =
     designator_reads (inner_at room) x (listed_selectors xs) ts h.0 rest h.1
-      (each_reads (selector room) (selector_of (inner_at room)) Anything begins_selector (selector_begins room) (λ x k go. tt)
-          (λ x ts rest h. selector_shrinks x room ts rest h) (listed_selectors xs)
-        (each_imply SelectorReads (ItemReads (selector room) (selector_of (inner_at room)) Anything) (λ x r ts rest h u. r room ts rest h)
-            (listed_selectors xs) all)
-        h.0 rest (listed_each room xs h.0 rest h.2) (λ x. tt) stop)
+    (each_reads (selector room) (selector_of (inner_at room)) Anything begins_selector (selector_begins room) (λ x k go. tt)
+    (λ x ts rest h. selector_shrinks x room ts rest h) (listed_selectors xs)
+    (each_imply SelectorReads (ItemReads (selector room) (selector_of (inner_at room)) Anything) (λ x r ts rest h u. r room ts rest h)
+    (listed_selectors xs) all)
+    h.0 rest (listed_each room xs h.0 rest h.2) (λ x. tt) stop)
     ∙ ap (λ (xs : s.Selectors). Ok (s.Designate x xs, rest)) (selectors_listed xs)
 
 -- ---- factors
@@ -253,7 +253,7 @@ some_arguments : (es : s.Expressions) → Each Complete (listed es) → (room : 
     → arguments_of (inner_at (suc room)) ts ≡ Ok (listed es, rest)
 some_arguments es all room ts rest h =
     rw (inner_suc room) (arguments_reads (factor_at room) ts h.0 h.2.0 rest h.1.0 h.2.2.0 (listed es) h.1.1
-      (expressions_reads es all room h.0 h.2.0 h.2.1 (rw h.2.2.1.1 refl) (rw h.2.2.1.1 close_is_no_comma)) h.2.2.1)
+    (expressions_reads es all room h.0 h.2.0 h.2.1 (rw h.2.2.1.1 refl) (rw h.2.2.1.1 close_is_no_comma)) h.2.2.1)
 
 call_complete : (d : s.Designator) (es : s.Expressions) → DesignatorReads d → Each Complete (listed es) → FactorReads (s.Call d es)
 call_complete d es c all zero ts rest h ends = absurd h.2
@@ -261,9 +261,9 @@ call_complete d es c all (suc room) ts rest h ends =
     let g = h.2 in
     let name = name_begins d (suc room) ts h.0 h.1 in
     let go : is_symbol symbol.OpenParenthesis (kind_at h.0) ≡ true =
-        rw (kind_of_symbol symbol.OpenParenthesis h.0 g.0 g.1) (is_symbol_refl symbol.OpenParenthesis) in
+    rw (kind_of_symbol symbol.OpenParenthesis h.0 g.0 g.1) (is_symbol_refl symbol.OpenParenthesis) in
     call_reads (inner_at (suc room)) name.0 d ts h.0 name.1 (c (suc room) ts h.0 h.1 (rw (kind_of_symbol symbol.OpenParenthesis h.0 g.0 g.1) refl))
-        (listed es) rest go (some_arguments es all room h.0 rest g)
+    (listed es) rest go (some_arguments es all room h.0 rest g)
     ∙ ap (λ (es : s.Expressions). Ok (s.Call d es, rest)) (expressions_listed es)
 
 number_complete : (at n : ℕ) → FactorReads (s.Number at n)
@@ -329,8 +329,8 @@ arguments_complete s.NoExpressions room ts rest h stop = rw h (arguments_stop (i
 arguments_complete (s.MoreExpressions e es) zero ts rest h stop = absurd h
 arguments_complete (s.MoreExpressions e es) (suc room) ts rest h stop =
     arguments_go (inner_at (suc room)) ts (listed (s.MoreExpressions e es)) rest
-      (rw (kind_of_symbol symbol.OpenParenthesis ts h.0 h.1) (is_symbol_refl symbol.OpenParenthesis))
-          (some_arguments (s.MoreExpressions e es) (all_complete (s.MoreExpressions e es)) room ts rest h)
+    (rw (kind_of_symbol symbol.OpenParenthesis ts h.0 h.1) (is_symbol_refl symbol.OpenParenthesis))
+    (some_arguments (s.MoreExpressions e es) (all_complete (s.MoreExpressions e es)) room ts rest h)
 
 pub expressions_are_complete : ExpressionsAreComplete
 expressions_are_complete room ts rest e h stops = expression_complete room ts rest e h stops

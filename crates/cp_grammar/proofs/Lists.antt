@@ -89,11 +89,11 @@ module _ {A : Type 0} (f : A → Language) (item : Reader A) (Follows : A → Op
     separated_reads [] all ts rest h ends stop = absurd h
     separated_reads (a ∷ items) all ts rest h ends stop =
         rw (all.0 ts h.0 h.1 (behind_follows items h.0 rest h.2 a (ends a)))
-            (behind_reads items all.1 h.0 rest (length h.0) (a ∷ []) h.2 ends stop (omega arith))
+        (behind_reads items all.1 h.0 rest (length h.0) (a ∷ []) h.2 ends stop (omega arith))
 
   module _ (goes_on : Option Kind → Bool) (begins : (a : A) (ts rest : List Token) → f a ts rest → goes_on (kind_at ts) ≡ true)
       (between : (a : A) (k : Option Kind) → goes_on k ≡ true → Follows a k)
-          (shrinks : (a : A) (ts rest : List Token) → f a ts rest → length rest < length ts) where
+      (shrinks : (a : A) (ts rest : List Token) → f a ts rest → length rest < length ts) where
     each_follows : (items : List A) (ts rest : List Token) → each f items ts rest → (a : A) → Follows a (kind_at rest) → Follows a (kind_at ts)
     each_follows [] ts rest h a ok = rw h ok
     each_follows (y ∷ ys) ts rest h a ok = between a (kind_at ts) (begins y ts h.0 h.1)
@@ -120,4 +120,4 @@ module _ {A : Type 0} (f : A → Language) (item : Reader A) (Follows : A → Op
     some_reads [] all ts rest h ends stop = absurd h
     some_reads (a ∷ items) all ts rest h ends stop =
         rw (all.0 ts h.0 h.1 (each_follows items h.0 rest h.2 a (ends a)))
-            (each_reads_from items all.1 h.0 rest (length h.0) (a ∷ []) h.2 ends stop (omega arith))
+        (each_reads_from items all.1 h.0 rest (length h.0) (a ∷ []) h.2 ends stop (omega arith))

@@ -41,7 +41,7 @@ wrong_is_first room front t behind h begins =
     let like = (text_wider c room (limit + room) (omega arith) refl).like front in
     let fails = rw h at like in
     not_both (text_at (limit + room) (front ++ t ∷ more)) (tree, []) (Wrong (suc (length more)))
-        (read_wider room limit front t more tree begins.3 (limit + room) (omega arith)) (fails refl)
+    (read_wider room limit front t more tree begins.3 (limit + room) (omega arith)) (fails refl)
 
 pub deep_is_first : DeepIsFirst
 deep_is_first room front t behind h more tree within =
@@ -49,7 +49,7 @@ deep_is_first room front t behind h more tree within =
     let like = (text_steady c room).like front in
     let fails = rw h at like in
     not_both (text_at room (front ++ t ∷ more)) (tree, []) (Deep (suc (length more)))
-        (read_wider room room front t more tree within room (omega arith)) (fails refl)
+    (read_wider room room front t more tree within room (omega arith)) (fails refl)
 
 -- the entry behind some
 entry_behind : (before behind : List ℕ) (n : ℕ) → get_or (before ++ n ∷ behind) (length before) 0 ≡ n
@@ -86,7 +86,7 @@ deep_opens_the_next room front t behind h limit more tree any =
     let like = (text_wider c room (limit + room) (omega arith) refl).like front in
     let stops = rw h at like in
     let n = tame_levels (front ++ t ∷ more) tree (text_at (limit + room) (front ++ t ∷ more)) read
-        ((text_steady c (limit + room)).tame (front ++ t ∷ more) tt) in
+    ((text_steady c (limit + room)).tame (front ++ t ∷ more) tt) in
     opens_at (suc room) front more t tree (text_at (limit + room) (front ++ t ∷ more)) read n (stops refl)
 
 pub stops_inside : StopsInside

@@ -113,10 +113,10 @@ pub statements_reads : (xs : s.Statements) → Each StatementReads (listed_state
 unfolding statements_from
 statements_reads xs all room ts rest h follows stop =
     separated_reads (statement room) (statement_at room) MayFollow symbol.Semicolon semicolon_follows
-        (λ x ts rest h. statement_shrinks x room ts rest h) (listed_statements xs)
-      (each_imply StatementReads (ItemReads (statement room) (statement_at room) MayFollow) (λ x r ts rest h follows. r room ts rest h follows)
-          (listed_statements xs) all)
-      ts rest (listed_separated room xs ts rest h) follows stop
+    (λ x ts rest h. statement_shrinks x room ts rest h) (listed_statements xs)
+    (each_imply StatementReads (ItemReads (statement room) (statement_at room) MayFollow) (λ x r ts rest h follows. r room ts rest h follows)
+    (listed_statements xs) all)
+    ts rest (listed_separated room xs ts rest h) follows stop
 
 abbrev listed_arms : s.Arms → List LabelledStatement
 listed_arms s.NoArms = []
@@ -152,7 +152,7 @@ arm_complete : (room : ℕ) (a : LabelledStatement) → ArmReads a → ItemReads
 arm_complete room a r ts rest h follows =
     let c = h.2.1 in
     arm_reads (statement_at room) a.labels a.body c.0 ts h.0 h.2.0 rest
-        (constants_reads a.labels ts h.0 h.1 (rw (kind_of_symbol symbol.Colon h.0 h.2.0 c) colon_is_no_comma)) c.1 (r room h.2.0 rest h.2.2 follows)
+    (constants_reads a.labels ts h.0 h.1 (rw (kind_of_symbol symbol.Colon h.0 h.2.0 c) colon_is_no_comma)) c.1 (r room h.2.0 rest h.2.2 follows)
 
 arm_shrinks : (room : ℕ) (a : LabelledStatement) (ts rest : List Token) → arm room a ts rest → length rest ≤ length ts
 arm_shrinks room a ts rest h =
@@ -164,9 +164,9 @@ arms_reads : (a : s.Arms) → Each ArmReads (listed_arms a) → (room : ℕ) (ts
     → is_symbol symbol.Semicolon (kind_at rest) ≡ false → separated_by symbol.Semicolon (arm_of (statement_at room)) ts ≡ Ok (listed_arms a, rest)
 arms_reads a all room ts rest h follows stop =
     separated_reads (arm room) (arm_of (statement_at room)) ArmFollows symbol.Semicolon (λ x. semicolon_follows x.body) (arm_shrinks room)
-        (listed_arms a)
-      (each_imply ArmReads (ItemReads (arm room) (arm_of (statement_at room)) ArmFollows) (arm_complete room) (listed_arms a) all)
-      ts rest (arms_separated room a ts rest h) follows stop
+    (listed_arms a)
+    (each_imply ArmReads (ItemReads (arm room) (arm_of (statement_at room)) ArmFollows) (arm_complete room) (listed_arms a) all)
+    ts rest (arms_separated room a ts rest h) follows stop
 
 -- ---- what opens a level
 
@@ -213,16 +213,29 @@ module _ (inner : Option (Reader s.Expression)) (d : Deeper) (at place : ℕ) (t
       → statement_of inner (Some d) ts ≡ Ok (s.IfElse c x y, rest)
   unfolding statement_of statement_by if_of else_part
   if_else_reads c x y e other final t one k two z three =
-      rw (t.1, one, expect_reads symbol.Then place last behind k, two, kind_of (kind.Symbol symbol.Else) e other final z, is_symbol_refl symbol.Else,
-          z.1, three) refl
+      rw (
+        t.1,
+        one,
+        expect_reads symbol.Then place last behind k,
+        two,
+        kind_of (kind.Symbol symbol.Else) e other final z,
+        is_symbol_refl symbol.Else,
+        z.1,
+        three,
+      ) refl
 
   case_reads : (e : s.Expression) (a : List LabelledStatement) (end : ℕ) (other : List Token) → symbol_at symbol.Case at ts mid
       → d.expression mid ≡ Ok (e, last) → symbol_at symbol.Of place last behind
       → separated_by symbol.Semicolon (arm_of d.statement) behind ≡ Ok (a, other) → symbol_at symbol.End end other rest
       → statement_of inner (Some d) ts ≡ Ok (s.Case e (arms_of a), rest)
   unfolding statement_of statement_by case_of
-  case_reads e a end other t one k two z = rw (t.1, one, expect_reads symbol.Of place last behind k, two,
-      expect_reads symbol.End end other rest z) refl
+  case_reads e a end other t one k two z = rw (
+    t.1,
+    one,
+    expect_reads symbol.Of place last behind k,
+    two,
+    expect_reads symbol.End end other rest z,
+  ) refl
 
 module _ (inner : Option (Reader s.Expression)) (d : Deeper) (ts t1 t2 t3 t4 t5 t6 t7 rest : List Token) where
   for_reads : (v : Identifier) (a b : s.Expression) (way : Direction) (x : s.Statement) (p1 p2 p3 p4 : ℕ) → symbol_at symbol.For p1 ts t1
@@ -232,8 +245,16 @@ module _ (inner : Option (Reader s.Expression)) (d : Deeper) (ts t1 t2 t3 t4 t5 
       → statement_of inner (Some d) ts ≡ Ok (s.For v a way b x, rest)
   unfolding statement_of statement_by for_of
   for_reads v a b way x p1 p2 p3 p4 h1 h2 h3 h4 h5 h6 h7 h8 =
-      rw (h1.1, identifier_reads v t1 t2 h2, expect_reads symbol.Assign p2 t2 t3 h3, h4, direction_reads way p3 t4 t5 h5, h6,
-          expect_reads symbol.Do p4 t6 t7 h7, h8) refl
+      rw (
+        h1.1,
+        identifier_reads v t1 t2 h2,
+        expect_reads symbol.Assign p2 t2 t3 h3,
+        h4,
+        direction_reads way p3 t4 t5 h5,
+        h6,
+        expect_reads symbol.Do p4 t6 t7 h7,
+        h8,
+      ) refl
 
 abbrev pub readers : ℕ → Deeper
 readers room = record { expression = expression_at room; statement = statement_at room }
@@ -248,8 +269,8 @@ compound_complete l all (suc room) ts rest h follows =
     let e = h.2.2 in
     rw (deeper_suc room)
     (compound_reads (inner_at (suc room)) (readers room) h.1.0 e.0 ts h.0 h.2.0 rest (listed_statements l) h.1.1
-      (statements_reads l all room h.0 h.2.0 h.2.1 (rw (kind_of_symbol symbol.End h.2.0 rest e) end_follows)
-          (rw (kind_of_symbol symbol.End h.2.0 rest e) end_is_no_semicolon)) e.1
+    (statements_reads l all room h.0 h.2.0 h.2.1 (rw (kind_of_symbol symbol.End h.2.0 rest e) end_follows)
+    (rw (kind_of_symbol symbol.End h.2.0 rest e) end_is_no_semicolon)) e.1
     ∙ ap (λ (l : s.Statements). Ok (s.Compound l, rest)) (statements_listed l))
 
 cycle_complete : (l : s.Statements) → Each StatementReads (listed_statements l) → StatementReads (s.Cycle l)
@@ -258,8 +279,8 @@ cycle_complete l all (suc room) ts rest h follows =
     let e = h.2.2 in
     rw (deeper_suc room)
     (cycle_reads (inner_at (suc room)) (readers room) h.1.0 e.0 ts h.0 h.2.0 rest (listed_statements l) h.1.1
-      (statements_reads l all room h.0 h.2.0 h.2.1 (rw (kind_of_symbol symbol.End h.2.0 rest e) end_follows)
-          (rw (kind_of_symbol symbol.End h.2.0 rest e) end_is_no_semicolon)) e.1
+    (statements_reads l all room h.0 h.2.0 h.2.1 (rw (kind_of_symbol symbol.End h.2.0 rest e) end_follows)
+    (rw (kind_of_symbol symbol.End h.2.0 rest e) end_is_no_semicolon)) e.1
     ∙ ap (λ (l : s.Statements). Ok (s.Cycle l, rest)) (statements_listed l))
 
 while_complete : (c : s.Expression) (x : s.Statement) → StatementReads x → StatementReads (s.While c x)
@@ -268,7 +289,7 @@ while_complete c x r (suc room) ts rest h follows =
     let g = h.2.2 in
     rw (deeper_suc room)
     (while_reads (inner_at (suc room)) (readers room) h.1.0 g.1.0 ts h.0 h.2.0 g.0 rest c x h.1.1
-        (expression_complete room h.0 h.2.0 c h.2.1 (rw g.1.1.1 refl)) g.1.1 (r room g.0 rest g.2 follows))
+    (expression_complete room h.0 h.2.0 c h.2.1 (rw g.1.1.1 refl)) g.1.1 (r room g.0 rest g.2 follows))
 
 repeat_complete : (l : s.Statements) (c : s.Expression) → Each StatementReads (listed_statements l) → StatementReads (s.Repeat l c)
 repeat_complete l c all zero ts rest h follows = absurd h
@@ -276,9 +297,9 @@ repeat_complete l c all (suc room) ts rest h follows =
     let g = h.2.2 in
     rw (deeper_suc room)
     (repeat_reads (inner_at (suc room)) (readers room) h.1.0 g.1.0 ts h.0 h.2.0 g.0 rest (listed_statements l) c h.1.1
-      (statements_reads l all room h.0 h.2.0 h.2.1 (rw (kind_of_symbol symbol.Until h.2.0 g.0 g.1) until_follows)
-          (rw (kind_of_symbol symbol.Until h.2.0 g.0 g.1) until_is_no_semicolon)) g.1.1
-      (expression_complete room g.0 rest c g.2 (statement_then_expression (kind_at rest) follows.0))
+    (statements_reads l all room h.0 h.2.0 h.2.1 (rw (kind_of_symbol symbol.Until h.2.0 g.0 g.1) until_follows)
+    (rw (kind_of_symbol symbol.Until h.2.0 g.0 g.1) until_is_no_semicolon)) g.1.1
+    (expression_complete room g.0 rest c g.2 (statement_then_expression (kind_at rest) follows.0))
     ∙ ap (λ (l : s.Statements). Ok (s.Repeat l c, rest)) (statements_listed l))
 
 if_complete : (c : s.Expression) (x : s.Statement) → StatementReads x → StatementReads (s.If c x)
@@ -287,8 +308,8 @@ if_complete c x r (suc room) ts rest h follows =
     let g = h.2.2 in
     rw (deeper_suc room)
     (if_reads (inner_at (suc room)) (readers room) h.1.0 g.1.0 ts h.0 h.2.0 g.0 rest c x h.1.1
-        (expression_complete room h.0 h.2.0 c h.2.1 (rw g.1.1.1 refl)) g.1.1
-      (r room g.0 rest g.2 (follows.0, λ o. follows.1 refl)) (follows.1 refl))
+    (expression_complete room h.0 h.2.0 c h.2.1 (rw g.1.1.1 refl)) g.1.1
+    (r room g.0 rest g.2 (follows.0, λ o. follows.1 refl)) (follows.1 refl))
 
 if_else_complete : (c : s.Expression) (x y : s.Statement) → StatementReads x → StatementReads y → StatementReads (s.IfElse c x y)
 if_else_complete c x y r q zero ts rest h follows = absurd h.1
@@ -296,8 +317,8 @@ if_else_complete c x y r q (suc room) ts rest h follows =
     let w = h.1 in let g = w.2.2 in let v = g.2 in let z = v.2 in
     rw (deeper_suc room)
     (if_else_reads (inner_at (suc room)) (readers room) w.1.0 g.1.0 ts w.0 w.2.0 g.0 rest c x y z.1.0 v.0 z.0 w.1.1
-        (expression_complete room w.0 w.2.0 c w.2.1 (rw g.1.1.1 refl)) g.1.1
-      (r room g.0 v.0 v.1 (rw z.1.1.1 refl, λ o. absurd (let n : true ≡ false = sym o ∙ h.0 in cc))) z.1.1 (q room z.0 rest z.2 follows))
+    (expression_complete room w.0 w.2.0 c w.2.1 (rw g.1.1.1 refl)) g.1.1
+    (r room g.0 v.0 v.1 (rw z.1.1.1 refl, λ o. absurd (let n : true ≡ false = sym o ∙ h.0 in cc))) z.1.1 (q room z.0 rest z.2 follows))
 
 case_complete : (e : s.Expression) (a : s.Arms) → Each ArmReads (listed_arms a) → StatementReads (s.Case e a)
 case_complete e a all zero ts rest h follows = absurd h
@@ -305,9 +326,9 @@ case_complete e a all (suc room) ts rest h follows =
     let g = h.2.2 in let v = g.2.2 in
     rw (deeper_suc room)
     (case_reads (inner_at (suc room)) (readers room) h.1.0 g.1.0 ts h.0 h.2.0 g.0 rest e (listed_arms a) v.0 g.2.0 h.1.1
-        (expression_complete room h.0 h.2.0 e h.2.1 (rw g.1.1.1 refl)) g.1.1
-      (arms_reads a all room g.0 g.2.0 g.2.1 (rw (kind_of_symbol symbol.End g.2.0 rest v) (λ x. end_follows x.body))
-          (rw (kind_of_symbol symbol.End g.2.0 rest v) end_is_no_semicolon)) v.1
+    (expression_complete room h.0 h.2.0 e h.2.1 (rw g.1.1.1 refl)) g.1.1
+    (arms_reads a all room g.0 g.2.0 g.2.1 (rw (kind_of_symbol symbol.End g.2.0 rest v) (λ x. end_follows x.body))
+    (rw (kind_of_symbol symbol.End g.2.0 rest v) end_is_no_semicolon)) v.1
     ∙ ap (λ (a : s.Arms). Ok (s.Case e a, rest)) (arms_listed a))
 
 ends_at_direction : (d : Direction) → ends_expression (Some (kind.Symbol (direction_symbol d))) ≡ true
@@ -321,8 +342,8 @@ for_complete v a d b x r (suc room) ts rest h follows =
     let h1 = h.2 in let h2 = h1.2 in let h3 = h2.2 in let h4 = h3.2 in let h5 = h4.2 in let h6 = h5.2 in
     rw (deeper_suc room)
     (for_reads (inner_at (suc room)) (readers room) ts h.0 h1.0 h2.0 h3.0 h4.0 h5.0 h6.0 rest v a b d x h.1.0 h2.1.0 h4.1.0 h6.1.0 h.1.1 h1.1 h2.1.1
-      (expression_complete room h2.0 h3.0 a h3.1 (rw (kind_of_symbol (direction_symbol d) h3.0 h4.0 h4.1) (ends_at_direction d))) h4.1.1
-      (expression_complete room h4.0 h5.0 b h5.1 (rw h6.1.1.1 refl)) h6.1.1 (r room h6.0 rest h6.2 follows))
+    (expression_complete room h2.0 h3.0 a h3.1 (rw (kind_of_symbol (direction_symbol d) h3.0 h4.0 h4.1) (ends_at_direction d))) h4.1.1
+    (expression_complete room h4.0 h5.0 b h5.1 (rw h6.1.1.1 refl)) h6.1.1 (r room h6.0 rest h6.2 follows))
 
 -- ---- what begins with a name, and `init`
 
@@ -342,8 +363,8 @@ assign_complete : (d : s.Designator) (at : ℕ) (e : s.Expression) → Statement
 assign_complete d at e room ts rest h follows =
     let name = name_begins d room ts h.0 h.1 in
     assign_reads (inner_at room) (deeper_at room) name.0 d ts h.0 name.1
-        (designators_complete d room ts h.0 h.1 (rw h.2.1.1 refl)) at h.2.0 rest e h.2.1
-      (expression_complete room h.2.0 rest e h.2.2 (statement_then_expression (kind_at rest) follows.0))
+    (designators_complete d room ts h.0 h.1 (rw h.2.1.1 refl)) at h.2.0 rest e h.2.1
+    (expression_complete room h.2.0 rest e h.2.2 (statement_then_expression (kind_at rest) follows.0))
 
 arguments_stop : (es : s.Expressions) (room : ℕ) (ts rest : List Token) → arguments room es ts rest → Stops (kind_at rest)
     → (begins_selector (kind_at ts) ≡ false) × (is_symbol symbol.Assign (kind_at ts) ≡ false)
@@ -358,7 +379,7 @@ perform_complete d es room ts rest h follows =
     let stop = arguments_stop es room h.0 rest h.2 stops in
     let name = name_begins d room ts h.0 h.1 in
     perform_reads (inner_at room) (deeper_at room) name.0 d ts h.0 name.1 (designators_complete d room ts h.0 h.1 stop.0) rest (listed es) stop.1
-        (arguments_complete es room h.0 rest h.2 stops.argument)
+    (arguments_complete es room h.0 rest h.2 stops.argument)
     ∙ ap (λ (es : s.Expressions). Ok (s.Perform d es, rest)) (expressions_listed es)
 
 item_reads : (inner : Option (Reader s.Expression)) (x : Identifier) (es : List s.Expression) (ts mid rest : List Token) → identifier x ts mid
@@ -385,9 +406,9 @@ init_complete : (at : ℕ) (is : List s.InitItem) → StatementReads (s.Init at 
 init_complete at is room ts rest h follows =
     let stops = statement_stops (kind_at rest) follows.0 in
     init_reads (inner_at room) (deeper_at room) at is ts h.0 rest h.1
-      (separated_reads (init_item room) (init_item_of (inner_at room)) NoArgument symbol.Comma (λ i. comma_is_no_argument) (init_item_shrinks room) is
-        (each_of (ItemReads (init_item room) (init_item_of (inner_at room)) NoArgument) (item_complete room) is) h.0 rest h.2
-            (λ i. stops.argument) stops.comma)
+    (separated_reads (init_item room) (init_item_of (inner_at room)) NoArgument symbol.Comma (λ i. comma_is_no_argument) (init_item_shrinks room) is
+    (each_of (ItemReads (init_item room) (init_item_of (inner_at room)) NoArgument) (item_complete room) is) h.0 rest h.2
+    (λ i. stops.argument) stops.comma)
 
 -- ---- all statements
 

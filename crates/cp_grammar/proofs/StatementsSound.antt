@@ -101,8 +101,17 @@ else_sound room p ok ts mid last behind c x false k h t g e =
     ((tail ts, first symbol.If ts k, (mid, h, (last, t, g.0))), λ y. absurd (let z : true ≡ false = sym y ∙ e in cc))
 else_sound room p ok ts mid last behind c x true k h t g e =
     ensures_then (p (tail behind)) (λ y. pure (s.IfElse c x y)) (λ y rest. IsRead room y (tail behind) rest) _ (ok (tail behind))
-    (λ y rest r. ((g.1 e, (tail ts, first symbol.If ts k,
-        (mid, h, (last, t, (behind, g.0, (tail behind, (place_at behind, head_symbol behind symbol.Else e), r.0)))))), r.1))
+    (λ y rest r. (
+      (
+        g.1 e,
+        (
+          tail ts,
+          first symbol.If ts k,
+          (mid, h, (last, t, (behind, g.0, (tail behind, (place_at behind, head_symbol behind symbol.Else e), r.0)))),
+        ),
+      ),
+      r.1,
+    ))
 
 module _ (room : ℕ) (deeper : Option Deeper) (ok : SoundInner SoundDeeper room deeper) where
   pub block_sound : (ts : List Token) → kind_at ts ≡ Some (kind.Symbol symbol.Begin) → Ensures (block_of deeper ts) (λ b rest. body room b ts rest)
@@ -111,7 +120,7 @@ module _ (room : ℕ) (deeper : Option Deeper) (ok : SoundInner SoundDeeper room
       ensures_then _ _ _ _ (statements_sound room d.statement ok.1 (tail ts)) (λ l mid h.
       ensures_then _ _ _ _ (expect_sound symbol.End mid) (λ at rest c.
       let made : body (suc room) (record { at = place_at ts; list = statements_of l }) ts rest =
-          (tail ts, head ts (kind.Symbol symbol.Begin) k, (mid, h, (at, c))) in made))) room deeper ok
+      (tail ts, head ts (kind.Symbol symbol.Begin) k, (mid, h, (at, c))) in made))) room deeper ok
 
   compound_from_body : (room : ℕ) (b : s.Body) (ts rest : List Token) → body room b ts rest → statement room (s.Compound b.list) ts rest
   compound_from_body zero b ts rest h = h
@@ -139,7 +148,7 @@ module _ (room : ℕ) (deeper : Option Deeper) (ok : SoundInner SoundDeeper room
       ensures_then _ _ _ _ (arms_sound room d.statement ok.1 last) (λ xs behind g.
       ensures_then _ _ _ _ (expect_sound symbol.End behind) (λ end rest c.
       let made : IsRead (suc room) (s.Case e (arms_of xs)) ts rest =
-          ((tail ts, first symbol.Case ts k, (mid, h, (last, (at, t), (behind, g, (end, c))))), λ e. refl) in made))))) room deeper ok
+      ((tail ts, first symbol.Case ts k, (mid, h, (last, (at, t), (behind, g, (end, c))))), λ e. refl) in made))))) room deeper ok
 
   while_sound : (ts : List Token) → kind_at ts ≡ Some (kind.Symbol symbol.While) → Ensures (while_of deeper ts) (λ x rest. IsRead room x ts rest)
   unfolding while_of
@@ -148,7 +157,7 @@ module _ (room : ℕ) (deeper : Option Deeper) (ok : SoundInner SoundDeeper room
       ensures_then _ _ _ _ (expect_sound symbol.Do mid) (λ at last t.
       ensures_then _ _ (λ x rest. IsRead room x last rest) _ (ok.1 last) (λ x rest g.
       let made : IsRead (suc room) (s.While c x) ts rest = ((tail ts, first symbol.While ts k, (mid, h, (last, (at, t), g.0))), g.1) in
-          made)))) room deeper ok
+      made)))) room deeper ok
 
   repeat_sound : (ts : List Token) → kind_at ts ≡ Some (kind.Symbol symbol.Repeat) → Ensures (repeat_of deeper ts) (λ x rest. IsRead room x ts rest)
   unfolding repeat_of
@@ -157,7 +166,7 @@ module _ (room : ℕ) (deeper : Option Deeper) (ok : SoundInner SoundDeeper room
       ensures_then _ _ _ _ (expect_sound symbol.Until mid) (λ at last t.
       ensures_then _ _ _ _ (ok.0 last) (λ c rest g.
       let made : IsRead (suc room) (s.Repeat (statements_of l) c) ts rest =
-          ((tail ts, first symbol.Repeat ts k, (mid, h, (last, (at, t), g))), λ e. refl) in made)))) room deeper ok
+      ((tail ts, first symbol.Repeat ts k, (mid, h, (last, (at, t), g))), λ e. refl) in made)))) room deeper ok
 
   for_sound : (ts : List Token) → kind_at ts ≡ Some (kind.Symbol symbol.For) → Ensures (for_of deeper ts) (λ x rest. IsRead room x ts rest)
   unfolding for_of
@@ -170,8 +179,8 @@ module _ (room : ℕ) (deeper : Option Deeper) (ok : SoundInner SoundDeeper room
       ensures_then _ _ _ _ (expect_sound symbol.Do t5) (λ place t6 h6.
       ensures_then _ _ (λ x rest. IsRead room x t6 rest) _ (ok.1 t6) (λ x rest g.
       let made : IsRead (suc room) (s.For v a way b x) ts rest =
-        ((tail ts, first symbol.For ts k, (t1, h1, (t2, (at, h2), (t3, h3, (t4, h4, (t5, h5, (t6, (place, h6), g.0))))))), g.1) in
-            made)))))))) room deeper ok
+      ((tail ts, first symbol.For ts k, (t1, h1, (t2, (at, h2), (t3, h3, (t4, h4, (t5, h5, (t6, (place, h6), g.0))))))), g.1) in
+      made)))))))) room deeper ok
 
   cycle_sound : (ts : List Token) → kind_at ts ≡ Some (kind.Symbol symbol.Cycle) → Ensures (cycle_of deeper ts) (λ x rest. IsRead room x ts rest)
   unfolding cycle_of
@@ -179,7 +188,7 @@ module _ (room : ℕ) (deeper : Option Deeper) (ok : SoundInner SoundDeeper room
       ensures_then _ _ _ _ (statements_sound room d.statement ok.1 (tail ts)) (λ l mid h.
       ensures_then _ _ _ _ (expect_sound symbol.End mid) (λ at rest c.
       let made : IsRead (suc room) (s.Cycle (statements_of l)) ts rest = ((tail ts, first symbol.Cycle ts k, (mid, h, (at, c))), λ e. refl) in
-          made))) room deeper ok
+      made))) room deeper ok
 
 -- ---- what begins with a name, and `init`
 

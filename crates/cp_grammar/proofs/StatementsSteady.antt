@@ -36,7 +36,7 @@ more_arms_are_behind depth [] = refl
 more_arms_are_behind depth (a ∷ xs) =
     ap (λ (l : List ℕ). 0 ∷ (constants_levels a.labels ++ (0 ∷ (statement_levels depth a.body ++ l)))) (more_arms_are_behind depth xs)
     ∙ ap (λ (l : List ℕ). 0 ∷ l) (sym (append_assoc (constants_levels a.labels) (0 ∷ statement_levels depth a.body)
-        (behind_levels (arm_levels depth) xs)))
+    (behind_levels (arm_levels depth) xs)))
 
 arms_are_separated : (depth : ℕ) (xs : List LabelledStatement) → arms_levels depth (arms_of xs) ≡ separated_levels (arm_levels depth) xs
 arms_are_separated depth [] = refl
@@ -87,7 +87,7 @@ module _ {c : Cut} (m : Mode) (depth : ℕ) (i i' : Option Deeper) (r : SteadyIn
   block_steady = opening_steady (Has (block_levels depth)) (DeeperRelated c) depth
       (λ d at. statements_from d.statement >>= λ l. expect symbol.End >>= λ _. pure (record { at = at; list = statements_of l }))
       (λ m d d' r at. then (list_steady (suc depth) r.1)
-          (λ l. finish (λ _. record { at = at; list = statements_of l }) (expect_steady symbol.End) (λ _. refl))) m i i' r
+      (λ l. finish (λ _. record { at = at; list = statements_of l }) (expect_steady symbol.End) (λ _. refl))) m i i' r
 
   compound_steady : Steady c m Before (Has (statement_levels depth)) (compound_of i) (compound_of i')
   unfolding compound_of
@@ -97,20 +97,20 @@ module _ {c : Cut} (m : Mode) (depth : ℕ) (i i' : Option Deeper) (r : SteadyIn
   unfolding if_of else_part
   if_steady = opening_steady (Has (statement_levels depth)) (DeeperRelated c) depth
       (λ d _. d.expression >>= λ e. expect symbol.Then >>= λ _. d.statement >>= λ x. by_kind
-          (λ k. else_part d.statement e x (is_symbol symbol.Else k)))
+      (λ k. else_part d.statement e x (is_symbol symbol.Else k)))
       (λ m d d' r _. then r.0 (λ e. then (expect_steady symbol.Then)
-          (λ _. then r.1 (λ x. symbol_steady symbol.Else (else_part d.statement e x) (else_part d'.statement e x)
-        (then (take_steady 0) (λ _. finish (λ y. s.IfElse e x y) r.1 (λ y. refl)))
-        (pure_steady (s.If e x) (ap (λ (l : List ℕ). suc depth ∷ (expression_levels (suc depth) e ++ (0 ∷ l)))
-            (append-nil (statement_levels (suc depth) x)))))))) m i i' r
+      (λ _. then r.1 (λ x. symbol_steady symbol.Else (else_part d.statement e x) (else_part d'.statement e x)
+      (then (take_steady 0) (λ _. finish (λ y. s.IfElse e x y) r.1 (λ y. refl)))
+      (pure_steady (s.If e x) (ap (λ (l : List ℕ). suc depth ∷ (expression_levels (suc depth) e ++ (0 ∷ l)))
+      (append-nil (statement_levels (suc depth) x)))))))) m i i' r
 
   case_steady : Steady c m Before (Has (statement_levels depth)) (case_of i) (case_of i')
   unfolding case_of
   case_steady = opening_steady (Has (statement_levels depth)) (DeeperRelated c) depth
       (λ d _. d.expression >>= λ e. expect symbol.Of >>= λ _. separated_by symbol.Semicolon
-          (arm_of d.statement) >>= λ xs. expect symbol.End >>= λ _. pure (s.Case e (arms_of xs)))
+      (arm_of d.statement) >>= λ xs. expect symbol.End >>= λ _. pure (s.Case e (arms_of xs)))
       (λ m d d' r _. then r.0 (λ e. then (expect_steady symbol.Of)
-          (λ _. then (arms_steady (suc depth) r.1) (λ xs. finish (λ _. s.Case e (arms_of xs)) (expect_steady symbol.End) (λ _. refl))))) m i i' r
+      (λ _. then (arms_steady (suc depth) r.1) (λ xs. finish (λ _. s.Case e (arms_of xs)) (expect_steady symbol.End) (λ _. refl))))) m i i' r
 
   while_steady : Steady c m Before (Has (statement_levels depth)) (while_of i) (while_of i')
   unfolding while_of
@@ -123,23 +123,23 @@ module _ {c : Cut} (m : Mode) (depth : ℕ) (i i' : Option Deeper) (r : SteadyIn
   repeat_steady = opening_steady (Has (statement_levels depth)) (DeeperRelated c) depth
       (λ d _. statements_from d.statement >>= λ l. expect symbol.Until >>= λ _. d.expression >>= λ e. pure (s.Repeat (statements_of l) e))
       (λ m d d' r _. then (list_steady (suc depth) r.1)
-          (λ l. then (expect_steady symbol.Until) (λ _. finish (λ e. s.Repeat (statements_of l) e) r.0 (λ e. refl)))) m i i' r
+      (λ l. then (expect_steady symbol.Until) (λ _. finish (λ e. s.Repeat (statements_of l) e) r.0 (λ e. refl)))) m i i' r
 
   for_steady : Steady c m Before (Has (statement_levels depth)) (for_of i) (for_of i')
   unfolding for_of
   for_steady = opening_steady (Has (statement_levels depth)) (DeeperRelated c) depth
       (λ d _. identifier_of >>= λ v. expect symbol.Assign >>= λ _. d.expression >>= λ a. direction_of >>= λ way. d.expression >>= λ b.
-          expect symbol.Do >>= λ _. d.statement >>= λ x. pure (s.For v a way b x))
+      expect symbol.Do >>= λ _. d.statement >>= λ x. pure (s.For v a way b x))
       (λ m d d' r _. then identifier_steady (λ v. then (expect_steady symbol.Assign)
-          (λ _. then r.0 (λ a. then direction_steady (λ way. then r.0 (λ b. then (expect_steady symbol.Do) (λ _.
-        finish (λ x. s.For v a way b x) r.1 (λ x. refl)))))))) m i i' r
+      (λ _. then r.0 (λ a. then direction_steady (λ way. then r.0 (λ b. then (expect_steady symbol.Do) (λ _.
+      finish (λ x. s.For v a way b x) r.1 (λ x. refl)))))))) m i i' r
 
   cycle_steady : Steady c m Before (Has (statement_levels depth)) (cycle_of i) (cycle_of i')
   unfolding cycle_of
   cycle_steady = opening_steady (Has (statement_levels depth)) (DeeperRelated c) depth
       (λ d _. statements_from d.statement >>= λ l. expect symbol.End >>= λ _. pure (s.Cycle (statements_of l)))
       (λ m d d' r _. then (list_steady (suc depth) r.1)
-          (λ l. finish (λ _. s.Cycle (statements_of l)) (expect_steady symbol.End) (λ _. refl))) m i i' r
+      (λ l. finish (λ _. s.Cycle (statements_of l)) (expect_steady symbol.End) (λ _. refl))) m i i' r
 
 -- ---- what begins with a name, and `init`
 

@@ -67,9 +67,13 @@ tame_imply T U (Err s) ts h g = g
 module _ {A B : Type 0} (T : A → List ℕ → Type 0) (U : B → List ℕ → Type 0) where
   tame_behind : (o : Outcome B) (x : A) (l : List ℕ) (front mid ts : List Token) → ts ≡ front ++ mid → length l ≡ length front
       → Tame (λ y m. U y (l ++ m)) o mid → Tame U o ts
-  tame_behind (Ok y) x l front mid ts e n h =
-      (front ++ h.0, e ∙ ap (λ (r : List Token). front ++ r) h.1 ∙ sym (append_assoc front h.0 y.1),
-        l ++ h.2, h.3, omega (arith, length-append l h.2, length-append front h.0, h.4))
+  tame_behind (Ok y) x l front mid ts e n h = (
+    front ++ h.0,
+    e ∙ ap (λ (r : List Token). front ++ r) h.1 ∙ sym (append_assoc front h.0 y.1),
+    l ++ h.2,
+    h.3,
+    omega (arith, length-append l h.2, length-append front h.0, h.4),
+  )
   tame_behind (Err s) x l front mid ts e n h = stop_weaken s front mid ts e h
 
   pub tame_then : (o : Outcome A) (k : A → Reader B) (ts : List Token) → Tame T o ts
@@ -116,7 +120,7 @@ module _ (c : Cut) where
       → Like m U o o'
   like_short m T U (Ok x) o' mid h le = λ g e. absurd
       (let n : length mid ≡ length (h.0 ++ x.1) = ap length h.1 in let k : length x.1 ≡ length (g ++ c.token ∷ c.here) = ap length e in
-        omega (arith, length-append h.0 x.1, length-append g (c.token ∷ c.here)))
+      omega (arith, length-append h.0 x.1, length-append g (c.token ∷ c.here)))
   like_short m T U (Err Memory) o' mid h le = tt
   like_short m T U (Err (Wrong n)) o' mid h le = λ e. absurd (omega arith)
   like_short Equal T U (Err (Deep n)) o' mid h le = λ e. absurd (omega arith)
@@ -171,11 +175,11 @@ module _ (c : Cut) where
         cut (inr short) = like_short m (λ y m. U y (h.2 ++ m)) U (k x.0 x.1) (and_then o' k') x.1 (tame x.0 h.2 h.3 x.1) short
         cut (inl g) =
             let n : length h.2 + length g.0 ≡ length f =
-              (let i : length (f ++ c.token ∷ c.here) ≡ length (h.0 ++ x.1) = ap length h.1 in let j : length x.1 ≡ length (g.0 ++ c.token ∷ c.here) =
-                  ap length g.1 in
-                omega (arith, length-append h.0 x.1, length-append g.0 (c.token ∷ c.here), length-append f (c.token ∷ c.here), h.4)) in
+            (let i : length (f ++ c.token ∷ c.here) ≡ length (h.0 ++ x.1) = ap length h.1 in let j : length x.1 ≡ length (g.0 ++ c.token ∷ c.here) =
+            ap length g.1 in
+            omega (arith, length-append h.0 x.1, length-append g.0 (c.token ∷ c.here), length-append f (c.token ∷ c.here), h.4)) in
             let one = like_imply m (λ y m. U y (h.2 ++ m)) U h.2 (k x.0 (g.0 ++ c.token ∷ c.here)) (k' x.0 (g.0 ++ c.token ∷ c.there)) (λ y m u. u)
-                (next x.0 h.2 h.3 g.0 n) in
+            (next x.0 h.2 h.3 g.0 n) in
             rw (p g.0 g.1) (subst (λ (r : List Token). Like m U (k x.0 r) (k' x.0 (g.0 ++ c.token ∷ c.there))) (sym g.1) one)
 
 -- ---- steady readers
@@ -214,7 +218,7 @@ then_any {c} {m} {w} {A} {B} {T} {U} {p} {q} {k} {k'} s next = record {
   tame' = λ ts at. tame_then T U (q ts) k' ts (s.tame' ts at) (λ x l h mid. (next x l h).tame' mid tt);
   like = λ f. like_then c T U m (p (f ++ c.token ∷ c.here)) (q (f ++ c.token ∷ c.there)) k k' f
       (s.tame (f ++ c.token ∷ c.here) (at_cut w f c.token c.here)) (s.like f)
-    (λ x l h mid. (next x l h).tame mid tt) (λ x l h mid. (next x l h).tame' mid tt) (λ x l h r e. (next x l h).like r);
+      (λ x l h mid. (next x l h).tame mid tt) (λ x l h mid. (next x l h).tame' mid tt) (λ x l h r e. (next x l h).like r);
 }
 
 pub then : {c : Cut} {m : Mode} {w : Start} {A B : Type 0} {g : A → List ℕ} {U : B → List ℕ → Type 0} {p q : Reader A} {k k' : A → Reader B}
@@ -244,7 +248,7 @@ refuse_steady {c} {m} {w} {A} {T} = record {
   tame' = λ ts k. omega arith;
   like = λ f e. (let n : length f ≡ 0 = omega (arith, length-append f (c.token ∷ c.here)) in
       let k : length (f ++ c.token ∷ c.there) ≡ suc (length c.there) = omega (arith, length-append f (c.token ∷ c.there)) in
-    ap (λ n. Err (Wrong n)) k);
+      ap (λ n. Err (Wrong n)) k);
 }
 
 take_tame : (n : ℕ) (ts : List Token) → At Before ts → Tame (Has (λ at. n ∷ [])) (take_token ts) ts
@@ -268,9 +272,11 @@ kind_steady {c} {m} {A} {T} {p} {q} s = record { tame = tame; tame' = tame'; lik
     tame : (ts : List Token) → At Anywhere ts → Tame T (by_kind p ts) ts
     tame [] k = (s None).tame [] tt
     tame (x ∷ ts) k = (s (Some x.kind)).tame (x ∷ ts) tt
+
     tame' : (ts : List Token) → At Anywhere ts → Tame T (by_kind q ts) ts
     tame' [] k = (s None).tame' [] tt
     tame' (x ∷ ts) k = (s (Some x.kind)).tame' (x ∷ ts) tt
+
     like : (f : List Token) → Like c m T (by_kind p (f ++ c.token ∷ c.here)) (by_kind q (f ++ c.token ∷ c.there))
     like [] = (s (Some c.token.kind)).like []
     like (x ∷ f) = (s (Some x.kind)).like (x ∷ f)
@@ -282,9 +288,11 @@ kind_before {c} {m} {A} {T} p q s = record { tame = tame; tame' = tame'; like = 
     tame : (ts : List Token) → At Before ts → Tame T (by_kind p ts) ts
     tame [] k = absurd k
     tame (x ∷ ts) k = (s x.kind).tame (x ∷ ts) tt
+
     tame' : (ts : List Token) → At Before ts → Tame T (by_kind q ts) ts
     tame' [] k = absurd k
     tame' (x ∷ ts) k = (s x.kind).tame' (x ∷ ts) tt
+
     like : (f : List Token) → Like c m T (by_kind p (f ++ c.token ∷ c.here)) (by_kind q (f ++ c.token ∷ c.there))
     like [] = (s c.token.kind).like []
     like (x ∷ f) = (s x.kind).like (x ∷ f)
@@ -297,6 +305,7 @@ symbol_steady {c} {m} {A} {T} x h h' s r = kind_steady go
     by : (b : Bool) → Steady c m Before T (h b) (h' b)
     by true = s
     by false = before r
+
     go : (k : Option Kind) → Steady c m (start_of k) T (h (is_symbol x k)) (h' (is_symbol x k))
     go None = rw (no_symbol x) r
     go (Some k) = by (is_symbol x (Some k))
@@ -333,7 +342,7 @@ too_deep_steady {c} {m} {A} {T} = record { tame = λ ts k. omega arith; tame' = 
     like : (m : Mode) (f : List Token) → Like c m T (too_deep (f ++ c.token ∷ c.here)) (too_deep (f ++ c.token ∷ c.there))
     like Equal f = λ e. (let n : length f ≡ 0 = omega (arith, length-append f (c.token ∷ c.here)) in
         let k : length (f ++ c.token ∷ c.there) ≡ suc (length c.there) = omega (arith, length-append f (c.token ∷ c.there)) in
-      ap (λ n. Err (Deep n)) k)
+        ap (λ n. Err (Deep n)) k)
     like Wider f = λ e. tt
 
 module _ {c : Cut} {A B : Type 0} (T : A → List ℕ → Type 0) (R : Mode → ℕ → B → B → Type 0) (depth : ℕ) (h : B → ℕ → Reader A)

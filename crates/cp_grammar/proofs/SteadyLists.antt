@@ -43,14 +43,14 @@ module _ {A : Type 0} (goes_on : Option Kind → Bool) (none : goes_on None ≡ 
         turn false e again = ([], refl, [], stays xs l h, refl)
         turn true e again = tame_then (Has g) (Found l) (r ts) (λ x. repeat goes_on r n (xs ++ x ∷ [])) ts (ok ts (before_token ts e))
             (λ x k e mid. tame_imply (Found (l ++ g x)) (λ ys j. Found l ys (k ++ j)) (repeat goes_on r n (xs ++ x ∷ []) mid) mid
-                (λ ys j p. joins ys l k j x e p) (again (xs ++ x ∷ []) (l ++ g x) (push xs l x h) mid))
+            (λ ys j p. joins ys l k j x e p) (again (xs ++ x ∷ []) (l ++ g x) (push xs l x h) mid))
 
   next_tame : (r : Reader A) → ((ts : List Token) → At Before ts → Tame (Has g) (r ts) ts) → (n : ℕ) (xs : List A) (l : List ℕ) → Holds xs l
       → (x : A) (k : List ℕ) → k ≡ g x → (mid : List Token)
       → Tame (λ ys j. Found l ys (k ++ j)) (repeat goes_on r n (xs ++ x ∷ []) mid) mid
   next_tame r ok n xs l h x k e mid =
       tame_imply (Found (l ++ g x)) (λ ys j. Found l ys (k ++ j)) (repeat goes_on r n (xs ++ x ∷ []) mid) mid (λ ys j p. joins ys l k j x e p)
-          (repeat_tame r ok n (xs ++ x ∷ []) (l ++ g x) (push xs l x h) mid)
+      (repeat_tame r ok n (xs ++ x ∷ []) (l ++ g x) (push xs l x h) mid)
 
   module _ {c : Cut} {m : Mode} (item item' : Reader A) (s : Steady c m Before (Has g) item item') where
     repeat_like : (n n' : ℕ) (xs : List A) (l : List ℕ) → Holds xs l → (f : List Token) → length f < n → length f < n'
@@ -60,24 +60,24 @@ module _ {A : Type 0} (goes_on : Option Kind → Bool) (none : goes_on None ≡ 
     repeat_like (suc n) zero xs l h f lt lt' = absurd (omega arith)
     repeat_like (suc n) (suc n') xs l h f lt lt' =
         subst (λ k. Like c m (Found l) (cond (goes_on (kind_at (f ++ c.token ∷ c.here))) (item >>= λ x. repeat goes_on item n (xs ++ x ∷ []))
-            (pure xs) (f ++ c.token ∷ c.here))
-            (cond (goes_on k) (item' >>= λ x. repeat goes_on item' n' (xs ++ x ∷ [])) (pure xs) (f ++ c.token ∷ c.there)))
-          (same_kind c f) (turn (goes_on (kind_at (f ++ c.token ∷ c.here))) (λ xs l h f lt lt'. repeat_like n n' xs l h f lt lt'))
+        (pure xs) (f ++ c.token ∷ c.here))
+        (cond (goes_on k) (item' >>= λ x. repeat goes_on item' n' (xs ++ x ∷ [])) (pure xs) (f ++ c.token ∷ c.there)))
+        (same_kind c f) (turn (goes_on (kind_at (f ++ c.token ∷ c.here))) (λ xs l h f lt lt'. repeat_like n n' xs l h f lt lt'))
       where
         turn : (b : Bool) → ((xs : List A) (l : List ℕ) → Holds xs l → (f : List Token) → length f < n → length f < n'
-              → Like c m (Found l) (repeat goes_on item n xs (f ++ c.token ∷ c.here)) (repeat goes_on item' n' xs (f ++ c.token ∷ c.there)))
+            → Like c m (Found l) (repeat goes_on item n xs (f ++ c.token ∷ c.here)) (repeat goes_on item' n' xs (f ++ c.token ∷ c.there)))
             → Like c m (Found l) (cond b (item >>= λ x. repeat goes_on item n (xs ++ x ∷ [])) (pure xs) (f ++ c.token ∷ c.here))
-                (cond b (item' >>= λ x. repeat goes_on item' n' (xs ++ x ∷ [])) (pure xs) (f ++ c.token ∷ c.there))
+            (cond b (item' >>= λ x. repeat goes_on item' n' (xs ++ x ∷ [])) (pure xs) (f ++ c.token ∷ c.there))
         turn false again = (pure_steady {c = c} {m = m} {T = Found l} xs (stays xs l h)).like f
         turn true again = like_then c (Has g) (Found l) m (item (f ++ c.token ∷ c.here)) (item' (f ++ c.token ∷ c.there))
             (λ x. repeat goes_on item n (xs ++ x ∷ [])) (λ x. repeat goes_on item' n' (xs ++ x ∷ [])) f
             (s.tame (f ++ c.token ∷ c.here) (at_cut Before f c.token c.here)) (s.like f) (next_tame item s.tame n xs l h)
-                (next_tame item' s.tame' n' xs l h)
+            (next_tame item' s.tame' n' xs l h)
             (λ x k e r sum. let size : length k ≡ length (g x) = ap length e in
-              like_imply c m (Found (l ++ g x)) (λ ys j. Found l ys (k ++ j)) [] (repeat goes_on item n (xs ++ x ∷ []) (r ++ c.token ∷ c.here))
-                  (repeat goes_on item' n' (xs ++ x ∷ []) (r ++ c.token ∷ c.there))
-                (λ ys j p. joins ys l k j x e p) (again (xs ++ x ∷ []) (l ++ g x) (push xs l x h) r (omega (arith, sum, size, some x))
-                    (omega (arith, sum, size, some x))))
+            like_imply c m (Found (l ++ g x)) (λ ys j. Found l ys (k ++ j)) [] (repeat goes_on item n (xs ++ x ∷ []) (r ++ c.token ∷ c.here))
+            (repeat goes_on item' n' (xs ++ x ∷ []) (r ++ c.token ∷ c.there))
+            (λ ys j p. joins ys l k j x e p) (again (xs ++ x ∷ []) (l ++ g x) (push xs l x h) r (omega (arith, sum, size, some x))
+            (omega (arith, sum, size, some x))))
 
     pub repeated_steady : (xs : List A) (l : List ℕ) → Holds xs l
         → Steady c m Anywhere (Found l) (repeated goes_on item xs) (repeated goes_on item' xs)
@@ -148,9 +148,9 @@ module _ {A : Type 0} (g : A → List ℕ) where
       → Steady c m Anywhere SeparatedHas (separated_by x item) (separated_by x item')
   separated_some {c} {m} x {item} {item'} s = then s (λ a.
       repeated_steady (is_symbol x) (no_symbol x) (λ a. 0 ∷ g a) (λ a. omega arith) SeparatedHas separated_grows (take_token >>= λ _. item)
-          (take_token >>= λ _. item')
-        (then (take_steady 0) (λ at. imply (λ y l. (0 ∷ l) ≡ (0 ∷ g y)) s (λ y l h. ap (λ (l : List ℕ). 0 ∷ l) h))) (a ∷ []) (g a)
-            (sym (append-nil (g a))))
+      (take_token >>= λ _. item')
+      (then (take_steady 0) (λ at. imply (λ y l. (0 ∷ l) ≡ (0 ∷ g y)) s (λ y l h. ap (λ (l : List ℕ). 0 ∷ l) h))) (a ∷ []) (g a)
+      (sym (append-nil (g a))))
 
   pub separated_steady : {c : Cut} {m : Mode} (x : Symbol) {item item' : Reader A} → Steady c m Anywhere (Has g) item item'
       → Steady c m Anywhere (Has (separated_levels g)) (separated_by x item) (separated_by x item')

@@ -25,8 +25,8 @@ text_is_complete room ts t h =
     let block = block_begins room t.routines t.body h1.0 h2.0 h3.0 h2.1 h3.1 in
     let before = variables_begin room t.variables h.0 h1.0 h1.1 block in
     text_go (type_at room) (deeper_at room) t ts h.0 h1.0 h2.0 h3.0 (sections_reads room t.sections ts h.0 h.1 before.0 before.1)
-        (variables_reads room t.variables h.0 h1.0 h1.1 block)
-      (routines_reads room t.routines t.body h1.0 h2.0 h3.0 h2.1 h3.1) (body_reads room t.body h2.0 h3.0 h3.1) h3.2
+    (variables_reads room t.variables h.0 h1.0 h1.1 block)
+    (routines_reads room t.routines t.body h1.0 h2.0 h3.0 h2.1 h3.1) (body_reads room t.body h2.0 h3.0 h3.1) h3.2
 
 one_answer : {A : Type 0} (x y : A) (rest : List Token) (o : Outcome A) → o ≡ Ok (x, rest) → o ≡ Ok (y, rest) → x ≡ y
 one_answer {A} x y rest o e f = let h : (x, rest) ≡ (y, rest) = cc in ap (λ (z : A × List Token). z.0) h

@@ -23,7 +23,7 @@ module _ (limit : ℕ) (p : Reader s.TypeExpression) (ok : SoundType limit p) (d
       ensures_then _ _ _ _ (body_sound limit deeper okd t3) (λ b t4 h4.
       ensures_then _ _ _ _ (expect_sound symbol.Dot t4) (λ p5 t5 h5.
       let made : text limit (record { sections = ss; variables = vs; routines = rs; body = b }) ts t5 =
-          (t1, h1, (t2, h2, (t3, h3, (t4, h4, (p5, h5))))) in made)))))
+      (t1, h1, (t2, h2, (t3, h3, (t4, h4, (p5, h5))))) in made)))))
 
   at_end_sound : (t : s.Tree) (ts mid : List Token) → text limit t ts mid → Ensures (at_end t (kind_at mid) mid) (λ t rest. text limit t ts [])
   at_end_sound t ts [] h = h

@@ -48,10 +48,11 @@ module _ (c : Cut) where
   deeper_steady : (room depth : ℕ) → SteadyInner c (DeeperRelated c) Equal depth (deeper_at room) (deeper_at room)
   unfolding deeper_at
   deeper_steady zero depth = tt
-  deeper_steady (suc room) depth =
-      (expression_of_steady (suc depth) (factor_of_steady Equal (suc depth) (inner_at room) (inner_at room) (inner_steady room (suc depth))),
-       statement_of_steady Equal (suc depth) (inner_at room) (inner_at room) (inner_steady room (suc depth)) (deeper_at room) (deeper_at room)
-           (deeper_steady room (suc depth)))
+  deeper_steady (suc room) depth = (
+    expression_of_steady (suc depth) (factor_of_steady Equal (suc depth) (inner_at room) (inner_at room) (inner_steady room (suc depth))),
+    statement_of_steady Equal (suc depth) (inner_at room) (inner_at room) (inner_steady room (suc depth)) (deeper_at room) (deeper_at room)
+        (deeper_steady room (suc depth)),
+  )
 
   pub text_steady : (room : ℕ) → Steady c Equal Anywhere (Has text_levels) (text_at room) (text_at room)
   text_steady room = text_of_steady Equal (deeper_at room) (deeper_at room) (deeper_steady room 0)
@@ -63,8 +64,10 @@ module _ (c : Cut) where
       → SteadyInner c (Related c) Wider depth (inner_at room) (inner_at wide)
   unfolding inner_at
   inner_wider zero zero depth le top = tt
-  inner_wider zero (suc wide) depth le top = (omega arith,
-      factor_of_steady Equal (suc depth) (inner_at wide) (inner_at wide) (inner_steady wide (suc depth)))
+  inner_wider zero (suc wide) depth le top = (
+    omega arith,
+    factor_of_steady Equal (suc depth) (inner_at wide) (inner_at wide) (inner_steady wide (suc depth)),
+  )
   inner_wider (suc room) zero depth le top = absurd (omega arith)
   inner_wider (suc room) (suc wide) depth le top =
       factor_of_steady Wider (suc depth) (inner_at room) (inner_at wide) (inner_wider room wide (suc depth) (omega arith) (omega arith))
@@ -73,8 +76,10 @@ module _ (c : Cut) where
       → SteadyInner c (TypesRelated c) Wider depth (inner_type_at room) (inner_type_at wide)
   unfolding inner_type_at
   inner_type_wider zero zero depth le top = tt
-  inner_type_wider zero (suc wide) depth le top = (omega arith,
-      type_of_steady Equal (suc depth) (inner_type_at wide) (inner_type_at wide) (inner_type_steady wide (suc depth)))
+  inner_type_wider zero (suc wide) depth le top = (
+    omega arith,
+    type_of_steady Equal (suc depth) (inner_type_at wide) (inner_type_at wide) (inner_type_steady wide (suc depth)),
+  )
   inner_type_wider (suc room) zero depth le top = absurd (omega arith)
   inner_type_wider (suc room) (suc wide) depth le top =
       type_of_steady Wider (suc depth) (inner_type_at room) (inner_type_at wide) (inner_type_wider room wide (suc depth) (omega arith) (omega arith))
@@ -83,19 +88,23 @@ module _ (c : Cut) where
       → SteadyInner c (DeeperRelated c) Wider depth (deeper_at room) (deeper_at wide)
   unfolding deeper_at
   deeper_wider zero zero depth le top = tt
-  deeper_wider zero (suc wide) depth le top =
-      (omega arith,
-       (expression_of_steady (suc depth) (factor_of_steady Equal (suc depth) (inner_at wide) (inner_at wide) (inner_steady wide (suc depth))),
-        statement_of_steady Equal (suc depth) (inner_at wide) (inner_at wide) (inner_steady wide (suc depth)) (deeper_at wide) (deeper_at wide)
-            (deeper_steady wide (suc depth))))
+  deeper_wider zero (suc wide) depth le top = (
+    omega arith,
+    (
+      expression_of_steady (suc depth) (factor_of_steady Equal (suc depth) (inner_at wide) (inner_at wide) (inner_steady wide (suc depth))),
+      statement_of_steady Equal (suc depth) (inner_at wide) (inner_at wide) (inner_steady wide (suc depth)) (deeper_at wide) (deeper_at wide)
+          (deeper_steady wide (suc depth)),
+    ),
+  )
   deeper_wider (suc room) zero depth le top = absurd (omega arith)
   deeper_wider (suc room) (suc wide) depth le top =
-      let inner = inner_wider room wide (suc depth) (omega arith) (omega arith) in
-      (expression_of_steady (suc depth) (factor_of_steady Wider (suc depth) (inner_at room) (inner_at wide) inner),
-       statement_of_steady Wider (suc depth) (inner_at room) (inner_at wide) inner (deeper_at room) (deeper_at wide)
-           (deeper_wider room wide (suc depth) (omega arith) (omega arith)))
+      let inner = inner_wider room wide (suc depth) (omega arith) (omega arith) in (
+        expression_of_steady (suc depth) (factor_of_steady Wider (suc depth) (inner_at room) (inner_at wide) inner),
+        statement_of_steady Wider (suc depth) (inner_at room) (inner_at wide) inner (deeper_at room) (deeper_at wide)
+            (deeper_wider room wide (suc depth) (omega arith) (omega arith)),
+      )
 
   pub text_wider : (room wide : ℕ) → room ≤ wide → suc room ≡ c.top → Steady c Wider Anywhere (Has text_levels) (text_at room) (text_at wide)
   text_wider room wide le top =
       text_of_steady Wider (deeper_at room) (deeper_at wide) (deeper_wider room wide 0 le (omega arith))
-          (type_of_steady Wider 0 (inner_type_at room) (inner_type_at wide) (inner_type_wider room wide 0 le (omega arith)))
+      (type_of_steady Wider 0 (inner_type_at room) (inner_type_at wide) (inner_type_wider room wide 0 le (omega arith)))

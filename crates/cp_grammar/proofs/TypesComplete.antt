@@ -33,13 +33,23 @@ mutual
   type_shrinks (s.Array at is e) zero ts rest h = absurd h
   type_shrinks (s.Array at is e) (suc room) ts rest h =
       let h1 = h.2 in let h2 = h1.2 in let h3 = h2.2 in let h4 = h3.2 in
-      omega (arith, token_shrinks (kind.Symbol symbol.Array) at ts h.0 h.1, symbol_shrinks symbol.OpenBracket h.0 h1.0 h1.1,
-          types_shrink is room h1.0 h2.0 h2.1, symbol_shrinks symbol.CloseBracket h2.0 h3.0 h3.1,
-        symbol_shrinks symbol.Of h3.0 h4.0 h4.1, type_shrinks e room h4.0 rest h4.2)
+      omega (
+        arith,
+        token_shrinks (kind.Symbol symbol.Array) at ts h.0 h.1,
+        symbol_shrinks symbol.OpenBracket h.0 h1.0 h1.1,
+        types_shrink is room h1.0 h2.0 h2.1,
+        symbol_shrinks symbol.CloseBracket h2.0 h3.0 h3.1,
+        symbol_shrinks symbol.Of h3.0 h4.0 h4.1,
+        type_shrinks e room h4.0 rest h4.2,
+      )
   type_shrinks (s.Record at gs) zero ts rest h = absurd h
   type_shrinks (s.Record at gs) (suc room) ts rest h =
-      omega (arith, token_shrinks (kind.Symbol symbol.Record) at ts h.0 h.1, fields_shrink gs room h.0 h.2.0 h.2.1,
-          symbol_shrinks symbol.End h.2.0 rest h.2.2)
+      omega (
+        arith,
+        token_shrinks (kind.Symbol symbol.Record) at ts h.0 h.1,
+        fields_shrink gs room h.0 h.2.0 h.2.1,
+        symbol_shrinks symbol.End h.2.0 rest h.2.2,
+      )
 
   types_shrink : (xs : s.TypeExpressions) (room : ℕ) (ts rest : List Token) → types room xs ts rest → length rest ≤ length ts
   types_shrink s.NoTypes room ts rest h = absurd h
@@ -53,19 +63,34 @@ mutual
   fields_shrink : (gs : s.FieldGroups) (room : ℕ) (ts rest : List Token) → fields room gs ts rest → length rest ≤ length ts
   fields_shrink s.NoFields room ts rest h = absurd h
   fields_shrink (s.MoreFields xs t gs) room ts rest h =
-      let g = h.2 in omega (arith, names_shrink xs ts h.0 h.1, symbol_shrinks symbol.Colon h.0 g.0 g.1, type_shrinks t room g.0 g.2.0 g.2.1,
-          more_fields_shrink gs room g.2.0 rest g.2.2)
+      let g = h.2 in omega (
+        arith,
+        names_shrink xs ts h.0 h.1,
+        symbol_shrinks symbol.Colon h.0 g.0 g.1,
+        type_shrinks t room g.0 g.2.0 g.2.1,
+        more_fields_shrink gs room g.2.0 rest g.2.2,
+      )
 
   more_fields_shrink : (gs : s.FieldGroups) (room : ℕ) (ts rest : List Token) → more_fields room gs ts rest → length rest ≤ length ts
   more_fields_shrink s.NoFields room ts rest h = rw h (omega arith)
   more_fields_shrink (s.MoreFields xs t gs) room ts rest h =
       let f = h.2 in let g = f.2 in
-      omega (arith, symbol_shrinks symbol.Semicolon ts h.0 h.1, names_shrink xs h.0 f.0 f.1, symbol_shrinks symbol.Colon f.0 g.0 g.1,
-          type_shrinks t room g.0 g.2.0 g.2.1, more_fields_shrink gs room g.2.0 rest g.2.2)
+      omega (
+        arith,
+        symbol_shrinks symbol.Semicolon ts h.0 h.1,
+        names_shrink xs h.0 f.0 f.1,
+        symbol_shrinks symbol.Colon f.0 g.0 g.1,
+        type_shrinks t room g.0 g.2.0 g.2.1,
+        more_fields_shrink gs room g.2.0 rest g.2.2,
+      )
 
 pub group_shrinks : (room : ℕ) (g : s.Variables) (ts rest : List Token) → group room g ts rest → length rest < length ts
-group_shrinks room g ts rest h = omega (arith, names_shrink g.names ts h.0 h.1, symbol_shrinks symbol.Colon h.0 h.2.0 h.2.1,
-    type_shrinks g.of room h.2.0 rest h.2.2)
+group_shrinks room g ts rest h = omega (
+  arith,
+  names_shrink g.names ts h.0 h.1,
+  symbol_shrinks symbol.Colon h.0 h.2.0 h.2.1,
+  type_shrinks g.of room h.2.0 rest h.2.2,
+)
 
 -- ---- lists
 
@@ -110,10 +135,10 @@ types_reads : (xs : s.TypeExpressions) → Each TypeReads (listed_types xs) → 
     → separated_by symbol.Comma (type_at room) ts ≡ Ok (listed_types xs, rest)
 types_reads xs all room ts rest h ends stop =
     separated_reads (type_expression room) (type_at room) EndsType symbol.Comma (λ t. refl)
-        (λ t ts rest h. omega (arith, type_shrinks t room ts rest h)) (listed_types xs)
-      (each_imply TypeReads (ItemReads (type_expression room) (type_at room) EndsType) (λ t r ts rest h ends. r room ts rest h ends)
-          (listed_types xs) all)
-      ts rest (types_separated room xs ts rest h) (λ t. ends) stop
+    (λ t ts rest h. omega (arith, type_shrinks t room ts rest h)) (listed_types xs)
+    (each_imply TypeReads (ItemReads (type_expression room) (type_at room) EndsType) (λ t r ts rest h ends. r room ts rest h ends)
+    (listed_types xs) all)
+    ts rest (types_separated room xs ts rest h) (λ t. ends) stop
 
 abbrev listed_fields : s.FieldGroups → List s.Variables
 listed_fields s.NoFields = []
@@ -150,16 +175,16 @@ pub group_complete : (room : ℕ) (g : s.Variables) → TypeReads g.of → ItemR
 group_complete room g r ts rest h ends =
     let c = h.2.1 in
     group_reads (type_at room) g.names g.of c.0 ts h.0 h.2.0 rest
-        (names_reads g.names ts h.0 h.1 (rw (kind_of_symbol symbol.Colon h.0 h.2.0 c) colon_is_no_comma)) c.1 (r room h.2.0 rest h.2.2 ends)
+    (names_reads g.names ts h.0 h.1 (rw (kind_of_symbol symbol.Colon h.0 h.2.0 c) colon_is_no_comma)) c.1 (r room h.2.0 rest h.2.2 ends)
 
 fields_reads : (gs : s.FieldGroups) → Each GroupReads (listed_fields gs) → (room : ℕ) (ts rest : List Token) → fields room gs ts rest
     → ends_type (kind_at rest) ≡ true → is_symbol symbol.Semicolon (kind_at rest) ≡ false
     → separated_by symbol.Semicolon (group_of (type_at room)) ts ≡ Ok (listed_fields gs, rest)
 fields_reads gs all room ts rest h ends stop =
     separated_reads (group room) (group_of (type_at room)) GroupFollows symbol.Semicolon (λ g. refl)
-        (λ g ts rest h. omega (arith, group_shrinks room g ts rest h)) (listed_fields gs)
-      (each_imply GroupReads (ItemReads (group room) (group_of (type_at room)) GroupFollows) (group_complete room) (listed_fields gs) all)
-      ts rest (fields_separated room gs ts rest h) (λ g. ends) stop
+    (λ g ts rest h. omega (arith, group_shrinks room g ts rest h)) (listed_fields gs)
+    (each_imply GroupReads (ItemReads (group room) (group_of (type_at room)) GroupFollows) (group_complete room) (listed_fields gs) all)
+    ts rest (fields_separated room gs ts rest h) (λ g. ends) stop
 
 -- ---- types
 
@@ -173,8 +198,13 @@ module _ (inner : Option (Reader s.TypeExpression)) (ts mid : List Token) where
       → type_of inner ts ≡ Ok (s.Subrange (written.Named x) high, rest)
   unfolding type_of type_by named_or_subrange subrange_from
   named_subrange x high at last rest t d c =
-      rw (kind_of (kind.Name x.name) x.at ts mid t, identifier_reads x ts mid t, kind_of (kind.Symbol symbol.DotDot) at mid last d,
-          expect_reads symbol.DotDot at mid last d, constant_reads high last rest c) refl
+      rw (
+        kind_of (kind.Name x.name) x.at ts mid t,
+        identifier_reads x ts mid t,
+        kind_of (kind.Symbol symbol.DotDot) at mid last d,
+        expect_reads symbol.DotDot at mid last d,
+        constant_reads high last rest c,
+      ) refl
 
   number_subrange : (n : ℕ) (low high : Constant) (at : ℕ) (last rest : List Token) → kind_at ts ≡ Some (kind.Number n) → constant low ts mid
       → symbol_at symbol.DotDot at mid last → constant high last rest
@@ -208,13 +238,13 @@ named_complete x room ts rest h ends = named_reads (inner_type_at room) ts rest 
 subrange_complete : (low high : Constant) → TypeReads (s.Subrange low high)
 subrange_complete (written.Number at value) high room ts rest h ends =
     number_subrange (inner_type_at room) ts h.0 value (written.Number at value) high h.2.1.0 h.2.0 rest
-        (kind_of (kind.Number value) at ts h.0 h.1) h.1 h.2.1.1 h.2.2
+    (kind_of (kind.Number value) at ts h.0 h.1) h.1 h.2.1.1 h.2.2
 subrange_complete (written.Negative at value) high room ts rest h ends =
     negative_subrange (inner_type_at room) ts h.0 (written.Negative at value) high h.2.1.0 h.2.0 rest
-        (kind_of (kind.Symbol symbol.Minus) at ts h.1.0 h.1.1) h.1 h.2.1.1 h.2.2
+    (kind_of (kind.Symbol symbol.Minus) at ts h.1.0 h.1.1) h.1 h.2.1.1 h.2.2
 subrange_complete (written.Character at ordinal) high room ts rest h ends =
     character_subrange (inner_type_at room) ts h.0 ordinal (written.Character at ordinal) high h.2.1.0 h.2.0 rest
-        (kind_of (kind.Character ordinal) at ts h.0 h.1) h.1 h.2.1.1 h.2.2
+    (kind_of (kind.Character ordinal) at ts h.0 h.1) h.1 h.2.1.1 h.2.2
 subrange_complete (written.Named x) high room ts rest h ends = named_subrange (inner_type_at room) ts h.0 x high h.2.1.0 h.2.0 rest h.1 h.2.1.1 h.2.2
 
 module _ (p : Reader s.TypeExpression) (ts t1 t2 t3 t4 t5 rest : List Token) where
@@ -224,8 +254,14 @@ module _ (p : Reader s.TypeExpression) (ts t1 t2 t3 t4 t5 rest : List Token) whe
       → type_of (Some p) ts ≡ Ok (s.Array at (types_of is) e, rest)
   unfolding type_of type_by array_of
   array_reads at p2 p3 p4 is e h1 h2 h3 h4 h5 h6 =
-      rw (h1.1, expect_reads symbol.OpenBracket p2 t1 t2 h2, h3, expect_reads symbol.CloseBracket p3 t3 t4 h4, expect_reads symbol.Of p4 t4 t5 h5,
-      h6) refl
+      rw (
+        h1.1,
+        expect_reads symbol.OpenBracket p2 t1 t2 h2,
+        h3,
+        expect_reads symbol.CloseBracket p3 t3 t4 h4,
+        expect_reads symbol.Of p4 t4 t5 h5,
+        h6,
+      ) refl
 
 module _ (p : Reader s.TypeExpression) (ts t1 t2 rest : List Token) where
   record_reads : (at end : ℕ) (gs : List s.Variables) → symbol_at symbol.Record at ts t1 → separated_by symbol.Semicolon (group_of p) t1 ≡ Ok (gs, t2)
@@ -245,9 +281,9 @@ array_complete at is e all r (suc room) ts rest h ends =
     let h1 = h.2 in let h2 = h1.2 in let h3 = h2.2 in let h4 = h3.2 in
     rw (inner_type_suc room)
     (array_reads (type_at room) ts h.0 h1.0 h2.0 h3.0 h4.0 rest at h1.1.0 h3.1.0 h4.1.0 (listed_types is) e h.1 h1.1.1
-      (types_reads is all room h1.0 h2.0 h2.1 (rw (kind_of_symbol symbol.CloseBracket h2.0 h3.0 h3.1) refl)
-          (rw (kind_of_symbol symbol.CloseBracket h2.0 h3.0 h3.1) bracket_is_no_comma))
-      h3.1.1 h4.1.1 (r room h4.0 rest h4.2 ends)
+    (types_reads is all room h1.0 h2.0 h2.1 (rw (kind_of_symbol symbol.CloseBracket h2.0 h3.0 h3.1) refl)
+    (rw (kind_of_symbol symbol.CloseBracket h2.0 h3.0 h3.1) bracket_is_no_comma))
+    h3.1.1 h4.1.1 (r room h4.0 rest h4.2 ends)
     ∙ ap (λ (is : s.TypeExpressions). Ok (s.Array at is e, rest)) (types_listed is))
 
 record_complete : (at : ℕ) (gs : s.FieldGroups) → Each GroupReads (listed_fields gs) → TypeReads (s.Record at gs)
@@ -256,8 +292,8 @@ record_complete at gs all (suc room) ts rest h ends =
     let e = h.2.2 in
     rw (inner_type_suc room)
     (record_reads (type_at room) ts h.0 h.2.0 rest at e.0 (listed_fields gs) h.1
-      (fields_reads gs all room h.0 h.2.0 h.2.1 (rw (kind_of_symbol symbol.End h.2.0 rest e) refl)
-          (rw (kind_of_symbol symbol.End h.2.0 rest e) end_is_no_semicolon)) e.1
+    (fields_reads gs all room h.0 h.2.0 h.2.1 (rw (kind_of_symbol symbol.End h.2.0 rest e) refl)
+    (rw (kind_of_symbol symbol.End h.2.0 rest e) end_is_no_semicolon)) e.1
     ∙ ap (λ (gs : s.FieldGroups). Ok (s.Record at gs, rest)) (fields_listed gs))
 
 mutual

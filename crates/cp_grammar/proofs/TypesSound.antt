@@ -81,9 +81,11 @@ module _ (room : ℕ) (inner : Option (Reader s.TypeExpression)) (ok : SoundInne
       ensures_then _ _ _ _ (expect_sound symbol.CloseBracket t2) (λ at3 t3 h3.
       ensures_then _ _ _ _ (expect_sound symbol.Of t3) (λ at4 t4 h4.
       ensures_then _ _ _ _ (ok t4) (λ e rest g.
-      let made : type_expression (suc room) (s.Array (place_at ts) (types_of is) e) ts rest =
-        (tail ts, head ts (kind.Symbol symbol.Array) k,
-            (t1, (at1, h1), (t2, separated_types room is t1 t2 h2, (t3, (at3, h3), (t4, (at4, h4), g))))) in made)))))) room inner ok
+      let made : type_expression (suc room) (s.Array (place_at ts) (types_of is) e) ts rest = (
+        tail ts,
+        head ts (kind.Symbol symbol.Array) k,
+        (t1, (at1, h1), (t2, separated_types room is t1 t2 h2, (t3, (at3, h3), (t4, (at4, h4), g)))),
+      ) in made)))))) room inner ok
 
   record_sound : (ts : List Token) → kind_at ts ≡ Some (kind.Symbol symbol.Record)
       → Ensures (record_of inner ts) (λ t rest. type_expression room t ts rest)
@@ -92,7 +94,7 @@ module _ (room : ℕ) (inner : Option (Reader s.TypeExpression)) (ok : SoundInne
       ensures_then _ _ _ _ (separated_sound (group room) symbol.Semicolon (group_of p) (group_sound room p ok) (tail ts)) (λ gs mid h.
       ensures_then _ _ _ _ (expect_sound symbol.End mid) (λ at rest c.
       let made : type_expression (suc room) (s.Record (place_at ts) (fields_of gs)) ts rest =
-        (tail ts, head ts (kind.Symbol symbol.Record) k, (mid, separated_fields room gs (tail ts) mid h, (at, c))) in made))) room inner ok
+      (tail ts, head ts (kind.Symbol symbol.Record) k, (mid, separated_fields room gs (tail ts) mid h, (at, c))) in made))) room inner ok
 
   from_constant : (ts : List Token) → Ensures ((constant_of >>= subrange_from) ts) (λ t rest. type_expression room t ts rest)
   from_constant ts = ensures_then _ _ _ _ (constant_sound ts) (λ low mid h. subrange_sound room low ts mid h)

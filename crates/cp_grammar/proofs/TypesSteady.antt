@@ -70,22 +70,22 @@ module _ {c : Cut} (m : Mode) (depth : ℕ) (i i' : Option (Reader s.TypeExpress
   unfolding array_of
   array_steady = opening_steady (Has (type_levels depth)) (TypesRelated c) depth
       (λ f at. expect symbol.OpenBracket >>= λ _. separated_by symbol.Comma f >>= λ is. expect symbol.CloseBracket >>= λ _. expect symbol.Of >>= λ _.
-          f >>= λ e. pure (s.Array at (types_of is) e))
+      f >>= λ e. pure (s.Array at (types_of is) e))
       (λ m f f' r at. then (expect_steady symbol.OpenBracket) (λ _.
-        then (imply (Has (λ ts. types_levels (suc depth) (types_of ts))) (separated_steady (type_levels (suc depth)) symbol.Comma r)
-            (λ ts l h. h ∙ sym (types_are_separated (suc depth) ts))) (λ is.
-        then (expect_steady symbol.CloseBracket) (λ _. then (expect_steady symbol.Of)
-            (λ _. finish (λ e. s.Array at (types_of is) e) r (λ e. refl)))))) m i i' r
+      then (imply (Has (λ ts. types_levels (suc depth) (types_of ts))) (separated_steady (type_levels (suc depth)) symbol.Comma r)
+      (λ ts l h. h ∙ sym (types_are_separated (suc depth) ts))) (λ is.
+      then (expect_steady symbol.CloseBracket) (λ _. then (expect_steady symbol.Of)
+      (λ _. finish (λ e. s.Array at (types_of is) e) r (λ e. refl)))))) m i i' r
 
   record_steady : Steady c m Before (Has (type_levels depth)) (record_of i) (record_of i')
   unfolding record_of
   record_steady = opening_steady (Has (type_levels depth)) (TypesRelated c) depth
       (λ f at. separated_by symbol.Semicolon (group_of f) >>= λ gs. expect symbol.End >>= λ _. pure (s.Record at (fields_of gs)))
       (λ m f f' r at.
-        then (imply (Has (λ gs. fields_levels (suc depth) (fields_of gs)))
-            (separated_steady (group_levels (suc depth)) symbol.Semicolon (group_steady (suc depth) r))
-            (λ gs l h. h ∙ sym (fields_are_separated (suc depth) gs))) (λ gs.
-        finish (λ _. s.Record at (fields_of gs)) (expect_steady symbol.End) (λ _. refl))) m i i' r
+      then (imply (Has (λ gs. fields_levels (suc depth) (fields_of gs)))
+      (separated_steady (group_levels (suc depth)) symbol.Semicolon (group_steady (suc depth) r))
+      (λ gs l h. h ∙ sym (fields_are_separated (suc depth) gs))) (λ gs.
+      finish (λ _. s.Record at (fields_of gs)) (expect_steady symbol.End) (λ _. refl))) m i i' r
 
   from_constant : Steady c m Anywhere (Has (type_levels depth)) (constant_of >>= subrange_from) (constant_of >>= subrange_from)
   from_constant = then constant_steady (subrange_steady depth)

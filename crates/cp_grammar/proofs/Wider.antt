@@ -35,17 +35,28 @@ mutual
   expression_wider (s.Number at value) room wide le ts rest h = h
   expression_wider (s.Character at ordinal) room wide le ts rest h = h
   expression_wider (s.Designated d) room wide le ts rest h = designator_wider d room wide le ts rest h
-  expression_wider (s.Call d es) room wide le ts rest h =
-      (h.0, designator_wider d room wide le ts h.0 h.1,
-          opens_wider room wide _ h.0 rest le (λ r w le g. (g.0, g.1, (g.2.0, expressions_wider es r w le g.0 g.2.0 g.2.1, g.2.2))) h.2)
+  expression_wider (s.Call d es) room wide le ts rest h = (
+    h.0,
+    designator_wider d room wide le ts h.0 h.1,
+    opens_wider room wide _ h.0 rest le (λ r w le g. (g.0, g.1, (g.2.0, expressions_wider es r w le g.0 g.2.0 g.2.1, g.2.2))) h.2,
+  )
   expression_wider (s.Parenthesized at e) room wide le ts rest h =
       opens_wider room wide _ ts rest le (λ r w le g. (g.0, g.1, (g.2.0, expression_wider e r w le g.0 g.2.0 g.2.1, g.2.2))) h
   expression_wider (s.Not at e) room wide le ts rest h =
       (h.0, opens_wider room wide _ ts rest le (λ r w le g. (g.0, g.1, expression_wider e r w le g.0 rest g.2)) h.1)
   expression_wider (s.Signed x at e) room wide le ts rest h = (h.0, (h.1.0, h.1.1, expression_wider e room wide le h.1.0 rest h.1.2))
   expression_wider (s.Binary a o at b) room wide le ts rest h =
-      let g = h.1.1 in (h.0, (h.1.0, (g.0, expression_wider a room wide le ts g.0 g.1,
-          (g.2.0, g.2.1, expression_wider b room wide le g.2.0 rest g.2.2))))
+      let g = h.1.1 in (
+        h.0,
+        (
+          h.1.0,
+          (
+            g.0,
+            expression_wider a room wide le ts g.0 g.1,
+            (g.2.0, g.2.1, expression_wider b room wide le g.2.0 rest g.2.2),
+          ),
+        ),
+      )
 
   expressions_wider : (es : s.Expressions) (room wide : ℕ) → room ≤ wide → (ts rest : List Token) → expressions room es ts rest
       → expressions wide es ts rest
@@ -120,8 +131,15 @@ mutual
       → more_fields wide gs ts rest
   more_fields_wider s.NoFields room wide le ts rest h = h
   more_fields_wider (s.MoreFields xs t gs) room wide le ts rest h =
-      let f = h.2 in let g = f.2 in (h.0, h.1, (f.0, f.1,
-          (g.0, g.1, (g.2.0, type_wider t room wide le g.0 g.2.0 g.2.1, more_fields_wider gs room wide le g.2.0 rest g.2.2))))
+      let f = h.2 in let g = f.2 in (
+        h.0,
+        h.1,
+        (
+          f.0,
+          f.1,
+          (g.0, g.1, (g.2.0, type_wider t room wide le g.0 g.2.0 g.2.1, more_fields_wider gs room wide le g.2.0 rest g.2.2)),
+        ),
+      )
 
 -- ---- statements
 
@@ -139,10 +157,19 @@ mutual
       opens_wider room wide _ ts rest le (λ r w le g. (g.0, g.1, (g.2.0, statements_wider l r w le g.0 g.2.0 g.2.1, g.2.2))) h
   statement_wider (s.If c x) room wide le ts rest h = opens_wider room wide _ ts rest le (λ r w le g.
       (g.0, g.1, (g.2.0, expression_wider c r w le g.0 g.2.0 g.2.1, (g.2.2.0, g.2.2.1, statement_wider x r w le g.2.2.0 rest g.2.2.2)))) h
-  statement_wider (s.IfElse c x y) room wide le ts rest h = (h.0, opens_wider room wide _ ts rest le (λ r w le g.
-      let h1 = g.2 in let h2 = h1.2 in let h3 = h2.2 in let h4 = h3.2 in
-      (g.0, g.1, (h1.0, expression_wider c r w le g.0 h1.0 h1.1,
-          (h2.0, h2.1, (h3.0, statement_wider x r w le h2.0 h3.0 h3.1, (h4.0, h4.1, statement_wider y r w le h4.0 rest h4.2)))))) h.1)
+  statement_wider (s.IfElse c x y) room wide le ts rest h = (
+    h.0,
+    opens_wider room wide _ ts rest le (λ r w le g.
+        let h1 = g.2 in let h2 = h1.2 in let h3 = h2.2 in let h4 = h3.2 in (
+          g.0,
+          g.1,
+          (
+            h1.0,
+            expression_wider c r w le g.0 h1.0 h1.1,
+            (h2.0, h2.1, (h3.0, statement_wider x r w le h2.0 h3.0 h3.1, (h4.0, h4.1, statement_wider y r w le h4.0 rest h4.2))),
+          ),
+        )) h.1,
+  )
   statement_wider (s.Case e a) room wide le ts rest h = opens_wider room wide _ ts rest le (λ r w le g.
       let h1 = g.2 in let h2 = h1.2 in let h3 = h2.2 in
       (g.0, g.1, (h1.0, expression_wider e r w le g.0 h1.0 h1.1, (h2.0, h2.1, (h3.0, arms_wider a r w le h2.0 h3.0 h3.1, h3.2))))) h
@@ -151,9 +178,23 @@ mutual
   statement_wider (s.Repeat l c) room wide le ts rest h = opens_wider room wide _ ts rest le (λ r w le g.
       (g.0, g.1, (g.2.0, statements_wider l r w le g.0 g.2.0 g.2.1, (g.2.2.0, g.2.2.1, expression_wider c r w le g.2.2.0 rest g.2.2.2)))) h
   statement_wider (s.For v a d b x) room wide le ts rest h = opens_wider room wide _ ts rest le (λ r w le g.
-      let h1 = g.2 in let h2 = h1.2 in let h3 = h2.2 in let h4 = h3.2 in let h5 = h4.2 in let h6 = h5.2 in
-      (g.0, g.1, (h1.0, h1.1, (h2.0, h2.1, (h3.0, expression_wider a r w le h2.0 h3.0 h3.1,
-          (h4.0, h4.1, (h5.0, expression_wider b r w le h4.0 h5.0 h5.1, (h6.0, h6.1, statement_wider x r w le h6.0 rest h6.2)))))))) h
+      let h1 = g.2 in let h2 = h1.2 in let h3 = h2.2 in let h4 = h3.2 in let h5 = h4.2 in let h6 = h5.2 in (
+        g.0,
+        g.1,
+        (
+          h1.0,
+          h1.1,
+          (
+            h2.0,
+            h2.1,
+            (
+              h3.0,
+              expression_wider a r w le h2.0 h3.0 h3.1,
+              (h4.0, h4.1, (h5.0, expression_wider b r w le h4.0 h5.0 h5.1, (h6.0, h6.1, statement_wider x r w le h6.0 rest h6.2))),
+            ),
+          ),
+        ),
+      )) h
   statement_wider (s.Cycle l) room wide le ts rest h =
       opens_wider room wide _ ts rest le (λ r w le g. (g.0, g.1, (g.2.0, statements_wider l r w le g.0 g.2.0 g.2.1, g.2.2))) h
   statement_wider (s.Init at is) room wide le ts rest h =
@@ -179,8 +220,15 @@ mutual
   more_arms_wider : (a : s.Arms) (room wide : ℕ) → room ≤ wide → (ts rest : List Token) → more_arms room a ts rest → more_arms wide a ts rest
   more_arms_wider s.NoArms room wide le ts rest h = h
   more_arms_wider (s.MoreArms labels x a) room wide le ts rest h =
-      let f = h.2 in let g = f.2 in (h.0, h.1, (f.0, f.1,
-          (g.0, g.1, (g.2.0, statement_wider x room wide le g.0 g.2.0 g.2.1, more_arms_wider a room wide le g.2.0 rest g.2.2))))
+      let f = h.2 in let g = f.2 in (
+        h.0,
+        h.1,
+        (
+          f.0,
+          f.1,
+          (g.0, g.1, (g.2.0, statement_wider x room wide le g.0 g.2.0 g.2.1, more_arms_wider a room wide le g.2.0 rest g.2.2)),
+        ),
+      )
 
 -- ---- declarations
 
@@ -199,15 +247,43 @@ module _ (limit wide : ℕ) (le : limit ≤ wide) where
 
   routine_wider : (r : s.Routine) (ts rest : List Token) → routine limit r ts rest → routine wide r ts rest
   routine_wider r ts rest h =
-      let h1 = h.2 in let h2 = h1.2 in let h3 = h2.2 in let h4 = h3.2 in let h5 = h4.2 in let h6 = h5.2 in let h7 = h6.2 in
-      (h.0, h.1, (h1.0, h1.1, (h2.0, h2.1, (h3.0, h3.1,
-          (h4.0, h4.1, (h5.0, h5.1, (h6.0, variables_wider r.variables h5.0 h6.0 h6.1, (h7.0, body_wider r.body h6.0 h7.0 h7.1, h7.2))))))))
+      let h1 = h.2 in let h2 = h1.2 in let h3 = h2.2 in let h4 = h3.2 in let h5 = h4.2 in let h6 = h5.2 in let h7 = h6.2 in (
+        h.0,
+        h.1,
+        (
+          h1.0,
+          h1.1,
+          (
+            h2.0,
+            h2.1,
+            (
+              h3.0,
+              h3.1,
+              (h4.0, h4.1, (h5.0, h5.1, (h6.0, variables_wider r.variables h5.0 h6.0 h6.1, (h7.0, body_wider r.body h6.0 h7.0 h7.1, h7.2)))),
+            ),
+          ),
+        ),
+      )
 
   system_wider : (y : s.System) (ts rest : List Token) → system limit y ts rest → system wide y ts rest
   system_wider y ts rest h =
-      let h1 = h.2 in let h2 = h1.2 in let h3 = h2.2 in let h4 = h3.2 in
-      (h.0, h.1, (h1.0, h1.1, (h2.0, h2.1, (h3.0, variables_wider y.variables h2.0 h3.0 h3.1,
-          (h4.0, each_wider (routine limit) (routine wide) routine_wider y.routines h3.0 h4.0 h4.1, body_wider y.body h4.0 rest h4.2)))))
+      let h1 = h.2 in let h2 = h1.2 in let h3 = h2.2 in let h4 = h3.2 in (
+        h.0,
+        h.1,
+        (
+          h1.0,
+          h1.1,
+          (
+            h2.0,
+            h2.1,
+            (
+              h3.0,
+              variables_wider y.variables h2.0 h3.0 h3.1,
+              (h4.0, each_wider (routine limit) (routine wide) routine_wider y.routines h3.0 h4.0 h4.1, body_wider y.body h4.0 rest h4.2),
+            ),
+          ),
+        ),
+      )
 
   defined_wider : (d : s.Defined) (ts rest : List Token) → defined limit d ts rest → defined wide d ts rest
   defined_wider (s.Written t) ts rest h = type_wider t limit wide le ts rest h
@@ -221,12 +297,24 @@ module _ (limit wide : ℕ) (le : limit ≤ wide) where
   section_wider (s.Constants []) ts rest h = h
   section_wider (s.Constants (d ∷ ds)) ts rest h = h
   section_wider (s.Types []) ts rest h = h
-  section_wider (s.Types (d ∷ ds)) ts rest h = (h.0, h.1,
-      each_wider (type_definition limit) (type_definition wide) type_definition_wider (d ∷ ds) h.0 rest h.2)
+  section_wider (s.Types (d ∷ ds)) ts rest h = (
+    h.0,
+    h.1,
+    each_wider (type_definition limit) (type_definition wide) type_definition_wider (d ∷ ds) h.0 rest h.2,
+  )
 
   pub text_grammar_wider : (t : s.Tree) (ts rest : List Token) → text limit t ts rest → text wide t ts rest
   text_grammar_wider t ts rest h =
-      let h1 = h.2 in let h2 = h1.2 in let h3 = h2.2 in
-      (h.0, each_wider (section limit) (section wide) section_wider t.sections ts h.0 h.1,
-          (h1.0, variables_wider t.variables h.0 h1.0 h1.1, (h2.0, each_wider (routine limit) (routine wide) routine_wider t.routines h1.0 h2.0 h2.1,
-        (h3.0, body_wider t.body h2.0 h3.0 h3.1, h3.2))))
+      let h1 = h.2 in let h2 = h1.2 in let h3 = h2.2 in (
+        h.0,
+        each_wider (section limit) (section wide) section_wider t.sections ts h.0 h.1,
+        (
+          h1.0,
+          variables_wider t.variables h.0 h1.0 h1.1,
+          (
+            h2.0,
+            each_wider (routine limit) (routine wide) routine_wider t.routines h1.0 h2.0 h2.1,
+            (h3.0, body_wider t.body h2.0 h3.0 h3.1, h3.2),
+          ),
+        ),
+      )

@@ -69,7 +69,7 @@ abbrev pub DeepOpensTheNext : Type 0
 DeepOpensTheNext = (room : ℕ) (front : List Token) (t : Token) (behind : List Token)
     → text_at room (front ++ t ∷ behind) ≡ Err (Deep (suc (length behind)))
     → (limit : ℕ) (more : List Token) (tree : s.Tree) → text limit tree ((front ++ t ∷ []) ++ more) []
-        → get_or (text_levels tree) (length front) 0 ≡ suc room
+    → get_or (text_levels tree) (length front) 0 ≡ suc room
 
 -- a tree has a level for each of its tokens
 abbrev pub LevelsAreOfTokens : Type 0

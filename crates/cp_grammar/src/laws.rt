@@ -6,30 +6,26 @@ ghost use Rattle.cp_grammar.specs.Laws.{DeepIsFirst, DeepOpensTheNext, Expressio
 pub fn expression_laws()
     ensures sound { ExpressionsAreSound }
     ensures complete { ExpressionsAreComplete }
-{
-}
+{}
 
 /// A statement is read exactly where the grammar has one.
 pub fn statement_laws()
     ensures sound { StatementsAreSound }
     ensures complete { StatementsAreComplete }
-{
-}
+{}
 
 /// A type is read exactly where the grammar has one.
 pub fn type_laws()
     ensures sound { TypesAreSound }
     ensures complete { TypesAreComplete }
-{
-}
+{}
 
 /// A text is read exactly where the grammar has one.
 pub fn text_laws()
     ensures sound { TextIsSound }
     ensures complete { TextIsComplete }
     ensures unique { TreeIsUnique }
-{
-}
+{}
 
 /// A text is refused at the first token that no text has there, or at the token that opens one level too many.
 pub fn refusal_laws()
@@ -38,5 +34,4 @@ pub fn refusal_laws()
     ensures deep { DeepIsFirst }
     ensures opens { DeepOpensTheNext }
     ensures levels { LevelsAreOfTokens }
-{
-}
+{}
