@@ -85,7 +85,7 @@ module _ {A : Type 0} (f : A → Language) (x : Symbol) where
   behind_push [] a ts mid next rest h k g = (next, subst (λ (t : List Token). symbol x t next) (sym h) k, (rest, g, refl))
   behind_push (y ∷ ys) a ts mid next rest h k g = (h.0, h.1, (h.2.0, h.2.1, behind_push ys a h.2.0 mid next rest h.2.2 k g))
 
-  separated_push : (items : List A) (a : A) (ts mid next rest : List Token) → separated x f items ts mid → symbol x mid next → f a next rest
+  pub separated_push : (items : List A) (a : A) (ts mid next rest : List Token) → separated x f items ts mid → symbol x mid next → f a next rest
       → separated x f (items ++ a ∷ []) ts rest
   separated_push [] a ts mid next rest h k g = absurd h
   separated_push (y ∷ ys) a ts mid next rest h k g = (h.0, h.1, behind_push ys a h.0 mid next rest h.2 k g)
@@ -98,29 +98,29 @@ module _ {A : Type 0} (f : A → Language) (x : Symbol) where
       (λ a rest one. separated_push items a ts at (tail at) rest g (place_at at, head_symbol at x c) one))
       (length mid) (a ∷ []) mid (mid, h, refl))
 
-module _ {A : Type 0} (f : A → Language) (goes_on : Option Kind → Bool) (item : Reader A) where
-  each_push : (items : List A) (a : A) (ts mid rest : List Token) → each f items ts mid → f a mid rest → each f (items ++ a ∷ []) ts rest
-  each_push [] a ts mid rest h g = (rest, subst (λ (t : List Token). f a t rest) (sym h) g, refl)
-  each_push (y ∷ ys) a ts mid rest h g = (h.0, h.1, each_push ys a h.0 mid rest h.2 g)
-
-  pub each_sound : ((ts : List Token) → goes_on (kind_at ts) ≡ true → Ensures (item ts) (λ a rest. f a ts rest))
-      → Sound (repeated goes_on item []) (each f)
-  each_sound ok ts = repeat_sound goes_on item (λ items rest. each f items ts rest)
-      (λ items at g c. ensures_weaker (item at) (λ a rest. f a at rest) _ (ok at c) (λ a rest one. each_push items a ts at rest g one))
-      (length ts) [] ts refl
-
 -- one or more
 abbrev pub some : {A : Type 0} → (A → Language) → List A → Language
 some f [] = never
 some f (a ∷ items) = each f (a ∷ items)
 
-module _ {A : Type 0} (f : A → Language) (goes_on : Option Kind → Bool) (item : Reader A) (ok : Sound item f) where
-  some_push : (items : List A) (a : A) (ts mid rest : List Token) → some f items ts mid → f a mid rest → some f (items ++ a ∷ []) ts rest
-  some_push [] a ts mid rest h g = absurd h
-  some_push (y ∷ ys) a ts mid rest h g = each_push f goes_on item (y ∷ ys) a ts mid rest h g
+module _ {A : Type 0} (f : A → Language) where
+  pub each_push : (items : List A) (a : A) (ts mid rest : List Token) → each f items ts mid → f a mid rest → each f (items ++ a ∷ []) ts rest
+  each_push [] a ts mid rest h g = (rest, subst (λ (t : List Token). f a t rest) (sym h) g, refl)
+  each_push (y ∷ ys) a ts mid rest h g = (h.0, h.1, each_push ys a h.0 mid rest h.2 g)
 
-  pub some_sound : Sound (one_or_more goes_on item) (some f)
-  some_sound ts = ensures_then (item ts) (λ a. repeated goes_on item (a ∷ [])) (λ a rest. f a ts rest) _ (ok ts)
+  pub some_push : (items : List A) (a : A) (ts mid rest : List Token) → some f items ts mid → f a mid rest → some f (items ++ a ∷ []) ts rest
+  some_push [] a ts mid rest h g = absurd h
+  some_push (y ∷ ys) a ts mid rest h g = each_push (y ∷ ys) a ts mid rest h g
+
+  pub each_sound : (goes_on : Option Kind → Bool) (item : Reader A)
+      → ((ts : List Token) → goes_on (kind_at ts) ≡ true → Ensures (item ts) (λ a rest. f a ts rest))
+      → Sound (repeated goes_on item []) (each f)
+  each_sound goes_on item ok ts = repeat_sound goes_on item (λ items rest. each f items ts rest)
+      (λ items at g c. ensures_weaker (item at) (λ a rest. f a at rest) _ (ok at c) (λ a rest one. each_push items a ts at rest g one))
+      (length ts) [] ts refl
+
+  pub some_sound : (goes_on : Option Kind → Bool) (item : Reader A) → Sound item f → Sound (one_or_more goes_on item) (some f)
+  some_sound goes_on item ok ts = ensures_then (item ts) (λ a. repeated goes_on item (a ∷ [])) (λ a rest. f a ts rest) _ (ok ts)
       (λ a mid h. repeat_sound goes_on item (λ items rest. some f items ts rest)
       (λ items at g c. ensures_weaker (item at) (λ a rest. f a at rest) _ (ok at) (λ a rest one. some_push items a ts at rest g one))
       (length mid) (a ∷ []) mid (mid, h, refl))

@@ -28,3 +28,4 @@ pub mod DeclarationsSteady
 pub mod TextSteady
 pub mod Wider
 pub mod Refusals
+pub mod Viable
