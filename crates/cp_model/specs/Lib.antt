@@ -56,3 +56,4 @@ pub mod Chains
 pub mod Report
 pub mod Input
 pub mod OrderText
+pub mod Levels
