@@ -1,0 +1,6 @@
+//! The parser: the one syntax tree of a list of tokens, or the first token that no text has there.
+#![tactic(auto)]
+
+mod lists;
+mod names;
+mod tokens;
