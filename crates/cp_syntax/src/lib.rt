@@ -3,4 +3,5 @@
 
 mod lists;
 mod names;
+mod nodes;
 mod tokens;

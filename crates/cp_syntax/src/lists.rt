@@ -6,34 +6,18 @@ ghost use Rattle.cp_grammar.specs.Reading.{Reader, Gives};
 ghost use Rattle.cp_grammar.specs.Reading as reading;
 ghost use Rattle.cp_syntax.specs.Readers.{Reads, Tests};
 
-use cp_grammar::Stop;
-use crate::tokens::{after, sees};
+use crate::nodes::Node;
+use crate::tokens::{Read, after, sees};
 use cp_model::token::{Symbol, Token};
-use cp_model::tree::Identifier;
 use std::alloc::Global;
 
-/// A part of the syntax tree, and the plain data that the grammar speaks of in its place.
-pub trait Node {
-    ghost Plain: { Type 0 };
-
-    ghost view: { Self → Plain };
-}
-
-impl Node for Identifier {
-    ghost use Rattle.cp_model.specs.declared.tree.Identifier.{Identifier};
-
-    ghost Plain = { Identifier };
-
-    ghost view = { λ x. x };
-}
-
 /// Items behind those found, as long as the next token says so.
-pub fn repeated<X: Node + Drop, G: Fn(&[Token]) -> bool, F: Fn(&[Token]) -> Result<(X, &[Token]), Stop>>(
+pub fn repeated<X: Node + Drop, G: Fn(&[Token]) -> bool, F: Fn(&[Token]) -> Read<'_, X>>(
     found: Vec<X>,
     goes_on: G,
     item: F,
     tokens: &[Token],
-) -> Result<(Vec<X>, &[Token]), Stop>
+) -> Read<'_, Vec<X>>
     requires can_look { G.IsAlwaysCallable goes_on }
     requires can_read { F.IsAlwaysCallable item }
     ensures { (test : Option Kind → Bool) (reader : Reader X.Plain) → Tests (G.post goes_on) test → Reads X.view (F.post item) reader → Gives (λ v. map X.view v.items) result (reading.repeated test reader (map X.view found.items) tokens.now) }
@@ -53,12 +37,12 @@ pub fn repeated<X: Node + Drop, G: Fn(&[Token]) -> bool, F: Fn(&[Token]) -> Resu
 
 /// One item, and further ones as long as the next token says so.
 #[tactic(auto, unfolding(cp_grammar::specs::Reading::repeat))]
-pub fn one_or_more<X: Node + Drop, G: Fn(&[Token]) -> bool, F: Fn(&[Token]) -> Result<(X, &[Token]), Stop>>(
+pub fn one_or_more<X: Node + Drop, G: Fn(&[Token]) -> bool, F: Fn(&[Token]) -> Read<'_, X>>(
     alloc: Global,
     goes_on: G,
     item: F,
     tokens: &[Token],
-) -> Result<(Vec<X>, &[Token]), Stop>
+) -> Read<'_, Vec<X>>
     requires can_look { G.IsAlwaysCallable goes_on }
     requires can_read { F.IsAlwaysCallable item }
     ensures { (test : Option Kind → Bool) (reader : Reader X.Plain) → Tests (G.post goes_on) test → Reads X.view (F.post item) reader → Gives (λ v. map X.view v.items) result (reading.one_or_more test reader tokens.now) }
@@ -70,12 +54,12 @@ pub fn one_or_more<X: Node + Drop, G: Fn(&[Token]) -> bool, F: Fn(&[Token]) -> R
 }
 
 /// One item or more, with this symbol between them.
-pub fn separated<X: Node + Drop, F: Fn(&[Token]) -> Result<(X, &[Token]), Stop>>(
+pub fn separated<X: Node + Drop, F: Fn(&[Token]) -> Read<'_, X>>(
     alloc: Global,
     symbol: Symbol,
     item: F,
     tokens: &[Token],
-) -> Result<(Vec<X>, &[Token]), Stop>
+) -> Read<'_, Vec<X>>
     requires { F.IsAlwaysCallable item }
     ensures { (reader : Reader X.Plain) → Reads X.view (F.post item) reader → Gives (λ v. map X.view v.items) result (reading.separated_by symbol reader tokens.now) }
 {

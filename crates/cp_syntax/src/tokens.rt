@@ -8,6 +8,9 @@ ghost use Rattle.cp_grammar.specs.Reading as reading;
 use cp_grammar::Stop;
 use cp_model::token::{Kind, Symbol, Token};
 
+/// What was read and the tokens behind it, or why reading stopped.
+pub type Read<'a, X> = Result<(X, &'a [Token]), Stop>;
+
 /// The place of the next token.
 pub fn place(tokens: &[Token]) -> usize
     ensures { result ≡ place_at tokens.now }
@@ -64,7 +67,7 @@ pub fn sees_name(tokens: &[Token]) -> bool
 
 /// Takes this symbol, and answers its place.
 #[tactic(auto, unfolding(cp_grammar::specs::Reading::expect))]
-pub fn expect(tokens: &[Token], symbol: Symbol) -> Result<(usize, &[Token]), Stop>
+pub fn expect(tokens: &[Token], symbol: Symbol) -> Read<'_, usize>
     ensures { Gives (λ at. at) result (reading.expect symbol tokens.now) }
 {
     if !sees(tokens, symbol) {

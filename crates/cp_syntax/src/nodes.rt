@@ -1,0 +1,62 @@
+//! The parts of the syntax tree that stand in lists.
+
+use cp_model::tree::{Constant, Expression, Identifier, Index, Operation, Selector};
+
+/// A part of the syntax tree, and the plain data that the grammar speaks of in its place.
+pub trait Node {
+    ghost Plain: { Type 0 };
+
+    ghost view: { Self → Plain };
+}
+
+impl Node for Identifier {
+    ghost use Rattle.cp_model.specs.declared.tree.Identifier as plain;
+
+    ghost Plain = { plain.Identifier };
+
+    ghost view = { λ x. x };
+}
+
+impl Node for Constant {
+    ghost use Rattle.cp_model.specs.declared.tree.Constant as plain;
+
+    ghost Plain = { plain.Constant };
+
+    ghost view = { λ c. c };
+}
+
+impl Node for Expression {
+    ghost use Rattle.cp_model.specs.Syntax as s;
+    ghost use Rattle.cp_model.specs.View as view;
+
+    ghost Plain = { s.Expression };
+
+    ghost view = { view.expression };
+}
+
+impl Node for Operation {
+    ghost use Rattle.cp_model.specs.Syntax as s;
+    ghost use Rattle.cp_model.specs.View as view;
+
+    ghost Plain = { s.Operation };
+
+    ghost view = { view.operation };
+}
+
+impl Node for Selector {
+    ghost use Rattle.cp_model.specs.Syntax as s;
+    ghost use Rattle.cp_model.specs.View as view;
+
+    ghost Plain = { s.Selector };
+
+    ghost view = { view.selector };
+}
+
+impl Node for Index {
+    ghost use Rattle.cp_model.specs.Syntax as s;
+    ghost use Rattle.cp_model.specs.View as view;
+
+    ghost Plain = { view.PlacedIndex };
+
+    ghost view = { view.index };
+}
