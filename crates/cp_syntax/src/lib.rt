@@ -1,7 +1,9 @@
 //! The parser: the one syntax tree of a list of tokens, or the first token that no text has there.
 #![tactic(auto)]
 
+mod expressions;
 mod lists;
 mod names;
 mod nodes;
+mod operators;
 mod tokens;

@@ -1,0 +1,14 @@
+-- What a rule asks of the reader of one level deeper that it is given.
+use Rattle.std.specs.Prelude.{ℕ, List, Result}
+use Rattle.std.specs.Borrow.{Bor}
+use Rattle.std.specs.declared.alloc.Global.{Global}
+use Rattle.cp_model.specs.declared.token.Token.{Token}
+use Rattle.cp_grammar.specs.declared.stop.Stop.{Stop}
+use Rattle.cp_grammar.specs.Reading.{Reader, Gives}
+
+-- it may be called where so many levels may be opened, and then gives what the reader of so many levels answers
+pub record Nests {X Y : Type 0} (view : X → Y) (reader : ℕ → Reader Y) (room : ℕ) (pre : Global → ℕ → Bor (List Token) → Type 0)
+    (post : Global → ℕ → Bor (List Token) → Result (X × Bor (List Token)) Stop → Type 0) : Type 0 where
+  pub callable : (alloc : Global) (ts : Bor (List Token)) → pre alloc room ts
+  pub reads : (alloc : Global) (ts : Bor (List Token)) (r : Result (X × Bor (List Token)) Stop) → post alloc room ts r
+      → Gives view r (reader room ts.now)
