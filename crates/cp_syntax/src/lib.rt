@@ -2,6 +2,7 @@
 #![tactic(auto)]
 
 mod expressions;
+mod factors;
 mod lists;
 mod names;
 mod nodes;
