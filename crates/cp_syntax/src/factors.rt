@@ -84,7 +84,7 @@ impl<F: Fn(Global, usize, &[Token]) -> Read<'_, Expression> + Copy> Factors<F> {
     {
         let (root, rest) = identifier(self.alloc, tokens)?;
         let (selectors, rest) = repeated(Vec::new(self.alloc), begins_selector, |rest| self.selector(rest), rest)?;
-        Ok((designator(root, selectors), rest))
+        Ok((designator_from(root, selectors), rest))
     }
 
     /// Arguments in parentheses.
@@ -179,7 +179,7 @@ fn indexed(indices: Vec<Index>) -> Selector
     Selector::Indexed(indices)
 }
 
-fn designator(root: Identifier, selectors: Vec<Selector>) -> Designator
+fn designator_from(root: Identifier, selectors: Vec<Selector>) -> Designator
     ensures { view.designator result ≡ s.Designate root (selectors_of (map view.selector selectors.items)) }
 {
     Designator { root, selectors }
@@ -237,4 +237,44 @@ pub fn factor(alloc: Global, room: usize, tokens: &[Token]) -> Read<'_, Expressi
         factor,
     }
     .factor(tokens)
+}
+
+/// An expression, where so many levels may be opened.
+pub fn expression(alloc: Global, room: usize, tokens: &[Token]) -> Read<'_, Expression>
+    ensures { Gives view.expression result (spec.expression_at room tokens.now) }
+{
+    Expressions {
+        alloc,
+        room,
+        factor,
+    }
+    .expression(tokens)
+}
+
+/// A designator, where so many levels may be opened.
+pub fn designator(alloc: Global, room: usize, tokens: &[Token]) -> Read<'_, Designator>
+    ensures { Gives view.designator result (spec.designator_at room tokens.now) }
+{
+    Factors {
+        alloc,
+        room,
+        factor,
+    }
+    .designator(tokens)
+}
+
+/// Arguments in parentheses or none, where so many levels may be opened.
+pub fn optional_arguments(
+    alloc: Global,
+    room: usize,
+    tokens: &[Token],
+) -> Read<'_, Vec<Expression>>
+    ensures { Gives (λ v. map view.expression v.items) result (spec.optional_arguments_at room tokens.now) }
+{
+    Factors {
+        alloc,
+        room,
+        factor,
+    }
+    .optional_arguments(tokens)
 }

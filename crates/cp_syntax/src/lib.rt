@@ -8,3 +8,4 @@ mod names;
 mod nodes;
 mod operators;
 mod tokens;
+mod types;

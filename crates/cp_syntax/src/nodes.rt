@@ -1,6 +1,9 @@
 //! The parts of the syntax tree that stand in lists.
 
-use cp_model::tree::{Constant, Expression, Identifier, Index, Operation, Selector};
+use cp_model::tree::{
+    Arm, Constant, Expression, Fields, Identifier, Index, InitItem, Operation, Selector, Statement,
+    TypeExpression,
+};
 
 /// A part of the syntax tree, and the plain data that the grammar speaks of in its place.
 pub trait Node {
@@ -59,4 +62,49 @@ impl Node for Index {
     ghost Plain = { view.PlacedIndex };
 
     ghost view = { view.index };
+}
+
+impl Node for TypeExpression {
+    ghost use Rattle.cp_model.specs.Syntax as s;
+    ghost use Rattle.cp_model.specs.View as view;
+
+    ghost Plain = { s.TypeExpression };
+
+    ghost view = { view.type_expression };
+}
+
+impl Node for Fields {
+    ghost use Rattle.cp_model.specs.Syntax as s;
+    ghost use Rattle.cp_model.specs.View as view;
+
+    ghost Plain = { s.Variables };
+
+    ghost view = { view.variables };
+}
+
+impl Node for Statement {
+    ghost use Rattle.cp_model.specs.Syntax as s;
+    ghost use Rattle.cp_model.specs.View as view;
+
+    ghost Plain = { s.Statement };
+
+    ghost view = { view.statement };
+}
+
+impl Node for Arm {
+    ghost use Rattle.cp_model.specs.Syntax as s;
+    ghost use Rattle.cp_model.specs.View as view;
+
+    ghost Plain = { view.LabelledStatement };
+
+    ghost view = { view.arm };
+}
+
+impl Node for InitItem {
+    ghost use Rattle.cp_model.specs.Syntax as s;
+    ghost use Rattle.cp_model.specs.View as view;
+
+    ghost Plain = { s.InitItem };
+
+    ghost view = { view.init_item };
 }
