@@ -7,5 +7,7 @@ mod lists;
 mod names;
 mod nodes;
 mod operators;
+mod simple_statements;
+mod statements;
 mod tokens;
 mod types;
