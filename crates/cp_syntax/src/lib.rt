@@ -7,6 +7,7 @@ mod lists;
 mod names;
 mod nodes;
 mod operators;
+mod routines;
 mod simple_statements;
 mod statements;
 mod tokens;

@@ -1,8 +1,8 @@
 //! The parts of the syntax tree that stand in lists.
 
 use cp_model::tree::{
-    Arm, Constant, Expression, Fields, Identifier, Index, InitItem, Operation, Selector, Statement,
-    TypeExpression,
+    Arm, Constant, ConstantDefinition, Expression, Fields, Identifier, Index, InitItem, Operation,
+    Parameters, Routine, Section, Selector, Statement, TypeDefinition, TypeExpression,
 };
 
 /// A part of the syntax tree, and the plain data that the grammar speaks of in its place.
@@ -107,4 +107,48 @@ impl Node for InitItem {
     ghost Plain = { s.InitItem };
 
     ghost view = { view.init_item };
+}
+
+impl Node for ConstantDefinition {
+    ghost use Rattle.cp_model.specs.declared.tree.ConstantDefinition as plain;
+
+    ghost Plain = { plain.ConstantDefinition };
+
+    ghost view = { λ d. d };
+}
+
+impl Node for Parameters {
+    ghost use Rattle.cp_model.specs.Syntax as s;
+    ghost use Rattle.cp_model.specs.View as view;
+
+    ghost Plain = { s.Parameters };
+
+    ghost view = { view.parameters };
+}
+
+impl Node for Routine {
+    ghost use Rattle.cp_model.specs.Syntax as s;
+    ghost use Rattle.cp_model.specs.View as view;
+
+    ghost Plain = { s.Routine };
+
+    ghost view = { view.routine };
+}
+
+impl Node for TypeDefinition {
+    ghost use Rattle.cp_model.specs.Syntax as s;
+    ghost use Rattle.cp_model.specs.View as view;
+
+    ghost Plain = { s.TypeDefinition };
+
+    ghost view = { view.type_definition };
+}
+
+impl Node for Section {
+    ghost use Rattle.cp_model.specs.Syntax as s;
+    ghost use Rattle.cp_model.specs.View as view;
+
+    ghost Plain = { s.Section };
+
+    ghost view = { view.section_of };
 }

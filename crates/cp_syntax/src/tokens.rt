@@ -75,3 +75,14 @@ pub fn expect(tokens: &[Token], symbol: Symbol) -> Read<'_, usize>
     }
     Ok((place(tokens), after(tokens)))
 }
+
+/// Takes this symbol where it stands next, and answers its place.
+#[tactic(auto, unfolding(cp_grammar::specs::Reading::optional_symbol))]
+pub fn optional_symbol(tokens: &[Token], symbol: Symbol) -> Read<'_, Option<usize>>
+    ensures { Gives (λ at. at) result (reading.optional_symbol symbol tokens.now) }
+{
+    if !sees(tokens, symbol) {
+        return Ok((None, tokens));
+    }
+    Ok((Some(place(tokens)), after(tokens)))
+}
