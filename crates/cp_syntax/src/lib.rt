@@ -1,6 +1,7 @@
 //! The parser: the one syntax tree of a list of tokens, or the first token that no text has there.
 #![tactic(auto)]
 
+mod declarations;
 mod expressions;
 mod factors;
 mod lists;
