@@ -6,4 +6,5 @@ pub mod Types
 pub mod Statements
 pub mod Declarations
 pub mod Text
+pub mod Follows
 pub mod Laws

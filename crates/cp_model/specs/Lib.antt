@@ -7,6 +7,7 @@ pub mod GrammarExpressions
 pub mod GrammarTypes
 pub mod GrammarStatements
 pub mod Grammar
+pub mod Levels
 pub mod RulesJudged
 pub mod RulesEnvironment
 pub mod RulesNames
