@@ -1,3 +1,4 @@
 pub mod Loops
 pub mod Symbols
 pub mod Rooms
+pub mod Stops

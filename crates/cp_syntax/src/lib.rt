@@ -8,8 +8,13 @@ mod lists;
 mod names;
 mod nodes;
 mod operators;
+mod parsing;
+mod refusal;
 mod routines;
 mod simple_statements;
 mod statements;
 mod tokens;
 mod types;
+
+pub use parsing::parse;
+pub use refusal::SyntaxError;

@@ -1,0 +1,8 @@
+use Rattle.cp_syntax.proofs.Stops.{refused}
+use Rattle.cp_syntax.proofs.parsing.parse.Goals as goal
+
+pub returns-in-Ok-clause-unique : goal.returns-in-Ok-clause-unique
+returns-in-Ok-clause-unique c u reads = c.text_laws.ensures.unique _ _ _ _ reads (c.text_laws.ensures.sound _ _ _ _ c.in-Ok.ensures)
+
+pub returns-in-Err-clause-refused : goal.returns-in-Err-clause-refused
+returns-in-Err-clause-refused c = refused c.text_laws.ensures.complete _ _ _ _ c.in-Err.ensures c.refusal.ensures

@@ -1,0 +1,40 @@
+-- What a refusal says of the tokens.
+use Rattle.std.specs.Prelude.{◌≡◌, ℕ, suc, List, [], ◌∷◌, ◌++◌, length}
+use Rattle.cp_model.specs.Syntax as s
+use Rattle.cp_model.specs.Grammar.{Reads, Begins, BeginsWithin}
+use Rattle.cp_model.specs.declared.token.Token.{Token}
+use Rattle.cp_grammar.specs.declared.stop.Stop.{Stop}
+use Rattle.cp_grammar.specs.declared.stop.Stop.TheVariants.{Memory, Wrong, Deep}
+use Rattle.cp_syntax.specs.declared.refusal.SyntaxError.{SyntaxError}
+use Rattle.cp_syntax.specs.declared.refusal.SyntaxError.TheVariants as error
+
+-- so many tokens are left from the one on that begins at this place
+pub record TokenAt (tokens : List Token) (left at : ℕ) : Type 0 where
+  pub front : List Token
+  pub token : Token
+  pub behind : List Token
+  pub stands : tokens ≡ front ++ token ∷ behind
+  pub counted : left ≡ suc (length behind)
+  pub begins : token.span.from ≡ at
+
+-- the tokens up to and with it
+abbrev pub up_to : {tokens : List Token} {left at : ℕ} → TokenAt tokens left at → List Token
+up_to k = k.front ++ k.token ∷ []
+
+abbrev pub HasNoTree : List Token → Type 0
+HasNoTree tokens = (t : s.Tree) → Reads tokens t → ⊥
+
+abbrev pub Refused : List Token → ℕ → SyntaxError → Type 0
+Refused tokens len (error.Unexpected at) = HasNoTree tokens × ((left : ℕ) × (k : TokenAt tokens left at) × (Begins (up_to k) → ⊥))
+Refused tokens len (error.Unfinished at) = HasNoTree tokens × (at ≡ len)
+Refused tokens len (error.TooDeep at) = HasNoTree tokens × ((left : ℕ) × (k : TokenAt tokens left at) × (BeginsWithin (up_to k) → ⊥))
+Refused tokens len error.Memory = Unit {0}
+
+-- a refusal tells the token at which reading stopped, or the end
+abbrev pub Tells : List Token → ℕ → Stop → SyntaxError → Type 0
+Tells tokens len Memory error.Memory = Unit {0}
+Tells tokens len (Wrong left) (error.Unexpected at) = TokenAt tokens left at
+Tells tokens len (Wrong left) (error.Unfinished at) = at ≡ len
+Tells tokens len (Deep left) (error.TooDeep at) = TokenAt tokens left at
+Tells tokens len (Deep left) (error.Unfinished at) = at ≡ len
+Tells tokens len stop e = ⊥
