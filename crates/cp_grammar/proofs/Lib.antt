@@ -22,3 +22,9 @@ pub mod Steady
 pub mod SteadyLists
 pub mod NamesSteady
 pub mod ExpressionsSteady
+pub mod TypesSteady
+pub mod StatementsSteady
+pub mod DeclarationsSteady
+pub mod TextSteady
+pub mod Wider
+pub mod Refusals

@@ -257,6 +257,19 @@ kind_steady {c} {m} {A} {T} {p} {q} s = record { tame = tame; tame' = tame'; lik
     like [] = (s (Some c.token.kind)).like []
     like (x ∷ f) = (s (Some x.kind)).like (x ∷ f)
 
+pub kind_before : {c : Cut} {m : Mode} {A : Type 0} {T : A → List ℕ → Type 0} (p q : Option Kind → Reader A) → ((k : Kind) → Steady c m Before T (p (Some k)) (q (Some k))) → Steady c m Before T (by_kind p) (by_kind q)
+kind_before {c} {m} {A} {T} p q s = record { tame = tame; tame' = tame'; like = like }
+  where
+    tame : (ts : List Token) → At Before ts → Tame T (by_kind p ts) ts
+    tame [] k = absurd k
+    tame (x ∷ ts) k = (s x.kind).tame (x ∷ ts) tt
+    tame' : (ts : List Token) → At Before ts → Tame T (by_kind q ts) ts
+    tame' [] k = absurd k
+    tame' (x ∷ ts) k = (s x.kind).tame' (x ∷ ts) tt
+    like : (f : List Token) → Like c m T (by_kind p (f ++ c.token ∷ c.here)) (by_kind q (f ++ c.token ∷ c.there))
+    like [] = (s c.token.kind).like []
+    like (x ∷ f) = (s x.kind).like (x ∷ f)
+
 pub symbol_steady : {c : Cut} {m : Mode} {A : Type 0} {T : A → List ℕ → Type 0} (x : Symbol) (h h' : Bool → Reader A) → Steady c m Before T (h true) (h' true) → Steady c m Anywhere T (h false) (h' false)
     → Steady c m Anywhere T (by_kind (λ k. h (is_symbol x k))) (by_kind (λ k. h' (is_symbol x k)))
 symbol_steady {c} {m} {A} {T} x h h' s r = kind_steady go

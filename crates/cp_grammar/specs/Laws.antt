@@ -1,14 +1,16 @@
 -- That the reading functions read exactly what the grammar allows.
-use Rattle.std.specs.Prelude.{◌≡◌, ℕ, Bool, true, false, List, [], Option, Some, Ok}
+use Rattle.std.specs.Prelude.{◌≡◌, ℕ, suc, ◌≤◌, ◌⊎◌, Bool, true, false, List, [], ◌∷◌, ◌++◌, length, get_or, Option, Some, Ok, Err}
 use Rattle.cp_model.specs.Syntax as s
 use Rattle.cp_model.specs.GrammarExpressions as g
 use Rattle.cp_model.specs.GrammarTypes.{type_expression}
 use Rattle.cp_model.specs.GrammarStatements.{statement, ends_open}
-use Rattle.cp_model.specs.Grammar.{text}
+use Rattle.cp_model.specs.Grammar.{text, Begins}
+use Rattle.cp_model.specs.Levels.{text_levels}
 use Rattle.cp_model.specs.declared.token.Token.{Token}
 use Rattle.cp_model.specs.declared.token.Kind.{Kind}
 use Rattle.cp_model.specs.declared.token.Kind.TheVariants as kind
 use Rattle.cp_model.specs.declared.token.Symbol.TheVariants as symbol
+use Rattle.cp_grammar.specs.declared.stop.Stop.TheVariants.{Wrong, Deep}
 use Rattle.cp_grammar.specs.Reading.{kind_at}
 use Rattle.cp_grammar.specs.Expressions.{expression_at}
 use Rattle.cp_grammar.specs.Types.{type_at}
@@ -43,3 +45,28 @@ TextIsComplete = (room : ℕ) (ts : List Token) (t : s.Tree) → text room t ts 
 -- the tokens have one tree at most
 abbrev pub TreeIsUnique : Type 0
 TreeIsUnique = (room : ℕ) (ts : List Token) (t u : s.Tree) → text room t ts [] → text room u ts [] → t ≡ u
+
+-- ---- where a text is refused
+
+-- as many tokens are left as there are, or fewer
+abbrev pub StopsInside : Type 0
+StopsInside = (room : ℕ) (ts : List Token) (n : ℕ) → (text_at room ts ≡ Err (Wrong n)) ⊎ (text_at room ts ≡ Err (Deep n)) → n ≤ length ts
+
+-- no text of any depth begins with the tokens up to the wrong one and with it
+abbrev pub WrongIsFirst : Type 0
+WrongIsFirst = (room : ℕ) (front : List Token) (t : Token) (behind : List Token) → text_at room (front ++ t ∷ behind) ≡ Err (Wrong (suc (length behind)))
+    → Begins (front ++ t ∷ []) → ⊥
+
+-- no text within the levels begins with the tokens up to the one that is too deep and with it
+abbrev pub DeepIsFirst : Type 0
+DeepIsFirst = (room : ℕ) (front : List Token) (t : Token) (behind : List Token) → text_at room (front ++ t ∷ behind) ≡ Err (Deep (suc (length behind)))
+    → (more : List Token) (tree : s.Tree) → text room tree ((front ++ t ∷ []) ++ more) [] → ⊥
+
+-- in each text of any depth that begins with them, that token opens the level that is one too many
+abbrev pub DeepOpensTheNext : Type 0
+DeepOpensTheNext = (room : ℕ) (front : List Token) (t : Token) (behind : List Token) → text_at room (front ++ t ∷ behind) ≡ Err (Deep (suc (length behind)))
+    → (limit : ℕ) (more : List Token) (tree : s.Tree) → text limit tree ((front ++ t ∷ []) ++ more) [] → get_or (text_levels tree) (length front) 0 ≡ suc room
+
+-- a tree has a level for each of its tokens
+abbrev pub LevelsAreOfTokens : Type 0
+LevelsAreOfTokens = (room : ℕ) (ts : List Token) (tree : s.Tree) → text room tree ts [] → length (text_levels tree) ≡ length ts

@@ -1,6 +1,6 @@
 //! The laws of the reading functions, each family on a function of its own with nothing to do.
 
-ghost use Rattle.cp_grammar.specs.Laws.{ExpressionsAreComplete, ExpressionsAreSound, StatementsAreComplete, StatementsAreSound, TextIsComplete, TextIsSound, TreeIsUnique, TypesAreComplete, TypesAreSound};
+ghost use Rattle.cp_grammar.specs.Laws.{DeepIsFirst, DeepOpensTheNext, ExpressionsAreComplete, ExpressionsAreSound, LevelsAreOfTokens, StatementsAreComplete, StatementsAreSound, StopsInside, TextIsComplete, TextIsSound, TreeIsUnique, TypesAreComplete, TypesAreSound, WrongIsFirst};
 
 /// An expression is read exactly where the grammar has one.
 pub fn expression_laws()
@@ -28,5 +28,15 @@ pub fn text_laws()
     ensures sound { TextIsSound }
     ensures complete { TextIsComplete }
     ensures unique { TreeIsUnique }
+{
+}
+
+/// A text is refused at the first token that no text has there, or at the token that opens one level too many.
+pub fn refusal_laws()
+    ensures inside { StopsInside }
+    ensures wrong { WrongIsFirst }
+    ensures deep { DeepIsFirst }
+    ensures opens { DeepOpensTheNext }
+    ensures levels { LevelsAreOfTokens }
 {
 }

@@ -8,5 +8,5 @@
 mod laws;
 mod stop;
 
-pub use laws::{expression_laws, statement_laws, text_laws, type_laws};
+pub use laws::{expression_laws, refusal_laws, statement_laws, text_laws, type_laws};
 pub use stop::Stop;

@@ -1,6 +1,5 @@
 use Rattle.cp_grammar.proofs.TextSound.{text_is_sound}
 use Rattle.cp_grammar.proofs.TextComplete.{text_is_complete, tree_is_unique}
-use Rattle.cp_grammar.proofs.ExpressionsSteady.{factor_of_steady}
 use Rattle.cp_grammar.proofs.laws.text_laws.Goals as goal
 
 pub returns : goal.returns
