@@ -3,12 +3,12 @@ use Rattle.std.proofs.Common.{◌≡◌, ℕ, suc, ◌-◌, ◌<◌, ◌≤◌, 
 use Rattle.std.proofs.lemmas.List.{take-append-drop}
 use Rattle.cp_model.specs.Grammar.{nesting_limit}
 use Rattle.cp_model.specs.declared.token.Token.{Token}
-use Rattle.cp_grammar.specs.Laws.{TextIsComplete}
+use Rattle.cp_grammar.specs.Laws.{TextIsComplete, WrongIsFirst, DeepIsFirst, DeepOpensTheNext}
 use Rattle.cp_grammar.specs.Reading.{Fails}
 use Rattle.cp_grammar.specs.Text.{text_at}
 use Rattle.cp_grammar.specs.declared.stop.Stop.{Stop}
 use Rattle.cp_grammar.specs.declared.stop.Stop.TheVariants.{Memory, Wrong, Deep}
-use Rattle.cp_syntax.specs.Refusals.{TokenAt, HasNoTree, Refused, Tells}
+use Rattle.cp_syntax.specs.Refusals.{TokenAt, HasNoTree, NoTextHas, OpensTooDeep, Refused, Tells}
 use Rattle.cp_syntax.specs.declared.refusal.SyntaxError.{SyntaxError}
 use Rattle.cp_syntax.specs.declared.refusal.SyntaxError.TheVariants as error
 
@@ -26,15 +26,27 @@ token_at ts left index t fits e within is =
       begins = refl;
     }
 
-module _ (complete : TextIsComplete) (ts : List Token) (len : ℕ) where
+-- the laws of the reading functions
+module _ (complete : TextIsComplete) (wrong : WrongIsFirst) (deep : DeepIsFirst) (opens : DeepOpensTheNext) (ts : List Token) (len : ℕ) where
   no_tree : (s : Stop) → text_at nesting_limit ts ≡ Err s → HasNoTree ts
   no_tree s stopped t reads = let read : text_at nesting_limit ts ≡ Ok (t, []) = complete nesting_limit ts t reads in cc
 
+  no_text : (left at : ℕ) (k : TokenAt ts left at) → text_at nesting_limit ts ≡ Err (Wrong left) → NoTextHas k
+  no_text left at k stopped = wrong nesting_limit k.front k.token k.behind (rw (k.stands, k.counted) at stopped)
+
+  too_deep : (left at : ℕ) (k : TokenAt ts left at) → text_at nesting_limit ts ≡ Err (Deep left) → OpensTooDeep k
+  too_deep left at k stopped =
+      let there : text_at nesting_limit (k.front ++ k.token ∷ k.behind) ≡ Err (Deep (suc (length k.behind))) = rw (k.stands, k.counted) at stopped in
+      record {
+        within = λ (more, t, reads). deep nesting_limit k.front k.token k.behind there more t reads;
+        beyond = opens nesting_limit k.front k.token k.behind there;
+      }
+
   pub refused : (s : Stop) (e : SyntaxError) → Fails s (text_at nesting_limit ts) → Tells ts len s e → Refused ts len e
   refused Memory error.Memory stopped told = tt
-  refused (Wrong left) (error.Unexpected at) stopped told = (no_tree (Wrong left) stopped, (left, told, ?))
+  refused (Wrong left) (error.Unexpected at) stopped told = (no_tree (Wrong left) stopped, (left, told, no_text left at told stopped))
   refused (Wrong left) (error.Unfinished at) stopped told = (no_tree (Wrong left) stopped, told)
-  refused (Deep left) (error.TooDeep at) stopped told = (no_tree (Deep left) stopped, (left, told, ?))
+  refused (Deep left) (error.TooDeep at) stopped told = (no_tree (Deep left) stopped, (left, told, too_deep left at told stopped))
   refused (Deep left) (error.Unfinished at) stopped told = (no_tree (Deep left) stopped, told)
   refused Memory (error.Unexpected at) stopped told = absurd told
   refused Memory (error.Unfinished at) stopped told = absurd told

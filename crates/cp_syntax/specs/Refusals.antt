@@ -1,7 +1,8 @@
 -- What a refusal says of the tokens.
-use Rattle.std.specs.Prelude.{◌≡◌, ℕ, suc, List, [], ◌∷◌, ◌++◌, length}
+use Rattle.std.specs.Prelude.{◌≡◌, ℕ, suc, List, [], ◌∷◌, ◌++◌, length, get_or}
 use Rattle.cp_model.specs.Syntax as s
-use Rattle.cp_model.specs.Grammar.{Reads, Begins, BeginsWithin}
+use Rattle.cp_model.specs.Grammar.{Reads, Begins, BeginsWithin, text, nesting_limit}
+use Rattle.cp_model.specs.Levels.{text_levels}
 use Rattle.cp_model.specs.declared.token.Token.{Token}
 use Rattle.cp_grammar.specs.declared.stop.Stop.{Stop}
 use Rattle.cp_grammar.specs.declared.stop.Stop.TheVariants.{Memory, Wrong, Deep}
@@ -24,10 +25,20 @@ up_to k = k.front ++ k.token ∷ []
 abbrev pub HasNoTree : List Token → Type 0
 HasNoTree tokens = (t : s.Tree) → Reads tokens t → ⊥
 
+-- no text goes on with this token, however deep it is nested
+abbrev pub NoTextHas : {tokens : List Token} {left at : ℕ} → TokenAt tokens left at → Type 0
+NoTextHas k = Begins (up_to k) → ⊥
+
+-- no text within the limit of nesting goes on with this token, and each text beyond it that does opens there a level too many
+pub record OpensTooDeep {tokens : List Token} {left at : ℕ} (k : TokenAt tokens left at) : Type 0 where
+  pub within : BeginsWithin (up_to k) → ⊥
+  pub beyond : (limit : ℕ) (more : List Token) (t : s.Tree) → text limit t (up_to k ++ more) []
+      → get_or (text_levels t) (length k.front) 0 ≡ suc nesting_limit
+
 abbrev pub Refused : List Token → ℕ → SyntaxError → Type 0
-Refused tokens len (error.Unexpected at) = HasNoTree tokens × ((left : ℕ) × (k : TokenAt tokens left at) × (Begins (up_to k) → ⊥))
+Refused tokens len (error.Unexpected at) = HasNoTree tokens × ((left : ℕ) × (k : TokenAt tokens left at) × NoTextHas k)
 Refused tokens len (error.Unfinished at) = HasNoTree tokens × (at ≡ len)
-Refused tokens len (error.TooDeep at) = HasNoTree tokens × ((left : ℕ) × (k : TokenAt tokens left at) × (BeginsWithin (up_to k) → ⊥))
+Refused tokens len (error.TooDeep at) = HasNoTree tokens × ((left : ℕ) × (k : TokenAt tokens left at) × OpensTooDeep k)
 Refused tokens len error.Memory = Unit {0}
 
 -- a refusal tells the token at which reading stopped, or the end

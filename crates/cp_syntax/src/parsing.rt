@@ -8,7 +8,7 @@ ghost use Rattle.cp_syntax.specs.Refusals.{Refused, Tells, TokenAt};
 
 use crate::declarations::text;
 use crate::refusal::SyntaxError;
-use cp_grammar::{Stop, text_laws};
+use cp_grammar::{Stop, refusal_laws, text_laws};
 use cp_model::token::Token;
 use cp_model::tree::Tree;
 use std::alloc::Global;
@@ -26,6 +26,7 @@ pub fn parse(alloc: Global, tokens: &[Token], len: usize) -> Result<Tree, Syntax
     ensures refused { IfErr result (Refused tokens.now len) }
 {
     text_laws();
+    refusal_laws();
     match text(alloc, LEVELS, tokens) {
         Ok((tree, _)) => Ok(tree),
         Err(stop) => Err(refusal(tokens, len, stop)),

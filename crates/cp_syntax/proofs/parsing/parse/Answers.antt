@@ -5,4 +5,6 @@ pub returns-in-Ok-clause-unique : goal.returns-in-Ok-clause-unique
 returns-in-Ok-clause-unique c u reads = c.text_laws.ensures.unique _ _ _ _ reads (c.text_laws.ensures.sound _ _ _ _ c.in-Ok.ensures)
 
 pub returns-in-Err-clause-refused : goal.returns-in-Err-clause-refused
-returns-in-Err-clause-refused c = refused c.text_laws.ensures.complete _ _ _ _ c.in-Err.ensures c.refusal.ensures
+returns-in-Err-clause-refused c =
+    let laws = c.refusal_laws.ensures in
+    refused c.text_laws.ensures.complete laws.wrong laws.deep laws.opens _ _ _ _ c.in-Err.ensures c.refusal.ensures
