@@ -1,10 +1,10 @@
 //! The tree of a list of tokens.
 
-ghost use Rattle.std.specs.Prelude.{◌≡◌, IfOk, IfErr, IfSome};
+ghost use Rattle.std.specs.Prelude.{◌≡◌, IfOk, IfErr, IfSome, IsNone};
 ghost use Rattle.cp_model.specs.Grammar.{Reads};
 ghost use Rattle.cp_model.specs.Syntax as s;
 ghost use Rattle.cp_model.specs.View as view;
-ghost use Rattle.cp_syntax.specs.Refusals.{Refused, Tells, TokenAt};
+ghost use Rattle.cp_syntax.specs.Refusals.{NoTokenAt, Refused, Tells, TokenAt};
 
 use crate::declarations::text;
 use crate::refusal::SyntaxError;
@@ -52,7 +52,8 @@ fn refusal(tokens: &[Token], len: usize, stop: Stop) -> SyntaxError
 
 /// The place of the token from which on so many tokens are left.
 fn place_of(tokens: &[Token], left: usize) -> Option<usize>
-    ensures { IfSome result (λ at. TokenAt tokens.now left at) }
+    ensures some { IfSome result (λ at. TokenAt tokens.now left at) }
+    ensures none { IsNone result → NoTokenAt tokens.now left }
 {
     let index = tokens.len().checked_sub(left)?;
     let token = tokens.get(index)?;

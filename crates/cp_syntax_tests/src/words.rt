@@ -3,7 +3,7 @@
 use cp_model::token::{Kind, Name, Span, Symbol, Token};
 use std::alloc::{AllocError, Global};
 
-/// The tokens of words with one space between them, each at its place.
+/// The tokens of words with one space between them, each at its place. A word is marked by a `^` before it, with no other meaning.
 pub fn tokens(alloc: Global, text: &str) -> Result<Vec<Token>, AllocError> {
     let mut tokens = Vec::new(alloc);
     let mut from = 0usize;
@@ -18,6 +18,7 @@ pub fn tokens(alloc: Global, text: &str) -> Result<Vec<Token>, AllocError> {
 }
 
 fn token(alloc: Global, word: &str, span: Span) -> Result<Token, AllocError> {
+    let word = word.strip_prefix('^').unwrap_or(word);
     if let Some(symbol) = symbol(word) {
         return Ok(Token {
             kind: Kind::Symbol(symbol),
