@@ -1,6 +1,7 @@
 //! The token at which a text stops being one.
 
-use crate::words::tokens;
+use crate::words::{reserved, tokens};
+use cp_model::token::Symbol;
 use cp_syntax::{SyntaxError, parse};
 use std::alloc::{AllocError, Global};
 use std::test::Fail;
@@ -60,7 +61,7 @@ const UNEXPECTED: &[&str] = &[
     "procedure p ( ^) ; begin end ; begin end .",
     "type t = monitor ( a : integer ^begin end ; begin end .",
     "type t = process ^begin end ; begin end .",
-    "type t = class ; var entry ^a : integer ; begin end ; begin end .",
+    "type t = class ; var ^entry a : integer ; begin end ; begin end .",
     // Reserved words that no text has.
     "begin ^in end .",
     "begin a := 1 ^in b end .",
@@ -84,7 +85,7 @@ const UNEXPECTED: &[&str] = &[
     "begin a ^b end .",
     "begin a ^= b end .",
     "begin ^1 end .",
-    "begin not ^a end .",
+    "begin ^not a end .",
 ];
 
 #[test]
@@ -156,15 +157,22 @@ const MONITORS: &str = "type m = monitor ; var q : queue ; \
     var g : m ; b : ps ; c : pw ; d : pt ; \
     begin init g , b ( g ) , c ( g ) , d ( g ) end .";
 
-/// Each beginning of a text goes on to that text, and with a word that no text has it goes on to none.
+/// Each beginning of a text is one of a text, and with a word that no text has it is one of none.
 #[test]
-fn each_beginning_of_a_text_is_one(rt: HostRuntime) -> Result<(), Fail> {
+fn each_beginning_of_a_text_is_told_from_none(rt: HostRuntime) -> Result<(), Fail> {
     let whole = tokens(rt.alloc(), MONITORS)?;
     let len = MONITORS.len();
-    assert_eq!(rt; parse(rt.alloc(), whole.as_slice(), len).err(), None);
-    for count in 0..whole.len() {
-        let told = parse(rt.alloc(), whole.iter().as_slice().get(..count).unwrap_or(&[]), len).err();
-        assert_eq!(rt; told, Some(SyntaxError::Unfinished { at: len }), "{count} tokens");
+    let mut read = Vec::new(rt.alloc());
+    for token in whole {
+        let told = parse(rt.alloc(), read.as_slice(), len).err();
+        assert_eq!(rt; told, Some(SyntaxError::Unfinished { at: len }), "{} tokens", read.len());
+        let at = token.span.from;
+        read.push(reserved(Symbol::With, token.span))?;
+        let told = parse(rt.alloc(), read.as_slice(), len).err();
+        assert_eq!(rt; told, Some(SyntaxError::Unexpected { at }), "{} tokens", read.len());
+        read.pop();
+        read.push(token)?;
     }
+    assert_eq!(rt; parse(rt.alloc(), read.as_slice(), len).err(), None);
     Ok(())
 }

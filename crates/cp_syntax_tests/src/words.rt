@@ -17,13 +17,18 @@ pub fn tokens(alloc: Global, text: &str) -> Result<Vec<Token>, AllocError> {
     Ok(tokens)
 }
 
+/// The token of a reserved word or a mark.
+pub fn reserved(symbol: Symbol, span: Span) -> Token {
+    Token {
+        kind: Kind::Symbol(symbol),
+        span,
+    }
+}
+
 fn token(alloc: Global, word: &str, span: Span) -> Result<Token, AllocError> {
     let word = word.strip_prefix('^').unwrap_or(word);
     if let Some(symbol) = symbol(word) {
-        return Ok(Token {
-            kind: Kind::Symbol(symbol),
-            span,
-        });
+        return Ok(reserved(symbol, span));
     }
     if let Ok(value) = word.parse::<u16>() {
         return Ok(Token {
