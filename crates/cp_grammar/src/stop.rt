@@ -1,5 +1,10 @@
 //! Why reading stopped.
 
+ghost use Rattle.std.specs.Prelude.{◌≡◌};
+ghost use Rattle.cp_grammar.specs.declared.stop.Stop.TheVariants.{Memory};
+
+use std::alloc::{AllocError, AllocFailed};
+
 /// Why reading stopped, with the count of the tokens that were left, the one at which it stopped among them.
 #[derive(Clone, Copy, Debug, PartialEq, Eq)]
 pub enum Stop {
@@ -9,4 +14,20 @@ pub enum Stop {
     Wrong(usize),
     /// The token opens one level more than may be opened.
     Deep(usize),
+}
+
+impl From<AllocError> for Stop {
+    ghost from_gives = { λ _ stop. stop ≡ Memory };
+
+    fn from(_error: AllocError) -> Stop {
+        Stop::Memory
+    }
+}
+
+impl<T: Drop> From<AllocFailed<T>> for Stop {
+    ghost from_gives = { λ _ stop. stop ≡ Memory };
+
+    fn from(_error: AllocFailed<T>) -> Stop {
+        Stop::Memory
+    }
 }

@@ -7,6 +7,7 @@ pub mod GrammarExpressions
 pub mod GrammarTypes
 pub mod GrammarStatements
 pub mod Grammar
+pub mod Levels
 pub mod RulesJudged
 pub mod RulesEnvironment
 pub mod RulesNames
@@ -56,4 +57,3 @@ pub mod Chains
 pub mod Report
 pub mod Input
 pub mod OrderText
-pub mod Levels

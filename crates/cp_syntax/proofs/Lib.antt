@@ -1,0 +1,4 @@
+pub mod Loops
+pub mod Symbols
+pub mod Rooms
+pub mod Stops

@@ -1,0 +1,4 @@
+pub mod Readers
+pub mod Nests
+pub mod Views
+pub mod Refusals

@@ -1,0 +1,52 @@
+-- What a rule asks of the reader of one level deeper that it is given.
+use Rattle.std.specs.Prelude.{ℕ, ◌-◌, ◌<◌, List, Result}
+use Rattle.std.specs.Borrow.{Bor}
+use Rattle.std.specs.declared.alloc.Global.{Global}
+use Rattle.cp_model.specs.declared.token.Token.{Token}
+use Rattle.cp_grammar.specs.declared.stop.Stop.{Stop}
+use Rattle.cp_model.specs.View as view
+use Rattle.cp_model.specs.declared.tree.Expression.{Expression}
+use Rattle.cp_model.specs.declared.tree.TypeExpression.{TypeExpression}
+use Rattle.cp_model.specs.declared.tree.Statement.{Statement}
+use Rattle.cp_grammar.specs.Reading.{Reader, Gives}
+use Rattle.cp_grammar.specs.Expressions.{factor_at}
+use Rattle.cp_grammar.specs.Types.{type_at}
+use Rattle.cp_grammar.specs.Statements.{statement_at}
+
+-- it may be called where so many levels may be opened, and then gives what the reader of so many levels answers
+pub record Nests {X Y : Type 0} (view : X → Y) (reader : ℕ → Reader Y) (room : ℕ) (pre : Global → ℕ → Bor (List Token) → Type 0)
+    (post : Global → ℕ → Bor (List Token) → Result (X × Bor (List Token)) Stop → Type 0) : Type 0 where
+  pub callable : (alloc : Global) (ts : Bor (List Token)) → pre alloc room ts
+  pub reads : (alloc : Global) (ts : Bor (List Token)) (r : Result (X × Bor (List Token)) Stop) → post alloc room ts r
+      → Gives view r (reader room ts.now)
+
+-- ---- of factors
+
+abbrev pub FactorsAt : (room : ℕ) (pre : Global → ℕ → Bor (List Token) → Type 0)
+    (post : Global → ℕ → Bor (List Token) → Result (Expression × Bor (List Token)) Stop → Type 0) → Type 0
+FactorsAt = Nests view.expression factor_at
+
+-- one level deeper, where there is such a level
+abbrev pub FactorsBelow : (room : ℕ) (pre : Global → ℕ → Bor (List Token) → Type 0)
+    (post : Global → ℕ → Bor (List Token) → Result (Expression × Bor (List Token)) Stop → Type 0) → Type 0
+FactorsBelow room pre post = 0 < room → FactorsAt (room - 1) pre post
+
+-- ---- of types
+
+abbrev pub TypesAt : (room : ℕ) (pre : Global → ℕ → Bor (List Token) → Type 0)
+    (post : Global → ℕ → Bor (List Token) → Result (TypeExpression × Bor (List Token)) Stop → Type 0) → Type 0
+TypesAt = Nests view.type_expression type_at
+
+abbrev pub TypesBelow : (room : ℕ) (pre : Global → ℕ → Bor (List Token) → Type 0)
+    (post : Global → ℕ → Bor (List Token) → Result (TypeExpression × Bor (List Token)) Stop → Type 0) → Type 0
+TypesBelow room pre post = 0 < room → TypesAt (room - 1) pre post
+
+-- ---- of statements
+
+abbrev pub StatementsAt : (room : ℕ) (pre : Global → ℕ → Bor (List Token) → Type 0)
+    (post : Global → ℕ → Bor (List Token) → Result (Statement × Bor (List Token)) Stop → Type 0) → Type 0
+StatementsAt = Nests view.statement statement_at
+
+abbrev pub StatementsBelow : (room : ℕ) (pre : Global → ℕ → Bor (List Token) → Type 0)
+    (post : Global → ℕ → Bor (List Token) → Result (Statement × Bor (List Token)) Stop → Type 0) → Type 0
+StatementsBelow room pre post = 0 < room → StatementsAt (room - 1) pre post

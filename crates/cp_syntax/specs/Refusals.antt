@@ -1,0 +1,64 @@
+-- What a refusal says of the tokens.
+use Rattle.std.specs.Prelude.{◌≡◌, ◌<◌, ◌⊎◌, ℕ, suc, List, [], ◌∷◌, ◌++◌, length, get_or, Err}
+use Rattle.cp_model.specs.Syntax as s
+use Rattle.cp_model.specs.Grammar.{Reads, Begins, BeginsWithin, text, nesting_limit}
+use Rattle.cp_model.specs.Levels.{text_levels}
+use Rattle.cp_model.specs.declared.token.Token.{Token}
+use Rattle.cp_grammar.specs.declared.stop.Stop.{Stop}
+use Rattle.cp_grammar.specs.declared.stop.Stop.TheVariants.{Memory, Wrong, Deep}
+use Rattle.cp_grammar.specs.Text.{text_at}
+use Rattle.cp_syntax.specs.declared.refusal.SyntaxError.{SyntaxError}
+use Rattle.cp_syntax.specs.declared.refusal.SyntaxError.TheVariants as error
+
+-- so many tokens are left from the one on that begins at this place
+pub record TokenAt (tokens : List Token) (left at : ℕ) : Type 0 where
+  pub front : List Token
+  pub token : Token
+  pub behind : List Token
+  pub stands : tokens ≡ front ++ token ∷ behind
+  pub counted : left ≡ suc (length behind)
+  pub begins : token.span.from ≡ at
+
+-- the tokens up to and with it
+abbrev pub up_to : {tokens : List Token} {left at : ℕ} → TokenAt tokens left at → List Token
+up_to k = k.front ++ k.token ∷ []
+
+abbrev pub HasNoTree : List Token → Type 0
+HasNoTree tokens = (t : s.Tree) → Reads tokens t → ⊥
+
+-- no text goes on with this token, however deep it is nested
+abbrev pub NoTextHas : {tokens : List Token} {left at : ℕ} → TokenAt tokens left at → Type 0
+NoTextHas k = Begins (up_to k) → ⊥
+
+-- no text within the limit of nesting goes on with this token, and each text beyond it that does opens there a level too many
+pub record OpensTooDeep {tokens : List Token} {left at : ℕ} (k : TokenAt tokens left at) : Type 0 where
+  pub within : BeginsWithin (up_to k) → ⊥
+  pub beyond : (limit : ℕ) (more : List Token) (t : s.Tree) → text limit t (up_to k ++ more) []
+      → get_or (text_levels t) (length k.front) 0 ≡ suc nesting_limit
+
+-- reading stops for this reason, and looks at no token behind the one at which it stops
+abbrev pub Stops : List Token → Stop → Type 0
+Stops tokens s = text_at nesting_limit tokens ≡ Err s
+
+-- each token was read, and more of them were wanted
+abbrev pub StopsAtEnd : List Token → Type 0
+StopsAtEnd tokens = Stops tokens (Wrong 0) ⊎ Stops tokens (Deep 0)
+
+abbrev pub Refused : List Token → ℕ → SyntaxError → Type 0
+Refused tokens len (error.Unexpected at) = HasNoTree tokens × ((left : ℕ) × (k : TokenAt tokens left at) × Stops tokens (Wrong left) × NoTextHas k)
+Refused tokens len (error.Unfinished at) = HasNoTree tokens × StopsAtEnd tokens × (at ≡ len)
+Refused tokens len (error.TooDeep at) = HasNoTree tokens × ((left : ℕ) × (k : TokenAt tokens left at) × Stops tokens (Deep left) × OpensTooDeep k)
+Refused tokens len error.Memory = Unit {0}
+
+-- no token has so many left from it on
+abbrev pub NoTokenAt : List Token → ℕ → Type 0
+NoTokenAt tokens left = (left ≡ 0) ⊎ (length tokens < left)
+
+-- a refusal tells the token at which reading stopped, or the end
+abbrev pub Tells : List Token → ℕ → Stop → SyntaxError → Type 0
+Tells tokens len Memory error.Memory = Unit {0}
+Tells tokens len (Wrong left) (error.Unexpected at) = TokenAt tokens left at
+Tells tokens len (Wrong left) (error.Unfinished at) = NoTokenAt tokens left × (at ≡ len)
+Tells tokens len (Deep left) (error.TooDeep at) = TokenAt tokens left at
+Tells tokens len (Deep left) (error.Unfinished at) = NoTokenAt tokens left × (at ≡ len)
+Tells tokens len stop e = ⊥

@@ -1,0 +1,280 @@
+//! From selectors to factors, over a reader of factors one level deeper.
+
+ghost use Rattle.std.specs.Prelude.{◌≡◌, ◌-◌, ◌<◌, map, length, IfOk, IfErr, Some, None};
+ghost use Rattle.cp_model.specs.Syntax as s;
+ghost use Rattle.cp_model.specs.View.{expressions_of, selectors_of, indices_of};
+ghost use Rattle.cp_model.specs.View as view;
+ghost use Rattle.cp_grammar.specs.declared.stop.Stop.TheVariants.{Deep};
+ghost use Rattle.cp_grammar.specs.Reading.{kind_at, Gives};
+ghost use Rattle.cp_grammar.specs.Expressions as spec;
+ghost use Rattle.cp_syntax.specs.Nests.{FactorsAt, FactorsBelow};
+
+use crate::expressions::Expressions;
+use crate::lists::repeated;
+use crate::names::identifier;
+use crate::tokens::{Read, after, expect, place, sees};
+use cp_grammar::Stop;
+use cp_model::token::{Kind, Symbol, Token};
+use cp_model::tree::{Designator, Expression, Identifier, Index, Selector};
+use std::alloc::{AllocError, Global};
+
+/// The rules of factors, where so many levels may still be opened, over a reader of factors one level deeper.
+#[derive(Clone, Copy)]
+pub struct Factors<F> {
+    pub alloc: Global,
+    pub room: usize,
+    pub factor: F,
+}
+
+impl<F: Fn(Global, usize, &[Token]) -> Read<'_, Expression> + Copy> Factors<F> {
+    /// The rules of expressions one level deeper, where the next token may open a level.
+    #[tactic(auto, using(crate::proofs::Rooms::no_factor, crate::proofs::Rooms::some_factor))]
+    fn inner(&self, tokens: &[Token]) -> Result<Expressions<F>, Stop>
+        requires { FactorsBelow self.now.room (F.pre self.now.factor) (F.post self.now.factor) }
+        ensures inside { IfOk result (λ e. spec.inner_at self.now.room ≡ Some (spec.factor_at e.room)) }
+        ensures nests { IfOk result (λ e. FactorsAt e.room (F.pre e.factor) (F.post e.factor)) }
+        ensures none { IfErr result (λ e. (spec.inner_at self.now.room ≡ None) × (e ≡ Deep (length tokens.now))) }
+    {
+        if self.room == 0 {
+            return Err(Stop::Deep(tokens.len()));
+        }
+        Ok(Expressions {
+            alloc: self.alloc,
+            room: self.room - 1,
+            factor: self.factor,
+        })
+    }
+
+    /// A `.` and the name of a field.
+    #[tactic(auto, unfolding(cp_grammar::specs::Expressions::field_of))]
+    fn field<'a>(&self, tokens: &'a [Token]) -> Read<'a, Selector>
+        ensures { Gives view.selector result (spec.field_of (spec.inner_at self.now.room) tokens.now) }
+    {
+        let (name, rest) = identifier(self.alloc, after(tokens))?;
+        Ok((field(place(tokens), name), rest))
+    }
+
+    /// Indices in brackets.
+    #[tactic(auto, unfolding(cp_grammar::specs::Expressions::indexed_of))]
+    fn indexed<'a>(&self, tokens: &'a [Token]) -> Read<'a, Selector>
+        requires { FactorsBelow self.now.room (F.pre self.now.factor) (F.post self.now.factor) }
+        ensures { Gives view.selector result (spec.indexed_of (spec.inner_at self.now.room) tokens.now) }
+    {
+        let (indices, rest) = self.inner(tokens)?.indices(tokens)?;
+        let (_, rest) = expect(rest, Symbol::CloseBracket)?;
+        Ok((indexed(indices), rest))
+    }
+
+    #[tactic(auto, unfolding(cp_grammar::specs::Expressions::selector_of, cp_grammar::specs::Expressions::selector_by))]
+    fn selector<'a>(&self, tokens: &'a [Token]) -> Read<'a, Selector>
+        requires { FactorsBelow self.now.room (F.pre self.now.factor) (F.post self.now.factor) }
+        ensures { Gives view.selector result (spec.selector_of (spec.inner_at self.now.room) tokens.now) }
+    {
+        match tokens {
+            [Token { kind: Kind::Symbol(Symbol::Dot), .. }, ..] => self.field(tokens),
+            [Token { kind: Kind::Symbol(Symbol::OpenBracket), .. }, ..] => self.indexed(tokens),
+            _ => Err(Stop::Wrong(tokens.len())),
+        }
+    }
+
+    #[tactic(auto, unfolding(cp_grammar::specs::Expressions::designator_of))]
+    pub fn designator<'a>(&self, tokens: &'a [Token]) -> Read<'a, Designator>
+        requires { FactorsBelow self.now.room (F.pre self.now.factor) (F.post self.now.factor) }
+        ensures { Gives view.designator result (spec.designator_of (spec.inner_at self.now.room) tokens.now) }
+    {
+        let (root, rest) = identifier(self.alloc, tokens)?;
+        let (selectors, rest) = repeated(Vec::new(self.alloc), begins_selector, |rest| self.selector(rest), rest)?;
+        Ok((designator_from(root, selectors), rest))
+    }
+
+    /// Arguments in parentheses.
+    #[tactic(auto, unfolding(cp_grammar::specs::Expressions::arguments_of))]
+    fn arguments<'a>(&self, tokens: &'a [Token]) -> Read<'a, Vec<Expression>>
+        requires { FactorsBelow self.now.room (F.pre self.now.factor) (F.post self.now.factor) }
+        ensures { Gives (λ v. map view.expression v.items) result (spec.arguments_of (spec.inner_at self.now.room) tokens.now) }
+    {
+        let (arguments, rest) = self.inner(tokens)?.expressions(after(tokens))?;
+        let (_, rest) = expect(rest, Symbol::CloseParenthesis)?;
+        Ok((arguments, rest))
+    }
+
+    /// Arguments in parentheses, or none.
+    #[tactic(auto, unfolding(cp_grammar::specs::Expressions::optional_arguments_of))]
+    pub fn optional_arguments<'a>(&self, tokens: &'a [Token]) -> Read<'a, Vec<Expression>>
+        requires { FactorsBelow self.now.room (F.pre self.now.factor) (F.post self.now.factor) }
+        ensures { Gives (λ v. map view.expression v.items) result (spec.optional_arguments_of (spec.inner_at self.now.room) tokens.now) }
+    {
+        if !sees(tokens, Symbol::OpenParenthesis) {
+            return Ok((Vec::new(self.alloc), tokens));
+        }
+        self.arguments(tokens)
+    }
+
+    /// A designator, or a function called with arguments.
+    #[tactic(auto, unfolding(cp_grammar::specs::Expressions::named_of, cp_grammar::specs::Expressions::call_or_part))]
+    fn named<'a>(&self, tokens: &'a [Token]) -> Read<'a, Expression>
+        requires { FactorsBelow self.now.room (F.pre self.now.factor) (F.post self.now.factor) }
+        ensures { Gives view.expression result (spec.named_of (spec.inner_at self.now.room) tokens.now) }
+    {
+        let (d, rest) = self.designator(tokens)?;
+        if !sees(rest, Symbol::OpenParenthesis) {
+            return Ok((designated(d), rest));
+        }
+        let (arguments, rest) = self.arguments(rest)?;
+        Ok((call(d, arguments), rest))
+    }
+
+    #[tactic(auto, unfolding(cp_grammar::specs::Expressions::parenthesized_of))]
+    fn parenthesized<'a>(&self, tokens: &'a [Token]) -> Read<'a, Expression>
+        requires { FactorsBelow self.now.room (F.pre self.now.factor) (F.post self.now.factor) }
+        ensures { Gives view.expression result (spec.parenthesized_of (spec.inner_at self.now.room) tokens.now) }
+    {
+        let (inner, rest) = self.inner(tokens)?.expression(after(tokens))?;
+        let (_, rest) = expect(rest, Symbol::CloseParenthesis)?;
+        Ok((parenthesized(self.alloc, place(tokens), inner)?, rest))
+    }
+
+    /// A factor behind a `not`.
+    #[tactic(auto, unfolding(cp_grammar::specs::Expressions::not_of))]
+    fn negated<'a>(&self, tokens: &'a [Token]) -> Read<'a, Expression>
+        requires { FactorsBelow self.now.room (F.pre self.now.factor) (F.post self.now.factor) }
+        ensures { Gives view.expression result (spec.not_of (spec.inner_at self.now.room) tokens.now) }
+    {
+        let (operand, rest) = self.inner(tokens)?.factor(after(tokens))?;
+        Ok((negated(self.alloc, place(tokens), operand)?, rest))
+    }
+
+    #[tactic(auto, unfolding(cp_grammar::specs::Expressions::factor_of, cp_grammar::specs::Expressions::factor_by))]
+    fn factor<'a>(&self, tokens: &'a [Token]) -> Read<'a, Expression>
+        requires { FactorsBelow self.now.room (F.pre self.now.factor) (F.post self.now.factor) }
+        ensures { Gives view.expression result (spec.factor_of (spec.inner_at self.now.room) tokens.now) }
+    {
+        let at = place(tokens);
+        match tokens {
+            [Token { kind: Kind::Number(value), .. }, rest @ ..] => Ok((number(at, *value), rest)),
+            [Token { kind: Kind::Character(ordinal), .. }, rest @ ..] => Ok((character(at, *ordinal), rest)),
+            [Token { kind: Kind::Name(_), .. }, ..] => self.named(tokens),
+            [Token { kind: Kind::Symbol(Symbol::OpenParenthesis), .. }, ..] => self.parenthesized(tokens),
+            [Token { kind: Kind::Symbol(Symbol::Not), .. }, ..] => self.negated(tokens),
+            _ => Err(Stop::Wrong(tokens.len())),
+        }
+    }
+}
+
+fn begins_selector(tokens: &[Token]) -> bool
+    ensures { result ≡ spec.begins_selector (kind_at tokens.now) }
+{
+    matches!(tokens, [Token { kind: Kind::Symbol(Symbol::Dot | Symbol::OpenBracket), .. }, ..])
+}
+
+fn field(at: usize, name: Identifier) -> Selector
+    ensures { view.selector result ≡ s.Field at name }
+{
+    Selector::Field { at, name }
+}
+
+fn indexed(indices: Vec<Index>) -> Selector
+    ensures { view.selector result ≡ s.Indexed (indices_of (map view.index indices.items)) }
+{
+    Selector::Indexed(indices)
+}
+
+fn designator_from(root: Identifier, selectors: Vec<Selector>) -> Designator
+    ensures { view.designator result ≡ s.Designate root (selectors_of (map view.selector selectors.items)) }
+{
+    Designator { root, selectors }
+}
+
+fn number(at: usize, value: u16) -> Expression
+    ensures { view.expression result ≡ s.Number at value }
+{
+    Expression::Number { at, value }
+}
+
+fn character(at: usize, ordinal: u8) -> Expression
+    ensures { view.expression result ≡ s.Character at ordinal }
+{
+    Expression::Character { at, ordinal }
+}
+
+fn designated(d: Designator) -> Expression
+    ensures { view.expression result ≡ s.Designated (view.designator d) }
+{
+    Expression::Designated(d)
+}
+
+fn call(d: Designator, arguments: Vec<Expression>) -> Expression
+    ensures { view.expression result ≡ s.Call (view.designator d) (expressions_of (map view.expression arguments.items)) }
+{
+    Expression::Call(d, arguments)
+}
+
+fn parenthesized(alloc: Global, at: usize, inner: Expression) -> Result<Expression, AllocError>
+    ensures { IfOk result (λ e. view.expression e ≡ s.Parenthesized at (view.expression inner)) }
+{
+    Ok(Expression::Parenthesized {
+        at,
+        inner: Box::new(alloc, inner)?,
+    })
+}
+
+fn negated(alloc: Global, at: usize, operand: Expression) -> Result<Expression, AllocError>
+    ensures { IfOk result (λ e. view.expression e ≡ s.Not at (view.expression operand)) }
+{
+    Ok(Expression::Not {
+        at,
+        operand: Box::new(alloc, operand)?,
+    })
+}
+
+/// A factor, where so many levels may be opened.
+pub fn factor(alloc: Global, room: usize, tokens: &[Token]) -> Read<'_, Expression>
+    ensures { Gives view.expression result (spec.factor_at room tokens.now) }
+{
+    Factors {
+        alloc,
+        room,
+        factor,
+    }
+    .factor(tokens)
+}
+
+/// An expression, where so many levels may be opened.
+pub fn expression(alloc: Global, room: usize, tokens: &[Token]) -> Read<'_, Expression>
+    ensures { Gives view.expression result (spec.expression_at room tokens.now) }
+{
+    Expressions {
+        alloc,
+        room,
+        factor,
+    }
+    .expression(tokens)
+}
+
+/// A designator, where so many levels may be opened.
+pub fn designator(alloc: Global, room: usize, tokens: &[Token]) -> Read<'_, Designator>
+    ensures { Gives view.designator result (spec.designator_at room tokens.now) }
+{
+    Factors {
+        alloc,
+        room,
+        factor,
+    }
+    .designator(tokens)
+}
+
+/// Arguments in parentheses or none, where so many levels may be opened.
+pub fn optional_arguments(
+    alloc: Global,
+    room: usize,
+    tokens: &[Token],
+) -> Read<'_, Vec<Expression>>
+    ensures { Gives (λ v. map view.expression v.items) result (spec.optional_arguments_at room tokens.now) }
+{
+    Factors {
+        alloc,
+        room,
+        factor,
+    }
+    .optional_arguments(tokens)
+}

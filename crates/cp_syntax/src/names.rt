@@ -1,0 +1,70 @@
+//! Names and constants.
+
+ghost use Rattle.std.specs.Prelude.{◌≡◌};
+ghost use Rattle.cp_grammar.specs.Reading.{kind_at, Gives};
+ghost use Rattle.cp_grammar.specs.Names as spec;
+
+use crate::lists::separated;
+use crate::tokens::{Read, after, place};
+use cp_grammar::Stop;
+use cp_model::token::{Kind, Symbol, Token};
+use cp_model::tree::{Constant, Identifier};
+use std::alloc::Global;
+
+/// A name at its place.
+#[tactic(auto, unfolding(cp_grammar::specs::Names::identifier_of))]
+pub fn identifier(alloc: Global, tokens: &[Token]) -> Read<'_, Identifier>
+    ensures { Gives (λ x. x) result (spec.identifier_of tokens.now) }
+{
+    match tokens {
+        [Token { kind: Kind::Name(name), .. }, ..] => {
+            let name = name.copy(alloc)?;
+            Ok((Identifier { name, at: place(tokens) }, after(tokens)))
+        }
+        _ => Err(Stop::Wrong(tokens.len())),
+    }
+}
+
+/// One name or more, with commas between.
+#[tactic(auto, unfolding(cp_grammar::specs::Names::names_of))]
+pub fn names(alloc: Global, tokens: &[Token]) -> Read<'_, Vec<Identifier>>
+    ensures { Gives (λ v. v.items) result (spec.names_of tokens.now) }
+{
+    separated(alloc, Symbol::Comma, |rest| identifier(alloc, rest), tokens)
+}
+
+/// A constant.
+#[tactic(auto, unfolding(cp_grammar::specs::Names::constant_of))]
+pub fn constant(alloc: Global, tokens: &[Token]) -> Read<'_, Constant>
+    ensures { Gives (λ c. c) result (spec.constant_of tokens.now) }
+{
+    let at = place(tokens);
+    match tokens {
+        [Token { kind: Kind::Number(value), .. }, rest @ ..] => Ok((Constant::Number { at, value: *value }, rest)),
+        [Token { kind: Kind::Character(ordinal), .. }, rest @ ..] => Ok((Constant::Character { at, ordinal: *ordinal }, rest)),
+        [Token { kind: Kind::Name(name), .. }, rest @ ..] => {
+            let name = name.copy(alloc)?;
+            Ok((Constant::Named(Identifier { name, at }), rest))
+        }
+        [Token { kind: Kind::Symbol(Symbol::Minus), .. }, rest @ ..] => negative(at, rest),
+        _ => Err(Stop::Wrong(tokens.len())),
+    }
+}
+
+/// The number behind a `-` at this place.
+fn negative(at: usize, tokens: &[Token]) -> Read<'_, Constant>
+    ensures { Gives (λ c. c) result (spec.negative_by at (kind_at tokens.now) tokens.now) }
+{
+    match tokens {
+        [Token { kind: Kind::Number(value), .. }, rest @ ..] => Ok((Constant::Negative { at, value: *value }, rest)),
+        _ => Err(Stop::Wrong(tokens.len())),
+    }
+}
+
+/// One constant or more, with commas between.
+#[tactic(auto, unfolding(cp_grammar::specs::Names::constants_of))]
+pub fn constants(alloc: Global, tokens: &[Token]) -> Read<'_, Vec<Constant>>
+    ensures { Gives (λ v. v.items) result (spec.constants_of tokens.now) }
+{
+    separated(alloc, Symbol::Comma, |rest| constant(alloc, rest), tokens)
+}

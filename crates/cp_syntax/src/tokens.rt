@@ -1,0 +1,88 @@
+//! The next token of those that are left.
+
+ghost use Rattle.std.specs.Prelude.{◌≡◌, ◌==◌, Some};
+ghost use Rattle.cp_grammar.specs.Kinds.{code, is_symbol, is_name};
+ghost use Rattle.cp_grammar.specs.Reading.{kind_at, place_at, tail, Gives};
+ghost use Rattle.cp_grammar.specs.Reading as reading;
+
+use cp_grammar::Stop;
+use cp_model::token::{Kind, Symbol, Token};
+
+/// What was read and the tokens behind it, or why reading stopped.
+pub type Read<'a, X> = Result<(X, &'a [Token]), Stop>;
+
+/// The place of the next token.
+pub fn place(tokens: &[Token]) -> usize
+    ensures { result ≡ place_at tokens.now }
+{
+    match tokens {
+        [] => 0,
+        [first, ..] => first.span.from,
+    }
+}
+
+/// The tokens behind the next one.
+pub fn after(tokens: &[Token]) -> &[Token]
+    ensures { result.now ≡ tail tokens.now }
+{
+    match tokens {
+        [] => tokens,
+        [_, rest @ ..] => rest,
+    }
+}
+
+/// Whether this symbol stands next.
+#[tactic(auto, unfolding(cp_grammar::specs::Kinds::is_symbol))]
+pub fn sees(tokens: &[Token], symbol: Symbol) -> bool
+    ensures { result ≡ is_symbol symbol (kind_at tokens.now) }
+{
+    match tokens {
+        [] => false,
+        [first, ..] => is(&first.kind, symbol),
+    }
+}
+
+#[tactic(auto, unfolding(cp_grammar::specs::Kinds::is_symbol))]
+fn is(kind: &Kind, symbol: Symbol) -> bool
+    ensures { result ≡ is_symbol symbol (Some kind.now) }
+{
+    match kind {
+        Kind::Symbol(seen) => same(*seen, symbol),
+        _ => false,
+    }
+}
+
+fn same(seen: Symbol, symbol: Symbol) -> bool
+    ensures { result ≡ (code seen == code symbol) }
+{
+    seen == symbol
+}
+
+/// Whether a name stands next.
+pub fn sees_name(tokens: &[Token]) -> bool
+    ensures { result ≡ is_name (kind_at tokens.now) }
+{
+    matches!(tokens, [Token { kind: Kind::Name(_), .. }, ..])
+}
+
+/// Takes this symbol, and answers its place.
+#[tactic(auto, unfolding(cp_grammar::specs::Reading::expect))]
+pub fn expect(tokens: &[Token], symbol: Symbol) -> Read<'_, usize>
+    ensures { Gives (λ at. at) result (reading.expect symbol tokens.now) }
+{
+    if !sees(tokens, symbol) {
+        return Err(Stop::Wrong(tokens.len()));
+    }
+    Ok((place(tokens), after(tokens)))
+}
+
+/// Takes this symbol where it stands next, and answers its place.
+#[tactic(auto, unfolding(cp_grammar::specs::Reading::optional_symbol))]
+pub fn optional_symbol(tokens: &[Token], symbol: Symbol) -> Read<'_, Option<usize>>
+    ensures { Gives (λ at. at) result (reading.optional_symbol symbol tokens.now) }
+{
+    if !sees(tokens, symbol) {
+        return Ok((None, tokens));
+    }
+    Ok((Some(place(tokens)), after(tokens)))
+}
