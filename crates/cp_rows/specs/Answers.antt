@@ -31,6 +31,7 @@ scan_rule cause.Comment = codes "S2"
 scan_rule cause.Character = codes "S3"
 scan_rule cause.Number = codes "S4"
 scan_rule cause.Word = codes "S5"
+scan_rule cause.Size = codes "S6"
 
 -- the place of the token at which so many tokens were left
 abbrev pub place_left : List Token → ℕ → ℕ
