@@ -12,7 +12,7 @@ use Rattle.cp_scan.specs.Pieces.{Piece, run, head_or_zero, coded, character, pie
 use Rattle.cp_scan.proofs.Fronts.{front, Holds, by_test}
 use Rattle.cp_scan.proofs.Runs.{run_append, run_splits, run_each, length_run}
 
-piece_of_apostrophe : (b : ℕ) (rest : List ℕ) → is_apostrophe b ≡ true → piece b rest ≡ character rest
+pub piece_of_apostrophe : (b : ℕ) (rest : List ℕ) → is_apostrophe b ≡ true → piece b rest ≡ character rest
 unfolding piece
 piece_of_apostrophe b rest h = rw (eqb-true b 39 h) refl
 
@@ -39,7 +39,7 @@ coded_again digits rest each some few small =
     (run_append is_digit digits (58 ∷ 41 ∷ 39 ∷ rest) each refl) (take-append_seam digits (58 ∷ 41 ∷ 39 ∷ rest)) (drop_at digits (58 ∷ 41 ∷ 39 ∷ rest) (length digits) refl)
     ∙ rw (le-leb 1 (length digits) some, le-leb (length digits) 3 few, le-leb (decimal_value digits) 127 small) refl
 
-by_ordinal : (rest : List ℕ) → character (40 ∷ 58 ∷ rest) ≡ coded rest
+pub by_ordinal : (rest : List ℕ) → character (40 ∷ 58 ∷ rest) ≡ coded rest
 unfolding character
 by_ordinal rest = refl
 
@@ -103,10 +103,10 @@ closed_parts n value behind h =
     (leb-true 1 n b.0, leb-true n 3 b.1, leb-true value 127 c.1, end_is behind d.1 e.1 f.1)
 
 module _ (b : ℕ) (rest : List ℕ) (apostrophe : is_apostrophe b ≡ true) where
-  digits : List ℕ
+  pub digits : List ℕ
   digits = take (run is_digit rest) rest
 
-  behind : List ℕ
+  pub behind : List ℕ
   behind = drop (run is_digit rest) rest
 
   splits : rest ≡ digits ++ behind
@@ -121,11 +121,11 @@ module _ (b : ℕ) (rest : List ℕ) (apostrophe : is_apostrophe b ≡ true) whe
   unfolding digits
   each = run_each is_digit rest
 
-  is_read : coded rest ≡ cond {A = Piece} (is_closed (run is_digit rest) (decimal_value digits) behind) (Ok (Some (kind.Character (decimal_value digits)), run is_digit rest + 6)) (Err cause.Character)
+  pub is_read : coded rest ≡ cond {A = Piece} (is_closed (run is_digit rest) (decimal_value digits) behind) (Ok (Some (kind.Character (decimal_value digits)), run is_digit rest + 6)) (Err cause.Character)
   unfolding digits behind
   is_read = coded_at rest (run is_digit rest) (take (run is_digit rest) rest) (drop (run is_digit rest) rest) refl refl refl
 
-  ordinal : is_closed (run is_digit rest) (decimal_value digits) behind ≡ true → Holds (b ∷ 40 ∷ 58 ∷ rest) (Ok (Some (kind.Character (decimal_value digits)), run is_digit rest + 6))
+  pub ordinal : is_closed (run is_digit rest) (decimal_value digits) behind ≡ true → Holds (b ∷ 40 ∷ 58 ∷ rest) (Ok (Some (kind.Character (decimal_value digits)), run is_digit rest + 6))
   ordinal h =
       let p = closed_parts (run is_digit rest) (decimal_value digits) behind h in
       let k = length-append digits (58 ∷ 41 ∷ 39 ∷ []) in
@@ -158,20 +158,20 @@ is_shown n c = c == 39 && is_printable n && not (is_apostrophe n)
 abbrev pub is_ordinal : ℕ → ℕ → Bool
 is_ordinal n c = n == 40 && c == 58
 
-character_at : (n c : ℕ) (rest : List ℕ) → character (n ∷ c ∷ rest) ≡ cond {A = Piece} (is_shown n c) (Ok (Some (kind.Character n), 3)) (cond (is_ordinal n c) (coded rest) (Err cause.Character))
+pub character_at : (n c : ℕ) (rest : List ℕ) → character (n ∷ c ∷ rest) ≡ cond {A = Piece} (is_shown n c) (Ok (Some (kind.Character n), 3)) (cond (is_ordinal n c) (coded rest) (Err cause.Character))
 unfolding character
 character_at n c rest = refl
 
-character_one : (n : ℕ) → character (n ∷ []) ≡ Err cause.Character
+pub character_one : (n : ℕ) → character (n ∷ []) ≡ Err cause.Character
 unfolding character
 character_one n = rw (and_right (n == 40) false refl) refl
 
-character_none : character [] ≡ Err cause.Character
+pub character_none : character [] ≡ Err cause.Character
 unfolding character
 character_none = refl
 
 module _ (b n c : ℕ) (rest : List ℕ) (apostrophe : is_apostrophe b ≡ true) where
-  shown : is_shown n c ≡ true → Holds (b ∷ n ∷ c ∷ rest) (Ok (Some (kind.Character n), 3))
+  pub shown : is_shown n c ≡ true → Holds (b ∷ n ∷ c ∷ rest) (Ok (Some (kind.Character n), 3))
   shown h =
       let q = and_parts (c == 39 && is_printable n) (not (is_apostrophe n)) h in
       let p = and_parts (c == 39) (is_printable n) q.0 in

@@ -1,3 +1,4 @@
+pub mod CauseLaws
 pub mod CharacterLaws
 pub mod Complete
 pub mod Fronts

@@ -105,7 +105,7 @@ stops_two x n m (c ∷ rest) by_byte f g = by_byte c ∙ or_from (c == n) (c == 
 
 module _ (b : ℕ) (rest : List ℕ) (no_blank : is_blank b ≡ false) (no_quote : is_quote b ≡ false) (no_apostrophe : is_apostrophe b ≡ false)
     (no_digit : is_digit b ≡ false) (no_letter : is_letter b ≡ false) where
-  piece_of_mark : (behind : List ℕ) → piece b behind ≡ mark b (head_or_zero behind)
+  pub piece_of_mark : (behind : List ℕ) → piece b behind ≡ mark b (head_or_zero behind)
   unfolding piece
   piece_of_mark behind = rw (no_blank, no_quote, no_apostrophe, no_digit, no_letter) refl
 

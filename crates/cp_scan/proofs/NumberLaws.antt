@@ -11,12 +11,12 @@ use Rattle.cp_scan.proofs.Fronts.{front, Holds, by_test}
 use Rattle.cp_scan.proofs.Runs.{run_append, run_splits, run_each, run_stops, length_run}
 use Rattle.cp_scan.proofs.Sorts.{digit_no_blank, digit_no_quote, digit_no_apostrophe}
 
-number_at : (text : List ℕ) (n : ℕ) → run is_digit text ≡ n
+pub number_at : (text : List ℕ) (n : ℕ) → run is_digit text ≡ n
     → number text ≡ (cond (nat_lt 32767 (decimal_value (take n text))) (Err cause.Number) (Ok (Some (kind.Number (decimal_value (take n text))), n)))
 unfolding number
 number_at text n e = rw e refl
 
-piece_of_digit : (b : ℕ) (rest : List ℕ) → is_digit b ≡ true → piece b rest ≡ number (b ∷ rest)
+pub piece_of_digit : (b : ℕ) (rest : List ℕ) → is_digit b ≡ true → piece b rest ≡ number (b ∷ rest)
 unfolding piece
 piece_of_digit b rest h = rw (digit_no_blank b h, digit_no_quote b h, digit_no_apostrophe b h, h) refl
 

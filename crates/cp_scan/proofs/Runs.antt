@@ -35,3 +35,11 @@ length_run p text = length-take-le (run p text) text (run_within p text)
 -- the run and what is behind it
 pub run_splits : (p : ℕ → Bool) (text : List ℕ) → text ≡ take (run p text) text ++ drop (run p text) text
 run_splits p text = sym (take-append-drop (run p text) text)
+
+pub run_all : (p : ℕ → Bool) (bytes : List ℕ) → Each p bytes → run p bytes ≡ length bytes
+run_all p [] each = refl
+run_all p (b ∷ bytes) each = rw each.0 (ap (λ (n : ℕ). suc n) (run_all p bytes each.1))
+
+pub run_least : (p : ℕ → Bool) (bytes rest : List ℕ) → Each p bytes → length bytes ≤ run p (bytes ++ rest)
+run_least p [] rest each = omega arith
+run_least p (b ∷ bytes) rest each = rw each.0 (let more = run_least p bytes rest each.1 in omega arith)

@@ -13,7 +13,7 @@ use Rattle.cp_scan.proofs.Runs.{run_append, run_splits, run_each, run_stops, len
 abbrev pub is_inside : ℕ → Bool
 is_inside b = not (is_quote b)
 
-comment_at : (rest : List ℕ) (n : ℕ) → run is_inside rest ≡ n → comment rest ≡ cond (nat_lt n (length rest)) (Ok (None, n + 2)) (Err cause.Comment)
+pub comment_at : (rest : List ℕ) (n : ℕ) → run is_inside rest ≡ n → comment rest ≡ cond (nat_lt n (length rest)) (Ok (None, n + 2)) (Err cause.Comment)
 unfolding comment
 comment_at rest n e = rw e refl
 
@@ -21,7 +21,7 @@ blank_again : (b : ℕ) (rest : List ℕ) → is_blank b ≡ true → piece b re
 unfolding piece
 blank_again b rest h = rw h refl
 
-piece_of_quote : (b : ℕ) (rest : List ℕ) → is_quote b ≡ true → piece b rest ≡ comment rest
+pub piece_of_quote : (b : ℕ) (rest : List ℕ) → is_quote b ≡ true → piece b rest ≡ comment rest
 unfolding piece
 piece_of_quote b rest h = rw (eqb-true b 34 h) refl
 

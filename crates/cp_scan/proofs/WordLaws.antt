@@ -13,12 +13,12 @@ use Rattle.cp_scan.proofs.Fronts.{front, Holds, by_test}
 use Rattle.cp_scan.proofs.Runs.{run_append, run_splits, run_each, run_stops, length_run}
 use Rattle.cp_scan.proofs.Sorts.{letter_in_word, letter_no_blank, letter_no_quote, letter_no_apostrophe, letter_no_digit}
 
-word_at : (text : List ℕ) (n : ℕ) → run is_in_word text ≡ n
+pub word_at : (text : List ℕ) (n : ℕ) → run is_in_word text ≡ n
     → word text ≡ (cond (nat_lt 64 n) (Err cause.Word) (Ok (Some (kind_of_word (map lower (take n text))), n)))
 unfolding word
 word_at text n e = rw e refl
 
-piece_of_letter : (b : ℕ) (rest : List ℕ) → is_letter b ≡ true → piece b rest ≡ word (b ∷ rest)
+pub piece_of_letter : (b : ℕ) (rest : List ℕ) → is_letter b ≡ true → piece b rest ≡ word (b ∷ rest)
 unfolding piece
 piece_of_letter b rest h = rw (letter_no_blank b h, letter_no_quote b h, letter_no_apostrophe b h, letter_no_digit b h, h) refl
 

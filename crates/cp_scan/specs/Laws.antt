@@ -1,5 +1,5 @@
 -- What a scan tells of a text, in the words of `Spelling`.
-use Rattle.std.specs.Prelude.{◌≡◌, ℕ, ◌≤◌, ◌<◌, List, [], ◌∷◌, length}
+use Rattle.std.specs.Prelude.{◌≡◌, ℕ, ◌≤◌, ◌<◌, List, [], ◌∷◌, length, ◌⊎◌}
 use Rattle.cp_model.specs.Spelling.{Spells, SpelledUpTo, IsBadByte, IsOpenComment, IsBadCharacter, IsLargeNumber, IsLongWord}
 use Rattle.cp_model.specs.declared.token.Token.{Token}
 use Rattle.cp_scan.specs.declared.refusal.Cause.{Cause}
@@ -29,6 +29,10 @@ IsFirstCause c at text = (length text ≤ longest_text) × ((rest : List ℕ) ×
 abbrev pub IsToldOf : List ℕ → ScanError → Type 0
 IsToldOf text (error.Refused c at) = IsFirstCause c at text
 IsToldOf text error.Memory = Unit {0}
+
+-- the error tells this cause at this place, or want of memory
+abbrev pub IsRefusalOrMemory : Cause → ℕ → ScanError → Type 0
+IsRefusalOrMemory c at e = (e ≡ error.Refused c at) ⊎ (e ≡ error.Memory)
 
 -- a text that is refused, and isn't too long, has no tokens at all
 abbrev pub HasNoTokens : List ℕ → ScanError → Type 0

@@ -1,11 +1,12 @@
 //! All pieces of a text.
 
-ghost use Rattle.std.specs.Prelude.{◌≡◌, ◌≤◌, List, drop, length, Ok, IfOk, IfErr, OnOk, MatchResult};
+ghost use Rattle.std.specs.Prelude.{◌≡◌, ◌≤◌, ℕ, List, drop, length, Ok, IfOk, IfErr, OnOk, MatchResult};
 ghost use Rattle.cp_model.specs.Spelling.{Spells};
 ghost use Rattle.cp_model.specs.declared.token.Token.{Token};
 ghost use Rattle.cp_scan.specs.Failures.{Fails};
-ghost use Rattle.cp_scan.specs.Laws.{IsToldOf, RisesFrom, HasNoTokens, longest_text};
+ghost use Rattle.cp_scan.specs.Laws.{IsFirstCause, IsRefusalOrMemory, IsToldOf, RisesFrom, HasNoTokens, longest_text};
 ghost use Rattle.cp_scan.specs.Pieces as spec;
+ghost use Rattle.cp_scan.specs.declared.refusal.Cause.{Cause};
 ghost use Rattle.cp_scan.specs.declared.refusal.ScanError.TheVariants.{Memory};
 
 use crate::piece::piece;
@@ -26,7 +27,10 @@ pub fn scan(alloc: Global, text: &[u8]) -> Result<Vec<Token>, ScanError>
     ensures only { (tokens : List Token) → Spells text.now tokens → length text.now ≤ longest_text
         → MatchResult result (λ found. found.items ≡ tokens) (λ error. error ≡ Memory) }
 
+    // An error but want of memory is the first cause of the text, and only that one.
     ensures first { IfErr result (IsToldOf text.now) }
+    ensures refused { (cause : Cause) (at : ℕ) → IsFirstCause cause at text.now
+        → MatchResult result (λ _. ⊥) (IsRefusalOrMemory cause at) }
     ensures none { IfErr result (HasNoTokens text.now) }
 {
     if text.len() > LONGEST_TEXT {
