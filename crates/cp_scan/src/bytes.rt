@@ -12,19 +12,19 @@ pub const APOSTROPHE: u8 = b'\'';
 pub fn is_blank(b: u8) -> bool
     ensures { result ≡ character.is_blank b }
 {
-    b == b'\t' || b == b'\n' || b == b'\r' || b == b' '
+    matches!(b, b'\t' | b'\n' | b'\r' | b' ')
 }
 
 pub fn is_digit(b: u8) -> bool
     ensures { result ≡ character.is_digit b }
 {
-    b'0' <= b && b <= b'9'
+    b.is_ascii_digit()
 }
 
 pub fn is_letter(b: u8) -> bool
     ensures { result ≡ character.is_letter b }
 {
-    (b'A' <= b && b <= b'Z') || (b'a' <= b && b <= b'z')
+    b.is_ascii_alphabetic()
 }
 
 /// A letter, a digit or an underscore: what goes on a word.
@@ -38,14 +38,14 @@ pub fn is_in_word(b: u8) -> bool
 pub fn is_printable(b: u8) -> bool
     ensures { result ≡ character.is_printable b }
 {
-    b' ' <= b && b <= b'~'
+    matches!(b, b' '..=b'~')
 }
 
 /// A letter in lower case.
 pub fn lower(b: u8) -> u8
     ensures { result ≡ character.lower b }
 {
-    if b'A' <= b && b <= b'Z' { b + 32 } else { b }
+    b.to_ascii_lowercase()
 }
 
 /// The byte at an index, or 0 behind the end.
