@@ -13,6 +13,8 @@ mod numbers;
 mod piece;
 pub mod refusal;
 mod scanning;
+#[cfg(test)]
+mod tests;
 mod words;
 
 pub use refusal::{Cause, ScanError};
