@@ -1,6 +1,6 @@
 -- The piece at the front of a text, and all pieces of a text from left to right, as total functions on lists of bytes.
 -- The code computes these functions; that they agree with the relation of `Spelling` is proved apart from it.
-use Rattle.std.specs.Prelude.{ℕ, zero, suc, ◌+◌, ◌-◌, Bool, true, false, ◌||◌, ◌&&◌, not, nat_lt, nat_le, ◌==◌, if◌then◌else◌, List, [], ◌∷◌, ◌++◌, length, take, drop, map, Option, Some, None, Result, Ok, Err}
+use Rattle.std.specs.Prelude.{ℕ, zero, suc, ◌+◌, Bool, ◌&&◌, not, nat_lt, nat_le, ◌==◌, if◌then◌else◌, List, [], ◌∷◌, ◌++◌, length, take, drop, map, Option, Some, None, Result, Ok, Err}
 use Rattle.cp_model.specs.Characters.{is_blank, is_digit, is_letter, is_in_word, is_quote, is_apostrophe, is_printable, lower, decimal_value}
 use Rattle.cp_model.specs.Spelling.{kind_of_word}
 use Rattle.cp_model.specs.declared.token.Kind.{Kind}

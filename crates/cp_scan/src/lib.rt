@@ -1,4 +1,21 @@
 //! The scanner: the one list of tokens that spells a text, or the first place at which it has none.
+//!
+//! `piece` reads the piece at the front of a text, by its first byte; `scanning` reads all pieces from left to right. The code
+//! computes the functions of `specs/Pieces.antt`; that these agree with the definition of spelling (`Spelling` of cp_model) is
+//! proved in `proofs/`, and is what the contract of `scan` says.
 #![tactic(auto)]
 
+mod bytes;
+mod characters;
+mod comments;
+mod marks;
+mod numbers;
+mod piece;
 pub mod refusal;
+mod scanning;
+#[cfg(test)]
+mod tests;
+mod words;
+
+pub use refusal::{Cause, ScanError};
+pub use scanning::{LONGEST_TEXT, scan};

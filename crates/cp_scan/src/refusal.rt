@@ -1,4 +1,9 @@
-//! Why a text has no tokens.
+//! Why a text has no tokens, or none were found.
+
+ghost use Rattle.std.specs.Prelude.{◌≡◌};
+ghost use Rattle.cp_scan.specs.declared.refusal.ScanError.TheVariants.{Memory};
+
+use std::alloc::{AllocError, AllocFailed};
 
 /// What a text holds where no token and no separator begins, by its number in refusals.
 #[derive(Clone, Copy, Debug, PartialEq, Eq)]
@@ -13,4 +18,31 @@ pub enum Cause {
     Number,
     /// S5: a word of more than 64 letters, digits and underscores.
     Word,
+    /// S6: the text is longer than 1,048,576 bytes.
+    Size,
+}
+
+/// Why `scan` gives no tokens.
+#[derive(Clone, Copy, Debug, PartialEq, Eq)]
+pub enum ScanError {
+    /// No list of tokens spells the text, or it is too long: the first cause, and the byte at which it stands, from 0.
+    Refused { cause: Cause, at: usize },
+    /// Memory was refused; nothing is known of the text.
+    Memory,
+}
+
+impl From<AllocError> for ScanError {
+    ghost from_gives = { λ _ error. error ≡ Memory };
+
+    fn from(_error: AllocError) -> ScanError {
+        ScanError::Memory
+    }
+}
+
+impl<T: Drop> From<AllocFailed<T>> for ScanError {
+    ghost from_gives = { λ _ error. error ≡ Memory };
+
+    fn from(_error: AllocFailed<T>) -> ScanError {
+        ScanError::Memory
+    }
 }

@@ -1,0 +1,45 @@
+-- What a scan tells of a text, in the words of `Spelling`.
+use Rattle.std.specs.Prelude.{◌≡◌, ℕ, ◌≤◌, ◌<◌, List, [], ◌∷◌, length, ◌⊎◌}
+use Rattle.cp_model.specs.Spelling.{Spells, SpelledUpTo, IsBadByte, IsOpenComment, IsBadCharacter, IsLargeNumber, IsLongWord}
+use Rattle.cp_model.specs.declared.token.Token.{Token}
+use Rattle.cp_scan.specs.declared.refusal.Cause.{Cause}
+use Rattle.cp_scan.specs.declared.refusal.Cause.TheVariants as cause
+use Rattle.cp_scan.specs.declared.refusal.ScanError.{ScanError}
+use Rattle.cp_scan.specs.declared.refusal.ScanError.TheVariants as error
+
+-- the most bytes of a text
+abbrev pub longest_text : ℕ
+longest_text = 1048576
+
+-- the cause stands at the front of what is left of a text
+abbrev pub StandsIn : Cause → List ℕ → Type 0
+StandsIn cause.Byte rest = IsBadByte rest
+StandsIn cause.Comment rest = IsOpenComment rest
+StandsIn cause.Character rest = IsBadCharacter rest
+StandsIn cause.Number rest = IsLargeNumber rest
+StandsIn cause.Word rest = IsLongWord rest
+StandsIn cause.Size rest = ⊥
+
+-- the text is too long, or it is spelled up to this place, and there the cause stands
+abbrev pub IsFirstCause : Cause → ℕ → List ℕ → Type 0
+IsFirstCause cause.Size at text = (longest_text < length text) × (at ≡ longest_text)
+IsFirstCause c at text = (length text ≤ longest_text) × ((rest : List ℕ) × SpelledUpTo text at rest × StandsIn c rest)
+
+-- what an error tells of a text. Want of memory tells nothing of it
+abbrev pub IsToldOf : List ℕ → ScanError → Type 0
+IsToldOf text (error.Refused c at) = IsFirstCause c at text
+IsToldOf text error.Memory = Unit {0}
+
+-- the error tells this cause at this place, or want of memory
+abbrev pub IsRefusalOrMemory : Cause → ℕ → ScanError → Type 0
+IsRefusalOrMemory c at e = (e ≡ error.Refused c at) ⊎ (e ≡ error.Memory)
+
+-- a text that is refused, and isn't too long, has no tokens at all
+abbrev pub HasNoTokens : List ℕ → ScanError → Type 0
+HasNoTokens text (error.Refused c at) = length text ≤ longest_text → (tokens : List Token) → Spells text tokens → ⊥
+HasNoTokens text error.Memory = Unit {0}
+
+-- the spans of the tokens have bytes, rise and lie apart, from a place on and up to an end
+abbrev pub RisesFrom : ℕ → List Token → ℕ → Type 0
+RisesFrom at [] end = at ≤ end
+RisesFrom at (t ∷ ts) end = (at ≤ t.span.from) × (t.span.from < t.span.to) × RisesFrom t.span.to ts end

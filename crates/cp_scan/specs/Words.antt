@@ -1,0 +1,9 @@
+-- What a word is, by what a look-up among reserved words found.
+use Rattle.std.specs.Prelude.{ℕ, List, Option, Some, None}
+use Rattle.cp_model.specs.declared.token.Kind.{Kind}
+use Rattle.cp_model.specs.declared.token.Kind.TheVariants as kind
+use Rattle.cp_model.specs.declared.token.Symbol.{Symbol}
+
+abbrev pub kind_or_name : Option Symbol → List ℕ → Kind
+kind_or_name None letters = kind.Name letters
+kind_or_name (Some symbol) letters = kind.Symbol symbol

@@ -1,0 +1,93 @@
+//! The bytes of a text: which begin or go on a word, a number, a comment. `Characters` of cp_model defines the sorts.
+
+ghost use Rattle.std.specs.Prelude.{◌≡◌, ◌≤◌, ◌<◌, drop, length, not};
+ghost use Rattle.cp_model.specs.Characters as character;
+ghost use Rattle.cp_scan.specs.Pieces.{run, head_or_zero};
+
+pub const QUOTE: u8 = b'"';
+
+pub const APOSTROPHE: u8 = b'\'';
+
+/// A tab, a line feed, a carriage return or a space.
+pub fn is_blank(b: u8) -> bool
+    ensures { result ≡ character.is_blank b }
+{
+    matches!(b, b'\t' | b'\n' | b'\r' | b' ')
+}
+
+pub fn is_digit(b: u8) -> bool
+    ensures { result ≡ character.is_digit b }
+{
+    b.is_ascii_digit()
+}
+
+pub fn is_letter(b: u8) -> bool
+    ensures { result ≡ character.is_letter b }
+{
+    b.is_ascii_alphabetic()
+}
+
+/// A letter, a digit or an underscore: what goes on a word.
+pub fn is_in_word(b: u8) -> bool
+    ensures { result ≡ character.is_in_word b }
+{
+    is_letter(b) || is_digit(b) || b == b'_'
+}
+
+/// What a character constant shows as itself, the apostrophe aside.
+pub fn is_printable(b: u8) -> bool
+    ensures { result ≡ character.is_printable b }
+{
+    matches!(b, b' '..=b'~')
+}
+
+/// A letter in lower case.
+pub fn lower(b: u8) -> u8
+    ensures { result ≡ character.lower b }
+{
+    b.to_ascii_lowercase()
+}
+
+/// The byte at an index, or 0 behind the end.
+pub fn byte_at(text: &[u8], i: usize) -> u8
+    ensures value { result ≡ head_or_zero (drop i text.now) }
+    ensures within { 0 < result → i < length text.now }
+{
+    if i < text.len() { text[i] } else { 0 }
+}
+
+/// How many bytes at the front go on a word.
+pub fn word_length(text: &[u8]) -> usize
+    ensures run { result ≡ run character.is_in_word text.now }
+    ensures within { result ≤ length text.now }
+{
+    let mut n = 0;
+    while n < text.len() && is_in_word(text[n]) {
+        n += 1;
+    }
+    n
+}
+
+/// How many bytes at the front are digits.
+pub fn digit_count(text: &[u8]) -> usize
+    ensures run { result ≡ run character.is_digit text.now }
+    ensures within { result ≤ length text.now }
+{
+    let mut n = 0;
+    while n < text.len() && is_digit(text[n]) {
+        n += 1;
+    }
+    n
+}
+
+/// How many bytes stand before the first `"`.
+pub fn length_before_quote(text: &[u8]) -> usize
+    ensures run { result ≡ run (λ b. not (character.is_quote b)) text.now }
+    ensures within { result ≤ length text.now }
+{
+    let mut n = 0;
+    while n < text.len() && text[n] != QUOTE {
+        n += 1;
+    }
+    n
+}

@@ -1,0 +1,44 @@
+//! Character constants.
+
+ghost use Rattle.std.specs.Prelude.{◌≡◌};
+ghost use Rattle.cp_scan.specs.Pieces as spec;
+
+use crate::bytes::{APOSTROPHE, byte_at, digit_count, is_printable};
+use crate::numbers::capped_value;
+use crate::piece::Front;
+use crate::refusal::Cause;
+use cp_model::token::Kind;
+
+/// The character constant by its ordinal, whose `'(:` stands before this rest of the text.
+#[tactic(auto, unfolding(crate::specs::Pieces::coded))]
+fn coded(rest: &[u8]) -> Front
+    ensures { result ≡ spec.coded rest.now }
+{
+    let n = digit_count(rest);
+    let value = capped_value(&rest[..n]);
+    let behind = &rest[n..];
+    let is_closed = byte_at(behind, 0) == b':'
+        && byte_at(behind, 1) == b')'
+        && byte_at(behind, 2) == APOSTROPHE;
+    if 1 <= n && n <= 3 && value <= 127 && is_closed {
+        Ok((Some(Kind::Character(value as u8)), n + 6))
+    } else {
+        Err(Cause::Character)
+    }
+}
+
+/// The character constant whose opening apostrophe stands before this rest of the text.
+#[tactic(auto, unfolding(crate::specs::Pieces::character))]
+pub fn character(rest: &[u8]) -> Front
+    ensures { result ≡ spec.character rest.now }
+{
+    let b = byte_at(rest, 0);
+    let c = byte_at(rest, 1);
+    if c == APOSTROPHE && is_printable(b) && b != APOSTROPHE {
+        Ok((Some(Kind::Character(b)), 3))
+    } else if b == b'(' && c == b':' {
+        coded(&rest[2..])
+    } else {
+        Err(Cause::Character)
+    }
+}

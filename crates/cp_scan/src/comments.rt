@@ -1,0 +1,21 @@
+//! Comments.
+
+ghost use Rattle.std.specs.Prelude.{◌≡◌};
+ghost use Rattle.cp_scan.specs.Pieces as spec;
+
+use crate::bytes::length_before_quote;
+use crate::piece::Front;
+use crate::refusal::Cause;
+
+/// The comment whose opening `"` stands before this rest of the text.
+#[tactic(auto, unfolding(crate::specs::Pieces::comment))]
+pub fn comment(rest: &[u8]) -> Front
+    ensures { result ≡ spec.comment rest.now }
+{
+    let n = length_before_quote(rest);
+    if n < rest.len() {
+        Ok((None, n + 2))
+    } else {
+        Err(Cause::Comment)
+    }
+}

@@ -1,0 +1,62 @@
+//! Marks.
+
+ghost use Rattle.std.specs.Prelude.{◌≡◌};
+ghost use Rattle.cp_scan.specs.Pieces as spec;
+
+use crate::piece::Front;
+use crate::refusal::Cause;
+use cp_model::token::{Kind, Symbol};
+
+fn one(symbol: Symbol) -> Front
+    ensures { result ≡ spec.one symbol }
+{
+    Ok((Some(Kind::Symbol(symbol)), 1))
+}
+
+fn two(symbol: Symbol) -> Front
+    ensures { result ≡ spec.two symbol }
+{
+    Ok((Some(Kind::Symbol(symbol)), 2))
+}
+
+// The marks that are a beginning of a longer one.
+#[tactic(auto, unfolding(crate::specs::Pieces::longer_mark))]
+fn longer_mark(b: u8, c: u8) -> Front
+    ensures { result ≡ spec.longer_mark b c }
+{
+    match (b, c) {
+        (b'<', b'=') => two(Symbol::AtMost),
+        (b'<', b'>') => two(Symbol::Unequal),
+        (b'<', _) => one(Symbol::Less),
+        (b'>', b'=') => two(Symbol::AtLeast),
+        (b'>', _) => one(Symbol::Greater),
+        (b':', b'=') => two(Symbol::Assign),
+        (b':', _) => one(Symbol::Colon),
+        (b'.', b'.') => two(Symbol::DotDot),
+        (b'.', b')') => two(Symbol::CloseBracket),
+        (b'.', _) => one(Symbol::Dot),
+        (b'(', b'.') => two(Symbol::OpenBracket),
+        (b'(', _) => one(Symbol::OpenParenthesis),
+        _ => Err(Cause::Byte),
+    }
+}
+
+/// The mark that begins with `b`, where `c` is the byte behind it, or 0 at the end of the text.
+#[tactic(auto, unfolding(crate::specs::Pieces::mark))]
+pub fn mark(b: u8, c: u8) -> Front
+    ensures { result ≡ spec.mark b c }
+{
+    match b {
+        b'+' => one(Symbol::Plus),
+        b'-' => one(Symbol::Minus),
+        b'*' => one(Symbol::Star),
+        b'&' => one(Symbol::Ampersand),
+        b'=' => one(Symbol::Equal),
+        b')' => one(Symbol::CloseParenthesis),
+        b'[' => one(Symbol::OpenBracket),
+        b']' => one(Symbol::CloseBracket),
+        b',' => one(Symbol::Comma),
+        b';' => one(Symbol::Semicolon),
+        _ => longer_mark(b, c),
+    }
+}

@@ -1,0 +1,38 @@
+//! Numbers.
+
+ghost use Rattle.std.specs.Prelude.{◌≡◌, ◌≤◌, min};
+ghost use Rattle.cp_model.specs.Characters.{decimal_value};
+ghost use Rattle.cp_scan.specs.Pieces as spec;
+
+use crate::bytes::digit_count;
+use crate::piece::Front;
+use crate::refusal::Cause;
+use cp_model::token::Kind;
+
+/// The greatest number of a text.
+pub const GREATEST_NUMBER: u32 = 32767;
+
+/// The value of decimal digits, or 32768 where it is more.
+pub fn capped_value(digits: &[u8]) -> u32
+    ensures { result ≡ min (decimal_value digits.now) 32768 }
+{
+    let mut value: u32 = 0;
+    for b in digits {
+        let digit = u32::from(b.saturating_sub(b'0'));
+        value = (10 * value + digit).min(GREATEST_NUMBER + 1);
+    }
+    value
+}
+
+/// The number at the front of a text.
+#[tactic(auto, unfolding(crate::specs::Pieces::number))]
+pub fn number(text: &[u8]) -> Front
+    ensures { result ≡ spec.number text.now }
+{
+    let n = digit_count(text);
+    let value = capped_value(&text[..n]);
+    if value > GREATEST_NUMBER {
+        return Err(Cause::Number);
+    }
+    Ok((Some(Kind::Number(value as u16)), n))
+}

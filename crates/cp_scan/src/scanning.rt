@@ -1,0 +1,80 @@
+//! All pieces of a text.
+
+ghost use Rattle.std.specs.Prelude.{◌≡◌, ◌≤◌, ℕ, List, drop, length, Ok, IfOk, IfErr, OnOk, MatchResult};
+ghost use Rattle.cp_model.specs.Spelling.{Spells};
+ghost use Rattle.cp_model.specs.declared.token.Token.{Token};
+ghost use Rattle.cp_scan.specs.Failures.{Fails};
+ghost use Rattle.cp_scan.specs.Laws.{IsFirstCause, IsRefusalOrMemory, IsToldOf, RisesFrom, HasNoTokens, longest_text};
+ghost use Rattle.cp_scan.specs.Pieces as spec;
+ghost use Rattle.cp_scan.specs.declared.refusal.Cause.{Cause};
+ghost use Rattle.cp_scan.specs.declared.refusal.ScanError.TheVariants.{Memory};
+
+use crate::piece::piece;
+use crate::refusal::{Cause, ScanError};
+use cp_model::token::{Kind, Span, Token};
+use std::alloc::{AllocError, Global};
+
+/// The most bytes of a text.
+pub const LONGEST_TEXT: usize = 1_048_576;
+
+/// The tokens that spell the text.
+pub fn scan(alloc: Global, text: &[u8]) -> Result<Vec<Token>, ScanError>
+    ensures spelled { IfOk result (λ tokens. Spells text.now tokens.items) }
+    ensures spans { IfOk result (λ tokens. RisesFrom 0 tokens.items (length text.now)) }
+    ensures within { OnOk result (length text.now ≤ longest_text) }
+
+    // A text has no other tokens, and is refused none that it has.
+    ensures only { (tokens : List Token) → Spells text.now tokens → length text.now ≤ longest_text
+        → MatchResult result (λ found. found.items ≡ tokens) (λ error. error ≡ Memory) }
+
+    // An error but want of memory is the first cause of the text, and only that one.
+    ensures first { IfErr result (IsToldOf text.now) }
+    ensures refused { (cause : Cause) (at : ℕ) → IsFirstCause cause at text.now
+        → MatchResult result (λ _. ⊥) (IsRefusalOrMemory cause at) }
+    ensures none { IfErr result (HasNoTokens text.now) }
+{
+    if text.len() > LONGEST_TEXT {
+        return Err(ScanError::Refused {
+            cause: Cause::Size,
+            at: LONGEST_TEXT,
+        });
+    }
+    all_tokens(alloc, text)
+}
+
+// The tokens of a text of any length, or its first cause.
+fn all_tokens(alloc: Global, text: &[u8]) -> Result<Vec<Token>, ScanError>
+    ensures tokens { IfOk result (λ tokens. spec.tokens_of text.now ≡ Ok tokens.items) }
+    ensures fails { IfErr result (λ error. Fails error (spec.tokens_of text.now)) }
+{
+    let mut tokens = Vec::new(alloc);
+    let mut at = 0;
+    while at < text.len() {
+        match piece(alloc, rest_from(text, at))? {
+            Ok((kind, n)) => {
+                let end = at + n;
+                push_token(&mut tokens, kind, Span { from: at, to: end })?;
+                at = end;
+            }
+            Err(cause) => return Err(ScanError::Refused { cause, at }),
+        }
+    }
+    Ok(tokens)
+}
+
+fn rest_from(text: &[u8], at: usize) -> &[u8]
+    requires { at ≤ length text.now }
+    ensures { result.now ≡ drop at text.now }
+{
+    &text[at..]
+}
+
+// A separator gives no token.
+fn push_token(tokens: &mut Vec<Token>, kind: Option<Kind>, span: Span) -> Result<(), AllocError>
+    ensures { OnOk result (tokens.new.items ≡ spec.with_token kind span.from span.to tokens.old.items) }
+{
+    if let Some(kind) = kind {
+        tokens.push(Token { kind, span })?;
+    }
+    Ok(())
+}

@@ -1,0 +1,97 @@
+//! Words: reserved ones and names.
+
+ghost use Rattle.std.specs.Prelude.{◌≡◌, ◌<◌, map, IfOk, take};
+ghost use Rattle.cp_model.specs.Characters as character;
+ghost use Rattle.cp_model.specs.Spelling as spelling;
+ghost use Rattle.cp_scan.specs.Pieces as spec;
+ghost use Rattle.cp_scan.specs.Words.{kind_or_name};
+
+use crate::bytes::{lower, word_length};
+use crate::piece::Front;
+use crate::refusal::Cause;
+use cp_model::token::{Kind, Name, Symbol};
+use std::alloc::{AllocError, Global};
+
+/// The most letters, digits and underscores of a word.
+pub const LONGEST_WORD: usize = 64;
+
+/// The reserved words, in lower case.
+pub const RESERVED_WORDS: [(&[u8], Symbol); 36] = [
+    (b"array", Symbol::Array),
+    (b"begin", Symbol::Begin),
+    (b"case", Symbol::Case),
+    (b"class", Symbol::Class),
+    (b"const", Symbol::Const),
+    (b"cycle", Symbol::Cycle),
+    (b"div", Symbol::Div),
+    (b"do", Symbol::Do),
+    (b"downto", Symbol::Downto),
+    (b"else", Symbol::Else),
+    (b"end", Symbol::End),
+    (b"entry", Symbol::Entry),
+    (b"for", Symbol::For),
+    (b"function", Symbol::Function),
+    (b"if", Symbol::If),
+    (b"in", Symbol::In),
+    (b"init", Symbol::Init),
+    (b"mod", Symbol::Mod),
+    (b"monitor", Symbol::Monitor),
+    (b"not", Symbol::Not),
+    (b"of", Symbol::Of),
+    (b"or", Symbol::Or),
+    (b"procedure", Symbol::Procedure),
+    (b"process", Symbol::Process),
+    (b"program", Symbol::Program),
+    (b"record", Symbol::Record),
+    (b"repeat", Symbol::Repeat),
+    (b"set", Symbol::Set),
+    (b"then", Symbol::Then),
+    (b"to", Symbol::To),
+    (b"type", Symbol::Type),
+    (b"univ", Symbol::Univ),
+    (b"until", Symbol::Until),
+    (b"var", Symbol::Var),
+    (b"while", Symbol::While),
+    (b"with", Symbol::With),
+];
+
+// The symbol of the word in the table that is written so.
+fn look_up(table: &[(&[u8], Symbol)], letters: &[u8]) -> Option<Symbol>
+    ensures { kind_or_name result letters.now ≡ spelling.word_among (map (λ w. (w.0.now, w.1)) table.now) letters.now }
+{
+    for (word, symbol) in table {
+        if *word == letters {
+            return Some(*symbol);
+        }
+    }
+    None
+}
+
+// The kind of a word in lower case.
+fn kind_of_word(letters: Vec<u8>) -> Kind
+    ensures { result ≡ spelling.kind_of_word letters.items }
+{
+    match look_up(&RESERVED_WORDS, letters.as_slice()) {
+        Some(symbol) => Kind::Symbol(symbol),
+        None => Kind::Name(Name::new(letters)),
+    }
+}
+
+fn lowered(alloc: Global, text: &[u8]) -> Result<Vec<u8>, AllocError>
+    ensures { IfOk result (λ letters. letters.items ≡ map character.lower text.now) }
+{
+    text.iter().map(|b| lower(*b)).collect(alloc)
+}
+
+/// The word at the front of a text. It fails only for want of memory.
+#[tactic(auto, unfolding(crate::specs::Pieces::word))]
+pub fn word(alloc: Global, text: &[u8]) -> Result<Front, AllocError>
+    ensures { IfOk result (λ front. front ≡ spec.word text.now) }
+{
+    let n = word_length(text);
+    if n > LONGEST_WORD {
+        return Ok(Err(Cause::Word));
+    }
+    let letters = lowered(alloc, &text[..n])?;
+    Ok(Ok((Some(kind_of_word(letters)), n)))
+}
