@@ -185,7 +185,7 @@ result_type_levels (Some t) = 0 ∷ 0 ∷ []
 abbrev pub routine_levels : s.Routine → List ℕ
 routine_levels r =
     0 ∷ optional_levels r.entry ⊕ 0 ∷ parameters_levels r.parameters ⊕ result_type_levels r.result_type
-  ⊕ 0 ∷ variables_levels r.variables ⊕ body_levels r.body ⊕ 0 ∷ []
+    ⊕ 0 ∷ variables_levels r.variables ⊕ body_levels r.body ⊕ 0 ∷ []
 
 abbrev pub system_levels : s.System → List ℕ
 system_levels y = 0 ∷ parameters_levels y.parameters ⊕ 0 ∷ variables_levels y.variables ⊕ each_levels routine_levels y.routines ⊕ body_levels y.body

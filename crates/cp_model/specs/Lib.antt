@@ -44,6 +44,7 @@ pub mod Initialisation
 pub mod StatementSteps
 pub mod Step
 pub mod States
+pub mod StateViews
 pub mod Gates
 pub mod Turns
 pub mod Rounds

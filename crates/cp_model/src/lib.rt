@@ -1,11 +1,14 @@
 //! The types of a Concurrent Pascal text, and the definitions that everything else is proved against.
 //!
-//! The types have no behaviour: tokens (`token`), the syntax tree (`tree`), what the rules speak of (`rules`). The definitions stand
-//! in `specs/`; docs/language.md and docs/meaning.md tell them in words, each beside the name of its file. The laws of rounds stand
-//! on functions with empty bodies (`law`).
+//! The types have no behaviour: tokens (`token`), the syntax tree (`tree`), what the rules speak of (`rules`), what is told of a
+//! running program (`state`). The definitions stand in `specs/`; docs/language.md and docs/meaning.md tell them in words, each beside
+//! the name of its file. The laws of rounds stand on functions with empty bodies (`law`).
 #![tactic(auto)]
 
 pub mod law;
 pub mod rules;
+pub mod state;
+#[cfg(test)]
+mod tests;
 pub mod token;
 pub mod tree;
