@@ -6,10 +6,7 @@ use std::test::Fail;
 
 /// Lists of statements, and what they are.
 const STATEMENTS: &[(&str, &str)] = &[
-    (
-        "",
-        "[Empty]",
-    ),
+    ("", "[Empty]"),
     (
         "; a",
         "[Empty, Call(Designator { root: Identifier { name: Name { letters: [97] }, at: 8 }, selectors: [] }, [])]",
