@@ -88,7 +88,13 @@ fn defined(alloc: Global, room: usize, tokens: &[Token]) -> Read<'_, Defined>
     ensures { Gives view.defined_type result (spec.defined_of (type_at room) (deeper_at room) tokens.now) }
 {
     match tokens {
-        [Token { kind: Kind::Symbol(symbol), .. }, ..] => match symbol {
+        [
+            Token {
+                kind: Kind::Symbol(symbol),
+                ..
+            },
+            ..
+        ] => match symbol {
             Symbol::Process => system_type(alloc, room, Sort::Process, tokens),
             Symbol::Monitor => system_type(alloc, room, Sort::Monitor, tokens),
             Symbol::Class => system_type(alloc, room, Sort::Class, tokens),
@@ -113,13 +119,23 @@ fn type_definition(alloc: Global, room: usize, tokens: &[Token]) -> Read<'_, Typ
 fn constants(alloc: Global, tokens: &[Token]) -> Read<'_, Vec<ConstantDefinition>>
     ensures { Gives (λ v. v.items) result (reading.one_or_more is_name spec.constant_definition_of tokens.now) }
 {
-    one_or_more(alloc, sees_name, |rest| constant_definition(alloc, rest), tokens)
+    one_or_more(
+        alloc,
+        sees_name,
+        |rest| constant_definition(alloc, rest),
+        tokens,
+    )
 }
 
 fn types(alloc: Global, room: usize, tokens: &[Token]) -> Read<'_, Vec<TypeDefinition>>
     ensures { Gives (λ v. map view.type_definition v.items) result (reading.one_or_more is_name (spec.type_definition_of (type_at room) (deeper_at room)) tokens.now) }
 {
-    one_or_more(alloc, sees_name, |rest| type_definition(alloc, room, rest), tokens)
+    one_or_more(
+        alloc,
+        sees_name,
+        |rest| type_definition(alloc, room, rest),
+        tokens,
+    )
 }
 
 /// The definitions behind one word `const` or `type`.
@@ -128,11 +144,23 @@ fn section(alloc: Global, room: usize, tokens: &[Token]) -> Read<'_, Section>
     ensures { Gives view.section_of result (spec.section_of (type_at room) (deeper_at room) tokens.now) }
 {
     match tokens {
-        [Token { kind: Kind::Symbol(Symbol::Const), .. }, ..] => {
+        [
+            Token {
+                kind: Kind::Symbol(Symbol::Const),
+                ..
+            },
+            ..
+        ] => {
             let (definitions, rest) = constants(alloc, after(tokens))?;
             Ok((Section::Constants(definitions), rest))
         }
-        [Token { kind: Kind::Symbol(Symbol::Type), .. }, ..] => {
+        [
+            Token {
+                kind: Kind::Symbol(Symbol::Type),
+                ..
+            },
+            ..
+        ] => {
             let (definitions, rest) = types(alloc, room, after(tokens))?;
             Ok((Section::Types(definitions), rest))
         }
@@ -143,7 +171,16 @@ fn section(alloc: Global, room: usize, tokens: &[Token]) -> Read<'_, Section>
 fn begins_section(tokens: &[Token]) -> bool
     ensures { result ≡ spec.begins_section (kind_at tokens.now) }
 {
-    matches!(tokens, [Token { kind: Kind::Symbol(Symbol::Const | Symbol::Type), .. }, ..])
+    matches!(
+        tokens,
+        [
+            Token {
+                kind: Kind::Symbol(Symbol::Const | Symbol::Type),
+                ..
+            },
+            ..
+        ]
+    )
 }
 
 /// A text up to its `.`.
@@ -151,7 +188,12 @@ fn begins_section(tokens: &[Token]) -> bool
 fn tree(alloc: Global, room: usize, tokens: &[Token]) -> Read<'_, Tree>
     ensures { Gives view.tree result (text.tree_of (type_at room) (deeper_at room) tokens.now) }
 {
-    let (sections, rest) = repeated(Vec::new(alloc), begins_section, |rest| section(alloc, room, rest), tokens)?;
+    let (sections, rest) = repeated(
+        Vec::new(alloc),
+        begins_section,
+        |rest| section(alloc, room, rest),
+        tokens,
+    )?;
     let (variables, rest) = variables(alloc, room, rest)?;
     let (routines, rest) = routines(alloc, room, rest)?;
     let (body, rest) = body(alloc, room, rest)?;

@@ -112,7 +112,10 @@ impl<F: Fn(Global, usize, &[Token]) -> Read<'_, Expression>> Expressions<F> {
         };
         let at = place(rest);
         let (right, rest) = self.simple(after(rest))?;
-        Ok((relation(self.alloc, left, operation(operator, at, right))?, rest))
+        Ok((
+            relation(self.alloc, left, operation(operator, at, right))?,
+            rest,
+        ))
     }
 
     /// One expression or more, with commas between.
@@ -121,7 +124,12 @@ impl<F: Fn(Global, usize, &[Token]) -> Read<'_, Expression>> Expressions<F> {
         requires { FactorsAt self.now.room (F.pre self.now.factor) (F.post self.now.factor) }
         ensures { Gives (λ v. map view.expression v.items) result (spec.expressions_from (spec.factor_at self.now.room) tokens.now) }
     {
-        separated(self.alloc, Symbol::Comma, |rest| self.expression(rest), tokens)
+        separated(
+            self.alloc,
+            Symbol::Comma,
+            |rest| self.expression(rest),
+            tokens,
+        )
     }
 
     /// The `[` or the `,`, and the index behind it.
@@ -186,7 +194,12 @@ fn relation(alloc: Global, left: Expression, right: Operation) -> Result<Express
     chain(alloc, left, rest)
 }
 
-fn signed(alloc: Global, sign: Sign, at: usize, operand: Expression) -> Result<Expression, AllocError>
+fn signed(
+    alloc: Global,
+    sign: Sign,
+    at: usize,
+    operand: Expression,
+) -> Result<Expression, AllocError>
     ensures { IfOk result (λ e. view.expression e ≡ s.Signed sign at (view.expression operand)) }
 {
     Ok(Expression::Signed {

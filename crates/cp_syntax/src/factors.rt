@@ -71,8 +71,20 @@ impl<F: Fn(Global, usize, &[Token]) -> Read<'_, Expression> + Copy> Factors<F> {
         ensures { Gives view.selector result (spec.selector_of (spec.inner_at self.now.room) tokens.now) }
     {
         match tokens {
-            [Token { kind: Kind::Symbol(Symbol::Dot), .. }, ..] => self.field(tokens),
-            [Token { kind: Kind::Symbol(Symbol::OpenBracket), .. }, ..] => self.indexed(tokens),
+            [
+                Token {
+                    kind: Kind::Symbol(Symbol::Dot),
+                    ..
+                },
+                ..
+            ] => self.field(tokens),
+            [
+                Token {
+                    kind: Kind::Symbol(Symbol::OpenBracket),
+                    ..
+                },
+                ..
+            ] => self.indexed(tokens),
             _ => Err(Stop::Wrong(tokens.len())),
         }
     }
@@ -83,7 +95,12 @@ impl<F: Fn(Global, usize, &[Token]) -> Read<'_, Expression> + Copy> Factors<F> {
         ensures { Gives view.designator result (spec.designator_of (spec.inner_at self.now.room) tokens.now) }
     {
         let (root, rest) = identifier(self.alloc, tokens)?;
-        let (selectors, rest) = repeated(Vec::new(self.alloc), begins_selector, |rest| self.selector(rest), rest)?;
+        let (selectors, rest) = repeated(
+            Vec::new(self.alloc),
+            begins_selector,
+            |rest| self.selector(rest),
+            rest,
+        )?;
         Ok((designator_from(root, selectors), rest))
     }
 
@@ -151,11 +168,41 @@ impl<F: Fn(Global, usize, &[Token]) -> Read<'_, Expression> + Copy> Factors<F> {
     {
         let at = place(tokens);
         match tokens {
-            [Token { kind: Kind::Number(value), .. }, rest @ ..] => Ok((number(at, *value), rest)),
-            [Token { kind: Kind::Character(ordinal), .. }, rest @ ..] => Ok((character(at, *ordinal), rest)),
-            [Token { kind: Kind::Name(_), .. }, ..] => self.named(tokens),
-            [Token { kind: Kind::Symbol(Symbol::OpenParenthesis), .. }, ..] => self.parenthesized(tokens),
-            [Token { kind: Kind::Symbol(Symbol::Not), .. }, ..] => self.negated(tokens),
+            [
+                Token {
+                    kind: Kind::Number(value),
+                    ..
+                },
+                rest @ ..,
+            ] => Ok((number(at, *value), rest)),
+            [
+                Token {
+                    kind: Kind::Character(ordinal),
+                    ..
+                },
+                rest @ ..,
+            ] => Ok((character(at, *ordinal), rest)),
+            [
+                Token {
+                    kind: Kind::Name(_),
+                    ..
+                },
+                ..
+            ] => self.named(tokens),
+            [
+                Token {
+                    kind: Kind::Symbol(Symbol::OpenParenthesis),
+                    ..
+                },
+                ..
+            ] => self.parenthesized(tokens),
+            [
+                Token {
+                    kind: Kind::Symbol(Symbol::Not),
+                    ..
+                },
+                ..
+            ] => self.negated(tokens),
             _ => Err(Stop::Wrong(tokens.len())),
         }
     }
@@ -164,7 +211,16 @@ impl<F: Fn(Global, usize, &[Token]) -> Read<'_, Expression> + Copy> Factors<F> {
 fn begins_selector(tokens: &[Token]) -> bool
     ensures { result ≡ spec.begins_selector (kind_at tokens.now) }
 {
-    matches!(tokens, [Token { kind: Kind::Symbol(Symbol::Dot | Symbol::OpenBracket), .. }, ..])
+    matches!(
+        tokens,
+        [
+            Token {
+                kind: Kind::Symbol(Symbol::Dot | Symbol::OpenBracket),
+                ..
+            },
+            ..
+        ]
+    )
 }
 
 fn field(at: usize, name: Identifier) -> Selector
@@ -264,11 +320,7 @@ pub fn designator(alloc: Global, room: usize, tokens: &[Token]) -> Read<'_, Desi
 }
 
 /// Arguments in parentheses or none, where so many levels may be opened.
-pub fn optional_arguments(
-    alloc: Global,
-    room: usize,
-    tokens: &[Token],
-) -> Read<'_, Vec<Expression>>
+pub fn optional_arguments(alloc: Global, room: usize, tokens: &[Token]) -> Read<'_, Vec<Expression>>
     ensures { Gives (λ v. map view.expression v.items) result (spec.optional_arguments_at room tokens.now) }
 {
     Factors {

@@ -17,9 +17,21 @@ pub fn identifier(alloc: Global, tokens: &[Token]) -> Read<'_, Identifier>
     ensures { Gives (λ x. x) result (spec.identifier_of tokens.now) }
 {
     match tokens {
-        [Token { kind: Kind::Name(name), .. }, ..] => {
+        [
+            Token {
+                kind: Kind::Name(name),
+                ..
+            },
+            ..
+        ] => {
             let name = name.copy(alloc)?;
-            Ok((Identifier { name, at: place(tokens) }, after(tokens)))
+            Ok((
+                Identifier {
+                    name,
+                    at: place(tokens),
+                },
+                after(tokens),
+            ))
         }
         _ => Err(Stop::Wrong(tokens.len())),
     }
@@ -40,13 +52,43 @@ pub fn constant(alloc: Global, tokens: &[Token]) -> Read<'_, Constant>
 {
     let at = place(tokens);
     match tokens {
-        [Token { kind: Kind::Number(value), .. }, rest @ ..] => Ok((Constant::Number { at, value: *value }, rest)),
-        [Token { kind: Kind::Character(ordinal), .. }, rest @ ..] => Ok((Constant::Character { at, ordinal: *ordinal }, rest)),
-        [Token { kind: Kind::Name(name), .. }, rest @ ..] => {
+        [
+            Token {
+                kind: Kind::Number(value),
+                ..
+            },
+            rest @ ..,
+        ] => Ok((Constant::Number { at, value: *value }, rest)),
+        [
+            Token {
+                kind: Kind::Character(ordinal),
+                ..
+            },
+            rest @ ..,
+        ] => Ok((
+            Constant::Character {
+                at,
+                ordinal: *ordinal,
+            },
+            rest,
+        )),
+        [
+            Token {
+                kind: Kind::Name(name),
+                ..
+            },
+            rest @ ..,
+        ] => {
             let name = name.copy(alloc)?;
             Ok((Constant::Named(Identifier { name, at }), rest))
         }
-        [Token { kind: Kind::Symbol(Symbol::Minus), .. }, rest @ ..] => negative(at, rest),
+        [
+            Token {
+                kind: Kind::Symbol(Symbol::Minus),
+                ..
+            },
+            rest @ ..,
+        ] => negative(at, rest),
         _ => Err(Stop::Wrong(tokens.len())),
     }
 }
@@ -56,7 +98,13 @@ fn negative(at: usize, tokens: &[Token]) -> Read<'_, Constant>
     ensures { Gives (λ c. c) result (spec.negative_by at (kind_at tokens.now) tokens.now) }
 {
     match tokens {
-        [Token { kind: Kind::Number(value), .. }, rest @ ..] => Ok((Constant::Negative { at, value: *value }, rest)),
+        [
+            Token {
+                kind: Kind::Number(value),
+                ..
+            },
+            rest @ ..,
+        ] => Ok((Constant::Negative { at, value: *value }, rest)),
         _ => Err(Stop::Wrong(tokens.len())),
     }
 }

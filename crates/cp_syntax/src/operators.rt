@@ -12,7 +12,13 @@ pub fn product_operator(tokens: &[Token]) -> Option<Operator>
     ensures { result ≡ spec.product_operator (kind_at tokens.now) }
 {
     match tokens {
-        [Token { kind: Kind::Symbol(symbol), .. }, ..] => match symbol {
+        [
+            Token {
+                kind: Kind::Symbol(symbol),
+                ..
+            },
+            ..
+        ] => match symbol {
             Symbol::Star => Some(Operator::Multiply),
             Symbol::Div => Some(Operator::Divide),
             Symbol::Mod => Some(Operator::Modulo),
@@ -28,7 +34,13 @@ pub fn sum_operator(tokens: &[Token]) -> Option<Operator>
     ensures { result ≡ spec.sum_operator (kind_at tokens.now) }
 {
     match tokens {
-        [Token { kind: Kind::Symbol(symbol), .. }, ..] => match symbol {
+        [
+            Token {
+                kind: Kind::Symbol(symbol),
+                ..
+            },
+            ..
+        ] => match symbol {
             Symbol::Plus => Some(Operator::Add),
             Symbol::Minus => Some(Operator::Subtract),
             Symbol::Or => Some(Operator::Or),
@@ -43,7 +55,13 @@ pub fn relation_operator(tokens: &[Token]) -> Option<Operator>
     ensures { result ≡ spec.relation_operator (kind_at tokens.now) }
 {
     match tokens {
-        [Token { kind: Kind::Symbol(symbol), .. }, ..] => match symbol {
+        [
+            Token {
+                kind: Kind::Symbol(symbol),
+                ..
+            },
+            ..
+        ] => match symbol {
             Symbol::Equal => Some(Operator::Equal),
             Symbol::Unequal => Some(Operator::Unequal),
             Symbol::Less => Some(Operator::Less),
@@ -61,7 +79,13 @@ pub fn sign(tokens: &[Token]) -> Option<Sign>
     ensures { result ≡ spec.sign_of (kind_at tokens.now) }
 {
     match tokens {
-        [Token { kind: Kind::Symbol(symbol), .. }, ..] => match symbol {
+        [
+            Token {
+                kind: Kind::Symbol(symbol),
+                ..
+            },
+            ..
+        ] => match symbol {
             Symbol::Plus => Some(Sign::Plus),
             Symbol::Minus => Some(Sign::Minus),
             _ => None,

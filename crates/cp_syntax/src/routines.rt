@@ -45,7 +45,12 @@ pub fn parameters(alloc: Global, tokens: &[Token]) -> Read<'_, Vec<Parameters>>
     if !sees(tokens, Symbol::OpenParenthesis) {
         return Ok((Vec::new(alloc), tokens));
     }
-    let (groups, rest) = separated(alloc, Symbol::Semicolon, |rest| parameter_group(alloc, rest), after(tokens))?;
+    let (groups, rest) = separated(
+        alloc,
+        Symbol::Semicolon,
+        |rest| parameter_group(alloc, rest),
+        after(tokens),
+    )?;
     let (_, rest) = expect(rest, Symbol::CloseParenthesis)?;
     Ok((groups, rest))
 }
@@ -115,7 +120,12 @@ pub fn variables(alloc: Global, room: usize, tokens: &[Token]) -> Read<'_, Vec<F
     if !sees(tokens, Symbol::Var) {
         return Ok((Vec::new(alloc), tokens));
     }
-    one_or_more(alloc, sees_name, |rest| variable_group(alloc, room, rest), after(tokens))
+    one_or_more(
+        alloc,
+        sees_name,
+        |rest| variable_group(alloc, room, rest),
+        after(tokens),
+    )
 }
 
 /// The statements of a system type, a routine or the initial process.
@@ -156,7 +166,16 @@ fn routine_from(heading: Heading, variables: Vec<Fields>, body: Body) -> Routine
 fn begins_routine(tokens: &[Token]) -> bool
     ensures { result ≡ spec.begins_routine (kind_at tokens.now) }
 {
-    matches!(tokens, [Token { kind: Kind::Symbol(Symbol::Procedure | Symbol::Function), .. }, ..])
+    matches!(
+        tokens,
+        [
+            Token {
+                kind: Kind::Symbol(Symbol::Procedure | Symbol::Function),
+                ..
+            },
+            ..
+        ]
+    )
 }
 
 /// Procedures and functions, as long as there are some.
@@ -164,5 +183,10 @@ fn begins_routine(tokens: &[Token]) -> bool
 pub fn routines(alloc: Global, room: usize, tokens: &[Token]) -> Read<'_, Vec<Routine>>
     ensures { Gives (λ v. map view.routine v.items) result (spec.routines_of (type_at room) (deeper_at room) tokens.now) }
 {
-    repeated(Vec::new(alloc), begins_routine, |rest| routine(alloc, room, rest), tokens)
+    repeated(
+        Vec::new(alloc),
+        begins_routine,
+        |rest| routine(alloc, room, rest),
+        tokens,
+    )
 }

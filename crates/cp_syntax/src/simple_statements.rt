@@ -35,7 +35,12 @@ pub fn designated(alloc: Global, room: usize, tokens: &[Token]) -> Read<'_, Stat
 pub fn init(alloc: Global, room: usize, tokens: &[Token]) -> Read<'_, Statement>
     ensures { Gives view.statement result (spec.init_of (inner_at room) tokens.now) }
 {
-    let (items, rest) = separated(alloc, Symbol::Comma, |rest| init_item(alloc, room, rest), after(tokens))?;
+    let (items, rest) = separated(
+        alloc,
+        Symbol::Comma,
+        |rest| init_item(alloc, room, rest),
+        after(tokens),
+    )?;
     Ok((init_from(place(tokens), items), rest))
 }
 
@@ -45,7 +50,13 @@ fn init_item(alloc: Global, room: usize, tokens: &[Token]) -> Read<'_, InitItem>
 {
     let (component, rest) = identifier(alloc, tokens)?;
     let (arguments, rest) = optional_arguments(alloc, room, rest)?;
-    Ok((InitItem { component, arguments }, rest))
+    Ok((
+        InitItem {
+            component,
+            arguments,
+        },
+        rest,
+    ))
 }
 
 fn assign(target: Designator, at: usize, value: Expression) -> Statement

@@ -48,7 +48,12 @@ impl<F: Fn(Global, usize, &[Token]) -> Read<'_, Statement>> Statements<F> {
         requires { StatementsAt self.now.room (F.pre self.now.read) (F.post self.now.read) }
         ensures { Gives (λ v. map view.statement v.items) result (spec.statements_from (spec.statement_at self.now.room) tokens.now) }
     {
-        separated(self.alloc, Symbol::Semicolon, |rest| self.statement(rest), tokens)
+        separated(
+            self.alloc,
+            Symbol::Semicolon,
+            |rest| self.statement(rest),
+            tokens,
+        )
     }
 
     #[tactic(auto, unfolding(cp_grammar::specs::Statements::arm_of))]
@@ -177,7 +182,10 @@ impl<F: Fn(Global, usize, &[Token]) -> Read<'_, Statement> + Copy> StatementRule
         let (last, rest) = inner.expression(rest)?;
         let (_, rest) = expect(rest, Symbol::Do)?;
         let (body, rest) = inner.statement(rest)?;
-        Ok((for_from(self.alloc, variable, from, direction, last, body)?, rest))
+        Ok((
+            for_from(self.alloc, variable, from, direction, last, body)?,
+            rest,
+        ))
     }
 
     #[tactic(auto, unfolding(cp_grammar::specs::Statements::cycle_of))]
@@ -196,8 +204,20 @@ impl<F: Fn(Global, usize, &[Token]) -> Read<'_, Statement> + Copy> StatementRule
         ensures { Gives view.statement result (spec.statement_of (inner_at self.now.room) (spec.deeper_at self.now.room) tokens.now) }
     {
         match tokens {
-            [Token { kind: Kind::Name(_), .. }, ..] => designated(self.alloc, self.room, tokens),
-            [Token { kind: Kind::Symbol(symbol), .. }, ..] => match symbol {
+            [
+                Token {
+                    kind: Kind::Name(_),
+                    ..
+                },
+                ..
+            ] => designated(self.alloc, self.room, tokens),
+            [
+                Token {
+                    kind: Kind::Symbol(symbol),
+                    ..
+                },
+                ..
+            ] => match symbol {
                 Symbol::Begin => self.compound(tokens),
                 Symbol::If => self.conditional(tokens),
                 Symbol::Case => self.case(tokens),
@@ -218,8 +238,20 @@ fn direction(tokens: &[Token]) -> Read<'_, Direction>
     ensures { Gives (λ way. way) result (spec.direction_of tokens.now) }
 {
     match tokens {
-        [Token { kind: Kind::Symbol(Symbol::To), .. }, rest @ ..] => Ok((Direction::Up, rest)),
-        [Token { kind: Kind::Symbol(Symbol::Downto), .. }, rest @ ..] => Ok((Direction::Down, rest)),
+        [
+            Token {
+                kind: Kind::Symbol(Symbol::To),
+                ..
+            },
+            rest @ ..,
+        ] => Ok((Direction::Up, rest)),
+        [
+            Token {
+                kind: Kind::Symbol(Symbol::Downto),
+                ..
+            },
+            rest @ ..,
+        ] => Ok((Direction::Down, rest)),
         _ => Err(Stop::Wrong(tokens.len())),
     }
 }
@@ -274,7 +306,11 @@ fn case(selector: Expression, arms: Vec<Arm>) -> Statement
     Statement::Case { selector, arms }
 }
 
-fn while_from(alloc: Global, condition: Expression, body: Statement) -> Result<Statement, AllocError>
+fn while_from(
+    alloc: Global,
+    condition: Expression,
+    body: Statement,
+) -> Result<Statement, AllocError>
     ensures { IfOk result (λ x. view.statement x ≡ s.While (view.expression condition) (view.statement body)) }
 {
     Ok(Statement::While {

@@ -62,7 +62,16 @@ fn same(seen: Symbol, symbol: Symbol) -> bool
 pub fn sees_name(tokens: &[Token]) -> bool
     ensures { result ≡ is_name (kind_at tokens.now) }
 {
-    matches!(tokens, [Token { kind: Kind::Name(_), .. }, ..])
+    matches!(
+        tokens,
+        [
+            Token {
+                kind: Kind::Name(_),
+                ..
+            },
+            ..
+        ]
+    )
 }
 
 /// Takes this symbol, and answers its place.

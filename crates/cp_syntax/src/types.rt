@@ -81,7 +81,12 @@ impl<F: Fn(Global, usize, &[Token]) -> Read<'_, TypeExpression> + Copy> TypeRule
     {
         let inner = self.inner(tokens)?;
         let (_, rest) = expect(after(tokens), Symbol::OpenBracket)?;
-        let (indices, rest) = separated(self.alloc, Symbol::Comma, |rest| inner.type_expression(rest), rest)?;
+        let (indices, rest) = separated(
+            self.alloc,
+            Symbol::Comma,
+            |rest| inner.type_expression(rest),
+            rest,
+        )?;
         let (_, rest) = expect(rest, Symbol::CloseBracket)?;
         let (_, rest) = expect(rest, Symbol::Of)?;
         let (element, rest) = inner.type_expression(rest)?;
@@ -111,10 +116,34 @@ impl<F: Fn(Global, usize, &[Token]) -> Read<'_, TypeExpression> + Copy> TypeRule
         ensures { Gives view.type_expression result (spec.type_of (spec.inner_type_at self.now.room) tokens.now) }
     {
         match tokens {
-            [Token { kind: Kind::Name(_), .. }, ..] => named_or_subrange(self.alloc, tokens),
-            [Token { kind: Kind::Number(_) | Kind::Character(_) | Kind::Symbol(Symbol::Minus), .. }, ..] => subrange(self.alloc, tokens),
-            [Token { kind: Kind::Symbol(Symbol::Array), .. }, ..] => self.array(tokens),
-            [Token { kind: Kind::Symbol(Symbol::Record), .. }, ..] => self.record(tokens),
+            [
+                Token {
+                    kind: Kind::Name(_),
+                    ..
+                },
+                ..
+            ] => named_or_subrange(self.alloc, tokens),
+            [
+                Token {
+                    kind: Kind::Number(_) | Kind::Character(_) | Kind::Symbol(Symbol::Minus),
+                    ..
+                },
+                ..
+            ] => subrange(self.alloc, tokens),
+            [
+                Token {
+                    kind: Kind::Symbol(Symbol::Array),
+                    ..
+                },
+                ..
+            ] => self.array(tokens),
+            [
+                Token {
+                    kind: Kind::Symbol(Symbol::Record),
+                    ..
+                },
+                ..
+            ] => self.record(tokens),
             _ => Err(Stop::Wrong(tokens.len())),
         }
     }
@@ -143,7 +172,13 @@ fn named_or_subrange(alloc: Global, tokens: &[Token]) -> Read<'_, TypeExpression
 {
     let (name, rest) = identifier(alloc, tokens)?;
     match rest {
-        [Token { kind: Kind::Symbol(Symbol::DotDot), .. }, ..] => subrange_from(alloc, Constant::Named(name), rest),
+        [
+            Token {
+                kind: Kind::Symbol(Symbol::DotDot),
+                ..
+            },
+            ..
+        ] => subrange_from(alloc, Constant::Named(name), rest),
         _ => Ok((named(name), rest)),
     }
 }

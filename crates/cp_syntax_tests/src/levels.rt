@@ -17,22 +17,134 @@ struct Nest {
 }
 
 const NESTS: &[Nest] = &[
-    Nest { before: "", opens: "begin ", inner: "", closes: "end ", after: ".", open: 0 },
-    Nest { before: "begin ", opens: "if a then ", inner: "", closes: "", after: "end .", open: 1 },
-    Nest { before: "begin ", opens: "if a then else ", inner: "", closes: "", after: "end .", open: 1 },
-    Nest { before: "begin ", opens: "case a of 1 : ", inner: "", closes: "end ", after: "end .", open: 1 },
-    Nest { before: "begin ", opens: "while a do ", inner: "", closes: "", after: "end .", open: 1 },
-    Nest { before: "begin ", opens: "repeat ", inner: "", closes: "until a ", after: "end .", open: 1 },
-    Nest { before: "begin ", opens: "for a := 1 to 2 do ", inner: "", closes: "", after: "end .", open: 1 },
-    Nest { before: "begin ", opens: "cycle ", inner: "", closes: "end ", after: "end .", open: 1 },
-    Nest { before: "begin a := ", opens: "not ", inner: "b ", closes: "", after: "end .", open: 1 },
-    Nest { before: "begin a := ", opens: "( ", inner: "b ", closes: ") ", after: "end .", open: 1 },
-    Nest { before: "begin a := ", opens: "( - b * ", inner: "b ", closes: ") ", after: "end .", open: 1 },
-    Nest { before: "begin a ", opens: "( a ", inner: "", closes: ") ", after: "end .", open: 1 },
-    Nest { before: "begin init a ", opens: "( a ", inner: "", closes: ") ", after: "end .", open: 1 },
-    Nest { before: "begin a ", opens: "[ a ", inner: "", closes: "] ", after: "end .", open: 1 },
-    Nest { before: "var a : ", opens: "array [ b ] of ", inner: "c ", closes: "", after: "; begin end .", open: 0 },
-    Nest { before: "var a : ", opens: "record b : ", inner: "c ", closes: "end ", after: "; begin end .", open: 0 },
+    Nest {
+        before: "",
+        opens: "begin ",
+        inner: "",
+        closes: "end ",
+        after: ".",
+        open: 0,
+    },
+    Nest {
+        before: "begin ",
+        opens: "if a then ",
+        inner: "",
+        closes: "",
+        after: "end .",
+        open: 1,
+    },
+    Nest {
+        before: "begin ",
+        opens: "if a then else ",
+        inner: "",
+        closes: "",
+        after: "end .",
+        open: 1,
+    },
+    Nest {
+        before: "begin ",
+        opens: "case a of 1 : ",
+        inner: "",
+        closes: "end ",
+        after: "end .",
+        open: 1,
+    },
+    Nest {
+        before: "begin ",
+        opens: "while a do ",
+        inner: "",
+        closes: "",
+        after: "end .",
+        open: 1,
+    },
+    Nest {
+        before: "begin ",
+        opens: "repeat ",
+        inner: "",
+        closes: "until a ",
+        after: "end .",
+        open: 1,
+    },
+    Nest {
+        before: "begin ",
+        opens: "for a := 1 to 2 do ",
+        inner: "",
+        closes: "",
+        after: "end .",
+        open: 1,
+    },
+    Nest {
+        before: "begin ",
+        opens: "cycle ",
+        inner: "",
+        closes: "end ",
+        after: "end .",
+        open: 1,
+    },
+    Nest {
+        before: "begin a := ",
+        opens: "not ",
+        inner: "b ",
+        closes: "",
+        after: "end .",
+        open: 1,
+    },
+    Nest {
+        before: "begin a := ",
+        opens: "( ",
+        inner: "b ",
+        closes: ") ",
+        after: "end .",
+        open: 1,
+    },
+    Nest {
+        before: "begin a := ",
+        opens: "( - b * ",
+        inner: "b ",
+        closes: ") ",
+        after: "end .",
+        open: 1,
+    },
+    Nest {
+        before: "begin a ",
+        opens: "( a ",
+        inner: "",
+        closes: ") ",
+        after: "end .",
+        open: 1,
+    },
+    Nest {
+        before: "begin init a ",
+        opens: "( a ",
+        inner: "",
+        closes: ") ",
+        after: "end .",
+        open: 1,
+    },
+    Nest {
+        before: "begin a ",
+        opens: "[ a ",
+        inner: "",
+        closes: "] ",
+        after: "end .",
+        open: 1,
+    },
+    Nest {
+        before: "var a : ",
+        opens: "array [ b ] of ",
+        inner: "c ",
+        closes: "",
+        after: "; begin end .",
+        open: 0,
+    },
+    Nest {
+        before: "var a : ",
+        opens: "record b : ",
+        inner: "c ",
+        closes: "end ",
+        after: "; begin end .",
+        open: 0,
+    },
 ];
 
 /// A text with so many of them, one in the other.
@@ -69,7 +181,10 @@ fn the_token_that_opens_one_more_is_told(rt: HostRuntime) -> Result<(), Fail> {
         let text = nested(rt.alloc(), nest, count.saturating_add(1))?;
         let tokens = tokens(rt.alloc(), text.as_str())?;
         let told = parse(rt.alloc(), tokens.as_slice(), text.len()).err();
-        let at = nest.before.len().saturating_add(count.saturating_mul(nest.opens.len()));
+        let at = nest
+            .before
+            .len()
+            .saturating_add(count.saturating_mul(nest.opens.len()));
         assert_eq!(rt; told, Some(SyntaxError::TooDeep { at }), "{}", nest.opens);
     }
     Ok(())
@@ -91,7 +206,11 @@ fn what_has_no_level_is_free_at_the_last(rt: HostRuntime) -> Result<(), Fail> {
         }
         text.push_str(" .")?;
         let tokens = tokens(rt.alloc(), text.as_str())?;
-        assert_eq!(rt; parse(rt.alloc(), tokens.as_slice(), text.len()).err(), None, "{statement}");
+        assert_eq!(rt;
+            parse(rt.alloc(), tokens.as_slice(), text.len()).err(),
+            None,
+            "{statement}"
+        );
     }
     Ok(())
 }

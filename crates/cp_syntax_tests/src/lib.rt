@@ -2,9 +2,9 @@
 #![tactic(auto)]
 
 #[cfg(test)]
-mod levels;
-#[cfg(test)]
 mod lengths;
+#[cfg(test)]
+mod levels;
 #[cfg(test)]
 mod places;
 #[cfg(test)]

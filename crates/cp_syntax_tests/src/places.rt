@@ -165,11 +165,21 @@ fn each_beginning_of_a_text_is_told_from_none(rt: HostRuntime) -> Result<(), Fai
     let mut read = Vec::new(rt.alloc());
     for token in whole {
         let told = parse(rt.alloc(), read.as_slice(), len).err();
-        assert_eq!(rt; told, Some(SyntaxError::Unfinished { at: len }), "{} tokens", read.len());
+        assert_eq!(rt;
+            told,
+            Some(SyntaxError::Unfinished { at: len }),
+            "{} tokens",
+            read.len()
+        );
         let at = token.span.from;
         read.push(reserved(Symbol::With, token.span))?;
         let told = parse(rt.alloc(), read.as_slice(), len).err();
-        assert_eq!(rt; told, Some(SyntaxError::Unexpected { at }), "{} tokens", read.len());
+        assert_eq!(rt;
+            told,
+            Some(SyntaxError::Unexpected { at }),
+            "{} tokens",
+            read.len()
+        );
         read.pop();
         read.push(token)?;
     }

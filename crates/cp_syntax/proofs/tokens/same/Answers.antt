@@ -1,4 +1,4 @@
-use Rattle.std.proofs.Common.{◌≡◌, sym}
+use Rattle.std.proofs.Common.{sym}
 use Rattle.cp_syntax.proofs.Symbols.{tag_is_code}
 use Rattle.cp_syntax.proofs.tokens.same.Goals as goal
 
