@@ -2,6 +2,7 @@ mod CallsComputed
 mod ClassesComputed
 mod ClockComputed
 mod ComponentsComputed
+mod ExamplesComputed
 mod MeaningComputed
 mod MonitorsComputed
 mod NamesComputed

@@ -3,6 +3,7 @@ pub mod Calls
 pub mod Classes
 pub mod Clock
 pub mod Components
+pub mod Examples
 pub mod Meaning
 pub mod Monitors
 pub mod Names

@@ -6,6 +6,7 @@ ghost use Rattle.cp_rows.specs.Calls.{Calls};
 ghost use Rattle.cp_rows.specs.Classes.{Classes};
 ghost use Rattle.cp_rows.specs.Clock.{Clock};
 ghost use Rattle.cp_rows.specs.Components.{Components};
+ghost use Rattle.cp_rows.specs.Examples.{Examples};
 ghost use Rattle.cp_rows.specs.Meaning.{Meaning};
 ghost use Rattle.cp_rows.specs.Monitors.{Monitors};
 ghost use Rattle.cp_rows.specs.Names.{Names};
@@ -34,6 +35,11 @@ pub fn clock_hold()
 /// Each of the answers of `worked/components`.
 pub fn components_hold()
     ensures { Components }
+{}
+
+/// Each of the answers of `worked/examples`.
+pub fn examples_hold()
+    ensures { Examples }
 {}
 
 /// Each of the answers of `worked/meaning`.
