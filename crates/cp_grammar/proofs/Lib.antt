@@ -29,3 +29,5 @@ pub mod TextSteady
 pub mod Wider
 pub mod Refusals
 pub mod Viable
+pub mod NamesViable
+pub mod ExpressionsViable

@@ -113,11 +113,10 @@ symbol_viable {A} {N} x h s there other = record { some = s; at = λ ts. go ts (
     go ts true e = there ts (is_symbol_is x (kind_at ts) e)
     go ts false e = other ts
 
-pub of_kind : Kind → Token
+abbrev pub of_kind : Kind → Token
 of_kind k = record { kind = k; span = record { from = 0; to = 0 } }
 
 pub some_token : (k : Kind) → Inhabited (token k)
-unfolding of_kind
 some_token k = (of_kind k ∷ [], 0, λ rest. (0, refl))
 
 pub expect_viable : (x : Symbol) → Viable (expect x) (symbol_at x)
