@@ -31,3 +31,5 @@ pub mod Refusals
 pub mod Viable
 pub mod NamesViable
 pub mod ExpressionsViable
+pub mod TypesViable
+pub mod StatementsViable

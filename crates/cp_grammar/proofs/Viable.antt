@@ -52,14 +52,14 @@ module _ {A B : Type 0} (L : A → Language) (N : B → Language) where
       (front ++ c.0, c.1, whole, c.3, c.4, c.5, λ rest.
         subst (λ (ts : List Token). N c.5 ts rest) (sym (append_assoc front c.0 (c.4 ++ rest))) (c.6 rest (front ++ (c.0 ++ (c.4 ++ rest))) (l (c.0 ++ (c.4 ++ rest)))))
 
-  then_ok : (o : Outcome B) (x : A) (front mid ts : List Token) → ts ≡ front ++ mid → ((rest : List Token) → L x (front ++ rest) rest) → ViableAt (Behind L x N) o mid → ViableAt N o ts
+  pub then_ok : (o : Outcome B) (x : A) (front mid ts : List Token) → ts ≡ front ++ mid → ((rest : List Token) → L x (front ++ rest) rest) → ViableAt (Behind L x N) o mid → ViableAt N o ts
   then_ok (Ok y) x front mid ts e l h =
       (front ++ h.0, e ∙ ap (λ (r : List Token). front ++ r) h.1 ∙ sym (append_assoc front h.0 y.1), gone_on x y.0 front h.0 l h.2)
   then_ok (Err Memory) x front mid ts e l h = tt
   then_ok (Err (Wrong n)) x front mid ts e l h = completed x n front mid ts e l h
   then_ok (Err (Deep n)) x front mid ts e l h = completed x n front mid ts e l h
 
-  stopped_then : (n : ℕ) (ts : List Token) → Completion L n ts → ((x : A) → Inhabited (Behind L x N)) → Completion N n ts
+  pub stopped_then : (n : ℕ) (ts : List Token) → Completion L n ts → ((x : A) → Inhabited (Behind L x N)) → Completion N n ts
   stopped_then n ts c s =
       let g = s c.5 in
       (c.0, c.1, c.2, c.3, c.4 ++ g.0, g.1, λ rest.

@@ -1,4 +1,5 @@
-use Rattle.cp_grammar.proofs.ExpressionsViable.{expression_viable}
+use Rattle.cp_grammar.proofs.TypesViable.{type_viable}
+use Rattle.cp_grammar.proofs.StatementsViable.{deeper_viable}
 use Rattle.cp_grammar.proofs.Refusals.{stops_inside, wrong_is_first, deep_is_first, deep_opens_the_next, levels_are_of_tokens}
 use Rattle.cp_grammar.proofs.laws.refusal_laws.Goals as goal
 
