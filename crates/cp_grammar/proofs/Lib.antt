@@ -33,3 +33,5 @@ pub mod NamesViable
 pub mod ExpressionsViable
 pub mod TypesViable
 pub mod StatementsViable
+pub mod DeclarationsViable
+pub mod TextViable
