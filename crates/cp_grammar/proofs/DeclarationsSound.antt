@@ -43,7 +43,7 @@ parameter_group_sound ts = ensures_then _ _ _ _ (optional_sound symbol.Var ts) (
     ensures_then _ _ _ _ (identifier_sound t3) (λ t t4 h4.
     let made : parameter_group (record { by_reference = v; names = xs; of = t }) ts t4 = (t1, h1, (t2, h2, (t3, (p3, h3), h4))) in made))))
 
-between_parentheses : (ps : List s.Parameters) (ts rest : List Token)
+pub between_parentheses : (ps : List s.Parameters) (ts rest : List Token)
     → (symbol symbol.OpenParenthesis ⋅ separated symbol.Semicolon parameter_group ps ⋅ symbol symbol.CloseParenthesis) ts rest → parameters ps ts rest
 between_parentheses [] ts rest h = absurd h.2.1
 between_parentheses (p ∷ ps) ts rest h = h
@@ -66,7 +66,7 @@ parameters_sound ts = go (is_symbol symbol.OpenParenthesis (kind_at ts)) refl
     go false e = refl
 
 -- a function has a result, and a procedure none
-abbrev Returns : Bool → Option Identifier → Type 0
+abbrev pub Returns : Bool → Option Identifier → Type 0
 Returns true (Some t) = Unit {0}
 Returns true None = ⊥
 Returns false (Some t) = ⊥
@@ -118,6 +118,23 @@ heading_sound ts b = heading_by_sound ts (kind_at ts) refl b
 
 -- ---- variables and bodies
 
+pub behind_var : (limit : ℕ) (gs : List s.Variables) (ts mid rest : List Token) → symbol symbol.Var ts mid → some (variable_group limit) gs mid rest
+    → variables limit gs ts rest
+behind_var limit [] ts mid rest v h = absurd h
+behind_var limit (g ∷ gs) ts mid rest v h = (mid, v, h)
+
+pub constants_section : (limit : ℕ) (ds : List ConstantDefinition) (ts mid rest : List Token) → symbol symbol.Const ts mid
+    → some constant_definition ds mid rest
+    → section limit (s.Constants ds) ts rest
+constants_section limit [] ts mid rest w h = absurd h
+constants_section limit (d ∷ ds) ts mid rest w h = (mid, w, h)
+
+pub types_section : (limit : ℕ) (ds : List s.TypeDefinition) (ts mid rest : List Token) → symbol symbol.Type ts mid
+    → some (type_definition limit) ds mid rest
+    → section limit (s.Types ds) ts rest
+types_section limit [] ts mid rest w h = absurd h
+types_section limit (d ∷ ds) ts mid rest w h = (mid, w, h)
+
 module _ (limit : ℕ) (p : Reader s.TypeExpression) (ok : SoundType limit p) where
   variable_group_sound : Sound (variable_group_of p) (variable_group limit)
   unfolding variable_group_of
@@ -125,16 +142,11 @@ module _ (limit : ℕ) (p : Reader s.TypeExpression) (ok : SoundType limit p) wh
       ensures_then _ _ _ _ (expect_sound symbol.Semicolon t1) (λ p2 t2 h2.
       let made : variable_group limit g ts t2 = (h1.0, h1.1, (h1.2.0, h1.2.1, (t1, h1.2.2, (p2, h2)))) in made))
 
-  behind_var : (gs : List s.Variables) (ts mid rest : List Token) → symbol symbol.Var ts mid → some (variable_group limit) gs mid rest
-      → variables limit gs ts rest
-  behind_var [] ts mid rest v h = absurd h
-  behind_var (g ∷ gs) ts mid rest v h = (mid, v, h)
-
   some_variables_sound : (ts : List Token) → is_symbol symbol.Var (kind_at ts) ≡ true
       → Ensures (some_variables_of p ts) (λ gs rest. variables limit gs ts rest)
   unfolding some_variables_of
   some_variables_sound ts k = ensures_weaker _ _ _ (some_sound (variable_group limit) is_name (variable_group_of p) variable_group_sound (tail ts))
-      (λ gs rest h. behind_var gs ts (tail ts) rest (place_at ts, head_symbol ts symbol.Var k) h)
+      (λ gs rest h. behind_var limit gs ts (tail ts) rest (place_at ts, head_symbol ts symbol.Var k) h)
 
   pub variables_sound : Sound (variables_of p) (variables limit)
   unfolding variables_of
@@ -229,24 +241,14 @@ module _ (limit : ℕ) (p : Reader s.TypeExpression) (ok : SoundType limit p) (d
 
   -- ---- sections
 
-  constants_section : (ds : List ConstantDefinition) (ts mid rest : List Token) → symbol symbol.Const ts mid → some constant_definition ds mid rest
-      → section limit (s.Constants ds) ts rest
-  constants_section [] ts mid rest w h = absurd h
-  constants_section (d ∷ ds) ts mid rest w h = (mid, w, h)
-
-  types_section : (ds : List s.TypeDefinition) (ts mid rest : List Token) → symbol symbol.Type ts mid → some (type_definition limit) ds mid rest
-      → section limit (s.Types ds) ts rest
-  types_section [] ts mid rest w h = absurd h
-  types_section (d ∷ ds) ts mid rest w h = (mid, w, h)
-
   section_by_sound : (ts : List Token) (k : Option Kind) → kind_at ts ≡ k → Ensures (section_by p deeper k ts) (λ x rest. section limit x ts rest)
   unfolding section_by
   section_by_sound ts (Some (kind.Symbol symbol.Const)) k =
       ensures_then _ _ _ _ (some_sound constant_definition is_name constant_definition_of constant_definition_sound (tail ts)) (λ ds rest h.
-      constants_section ds ts (tail ts) rest (place_at ts, head ts (kind.Symbol symbol.Const) k) h)
+      constants_section limit ds ts (tail ts) rest (place_at ts, head ts (kind.Symbol symbol.Const) k) h)
   section_by_sound ts (Some (kind.Symbol symbol.Type)) k =
       ensures_then _ _ _ _ (some_sound (type_definition limit) is_name (type_definition_of p deeper) type_definition_sound (tail ts)) (λ ds rest h.
-      types_section ds ts (tail ts) rest (place_at ts, head ts (kind.Symbol symbol.Type) k) h)
+      types_section limit ds ts (tail ts) rest (place_at ts, head ts (kind.Symbol symbol.Type) k) h)
   section_by_sound ts _ k = tt
 
   pub sections_sound : Sound (repeated begins_section (section_of p deeper) []) (each (section limit))

@@ -33,7 +33,7 @@ IsTerm e = is_term e ≡ true
 abbrev pub IsSimple : s.Expression → Type 0
 IsSimple e = is_simple e ≡ true
 
-record Table (operators : Option Kind → Option Operator) (class : Operator → Bool) (L R : s.Expression → Type 0) : Type 0 where
+pub record Table (operators : Option Kind → Option Operator) (class : Operator → Bool) (L R : s.Expression → Type 0) : Type 0 where
   pub kind : (k : Option Kind) (o : Operator) → operators k ≡ Some o → (k ≡ Some (kind.Symbol (operator_symbol o))) × (class o ≡ true)
   pub left : (o : Operator) (a : s.Expression) → class o ≡ true → L a → IsLeft o a
   pub right : (o : Operator) (b : s.Expression) → class o ≡ true → R b → IsRight o b
@@ -62,7 +62,7 @@ sum_kind (Some (kind.Symbol symbol.Minus)) o h = subst (Marked is_sum (Some (kin
 sum_kind (Some (kind.Symbol symbol.Or)) o h = subst (Marked is_sum (Some (kind.Symbol symbol.Or))) (some_is operator.Or o h) (refl, refl)
 sum_kind _ o h = absurd cc
 
-relation_kind : (k : Option Kind) (o : Operator) → relation_operator k ≡ Some o → Marked is_relation k o
+pub relation_kind : (k : Option Kind) (o : Operator) → relation_operator k ≡ Some o → Marked is_relation k o
 relation_kind (Some (kind.Symbol symbol.Equal)) o h =
     subst (Marked is_relation (Some (kind.Symbol symbol.Equal))) (some_is operator.Equal o h) (refl, refl)
 relation_kind (Some (kind.Symbol symbol.Unequal)) o h =
@@ -77,7 +77,7 @@ relation_kind (Some (kind.Symbol symbol.AtLeast)) o h =
     subst (Marked is_relation (Some (kind.Symbol symbol.AtLeast))) (some_is operator.AtLeast o h) (refl, refl)
 relation_kind _ o h = absurd cc
 
-sign_kind : (k : Option Kind) (x : Sign) → sign_of k ≡ Some x → k ≡ Some (kind.Symbol (sign_symbol x))
+pub sign_kind : (k : Option Kind) (x : Sign) → sign_of k ≡ Some x → k ≡ Some (kind.Symbol (sign_symbol x))
 sign_kind (Some (kind.Symbol symbol.Plus)) x h = ap (λ (x : Sign). Some (kind.Symbol (sign_symbol x))) (some_is sign.Plus x h)
 sign_kind (Some (kind.Symbol symbol.Minus)) x h = ap (λ (x : Sign). Some (kind.Symbol (sign_symbol x))) (some_is sign.Minus x h)
 sign_kind _ x h = absurd cc
@@ -96,7 +96,7 @@ product_right operator.Modulo a c h = h
 product_right operator.And a c h = h
 product_right _ a c h = absurd cc
 
-product_table : Table product_operator is_product IsTerm IsFactor
+pub product_table : Table product_operator is_product IsTerm IsFactor
 product_table = record { kind = product_kind; left = product_left; right = product_right; makes = λ o a at b c. c }
 
 sum_left : (o : Operator) (a : s.Expression) → is_sum o ≡ true → IsSimple a → IsLeft o a
@@ -117,10 +117,10 @@ sum_makes operator.Subtract a at b c = refl
 sum_makes operator.Or a at b c = refl
 sum_makes _ a at b c = absurd cc
 
-sum_table : Table sum_operator is_sum IsSimple IsTerm
+pub sum_table : Table sum_operator is_sum IsSimple IsTerm
 sum_table = record { kind = sum_kind; left = sum_left; right = sum_right; makes = sum_makes }
 
-relation_sides : (o : Operator) (a b : s.Expression) → is_relation o ≡ true → IsSimple a → IsSimple b → IsLeft o a × IsRight o b
+pub relation_sides : (o : Operator) (a b : s.Expression) → is_relation o ≡ true → IsSimple a → IsSimple b → IsLeft o a × IsRight o b
 relation_sides operator.Equal a b c h g = (h, g)
 relation_sides operator.Unequal a b c h g = (h, g)
 relation_sides operator.Less a b c h g = (h, g)
@@ -129,12 +129,12 @@ relation_sides operator.AtMost a b c h g = (h, g)
 relation_sides operator.AtLeast a b c h g = (h, g)
 relation_sides _ a b c h g = absurd cc
 
-factor_is_term : (e : s.Expression) → IsFactor e → IsTerm e
+pub factor_is_term : (e : s.Expression) → IsFactor e → IsTerm e
 factor_is_term (s.Signed b at e) h = h
 factor_is_term (s.Binary a o at b) h = absurd cc
 factor_is_term _ h = refl
 
-term_is_simple : (e : s.Expression) → IsTerm e → IsSimple e
+pub term_is_simple : (e : s.Expression) → IsTerm e → IsSimple e
 term_is_simple (s.Binary a operator.Equal at b) h = h
 term_is_simple (s.Binary a operator.Unequal at b) h = h
 term_is_simple (s.Binary a operator.Less at b) h = h
@@ -231,17 +231,17 @@ module _ (room : ℕ) (f : Reader s.Expression) (ok : SoundFactor room f) where
 
 -- ---- lists
 
-behind_expressions : (room : ℕ) (es : List s.Expression) (ts rest : List Token) → each_behind symbol.Comma (expression room) es ts rest
+pub behind_expressions : (room : ℕ) (es : List s.Expression) (ts rest : List Token) → each_behind symbol.Comma (expression room) es ts rest
     → more_expressions room (expressions_of es) ts rest
 behind_expressions room [] ts rest h = h
 behind_expressions room (e ∷ es) ts rest h = (h.0, h.1, (h.2.0, h.2.1, behind_expressions room es h.2.0 rest h.2.2))
 
-separated_expressions : (room : ℕ) (es : List s.Expression) (ts rest : List Token) → separated symbol.Comma (expression room) es ts rest
+pub separated_expressions : (room : ℕ) (es : List s.Expression) (ts rest : List Token) → separated symbol.Comma (expression room) es ts rest
     → expressions room (expressions_of es) ts rest
 separated_expressions room [] ts rest h = h
 separated_expressions room (e ∷ es) ts rest h = (h.0, h.1, behind_expressions room es h.0 rest h.2)
 
-each_selector : (room : ℕ) (xs : List s.Selector) (ts rest : List Token) → each (selector room) xs ts rest → selectors room (selectors_of xs) ts rest
+pub each_selector : (room : ℕ) (xs : List s.Selector) (ts rest : List Token) → each (selector room) xs ts rest → selectors room (selectors_of xs) ts rest
 each_selector room [] ts rest h = h
 each_selector room (x ∷ xs) ts rest h = (h.0, h.1, each_selector room xs h.0 rest h.2)
 
@@ -250,7 +250,7 @@ more_push : (room : ℕ) (is : List PlacedIndex) (i : PlacedIndex) (ts mid next 
 more_push room [] i ts mid next rest h c e = (next, subst (λ (t : List Token). symbol_at symbol.Comma i.at t next) (sym h) c, (rest, e, refl))
 more_push room (x ∷ xs) i ts mid next rest h c e = (h.0, h.1, (h.2.0, h.2.1, more_push room xs i h.2.0 mid next rest h.2.2 c e))
 
-indices_push : (room : ℕ) (is : List PlacedIndex) (i : PlacedIndex) (ts mid next rest : List Token) → indices room (indices_of is) ts mid
+pub indices_push : (room : ℕ) (is : List PlacedIndex) (i : PlacedIndex) (ts mid next rest : List Token) → indices room (indices_of is) ts mid
     → symbol_at symbol.Comma i.at mid next → expression room i.value next rest → indices room (indices_of (is ++ i ∷ [])) ts rest
 indices_push room [] i ts mid next rest h c e = absurd h
 indices_push room (x ∷ xs) i ts mid next rest h c e = (h.0, h.1, (h.2.0, h.2.1, more_push room xs i h.2.0 mid next rest h.2.2 c e))

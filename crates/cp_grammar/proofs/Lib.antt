@@ -29,3 +29,9 @@ pub mod TextSteady
 pub mod Wider
 pub mod Refusals
 pub mod Viable
+pub mod NamesViable
+pub mod ExpressionsViable
+pub mod TypesViable
+pub mod StatementsViable
+pub mod DeclarationsViable
+pub mod TextViable

@@ -38,7 +38,7 @@ behind_statements : (room : ℕ) (xs : List s.Statement) (ts rest : List Token) 
 behind_statements room [] ts rest h = h
 behind_statements room (x ∷ xs) ts rest h = (h.0, h.1, (h.2.0, h.2.1, behind_statements room xs h.2.0 rest h.2.2))
 
-separated_statements : (room : ℕ) (xs : List s.Statement) (ts rest : List Token) → separated symbol.Semicolon (statement room) xs ts rest
+pub separated_statements : (room : ℕ) (xs : List s.Statement) (ts rest : List Token) → separated symbol.Semicolon (statement room) xs ts rest
     → statements room (statements_of xs) ts rest
 separated_statements room [] ts rest h = h
 separated_statements room (x ∷ xs) ts rest h = (h.0, h.1, behind_statements room xs h.0 rest h.2)
@@ -51,7 +51,7 @@ behind_arms : (room : ℕ) (xs : List LabelledStatement) (ts rest : List Token) 
 behind_arms room [] ts rest h = h
 behind_arms room (x ∷ xs) ts rest h = let a = h.2.1 in (h.0, h.1, (a.0, a.1, (a.2.0, a.2.1, (h.2.0, a.2.2, behind_arms room xs h.2.0 rest h.2.2))))
 
-separated_arms : (room : ℕ) (xs : List LabelledStatement) (ts rest : List Token) → separated symbol.Semicolon (arm room) xs ts rest
+pub separated_arms : (room : ℕ) (xs : List LabelledStatement) (ts rest : List Token) → separated symbol.Semicolon (arm room) xs ts rest
     → arms room (arms_of xs) ts rest
 separated_arms room [] ts rest h = h
 separated_arms room (x ∷ xs) ts rest h = let a = h.1 in (a.0, a.1, (a.2.0, a.2.1, (h.0, a.2.2, behind_arms room xs h.0 rest h.2)))
@@ -113,6 +113,10 @@ else_sound room p ok ts mid last behind c x true k h t g e =
       r.1,
     ))
 
+pub compound_from_body : (room : ℕ) (b : s.Body) (ts rest : List Token) → body room b ts rest → statement room (s.Compound b.list) ts rest
+compound_from_body zero b ts rest h = h
+compound_from_body (suc room) b ts rest h = (h.0, (b.at, h.1), h.2)
+
 module _ (room : ℕ) (deeper : Option Deeper) (ok : SoundInner SoundDeeper room deeper) where
   pub block_sound : (ts : List Token) → kind_at ts ≡ Some (kind.Symbol symbol.Begin) → Ensures (block_of deeper ts) (λ b rest. body room b ts rest)
   unfolding block_of
@@ -121,10 +125,6 @@ module _ (room : ℕ) (deeper : Option Deeper) (ok : SoundInner SoundDeeper room
       ensures_then _ _ _ _ (expect_sound symbol.End mid) (λ at rest c.
       let made : body (suc room) (record { at = place_at ts; list = statements_of l }) ts rest =
       (tail ts, head ts (kind.Symbol symbol.Begin) k, (mid, h, (at, c))) in made))) room deeper ok
-
-  compound_from_body : (room : ℕ) (b : s.Body) (ts rest : List Token) → body room b ts rest → statement room (s.Compound b.list) ts rest
-  compound_from_body zero b ts rest h = h
-  compound_from_body (suc room) b ts rest h = (h.0, (b.at, h.1), h.2)
 
   compound_sound : (ts : List Token) → kind_at ts ≡ Some (kind.Symbol symbol.Begin)
       → Ensures (compound_of deeper ts) (λ x rest. IsRead room x ts rest)

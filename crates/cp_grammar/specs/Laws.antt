@@ -1,5 +1,5 @@
 -- That the reading functions read exactly what the grammar allows.
-use Rattle.std.specs.Prelude.{◌≡◌, ℕ, suc, ◌≤◌, ◌⊎◌, true, List, [], ◌∷◌, ◌++◌, length, get_or, Ok, Err}
+use Rattle.std.specs.Prelude.{◌≡◌, ℕ, suc, ◌<◌, ◌≤◌, ◌⊎◌, true, List, [], ◌∷◌, ◌++◌, length, get_or, Ok, Err}
 use Rattle.cp_model.specs.Syntax as s
 use Rattle.cp_model.specs.GrammarExpressions as g
 use Rattle.cp_model.specs.GrammarTypes.{type_expression}
@@ -51,6 +51,12 @@ TreeIsUnique = (room : ℕ) (ts : List Token) (t u : s.Tree) → text room t ts 
 -- as many tokens are left as there are, or fewer
 abbrev pub StopsInside : Type 0
 StopsInside = (room : ℕ) (ts : List Token) (n : ℕ) → (text_at room ts ≡ Err (Wrong n)) ⊎ (text_at room ts ≡ Err (Deep n)) → n ≤ length ts
+
+-- some text within the levels begins with the tokens that were read before reading stopped
+abbrev pub FrontBeginsAText : Type 0
+FrontBeginsAText = (room : ℕ) (front behind : List Token) → 0 < room
+    → (text_at room (front ++ behind) ≡ Err (Wrong (length behind))) ⊎ (text_at room (front ++ behind) ≡ Err (Deep (length behind)))
+    → (more : List Token) × (tree : s.Tree) × text room tree (front ++ more) []
 
 -- no text of any depth begins with the tokens up to the wrong one and with it
 abbrev pub WrongIsFirst : Type 0

@@ -1,6 +1,6 @@
 //! The laws of the reading functions, each family on a function of its own with nothing to do.
 
-ghost use Rattle.cp_grammar.specs.Laws.{DeepIsFirst, DeepOpensTheNext, ExpressionsAreComplete, ExpressionsAreSound, LevelsAreOfTokens, StatementsAreComplete, StatementsAreSound, StopsInside, TextIsComplete, TextIsSound, TreeIsUnique, TypesAreComplete, TypesAreSound, WrongIsFirst};
+ghost use Rattle.cp_grammar.specs.Laws.{DeepIsFirst, DeepOpensTheNext, ExpressionsAreComplete, ExpressionsAreSound, FrontBeginsAText, LevelsAreOfTokens, StatementsAreComplete, StatementsAreSound, StopsInside, TextIsComplete, TextIsSound, TreeIsUnique, TypesAreComplete, TypesAreSound, WrongIsFirst};
 
 /// An expression is read exactly where the grammar has one.
 pub fn expression_laws()
@@ -30,6 +30,7 @@ pub fn text_laws()
 /// A text is refused at the first token that no text has there, or at the token that opens one level too many.
 pub fn refusal_laws()
     ensures inside { StopsInside }
+    ensures begun { FrontBeginsAText }
     ensures wrong { WrongIsFirst }
     ensures deep { DeepIsFirst }
     ensures opens { DeepOpensTheNext }
