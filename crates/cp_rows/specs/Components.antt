@@ -44,6 +44,66 @@ initialisation_13 = check_answer (codes "type c = class(k: integer); var n: inte
 abbrev pub initialisation_14 : Type 0
 initialisation_14 = check_answer (codes "type c = class(k: integer); var n: integer; procedure h; begin end; procedure entry e; begin n := k end; function entry g(i: integer): integer; begin g := i end; begin end; d = class(a: c); begin end; var u: c; v: d; begin init v(u), u(1) end.") ≡ (codes "accepted\n")
 
+abbrev pub names_behind_a_point_1 : Type 0
+names_behind_a_point_1 = check_answer (codes "var d: integer; begin d.x(1) end.") ≡ (codes "refused C2 at 23")
+
+abbrev pub names_behind_a_point_2 : Type 0
+names_behind_a_point_2 = check_answer (codes "type c = class; procedure entry e; begin end; procedure d; begin e.x end; begin end; begin end.") ≡ (codes "refused C2 at 66")
+
+abbrev pub names_behind_a_point_3 : Type 0
+names_behind_a_point_3 = check_answer (codes "type c = class; procedure entry e; begin end; procedure d; begin e[1] end; begin end; begin end.") ≡ (codes "refused C2 at 66")
+
+abbrev pub names_behind_a_point_4 : Type 0
+names_behind_a_point_4 = check_answer (codes "type c = class; procedure entry e(k: integer); begin end; procedure d; begin accept(e) end; begin end; begin end.") ≡ (codes "refused C10 at 84")
+
+abbrev pub names_behind_a_point_5 : Type 0
+names_behind_a_point_5 = check_answer (codes "type c = class; procedure entry e(k: integer); begin end; procedure d; begin accept(e(1)) end; begin end; begin end.") ≡ (codes "refused C5 at 84")
+
+abbrev pub names_behind_a_point_6 : Type 0
+names_behind_a_point_6 = check_answer (codes "type c = class(k: integer); var n: integer; procedure h; begin end; procedure entry e; begin n := k end; function entry g(i: integer): integer; begin g := i end; begin end; var u: c; begin u.h.y end.") ≡ (codes "refused C5 at 191")
+
+abbrev pub names_behind_a_point_7 : Type 0
+names_behind_a_point_7 = check_answer (codes "type c = class(k: integer); var n: integer; procedure h; begin end; procedure entry e; begin n := k end; function entry g(i: integer): integer; begin g := i end; begin end; var u: c; begin display(u.h.y) end.") ≡ (codes "refused C5 at 199")
+
+abbrev pub names_behind_a_point_8 : Type 0
+names_behind_a_point_8 = check_answer (codes "type c = class(k: integer); var n: integer; procedure h; begin end; procedure entry e; begin n := k end; function entry g(i: integer): integer; begin g := i end; begin end; var u: c; begin u := u.h end.") ≡ (codes "refused C5 at 196")
+
+abbrev pub names_behind_a_point_9 : Type 0
+names_behind_a_point_9 = check_answer (codes "type c = class(k: integer); var n: integer; procedure h; begin end; procedure entry e; begin n := k end; function entry g(i: integer): integer; begin g := i end; begin end; var u: c; begin u := 1 + u end.") ≡ (codes "refused C2 at 198")
+
+abbrev pub names_behind_a_point_10 : Type 0
+names_behind_a_point_10 = check_answer (codes "type c = class(k: integer); var n: integer; procedure h; begin end; procedure entry e; begin n := k end; function entry g(i: integer): integer; begin g := i end; begin end; var u: c; begin u[1].e end.") ≡ (codes "refused C2 at 190")
+
+abbrev pub names_behind_a_point_11 : Type 0
+names_behind_a_point_11 = check_answer (codes "type c = class(k: integer); var n: integer; procedure h; begin end; procedure entry e; begin n := k end; function entry g(i: integer): integer; begin g := i end; begin end; d = class(a: c); procedure p(var x: integer); begin end; procedure q; begin p(a) end; begin end; begin end.") ≡ (codes "refused C10 at 251")
+
+abbrev pub names_behind_a_point_12 : Type 0
+names_behind_a_point_12 = check_answer (codes "type c = class(k: integer); var n: integer; procedure h; begin end; procedure entry e; begin n := k end; function entry g(i: integer): integer; begin g := i end; begin end; var u: c; k: integer; procedure p(var x: integer); begin end; begin p(u) end.") ≡ (codes "refused C10 at 243")
+
+abbrev pub names_behind_a_point_13 : Type 0
+names_behind_a_point_13 = check_answer (codes "type c = class(k: integer); var n: integer; procedure h; begin end; procedure entry e; begin n := k end; function entry g(i: integer): integer; begin g := i end; begin end; var u: c; k: integer; procedure p(var x: integer); begin end; begin p(u.n) end.") ≡ (codes "refused C10 at 243")
+
+abbrev pub names_behind_a_point_14 : Type 0
+names_behind_a_point_14 = check_answer (codes "const c = 1; begin c[1] end.") ≡ (codes "refused C2 at 19")
+
+abbrev pub names_behind_a_point_15 : Type 0
+names_behind_a_point_15 = check_answer (codes "const c = 1; begin c[1].x end.") ≡ (codes "refused C2 at 20")
+
+abbrev pub names_behind_a_point_16 : Type 0
+names_behind_a_point_16 = check_answer (codes "begin display(1 + empty(1) = 2) end.") ≡ (codes "refused C9 at 18")
+
+abbrev pub names_behind_a_point_17 : Type 0
+names_behind_a_point_17 = check_answer (codes "function f: integer; begin f := 1 end; begin display(f[1]) end.") ≡ (codes "refused C2 at 54")
+
+abbrev pub names_behind_a_point_18 : Type 0
+names_behind_a_point_18 = check_answer (codes "function f: integer; begin f := 1 end; begin accept(f) end.") ≡ (codes "refused C10 at 52")
+
+abbrev pub names_behind_a_point_19 : Type 0
+names_behind_a_point_19 = check_answer (codes "type c = class(k: integer); var n: integer; procedure h; begin end; procedure entry e; begin n := k end; function entry g(i: integer): integer; begin g := i end; begin end; var u: c; begin init u(u.h) end.") ≡ (codes "refused C5 at 198")
+
+abbrev pub names_behind_a_point_20 : Type 0
+names_behind_a_point_20 = check_answer (codes "type c = class(k: integer); var n: integer; procedure h; begin end; procedure entry e; begin n := k end; function entry g(i: integer): integer; begin g := i end; begin end; var u: c; begin display(u.g(true)) end.") ≡ (codes "refused C2 at 201")
+
 abbrev pub rights_and_calls_1 : Type 0
 rights_and_calls_1 = check_answer (codes "type c = class(k: integer); var n: integer; procedure h; begin end; procedure entry e; begin n := k end; function entry g(i: integer): integer; begin g := i end; begin end; var u: c; begin u.h end.") ≡ (codes "refused C5 at 191")
 
@@ -132,4 +192,4 @@ abbrev pub rights_and_calls_29 : Type 0
 rights_and_calls_29 = check_answer (codes "type c = class(k: integer); var n: integer; procedure h; begin end; procedure entry e; begin n := k end; function entry g(i: integer): integer; begin g := i end; begin end; var u: c; begin u.z end.") ≡ (codes "refused C1 at 191")
 
 abbrev pub Components : Type 0
-Components = initialisation_1 × initialisation_2 × initialisation_3 × initialisation_4 × initialisation_5 × initialisation_6 × initialisation_7 × initialisation_8 × initialisation_9 × initialisation_10 × initialisation_11 × initialisation_12 × initialisation_13 × initialisation_14 × rights_and_calls_1 × rights_and_calls_2 × rights_and_calls_3 × rights_and_calls_4 × rights_and_calls_5 × rights_and_calls_6 × rights_and_calls_7 × rights_and_calls_8 × rights_and_calls_9 × rights_and_calls_10 × rights_and_calls_11 × rights_and_calls_12 × rights_and_calls_13 × rights_and_calls_14 × rights_and_calls_15 × rights_and_calls_16 × rights_and_calls_17 × rights_and_calls_18 × rights_and_calls_19 × rights_and_calls_20 × rights_and_calls_21 × rights_and_calls_22 × rights_and_calls_23 × rights_and_calls_24 × rights_and_calls_25 × rights_and_calls_26 × rights_and_calls_27 × rights_and_calls_28 × rights_and_calls_29
+Components = initialisation_1 × initialisation_2 × initialisation_3 × initialisation_4 × initialisation_5 × initialisation_6 × initialisation_7 × initialisation_8 × initialisation_9 × initialisation_10 × initialisation_11 × initialisation_12 × initialisation_13 × initialisation_14 × names_behind_a_point_1 × names_behind_a_point_2 × names_behind_a_point_3 × names_behind_a_point_4 × names_behind_a_point_5 × names_behind_a_point_6 × names_behind_a_point_7 × names_behind_a_point_8 × names_behind_a_point_9 × names_behind_a_point_10 × names_behind_a_point_11 × names_behind_a_point_12 × names_behind_a_point_13 × names_behind_a_point_14 × names_behind_a_point_15 × names_behind_a_point_16 × names_behind_a_point_17 × names_behind_a_point_18 × names_behind_a_point_19 × names_behind_a_point_20 × rights_and_calls_1 × rights_and_calls_2 × rights_and_calls_3 × rights_and_calls_4 × rights_and_calls_5 × rights_and_calls_6 × rights_and_calls_7 × rights_and_calls_8 × rights_and_calls_9 × rights_and_calls_10 × rights_and_calls_11 × rights_and_calls_12 × rights_and_calls_13 × rights_and_calls_14 × rights_and_calls_15 × rights_and_calls_16 × rights_and_calls_17 × rights_and_calls_18 × rights_and_calls_19 × rights_and_calls_20 × rights_and_calls_21 × rights_and_calls_22 × rights_and_calls_23 × rights_and_calls_24 × rights_and_calls_25 × rights_and_calls_26 × rights_and_calls_27 × rights_and_calls_28 × rights_and_calls_29
