@@ -54,7 +54,7 @@ by_ordinal rest = refl
 pub character_again : (n : ℕ) (bytes rest : List ℕ) → IsCharacter n bytes → front (bytes ++ rest) ≡ Ok (Some (kind.Character n), length bytes)
 character_again n bytes rest (inl h) =
     let from : front ((39 ∷ n ∷ 39 ∷ []) ++ rest) ≡ Ok (Some (kind.Character n), 3) =
-          piece_of_apostrophe 39 (n ∷ 39 ∷ rest) refl ∙ shown_again n rest h.0 h.1 in
+    piece_of_apostrophe 39 (n ∷ 39 ∷ rest) refl ∙ shown_again n rest h.0 h.1 in
     subst (λ (w : List ℕ). front (w ++ rest) ≡ Ok (Some (kind.Character n), length w)) (sym h.2) from
 character_again n bytes rest (inr h) =
     let digits = h.0 in
@@ -156,9 +156,9 @@ module _ (b : ℕ) (rest : List ℕ) (apostrophe : is_apostrophe b ≡ true) whe
       let last : List ℕ = 58 ∷ 41 ∷ 39 ∷ [] in
       let k = length-append digits last in
       let e : rest ≡ (digits ++ last) ++ p.1.0 =
-            splits ∙ ap (λ (w : List ℕ). digits ++ w) p.1.1 ∙ sym (append_assoc digits last p.1.0) in
+      splits ∙ ap (λ (w : List ℕ). digits ++ w) p.1.1 ∙ sym (append_assoc digits last p.1.0) in
       let opens : b ∷ 40 ∷ 58 ∷ (digits ++ last) ≡ 39 ∷ 40 ∷ 58 ∷ (digits ++ last) =
-            ap (λ (v : ℕ). v ∷ 40 ∷ 58 ∷ (digits ++ last)) (eqb-true b 39 apostrophe) in
+      ap (λ (v : ℕ). v ∷ 40 ∷ 58 ∷ (digits ++ last)) (eqb-true b 39 apostrophe) in
       (b ∷ 40 ∷ 58 ∷ (digits ++ last), p.1.0, ap (λ (w : List ℕ). b ∷ 40 ∷ 58 ∷ w) e, omega arith, inr (digits, each, some, few, q.2, refl, opens))
 
   no_ordinal : is_closed (run is_digit rest) (decimal_value digits) behind ≡ false → Holds (b ∷ 40 ∷ 58 ∷ rest) (Err cause.Character)

@@ -45,7 +45,8 @@ unfolding IsRead piece mark longer_mark
 dot_again [] s = refl
 dot_again (c ∷ rest) s = let p = or_parts (c == 46) (c == 41) s in rw (p.0, p.1) refl
 
-pub mark_again : (x : Symbol) (bytes rest : List ℕ) → IsWritten x bytes → Stops (grows x) rest → front (bytes ++ rest) ≡ Ok (Some (kind.Symbol x), length bytes)
+pub mark_again : (x : Symbol) (bytes rest : List ℕ) → IsWritten x bytes → Stops (grows x) rest
+    → front (bytes ++ rest) ≡ Ok (Some (kind.Symbol x), length bytes)
 unfolding IsRead piece mark longer_mark
 mark_again symbol.Plus bytes rest e s = written symbol.Plus bytes (43 ∷ []) rest e refl
 mark_again symbol.Minus bytes rest e s = written symbol.Minus bytes (45 ∷ []) rest e refl
@@ -108,16 +109,22 @@ two_holds x own next b (c ∷ rest) w never e f =
 
 module _ (b : ℕ) (rest : List ℕ) (no_blank : is_blank b ≡ false) (no_quote : is_quote b ≡ false)
     (no_apostrophe : is_apostrophe b ≡ false) (no_digit : is_digit b ≡ false) (no_letter : is_letter b ≡ false) where
-
   pub piece_of_mark : (behind : List ℕ) → piece b behind ≡ mark b (head_or_zero behind)
   unfolding piece
   piece_of_mark behind = rw (no_blank, no_quote, no_apostrophe, no_digit, no_letter) refl
 
   bad_byte : ((c : ℕ) → mark b c ≡ Err cause.Byte) → IsBadByte (b ∷ rest)
-  bad_byte none = (no_blank, no_quote, no_apostrophe, no_digit, no_letter, λ m more w.
-      let again : front (b ∷ more ++ []) ≡ Ok (Some (kind.Symbol m), length (b ∷ more)) = mark_again m (b ∷ more) [] w tt in
-      let other : front (b ∷ more ++ []) ≡ Err cause.Byte = piece_of_mark (more ++ []) ∙ none (head_or_zero (more ++ [])) in
-      cc)
+  bad_byte none = (
+    no_blank,
+    no_quote,
+    no_apostrophe,
+    no_digit,
+    no_letter,
+    λ m more w.
+        let again : front (b ∷ more ++ []) ≡ Ok (Some (kind.Symbol m), length (b ∷ more)) = mark_again m (b ∷ more) [] w tt in
+        let other : front (b ∷ more ++ []) ≡ Err cause.Byte = piece_of_mark (more ++ []) ∙ none (head_or_zero (more ++ [])) in
+        cc,
+  )
 
   -- whether the byte behind is this one
   by_next : (n : ℕ) (x y : Piece) → ((head_or_zero rest == n) ≡ true → Holds (b ∷ rest) x) → ((head_or_zero rest == n) ≡ false → Holds (b ∷ rest) y)

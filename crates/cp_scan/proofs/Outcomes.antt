@@ -17,7 +17,8 @@ use Rattle.cp_scan.proofs.Spans.{spans_rise}
 abbrev pub Answer : Type 0
 Answer = Result (Vec Token Global) ScanError
 
-as_first : (text : List ℕ) (c : Cause) (at : ℕ) → length text ≤ longest_text → (rest : List ℕ) × SpelledUpTo text at rest × StandsIn c rest → IsFirstCause c at text
+as_first : (text : List ℕ) (c : Cause) (at : ℕ) → length text ≤ longest_text
+    → (rest : List ℕ) × SpelledUpTo text at rest × StandsIn c rest → IsFirstCause c at text
 as_first text cause.Byte at le h = (le, h)
 as_first text cause.Comment at le h = (le, h)
 as_first text cause.Character at le h = (le, h)
@@ -50,7 +51,8 @@ abbrev of_outcome : Outcome → ScanError
 of_outcome (Ok tokens) = error.Memory
 of_outcome (Err e) = error.Refused e.0 e.1
 
-only_refusal : (text : List ℕ) (e : ScanError) (c : Cause) (at : ℕ) → Fails e (tokens_of text) → tokens_of text ≡ Err (c, at) → IsRefusalOrMemory c at e
+only_refusal : (text : List ℕ) (e : ScanError) (c : Cause) (at : ℕ) → Fails e (tokens_of text) → tokens_of text ≡ Err (c, at)
+    → IsRefusalOrMemory c at e
 only_refusal text (error.Refused d place) c at fails f = inl (ap (λ (o : Outcome). of_outcome o) (sym fails ∙ f))
 only_refusal text error.Memory c at fails f = inr refl
 
@@ -76,7 +78,8 @@ module _ (text : List ℕ) where
   answer_none (Ok found) fails = fails
   answer_none (Err error) fails = no_tokens text error fails
 
-  pub answer_refused : (r : Answer) → length text ≤ longest_text → IfOk r (λ found. tokens_of text ≡ Ok found.items) → IfErr r (λ e. Fails e (tokens_of text))
+  pub answer_refused : (r : Answer) → length text ≤ longest_text → IfOk r (λ found. tokens_of text ≡ Ok found.items)
+      → IfErr r (λ e. Fails e (tokens_of text))
       → (c : Cause) (at : ℕ) → IsFirstCause c at text → MatchResult r (λ found. ⊥) (IsRefusalOrMemory c at)
   answer_refused (Ok found) le e fails c at h = let f = first_found text c at le h in cc
   answer_refused (Err error) le e fails c at h = only_refusal text error c at fails (first_found text c at le h)
