@@ -1,9 +1,10 @@
 #!/usr/bin/env python3
-"""Measures the scanner: nanoseconds a byte on texts of words, numbers, comments and marks, from 64 KiB to 1 MiB.
+"""Measures the scanner: nanoseconds a byte on texts of words, numbers, comments, marks and more, from 64 KiB to 1 MiB.
 
-Build the program first (`rt run bench_scan`, which leaves crates/bench_scan/out/bench_scan), then call this script.
-Each text is scanned once and then TURNS times more, in processes of their own; the difference of the two times over the
-turns and the bytes is what is printed, the least of three trials.
+Build the program first (`rt run` in crates/bench_scan leaves out/bench_scan), then call this script. A process scans a text
+once, and another scans it so many times more that 16 MiB are scanned. The difference of their times over these bytes is
+what is printed, of the trial with the least: the processor time of the program itself, and in the last column, for 1 MiB,
+that of the system on its behalf (it hands out the memory of the tokens, page by page).
 """
 import pathlib
 import resource
@@ -12,59 +13,62 @@ import sys
 
 ROOT = pathlib.Path(__file__).resolve().parent.parent
 PROGRAM = ROOT / 'crates' / 'bench_scan' / 'out' / 'bench_scan'
-SIZES = [64 * 1024, 128 * 1024, 256 * 1024, 512 * 1024, 1024 * 1024]
-BYTES_A_TRIAL = 16 * 1024 * 1024
-TRIALS = 3
+KIB = 1024
+SIZES = [64 * KIB, 128 * KIB, 256 * KIB, 512 * KIB, 1024 * KIB]
+BYTES_A_TRIAL = 16 * 1024 * KIB
+TRIALS = 5
 
-# What each text repeats, and for the long ones the one byte that it consists of.
+# What each text repeats.
 PIECES = {
-    'words': b'buffer empty Index_2 i begin procedure x9 message ',
-    'reserved': b'begin procedure while until then do end entry with ',
+    'names': b'buffer empty Index_2 i sender message x9 tail ',
+    'reserved words': b'begin procedure while until then do end entry with ',
     'numbers': b'0 7 42 32767 00012 1976 255 ',
+    'character constants': b"'a' '(:10:)' 'x' '(:039:)' ",
     'comments': b'"a comment of some words" "" "another one" ',
     'marks': b':=<><=>=()[](..),;:...+-*&=',
-    'characters': b"'a' '(:10:)' 'x' '(:039:)' ",
-    'program': b'procedure entry send(c: char); begin if full then delay(sender); buffer[tail] := c; tail := (tail mod 80) + 1; "put" end; ',
     'blanks': b' ',
-    'one comment': None,
-    'one number': None,
+    'a program': b'procedure entry send(c: char); begin if full then delay(sender); buffer[tail] := c; tail := tail + 1; "put" end; ',
 }
 
 
-def text_of(name, size):
-    """A text of this kind and size that is spelled by tokens."""
-    if name == 'one comment':
-        return b'"' + b'x' * (size - 2) + b'"'
-    if name == 'one number':
-        return b'0' * size
-    piece = PIECES[name]
-    text = piece * (size // len(piece))
-    return text + b' ' * (size - len(text))
+def texts(size):
+    """Each kind of text of this size; all are spelled by tokens."""
+    for name, piece in PIECES.items():
+        text = piece * (size // len(piece))
+        yield name, text + b' ' * (size - len(text))
+    yield 'one comment', b'"' + b'x' * (size - 2) + b'"'
+    yield 'one number', b'0' * size
 
 
-def seconds(text, turns):
-    """The processor time of so many scans of the text, reading it and starting up among it."""
+def times(text, turns):
+    """The processor times of a process that scans the text so often: its own, and the system's."""
     before = resource.getrusage(resource.RUSAGE_CHILDREN)
     answer = subprocess.run([PROGRAM, str(turns)], input=text, capture_output=True, check=True).stdout
     after = resource.getrusage(resource.RUSAGE_CHILDREN)
     if not answer.endswith(b' tokens\n'):
         sys.exit(f'refused: {answer!r}')
-    return after.ru_utime - before.ru_utime + after.ru_stime - before.ru_stime
+    return after.ru_utime - before.ru_utime, after.ru_stime - before.ru_stime
 
 
 def nanoseconds_a_byte(text):
-    """The least of some trials."""
+    """The program's own time and the system's, of the trial in which the first is least."""
     turns = BYTES_A_TRIAL // len(text)
-    trials = [seconds(text, turns + 1) - seconds(text, 1) for _ in range(TRIALS)]
-    return min(trials) * 1e9 / (turns * len(text))
+    trials = []
+    for _ in range(TRIALS):
+        once, often = times(text, 1), times(text, turns + 1)
+        trials.append([(b - a) * 1e9 / (turns * len(text)) for a, b in zip(once, often)])
+    return min(trials)
 
 
 def main():
-    print('| Text | ' + ' | '.join(f'{size // 1024} KiB' for size in SIZES) + ' |')
-    print('|---|' + '---|' * len(SIZES))
-    for name in PIECES:
-        cells = [f'{nanoseconds_a_byte(text_of(name, size)):.1f}' for size in SIZES]
-        print(f'| {name} | ' + ' | '.join(cells) + ' |', flush=True)
+    print('| Text of | ' + ' | '.join(f'{size // KIB} KiB' for size in SIZES) + ' | system, 1024 KiB |')
+    print('|---|' + '---|' * (len(SIZES) + 1))
+    rows = {}
+    for size in SIZES:
+        for name, text in texts(size):
+            rows.setdefault(name, []).append(nanoseconds_a_byte(text))
+    for name, cells in rows.items():
+        print(f'| {name} | ' + ' | '.join(f'{own:.1f}' for own, _ in cells) + f' | {cells[-1][1]:.1f} |')
 
 
 main()

@@ -25,7 +25,7 @@ use Rattle.cp_scan.proofs.WordLaws.{word_at, piece_of_letter}
 module _ (b : ℕ) (none : (m : Symbol) (more : List ℕ) → IsWritten m (b ∷ more) → ⊥) where
   -- the byte isn't the one byte of a mark
   never : (m : Symbol) (own : ℕ) → IsWritten m (own ∷ []) → (b == own) ≡ false
-  never m own is_written = false_from_ne_true (b == own) (λ e. none m [] (subst (λ (v : ℕ). IsWritten m (v ∷ [])) (sym (eqb-true b own e)) is_written))
+  never m own w = false_from_ne_true (b == own) (λ e. none m [] (subst (λ (v : ℕ). IsWritten m (v ∷ [])) (sym (eqb-true b own e)) w))
 
   no_mark : (c : ℕ) → mark b c ≡ Err cause.Byte
   unfolding mark longer_mark
@@ -58,7 +58,9 @@ byte_again (b ∷ rest) h = piece_of_mark b rest h.0 h.1 h.2 h.3 h.4 rest ∙ no
 comment_again : (text : List ℕ) → IsOpenComment text → front text ≡ Err cause.Comment
 comment_again [] h = absurd h
 comment_again (b ∷ rest) h =
-    piece_of_quote b rest h.0 ∙ comment_at rest (length rest) (run_all is_inside rest h.1) ∙ rw (le-ltb (length rest) (length rest) (omega arith)) refl
+    piece_of_quote b rest h.0
+    ∙ comment_at rest (length rest) (run_all is_inside rest h.1)
+    ∙ rw (le-ltb (length rest) (length rest) (omega arith)) refl
 
 -- ---- character constants
 
@@ -72,11 +74,13 @@ module _ (b : ℕ) (apostrophe : is_apostrophe b ≡ true) where
       is_read b rest apostrophe
       ∙ rw (false_from_ne_true _ (λ e. let h = ordinal b rest apostrophe e in none _ h.0 h.1 h.2 h.4)) refl
 
-  no_code : (n c : ℕ) (rest : List ℕ) (t : Bool) → is_ordinal n c ≡ t → NoCharacter (n ∷ c ∷ rest) → cond {A = Piece} t (coded rest) (Err cause.Character) ≡ Err cause.Character
+  no_code : (n c : ℕ) (rest : List ℕ) (t : Bool) → is_ordinal n c ≡ t → NoCharacter (n ∷ c ∷ rest)
+      → cond {A = Piece} t (coded rest) (Err cause.Character) ≡ Err cause.Character
   no_code n c rest false e none = refl
   no_code n c rest true e none =
       let p = and_parts (n == 40) (c == 58) e in
-      no_ordinal rest (subst (λ (v : ℕ). NoCharacter (v ∷ 58 ∷ rest)) (eqb-true n 40 p.0) (subst (λ (v : ℕ). NoCharacter (n ∷ v ∷ rest)) (eqb-true c 58 p.1) none))
+      let second = subst (λ (v : ℕ). NoCharacter (n ∷ v ∷ rest)) (eqb-true c 58 p.1) none in
+      no_ordinal rest (subst (λ (v : ℕ). NoCharacter (v ∷ 58 ∷ rest)) (eqb-true n 40 p.0) second)
 
   no_character : (rest : List ℕ) → NoCharacter rest → character rest ≡ Err cause.Character
   unfolding NoCharacter
@@ -98,7 +102,8 @@ large : (n : ℕ) (text digits : List ℕ) → text ≡ digits → 32768 ≤ dec
     → cond {A = Piece} (nat_lt 32767 (decimal_value text)) (Err cause.Number) (Ok (Some (kind.Number (decimal_value text)), n)) ≡ Err cause.Number
 large n text digits e over = rw (e, lt-ltb 32767 (decimal_value digits) (omega arith)) refl
 
-number_from : (digits rest : List ℕ) → Each is_digit digits → Stops is_digit rest → 32768 ≤ decimal_value digits → front (digits ++ rest) ≡ Err cause.Number
+number_from : (digits rest : List ℕ) → Each is_digit digits → Stops is_digit rest → 32768 ≤ decimal_value digits
+    → front (digits ++ rest) ≡ Err cause.Number
 number_from [] rest each stops over = absurd (omega arith)
 number_from (b ∷ ds) rest each stops over =
     piece_of_digit b (ds ++ rest) each.0

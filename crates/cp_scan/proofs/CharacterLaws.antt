@@ -22,13 +22,20 @@ shown_again : (n : ℕ) (rest : List ℕ) → is_printable n ≡ true → is_apo
 unfolding character
 shown_again n rest printable other = rw (printable, other) refl
 
--- what `coded` asks of the digits and of what is behind them
+-- what `coded` asks of the digits, and of what is behind them
+abbrev pub is_small : ℕ → ℕ → Bool
+is_small n value = nat_le 1 n && nat_le n 3 && nat_le value 127
+
 abbrev pub is_closed : ℕ → ℕ → List ℕ → Bool
 is_closed n value behind =
-    nat_le 1 n && nat_le n 3 && nat_le value 127 && head_or_zero behind == 58 && head_or_zero (drop 1 behind) == 41 && head_or_zero (drop 2 behind) == 39
+    is_small n value && head_or_zero behind == 58 && head_or_zero (drop 1 behind) == 41 && head_or_zero (drop 2 behind) == 39
+
+-- the constant of so many digits
+abbrev pub constant_of : ℕ → List ℕ → Piece
+constant_of n digits = Ok (Some (kind.Character (decimal_value digits)), n + 6)
 
 coded_at : (rest : List ℕ) (n : ℕ) (digits behind : List ℕ) → run is_digit rest ≡ n → take n rest ≡ digits → drop n rest ≡ behind
-    → coded rest ≡ cond {A = Piece} (is_closed n (decimal_value digits) behind) (Ok (Some (kind.Character (decimal_value digits)), n + 6)) (Err cause.Character)
+    → coded rest ≡ cond (is_closed n (decimal_value digits) behind) (constant_of n digits) (Err cause.Character)
 unfolding coded
 coded_at rest n digits behind e d t = rw (e, d, t) refl
 
@@ -36,7 +43,8 @@ coded_again : (digits rest : List ℕ) → Each is_digit digits → 1 ≤ length
     → coded (digits ++ 58 ∷ 41 ∷ 39 ∷ rest) ≡ Ok (Some (kind.Character (decimal_value digits)), length digits + 6)
 coded_again digits rest each some few small =
     coded_at (digits ++ 58 ∷ 41 ∷ 39 ∷ rest) (length digits) digits (58 ∷ 41 ∷ 39 ∷ rest)
-    (run_append is_digit digits (58 ∷ 41 ∷ 39 ∷ rest) each refl) (take-append_seam digits (58 ∷ 41 ∷ 39 ∷ rest)) (drop_at digits (58 ∷ 41 ∷ 39 ∷ rest) (length digits) refl)
+    (run_append is_digit digits (58 ∷ 41 ∷ 39 ∷ rest) each refl) (take-append_seam digits (58 ∷ 41 ∷ 39 ∷ rest))
+    (drop_at digits (58 ∷ 41 ∷ 39 ∷ rest) (length digits) refl)
     ∙ rw (le-leb 1 (length digits) some, le-leb (length digits) 3 few, le-leb (decimal_value digits) 127 small) refl
 
 pub by_ordinal : (rest : List ℕ) → character (40 ∷ 58 ∷ rest) ≡ coded rest
@@ -45,7 +53,8 @@ by_ordinal rest = refl
 
 pub character_again : (n : ℕ) (bytes rest : List ℕ) → IsCharacter n bytes → front (bytes ++ rest) ≡ Ok (Some (kind.Character n), length bytes)
 character_again n bytes rest (inl h) =
-    let from : front ((39 ∷ n ∷ 39 ∷ []) ++ rest) ≡ Ok (Some (kind.Character n), 3) = piece_of_apostrophe 39 (n ∷ 39 ∷ rest) refl ∙ shown_again n rest h.0 h.1 in
+    let from : front ((39 ∷ n ∷ 39 ∷ []) ++ rest) ≡ Ok (Some (kind.Character n), 3) =
+    piece_of_apostrophe 39 (n ∷ 39 ∷ rest) refl ∙ shown_again n rest h.0 h.1 in
     subst (λ (w : List ℕ). front (w ++ rest) ≡ Ok (Some (kind.Character n), length w)) (sym h.2) from
 character_again n bytes rest (inr h) =
     let digits = h.0 in
@@ -78,29 +87,39 @@ bad_character b rest h e = (
       cc,
 )
 
-holds_shown : (b n : ℕ) (rest : List ℕ) → is_apostrophe b ≡ true → is_printable n ≡ true → is_apostrophe n ≡ false → Holds (b ∷ n ∷ 39 ∷ rest) (Ok (Some (kind.Character n), 3))
+holds_shown : (b n : ℕ) (rest : List ℕ) → is_apostrophe b ≡ true → is_printable n ≡ true → is_apostrophe n ≡ false
+    → Holds (b ∷ n ∷ 39 ∷ rest) (Ok (Some (kind.Character n), 3))
 holds_shown b n rest h printable other =
     (b ∷ n ∷ 39 ∷ [], rest, refl, refl, inl (printable, other, ap (λ (v : ℕ). v ∷ n ∷ 39 ∷ []) (eqb-true b 39 h)))
 
 -- the three bytes behind the digits of an ordinal
-end_is : (text : List ℕ) → (head_or_zero text == 58) ≡ true → (head_or_zero (drop 1 text) == 41) ≡ true → (head_or_zero (drop 2 text) == 39) ≡ true
-    → (rest : List ℕ) × (text ≡ 58 ∷ 41 ∷ 39 ∷ rest)
+end_is : (text : List ℕ) → (head_or_zero text == 58) ≡ true → (head_or_zero (drop 1 text) == 41) ≡ true
+    → (head_or_zero (drop 2 text) == 39) ≡ true → (rest : List ℕ) × (text ≡ 58 ∷ 41 ∷ 39 ∷ rest)
 end_is text x y z =
+    let second : List ℕ → Type 0 = λ w. (head_or_zero (drop 1 w) == 41) ≡ true in
+    let third : List ℕ → Type 0 = λ w. (head_or_zero (drop 2 w) == 39) ≡ true in
+    let behind : List ℕ → Type 0 = λ w. (head_or_zero (drop 1 w) == 39) ≡ true in
     let a = head_is 57 text x in
-    let b = head_is 40 a.0 (subst (λ (w : List ℕ). (head_or_zero (drop 1 w) == 41) ≡ true) a.1 y) in
-    let c = head_is 38 b.0 (subst (λ (w : List ℕ). (head_or_zero (drop 1 w) == 39) ≡ true) b.1 (subst (λ (w : List ℕ). (head_or_zero (drop 2 w) == 39) ≡ true) a.1 z)) in
+    let b = head_is 40 a.0 (subst second a.1 y) in
+    let c = head_is 38 b.0 (subst behind b.1 (subst third a.1 z)) in
     (c.0, a.1 ∙ ap (λ (w : List ℕ). 58 ∷ w) b.1 ∙ ap (λ (w : List ℕ). 58 ∷ 41 ∷ w) c.1)
 
--- the six tests of `is_closed`, which group to the left
-closed_parts : (n value : ℕ) (behind : List ℕ) → is_closed n value behind ≡ true
-    → (1 ≤ n) × (n ≤ 3) × (value ≤ 127) × ((rest : List ℕ) × (behind ≡ 58 ∷ 41 ∷ 39 ∷ rest))
-closed_parts n value behind h =
-    let f = and_parts (nat_le 1 n && nat_le n 3 && nat_le value 127 && head_or_zero behind == 58 && head_or_zero (drop 1 behind) == 41) (head_or_zero (drop 2 behind) == 39) h in
-    let e = and_parts (nat_le 1 n && nat_le n 3 && nat_le value 127 && head_or_zero behind == 58) (head_or_zero (drop 1 behind) == 41) f.0 in
-    let d = and_parts (nat_le 1 n && nat_le n 3 && nat_le value 127) (head_or_zero behind == 58) e.0 in
-    let c = and_parts (nat_le 1 n && nat_le n 3) (nat_le value 127) d.0 in
+-- what the tests of `is_closed` tell; they group to the left
+small_parts : (n value : ℕ) → is_small n value ≡ true → (1 ≤ n) × (n ≤ 3) × (value ≤ 127)
+small_parts n value h =
+    let c = and_parts (nat_le 1 n && nat_le n 3) (nat_le value 127) h in
     let b = and_parts (nat_le 1 n) (nat_le n 3) c.0 in
-    (leb-true 1 n b.0, leb-true n 3 b.1, leb-true value 127 c.1, end_is behind d.1 e.1 f.1)
+    (leb-true 1 n b.0, leb-true n 3 b.1, leb-true value 127 c.1)
+
+closed_parts : (n value : ℕ) (behind : List ℕ) → is_closed n value behind ≡ true
+    → (is_small n value ≡ true) × ((rest : List ℕ) × (behind ≡ 58 ∷ 41 ∷ 39 ∷ rest))
+closed_parts n value behind h =
+    let x = head_or_zero behind == 58 in
+    let y = head_or_zero (drop 1 behind) == 41 in
+    let c = and_parts (is_small n value && x && y) (head_or_zero (drop 2 behind) == 39) h in
+    let b = and_parts (is_small n value && x) y c.0 in
+    let a = and_parts (is_small n value) x b.0 in
+    (a.0, end_is behind a.1 b.1 c.1)
 
 module _ (b : ℕ) (rest : List ℕ) (apostrophe : is_apostrophe b ≡ true) where
   pub digits : List ℕ
@@ -121,29 +140,26 @@ module _ (b : ℕ) (rest : List ℕ) (apostrophe : is_apostrophe b ≡ true) whe
   unfolding digits
   each = run_each is_digit rest
 
-  pub is_read : coded rest ≡ cond {A = Piece} (is_closed (run is_digit rest) (decimal_value digits) behind) (Ok (Some (kind.Character (decimal_value digits)), run is_digit rest + 6)) (Err cause.Character)
+  pub is_read : coded rest ≡
+      cond (is_closed (run is_digit rest) (decimal_value digits) behind) (constant_of (run is_digit rest) digits) (Err cause.Character)
   unfolding digits behind
   is_read = coded_at rest (run is_digit rest) (take (run is_digit rest) rest) (drop (run is_digit rest) rest) refl refl refl
 
-  pub ordinal : is_closed (run is_digit rest) (decimal_value digits) behind ≡ true → Holds (b ∷ 40 ∷ 58 ∷ rest) (Ok (Some (kind.Character (decimal_value digits)), run is_digit rest + 6))
+  pub ordinal : is_closed (run is_digit rest) (decimal_value digits) behind ≡ true
+      → Holds (b ∷ 40 ∷ 58 ∷ rest) (constant_of (run is_digit rest) digits)
   ordinal h =
       let p = closed_parts (run is_digit rest) (decimal_value digits) behind h in
-      let k = length-append digits (58 ∷ 41 ∷ 39 ∷ []) in
-      let e : rest ≡ (digits ++ 58 ∷ 41 ∷ 39 ∷ []) ++ p.3.0 = splits ∙ ap (λ (w : List ℕ). digits ++ w) p.3.1 ∙ sym (append_assoc digits (58 ∷ 41 ∷ 39 ∷ []) p.3.0) in (
-        b ∷ 40 ∷ 58 ∷ (digits ++ 58 ∷ 41 ∷ 39 ∷ []),
-        p.3.0,
-        ap (λ (w : List ℕ). b ∷ 40 ∷ 58 ∷ w) e,
-        let l = is_long in omega arith,
-        inr (
-          digits,
-          each,
-          let l = is_long in let o = p.0 in omega arith,
-          let l = is_long in let o = p.1 in omega arith,
-          p.2,
-          refl,
-          ap (λ (v : ℕ). v ∷ 40 ∷ 58 ∷ (digits ++ 58 ∷ 41 ∷ 39 ∷ [])) (eqb-true b 39 apostrophe),
-        ),
-      )
+      let q = small_parts (run is_digit rest) (decimal_value digits) p.0 in
+      let l = is_long in
+      let some : 1 ≤ length digits = let least = q.0 in omega arith in
+      let few : length digits ≤ 3 = let most = q.1 in omega arith in
+      let last : List ℕ = 58 ∷ 41 ∷ 39 ∷ [] in
+      let k = length-append digits last in
+      let e : rest ≡ (digits ++ last) ++ p.1.0 =
+      splits ∙ ap (λ (w : List ℕ). digits ++ w) p.1.1 ∙ sym (append_assoc digits last p.1.0) in
+      let opens : b ∷ 40 ∷ 58 ∷ (digits ++ last) ≡ 39 ∷ 40 ∷ 58 ∷ (digits ++ last) =
+      ap (λ (v : ℕ). v ∷ 40 ∷ 58 ∷ (digits ++ last)) (eqb-true b 39 apostrophe) in
+      (b ∷ 40 ∷ 58 ∷ (digits ++ last), p.1.0, ap (λ (w : List ℕ). b ∷ 40 ∷ 58 ∷ w) e, omega arith, inr (digits, each, some, few, q.2, refl, opens))
 
   no_ordinal : is_closed (run is_digit rest) (decimal_value digits) behind ≡ false → Holds (b ∷ 40 ∷ 58 ∷ rest) (Err cause.Character)
   no_ordinal h = bad_character b (40 ∷ 58 ∷ rest) apostrophe (by_ordinal rest ∙ is_read ∙ rw h refl)
@@ -158,7 +174,8 @@ is_shown n c = c == 39 && is_printable n && not (is_apostrophe n)
 abbrev pub is_ordinal : ℕ → ℕ → Bool
 is_ordinal n c = n == 40 && c == 58
 
-pub character_at : (n c : ℕ) (rest : List ℕ) → character (n ∷ c ∷ rest) ≡ cond {A = Piece} (is_shown n c) (Ok (Some (kind.Character n), 3)) (cond (is_ordinal n c) (coded rest) (Err cause.Character))
+pub character_at : (n c : ℕ) (rest : List ℕ) → character (n ∷ c ∷ rest) ≡
+    cond {A = Piece} (is_shown n c) (Ok (Some (kind.Character n), 3)) (cond (is_ordinal n c) (coded rest) (Err cause.Character))
 unfolding character
 character_at n c rest = refl
 

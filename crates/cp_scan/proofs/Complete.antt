@@ -20,12 +20,14 @@ piece_found n at k [] rest found o is_piece others = absurd (no_empty k rest is_
 piece_found n at k (b ∷ bs) rest found o is_piece others =
     turn n at b (bs ++ rest) found
     ∙ ap (λ (r : Piece). goes_on r at (after n at (b ∷ bs ++ rest) found)) (piece_again k (b ∷ bs) rest is_piece)
-    ∙ ap (λ (w : List ℕ). pieces n (at + length (b ∷ bs)) w (with_token k at (at + length (b ∷ bs)) found)) (drop_at (b ∷ bs) rest (length (b ∷ bs)) refl)
+    ∙ ap (λ (w : List ℕ). pieces n (at + length (b ∷ bs)) w (with_token k at (at + length (b ∷ bs)) found))
+    (drop_at (b ∷ bs) rest (length (b ∷ bs)) refl)
     ∙ others
 
 -- what comes of a row of pieces is what comes of the rest behind it
-row_leads : (n at : ℕ) (ps : List (Option Kind × List ℕ)) (text : List ℕ) (tokens : List Token) (last : List ℕ) (found : List Token) (o : Outcome) → length text ≤ n
-    → Row at ps text tokens last → ((m place : ℕ) → length last ≤ m → place + length last ≡ at + length text → pieces m place last (found ++ tokens) ≡ o)
+row_leads : (n at : ℕ) (ps : List (Option Kind × List ℕ)) (text : List ℕ) (tokens : List Token) (last : List ℕ) (found : List Token)
+    (o : Outcome) → length text ≤ n → Row at ps text tokens last
+    → ((m place : ℕ) → length last ≤ m → place + length last ≡ at + length text → pieces m place last (found ++ tokens) ≡ o)
     → pieces n at text found ≡ o
 row_leads n at [] text tokens last found o le row from_last =
     let e = ap (λ (w : List ℕ). length w) row.0 in
@@ -39,7 +41,8 @@ row_leads (suc n) at (p ∷ ps) text tokens last found o le row from_last =
     let l = length-append p.1 row.0 in
     let le' : length row.0 ≤ n = omega arith in
     let found' = with_token p.0 at (at + length p.1) found in
-    let same : found ++ tokens ≡ found' ++ row.1 = ap (λ (ts : List Token). found ++ ts) row.4 ∙ sym (put_in_front p.0 at (at + length p.1) found row.1) in
+    let same : found ++ tokens ≡ found' ++ row.1 =
+    ap (λ (ts : List Token). found ++ ts) row.4 ∙ sym (put_in_front p.0 at (at + length p.1) found row.1) in
     rw row.2 (piece_found n at p.0 p.1 row.0 found o row.3 (row_leads n (at + length p.1) ps row.0 row.1 last found' o le' row.5
     (λ m place behind p'. subst (λ (ts : List Token). pieces m place last ts ≡ o) same (from_last m place behind (omega arith)))))
 
@@ -69,4 +72,7 @@ cause_found (suc n) at c (b ∷ rest) found le h =
 pub refusal_found : (text : List ℕ) (c : Cause) (at : ℕ) (rest : List ℕ) → SpelledUpTo text at rest → StandsIn c rest → tokens_of text ≡ Err (c, at)
 refusal_found text c at rest h stands =
     row_leads (length text) 0 h.0 text h.1 rest [] (Err (c, at)) (omega arith) h.2
-    (λ m place le e. cause_found m place c rest ([] ++ h.1) le stands ∙ (let own = h.3 in let p : place ≡ at = omega arith in ap (λ (v : ℕ). Err (c, v)) p))
+    (λ m place le e.
+    let own = h.3 in
+    let p : place ≡ at = omega arith in
+    cause_found m place c rest ([] ++ h.1) le stands ∙ ap (λ (v : ℕ). Err (c, v)) p)

@@ -15,7 +15,8 @@ fuel_by : (at : ℕ) (text : List ℕ) (r : Piece) (f g : Option Kind → ℕ �
 fuel_by at text (Err c) f g h same = refl
 fuel_by at text (Ok x) f g h same = rw (← h.3) (same x.0 h.0 h.1 h.2 h.4)
 
-pub same_fuel : (n m at : ℕ) (text : List ℕ) (found : List Token) → length text ≤ n → length text ≤ m → pieces n at text found ≡ pieces m at text found
+pub same_fuel : (n m at : ℕ) (text : List ℕ) (found : List Token) → length text ≤ n → length text ≤ m
+    → pieces n at text found ≡ pieces m at text found
 same_fuel n m at [] found le me = at_end n at found ∙ sym (at_end m at found)
 same_fuel zero m at (b ∷ rest) found le me = absurd (omega arith)
 same_fuel (suc n) zero at (b ∷ rest) found le me = absurd (omega arith)

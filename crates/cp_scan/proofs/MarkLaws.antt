@@ -8,7 +8,7 @@ use Rattle.cp_model.specs.declared.token.Kind.TheVariants as kind
 use Rattle.cp_model.specs.declared.token.Symbol.{Symbol}
 use Rattle.cp_model.specs.declared.token.Symbol.TheVariants as symbol
 use Rattle.cp_scan.specs.declared.refusal.Cause.TheVariants as cause
-use Rattle.cp_scan.specs.Pieces.{head_or_zero, one, two, longer_mark, mark, piece}
+use Rattle.cp_scan.specs.Pieces.{Piece, head_or_zero, one, two, longer_mark, mark, piece}
 use Rattle.cp_scan.proofs.Fronts.{front, Holds, by_test}
 
 -- ---- read as it is written
@@ -45,7 +45,8 @@ unfolding IsRead piece mark longer_mark
 dot_again [] s = refl
 dot_again (c ∷ rest) s = let p = or_parts (c == 46) (c == 41) s in rw (p.0, p.1) refl
 
-pub mark_again : (x : Symbol) (bytes rest : List ℕ) → IsWritten x bytes → Stops (grows x) rest → front (bytes ++ rest) ≡ Ok (Some (kind.Symbol x), length bytes)
+pub mark_again : (x : Symbol) (bytes rest : List ℕ) → IsWritten x bytes → Stops (grows x) rest
+    → front (bytes ++ rest) ≡ Ok (Some (kind.Symbol x), length bytes)
 unfolding IsRead piece mark longer_mark
 mark_again symbol.Plus bytes rest e s = written symbol.Plus bytes (43 ∷ []) rest e refl
 mark_again symbol.Minus bytes rest e s = written symbol.Minus bytes (45 ∷ []) rest e refl
@@ -73,38 +74,41 @@ mark_again _ bytes rest e s = absurd e
 
 -- ---- the other way
 
+-- the bytes of a mark, one by one, in place of those that it is written with
+same_byte : (x : Symbol) (b own : ℕ) (bytes : List ℕ) → (b == own) ≡ true → IsWritten x (own ∷ bytes) → IsWritten x (b ∷ bytes)
+same_byte x b own bytes e w = subst (λ (v : ℕ). IsWritten x (v ∷ bytes)) (sym (eqb-true b own e)) w
+
+same_second : (x : Symbol) (own c next : ℕ) → (c == next) ≡ true → IsWritten x (own ∷ next ∷ []) → IsWritten x (own ∷ c ∷ [])
+same_second x own c next e w = subst (λ (v : ℕ). IsWritten x (own ∷ v ∷ [])) (sym (eqb-true c next e)) w
+
 -- no byte goes on a mark that is no beginning of a longer one
 quiet : (x : Symbol) (rest : List ℕ) → ((c : ℕ) → grows x c ≡ false) → Stops (grows x) rest
 quiet x [] never = tt
 quiet x (c ∷ rest) never = never c
 
-one_holds : (x : Symbol) (own b : ℕ) (rest : List ℕ) → IsWritten x (own ∷ []) → Stops (grows x) rest → (b == own) ≡ true → Holds (b ∷ rest) (one x)
-one_holds x own b rest is_written stops e =
-    (b ∷ [], rest, refl, refl, inr (subst (λ (v : ℕ). IsWritten x (v ∷ [])) (sym (eqb-true b own e)) is_written, stops))
-
-two_holds : (x : Symbol) (own next b : ℕ) (rest : List ℕ) → IsWritten x (own ∷ suc next ∷ []) → ((after : List ℕ) → Stops (grows x) after)
-    → (b == own) ≡ true → (head_or_zero rest == suc next) ≡ true → Holds (b ∷ rest) (two x)
-two_holds x own next b [] is_written stops e f = absurd (let z = eqb-true 0 (suc next) f in cc)
-two_holds x own next b (c ∷ rest) is_written stops e f = (
-  b ∷ c ∷ [],
-  rest,
-  refl,
-  refl,
-  inr (subst (λ (v : ℕ). IsWritten x (v ∷ c ∷ [])) (sym (eqb-true b own e)) (subst (λ (v : ℕ). IsWritten x (own ∷ v ∷ [])) (sym (eqb-true c (suc next) f)) is_written), stops rest),
-)
-
--- the byte behind isn't one that goes on the mark
-stops_one : (x : Symbol) (n : ℕ) (rest : List ℕ) → ((c : ℕ) → grows x c ≡ (c == n)) → (head_or_zero rest == n) ≡ false → Stops (grows x) rest
+-- the byte behind isn't the one that goes on the mark, or none of two
+stops_one : (x : Symbol) (n : ℕ) (rest : List ℕ) → ((c : ℕ) → grows x c ≡ (c == n)) → (head_or_zero rest == n) ≡ false
+    → Stops (grows x) rest
 stops_one x n [] by_byte f = tt
 stops_one x n (c ∷ rest) by_byte f = by_byte c ∙ f
 
-stops_two : (x : Symbol) (n m : ℕ) (rest : List ℕ) → ((c : ℕ) → grows x c ≡ (c == n || c == m)) → (head_or_zero rest == n) ≡ false → (head_or_zero rest == m) ≡ false
-    → Stops (grows x) rest
+stops_two : (x : Symbol) (n m : ℕ) (rest : List ℕ) → ((c : ℕ) → grows x c ≡ (c == n || c == m)) → (head_or_zero rest == n) ≡ false
+    → (head_or_zero rest == m) ≡ false → Stops (grows x) rest
 stops_two x n m [] by_byte f g = tt
 stops_two x n m (c ∷ rest) by_byte f g = by_byte c ∙ or_from (c == n) (c == m) f g
 
-module _ (b : ℕ) (rest : List ℕ) (no_blank : is_blank b ≡ false) (no_quote : is_quote b ≡ false) (no_apostrophe : is_apostrophe b ≡ false)
-    (no_digit : is_digit b ≡ false) (no_letter : is_letter b ≡ false) where
+one_holds : (x : Symbol) (own b : ℕ) (rest : List ℕ) → IsWritten x (own ∷ []) → Stops (grows x) rest → (b == own) ≡ true
+    → Holds (b ∷ rest) (one x)
+one_holds x own b rest w stops e = (b ∷ [], rest, refl, refl, inr (same_byte x b own [] e w, stops))
+
+two_holds : (x : Symbol) (own next b : ℕ) (rest : List ℕ) → IsWritten x (own ∷ suc next ∷ []) → ((c : ℕ) → grows x c ≡ false)
+    → (b == own) ≡ true → (head_or_zero rest == suc next) ≡ true → Holds (b ∷ rest) (two x)
+two_holds x own next b [] w never e f = absurd (let z = eqb-true 0 (suc next) f in cc)
+two_holds x own next b (c ∷ rest) w never e f =
+    (b ∷ c ∷ [], rest, refl, refl, inr (same_byte x b own (c ∷ []) e (same_second x own c (suc next) f w), quiet x rest never))
+
+module _ (b : ℕ) (rest : List ℕ) (no_blank : is_blank b ≡ false) (no_quote : is_quote b ≡ false)
+    (no_apostrophe : is_apostrophe b ≡ false) (no_digit : is_digit b ≡ false) (no_letter : is_letter b ≡ false) where
   pub piece_of_mark : (behind : List ℕ) → piece b behind ≡ mark b (head_or_zero behind)
   unfolding piece
   piece_of_mark behind = rw (no_blank, no_quote, no_apostrophe, no_digit, no_letter) refl
@@ -116,33 +120,45 @@ module _ (b : ℕ) (rest : List ℕ) (no_blank : is_blank b ≡ false) (no_quote
     no_apostrophe,
     no_digit,
     no_letter,
-    λ m more is_written.
-        let again : front (b ∷ more ++ []) ≡ Ok (Some (kind.Symbol m), length (b ∷ more)) = mark_again m (b ∷ more) [] is_written tt in
+    λ m more w.
+        let again : front (b ∷ more ++ []) ≡ Ok (Some (kind.Symbol m), length (b ∷ more)) = mark_again m (b ∷ more) [] w tt in
         let other : front (b ∷ more ++ []) ≡ Err cause.Byte = piece_of_mark (more ++ []) ∙ none (head_or_zero (more ++ [])) in
         cc,
   )
 
-  less_holds : (b == 60) ≡ true → Holds (b ∷ rest) (cond (head_or_zero rest == 61) (two symbol.AtMost) (cond (head_or_zero rest == 62) (two symbol.Unequal) (one symbol.Less)))
-  less_holds e = by_test (b ∷ rest) (head_or_zero rest == 61) _ _ (λ t. two_holds symbol.AtMost 60 60 b rest refl (λ w. quiet symbol.AtMost w (λ c. refl)) e t)
-      (λ f. by_test (b ∷ rest) (head_or_zero rest == 62) _ _ (λ t. two_holds symbol.Unequal 60 61 b rest refl (λ w. quiet symbol.Unequal w (λ c. refl)) e t)
-      (λ g. one_holds symbol.Less 60 b rest refl (stops_two symbol.Less 61 62 rest (λ c. refl) f g) e))
+  -- whether the byte behind is this one
+  by_next : (n : ℕ) (x y : Piece) → ((head_or_zero rest == n) ≡ true → Holds (b ∷ rest) x) → ((head_or_zero rest == n) ≡ false → Holds (b ∷ rest) y)
+      → Holds (b ∷ rest) (cond (head_or_zero rest == n) x y)
+  by_next n x y at_next at_other = by_test (b ∷ rest) (head_or_zero rest == n) x y at_next at_other
+
+  less_holds : (b == 60) ≡ true
+      → Holds (b ∷ rest) (cond (head_or_zero rest == 61) (two symbol.AtMost) (cond (head_or_zero rest == 62) (two symbol.Unequal) (one symbol.Less)))
+  less_holds e =
+      by_next 61 _ _ (λ t. two_holds symbol.AtMost 60 60 b rest refl (λ c. refl) e t) (λ f.
+      by_next 62 _ _ (λ t. two_holds symbol.Unequal 60 61 b rest refl (λ c. refl) e t) (λ g.
+      one_holds symbol.Less 60 b rest refl (stops_two symbol.Less 61 62 rest (λ c. refl) f g) e))
 
   greater_holds : (b == 62) ≡ true → Holds (b ∷ rest) (cond (head_or_zero rest == 61) (two symbol.AtLeast) (one symbol.Greater))
-  greater_holds e = by_test (b ∷ rest) (head_or_zero rest == 61) _ _ (λ t. two_holds symbol.AtLeast 62 60 b rest refl (λ w. quiet symbol.AtLeast w (λ c. refl)) e t)
-      (λ f. one_holds symbol.Greater 62 b rest refl (stops_one symbol.Greater 61 rest (λ c. refl) f) e)
+  greater_holds e =
+      by_next 61 _ _ (λ t. two_holds symbol.AtLeast 62 60 b rest refl (λ c. refl) e t) (λ f.
+      one_holds symbol.Greater 62 b rest refl (stops_one symbol.Greater 61 rest (λ c. refl) f) e)
 
   colon_holds : (b == 58) ≡ true → Holds (b ∷ rest) (cond (head_or_zero rest == 61) (two symbol.Assign) (one symbol.Colon))
-  colon_holds e = by_test (b ∷ rest) (head_or_zero rest == 61) _ _ (λ t. two_holds symbol.Assign 58 60 b rest refl (λ w. quiet symbol.Assign w (λ c. refl)) e t)
-      (λ f. one_holds symbol.Colon 58 b rest refl (stops_one symbol.Colon 61 rest (λ c. refl) f) e)
+  colon_holds e =
+      by_next 61 _ _ (λ t. two_holds symbol.Assign 58 60 b rest refl (λ c. refl) e t) (λ f.
+      one_holds symbol.Colon 58 b rest refl (stops_one symbol.Colon 61 rest (λ c. refl) f) e)
 
-  dot_holds : (b == 46) ≡ true → Holds (b ∷ rest) (cond (head_or_zero rest == 46) (two symbol.DotDot) (cond (head_or_zero rest == 41) (two symbol.CloseBracket) (one symbol.Dot)))
-  dot_holds e = by_test (b ∷ rest) (head_or_zero rest == 46) _ _ (λ t. two_holds symbol.DotDot 46 45 b rest refl (λ w. quiet symbol.DotDot w (λ c. refl)) e t)
-      (λ f. by_test (b ∷ rest) (head_or_zero rest == 41) _ _ (λ t. two_holds symbol.CloseBracket 46 40 b rest (inr refl) (λ w. quiet symbol.CloseBracket w (λ c. refl)) e t)
-      (λ g. one_holds symbol.Dot 46 b rest refl (stops_two symbol.Dot 46 41 rest (λ c. refl) f g) e))
+  dot_holds : (b == 46) ≡ true
+      → Holds (b ∷ rest) (cond (head_or_zero rest == 46) (two symbol.DotDot) (cond (head_or_zero rest == 41) (two symbol.CloseBracket) (one symbol.Dot)))
+  dot_holds e =
+      by_next 46 _ _ (λ t. two_holds symbol.DotDot 46 45 b rest refl (λ c. refl) e t) (λ f.
+      by_next 41 _ _ (λ t. two_holds symbol.CloseBracket 46 40 b rest (inr refl) (λ c. refl) e t) (λ g.
+      one_holds symbol.Dot 46 b rest refl (stops_two symbol.Dot 46 41 rest (λ c. refl) f g) e))
 
   parenthesis_holds : (b == 40) ≡ true → Holds (b ∷ rest) (cond (head_or_zero rest == 46) (two symbol.OpenBracket) (one symbol.OpenParenthesis))
-  parenthesis_holds e = by_test (b ∷ rest) (head_or_zero rest == 46) _ _ (λ t. two_holds symbol.OpenBracket 40 45 b rest (inr refl) (λ w. quiet symbol.OpenBracket w (λ c. refl)) e t)
-      (λ f. one_holds symbol.OpenParenthesis 40 b rest refl (stops_one symbol.OpenParenthesis 46 rest (λ c. refl) f) e)
+  parenthesis_holds e =
+      by_next 46 _ _ (λ t. two_holds symbol.OpenBracket 40 45 b rest (inr refl) (λ c. refl) e t) (λ f.
+      one_holds symbol.OpenParenthesis 40 b rest refl (stops_one symbol.OpenParenthesis 46 rest (λ c. refl) f) e)
 
   longer_holds : ((c : ℕ) → mark b c ≡ longer_mark b c) → Holds (b ∷ rest) (longer_mark b (head_or_zero rest))
   unfolding longer_mark
@@ -154,17 +170,21 @@ module _ (b : ℕ) (rest : List ℕ) (no_blank : is_blank b ≡ false) (no_quote
       by_test (b ∷ rest) (b == 40) _ _ parenthesis_holds (λ f5.
       bad_byte (λ c. goes c ∙ rw (f1, f2, f3, f4, f5) refl))))))
 
+  -- a mark of one byte, whatever is behind it
+  only : (x : Symbol) (own : ℕ) → IsWritten x (own ∷ []) → ((c : ℕ) → grows x c ≡ false) → (b == own) ≡ true → Holds (b ∷ rest) (one x)
+  only x own w never e = one_holds x own b rest w (quiet x rest never) e
+
   pub mark_holds : Holds (b ∷ rest) (mark b (head_or_zero rest))
   unfolding mark
   mark_holds =
-      by_test (b ∷ rest) (b == 43) _ _ (one_holds symbol.Plus 43 b rest refl (quiet symbol.Plus rest (λ c. refl))) (λ f1.
-      by_test (b ∷ rest) (b == 45) _ _ (one_holds symbol.Minus 45 b rest refl (quiet symbol.Minus rest (λ c. refl))) (λ f2.
-      by_test (b ∷ rest) (b == 42) _ _ (one_holds symbol.Star 42 b rest refl (quiet symbol.Star rest (λ c. refl))) (λ f3.
-      by_test (b ∷ rest) (b == 38) _ _ (one_holds symbol.Ampersand 38 b rest refl (quiet symbol.Ampersand rest (λ c. refl))) (λ f4.
-      by_test (b ∷ rest) (b == 61) _ _ (one_holds symbol.Equal 61 b rest refl (quiet symbol.Equal rest (λ c. refl))) (λ f5.
-      by_test (b ∷ rest) (b == 41) _ _ (one_holds symbol.CloseParenthesis 41 b rest refl (quiet symbol.CloseParenthesis rest (λ c. refl))) (λ f6.
-      by_test (b ∷ rest) (b == 91) _ _ (one_holds symbol.OpenBracket 91 b rest (inl refl) (quiet symbol.OpenBracket rest (λ c. refl))) (λ f7.
-      by_test (b ∷ rest) (b == 93) _ _ (one_holds symbol.CloseBracket 93 b rest (inl refl) (quiet symbol.CloseBracket rest (λ c. refl))) (λ f8.
-      by_test (b ∷ rest) (b == 44) _ _ (one_holds symbol.Comma 44 b rest refl (quiet symbol.Comma rest (λ c. refl))) (λ f9.
-      by_test (b ∷ rest) (b == 59) _ _ (one_holds symbol.Semicolon 59 b rest refl (quiet symbol.Semicolon rest (λ c. refl))) (λ f10.
+      by_test (b ∷ rest) (b == 43) _ _ (only symbol.Plus 43 refl (λ c. refl)) (λ f1.
+      by_test (b ∷ rest) (b == 45) _ _ (only symbol.Minus 45 refl (λ c. refl)) (λ f2.
+      by_test (b ∷ rest) (b == 42) _ _ (only symbol.Star 42 refl (λ c. refl)) (λ f3.
+      by_test (b ∷ rest) (b == 38) _ _ (only symbol.Ampersand 38 refl (λ c. refl)) (λ f4.
+      by_test (b ∷ rest) (b == 61) _ _ (only symbol.Equal 61 refl (λ c. refl)) (λ f5.
+      by_test (b ∷ rest) (b == 41) _ _ (only symbol.CloseParenthesis 41 refl (λ c. refl)) (λ f6.
+      by_test (b ∷ rest) (b == 91) _ _ (only symbol.OpenBracket 91 (inl refl) (λ c. refl)) (λ f7.
+      by_test (b ∷ rest) (b == 93) _ _ (only symbol.CloseBracket 93 (inl refl) (λ c. refl)) (λ f8.
+      by_test (b ∷ rest) (b == 44) _ _ (only symbol.Comma 44 refl (λ c. refl)) (λ f9.
+      by_test (b ∷ rest) (b == 59) _ _ (only symbol.Semicolon 59 refl (λ c. refl)) (λ f10.
       longer_holds (λ c. rw (f1, f2, f3, f4, f5, f6, f7, f8, f9, f10) refl)))))))))))

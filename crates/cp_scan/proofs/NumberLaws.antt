@@ -21,7 +21,8 @@ unfolding piece
 piece_of_digit b rest h = rw (digit_no_blank b h, digit_no_quote b h, digit_no_apostrophe b h, h) refl
 
 small : (n : ℕ) (text digits : List ℕ) → text ≡ digits → decimal_value digits ≤ 32767
-    → cond {A = Piece} (nat_lt 32767 (decimal_value text)) (Err cause.Number) (Ok (Some (kind.Number (decimal_value text)), n)) ≡ Ok (Some (kind.Number (decimal_value digits)), n)
+    → cond {A = Piece} (nat_lt 32767 (decimal_value text)) (Err cause.Number) (Ok (Some (kind.Number (decimal_value text)), n))
+    ≡ Ok (Some (kind.Number (decimal_value digits)), n)
 small n text digits e le = rw (e, le-ltb 32767 (decimal_value digits) le) refl
 
 pub number_again : (n : ℕ) (bytes rest : List ℕ) → IsNumber n bytes rest → front (bytes ++ rest) ≡ Ok (Some (kind.Number n), length bytes)

@@ -8,7 +8,7 @@ use Rattle.cp_scan.specs.declared.refusal.Cause.TheVariants as cause
 use Rattle.cp_scan.specs.declared.refusal.ScanError.{ScanError}
 use Rattle.cp_scan.specs.declared.refusal.ScanError.TheVariants as error
 use Rattle.cp_scan.specs.Failures.{Fails}
-use Rattle.cp_scan.specs.Laws.{StandsIn, IsFirstCause, IsToldOf, HasNoTokens, IsRefusalOrMemory, RisesFrom, longest_text}
+use Rattle.cp_scan.specs.Laws.{StandsIn, IsFirstCause, TellsFirstCause, RulesOutTokens, IsRefusalOrMemory, RisesFrom, longest_text}
 use Rattle.cp_scan.specs.Pieces.{Outcome, tokens_of}
 use Rattle.cp_scan.proofs.Complete.{spelled_found, refusal_found}
 use Rattle.cp_scan.proofs.Sound.{found_spells, first_cause}
@@ -17,7 +17,8 @@ use Rattle.cp_scan.proofs.Spans.{spans_rise}
 abbrev pub Answer : Type 0
 Answer = Result (Vec Token Global) ScanError
 
-as_first : (text : List ℕ) (c : Cause) (at : ℕ) → length text ≤ longest_text → (rest : List ℕ) × SpelledUpTo text at rest × StandsIn c rest → IsFirstCause c at text
+as_first : (text : List ℕ) (c : Cause) (at : ℕ) → length text ≤ longest_text
+    → (rest : List ℕ) × SpelledUpTo text at rest × StandsIn c rest → IsFirstCause c at text
 as_first text cause.Byte at le h = (le, h)
 as_first text cause.Comment at le h = (le, h)
 as_first text cause.Character at le h = (le, h)
@@ -25,11 +26,11 @@ as_first text cause.Number at le h = (le, h)
 as_first text cause.Word at le h = (le, h)
 as_first text cause.Size at le h = absurd h.2
 
-told_first : (text : List ℕ) (e : ScanError) → length text ≤ longest_text → Fails e (tokens_of text) → IsToldOf text e
+told_first : (text : List ℕ) (e : ScanError) → length text ≤ longest_text → Fails e (tokens_of text) → TellsFirstCause text e
 told_first text (error.Refused c at) le fails = as_first text c at le (first_cause text c at fails)
 told_first text error.Memory le fails = tt
 
-no_tokens : (text : List ℕ) (e : ScanError) → Fails e (tokens_of text) → HasNoTokens text e
+no_tokens : (text : List ℕ) (e : ScanError) → Fails e (tokens_of text) → RulesOutTokens text e
 no_tokens text (error.Refused c at) fails = λ le tokens h. let f = spelled_found text tokens h in let g = fails in cc
 no_tokens text error.Memory fails = tt
 
@@ -50,7 +51,8 @@ abbrev of_outcome : Outcome → ScanError
 of_outcome (Ok tokens) = error.Memory
 of_outcome (Err e) = error.Refused e.0 e.1
 
-only_refusal : (text : List ℕ) (e : ScanError) (c : Cause) (at : ℕ) → Fails e (tokens_of text) → tokens_of text ≡ Err (c, at) → IsRefusalOrMemory c at e
+only_refusal : (text : List ℕ) (e : ScanError) (c : Cause) (at : ℕ) → Fails e (tokens_of text) → tokens_of text ≡ Err (c, at)
+    → IsRefusalOrMemory c at e
 only_refusal text (error.Refused d place) c at fails f = inl (ap (λ (o : Outcome). of_outcome o) (sym fails ∙ f))
 only_refusal text error.Memory c at fails f = inr refl
 
@@ -68,15 +70,16 @@ module _ (text : List ℕ) where
   answer_only (Ok found) e fails tokens h = let f = spelled_found text tokens h in cc
   answer_only (Err error) e fails tokens h = only_memory text error tokens fails h
 
-  pub answer_first : (r : Answer) → length text ≤ longest_text → IfErr r (λ e. Fails e (tokens_of text)) → IfErr r (IsToldOf text)
+  pub answer_first : (r : Answer) → length text ≤ longest_text → IfErr r (λ e. Fails e (tokens_of text)) → IfErr r (TellsFirstCause text)
   answer_first (Ok found) le fails = fails
   answer_first (Err error) le fails = told_first text error le fails
 
-  pub answer_none : (r : Answer) → IfErr r (λ e. Fails e (tokens_of text)) → IfErr r (HasNoTokens text)
+  pub answer_none : (r : Answer) → IfErr r (λ e. Fails e (tokens_of text)) → IfErr r (RulesOutTokens text)
   answer_none (Ok found) fails = fails
   answer_none (Err error) fails = no_tokens text error fails
 
-  pub answer_refused : (r : Answer) → length text ≤ longest_text → IfOk r (λ found. tokens_of text ≡ Ok found.items) → IfErr r (λ e. Fails e (tokens_of text))
+  pub answer_refused : (r : Answer) → length text ≤ longest_text → IfOk r (λ found. tokens_of text ≡ Ok found.items)
+      → IfErr r (λ e. Fails e (tokens_of text))
       → (c : Cause) (at : ℕ) → IsFirstCause c at text → MatchResult r (λ found. ⊥) (IsRefusalOrMemory c at)
   answer_refused (Ok found) le e fails c at h = let f = first_found text c at le h in cc
   answer_refused (Err error) le e fails c at h = only_refusal text error c at fails (first_found text c at le h)

@@ -11,7 +11,9 @@ run_append p (b ∷ bytes) rest each stops = rw each.0 (ap (λ (n : ℕ). suc n)
 
 pub run_within : (p : ℕ → Bool) (text : List ℕ) → run p text ≤ length text
 run_within p [] = omega arith
-run_within p (b ∷ rest) = elim (p b) as (λ t. cond t (suc (run p rest)) 0 ≤ suc (length rest)) [ true ↦ let more = run_within p rest in omega arith | false ↦ omega arith ]
+run_within p (b ∷ rest) =
+    let more = run_within p rest in
+    elim (p b) as (λ t. cond t (suc (run p rest)) 0 ≤ suc (length rest)) [ true ↦ omega arith | false ↦ omega arith ]
 
 each_at : (p : ℕ → Bool) (b : ℕ) (rest : List ℕ) (n : ℕ) (t : Bool) → p b ≡ t → Each p (take n rest) → Each p (take (cond t (suc n) 0) (b ∷ rest))
 each_at p b rest n true e each = (e, each)

@@ -13,7 +13,8 @@ use Rattle.cp_scan.proofs.Runs.{run_append, run_splits, run_each, run_stops, len
 abbrev pub is_inside : ℕ → Bool
 is_inside b = not (is_quote b)
 
-pub comment_at : (rest : List ℕ) (n : ℕ) → run is_inside rest ≡ n → comment rest ≡ cond (nat_lt n (length rest)) (Ok (None, n + 2)) (Err cause.Comment)
+pub comment_at : (rest : List ℕ) (n : ℕ) → run is_inside rest ≡ n
+    → comment rest ≡ cond (nat_lt n (length rest)) (Ok (None, n + 2)) (Err cause.Comment)
 unfolding comment
 comment_at rest n e = rw e refl
 
@@ -28,7 +29,9 @@ piece_of_quote b rest h = rw (eqb-true b 34 h) refl
 closed : (inner rest : List ℕ) → Each is_inside inner → comment (inner ++ 34 ∷ rest) ≡ Ok (None, length inner + 2)
 closed inner rest each =
     comment_at (inner ++ 34 ∷ rest) (length inner) (run_append is_inside inner (34 ∷ rest) each refl)
-    ∙ (let n = length-append inner (34 ∷ rest) in let lt : length inner < length (inner ++ 34 ∷ rest) = omega arith in rw (lt-ltb (length inner) (length (inner ++ 34 ∷ rest)) lt) refl)
+    ∙ (let n = length-append inner (34 ∷ rest) in
+    let lt : length inner < length (inner ++ 34 ∷ rest) = omega arith in
+    rw (lt-ltb (length inner) (length (inner ++ 34 ∷ rest)) lt) refl)
 
 comment_again : (b : ℕ) (bs rest inner : List ℕ) → is_quote b ≡ true → Each is_inside inner → bs ≡ inner ++ 34 ∷ []
     → piece b (bs ++ rest) ≡ Ok (None, suc (length bs))
@@ -37,7 +40,10 @@ comment_again b bs rest inner quote each e =
     ∙ ap (λ (w : List ℕ). comment (w ++ rest)) e
     ∙ ap (λ (w : List ℕ). comment w) (append_assoc inner (34 ∷ []) rest)
     ∙ closed inner rest each
-    ∙ (let n = length-append inner (34 ∷ []) in let m = ap (λ (w : List ℕ). length w) e in let k : length inner + 2 ≡ suc (length bs) = omega arith in ap (λ (v : ℕ). Ok (None, v)) k)
+    ∙ (let n = length-append inner (34 ∷ []) in
+    let m = ap (λ (w : List ℕ). length w) e in
+    let k : length inner + 2 ≡ suc (length bs) = omega arith in
+    ap (λ (v : ℕ). Ok (None, v)) k)
 
 pub separator_again : (bytes rest : List ℕ) → IsSeparator bytes → front (bytes ++ rest) ≡ Ok (None, length bytes)
 separator_again [] rest h = absurd h
@@ -58,7 +64,9 @@ module _ (b : ℕ) (rest : List ℕ) (quote : is_quote b ≡ true) where
 
   unclosed : nat_lt n (length rest) ≡ false → Holds (b ∷ rest) (Err cause.Comment)
   unfolding n
-  unclosed over = (quote, let all : take n rest ≡ rest = take_all n rest (ltb-false n (length rest) over) in subst (λ (w : List ℕ). Each is_inside w) all (run_each is_inside rest))
+  unclosed over =
+      let all : take n rest ≡ rest = take_all n rest (ltb-false n (length rest) over) in
+      (quote, subst (λ (w : List ℕ). Each is_inside w) all (run_each is_inside rest))
 
   ends : nat_lt n (length rest) ≡ true → Holds (b ∷ rest) (Ok (None, n + 2))
   unfolding n
@@ -67,7 +75,8 @@ module _ (b : ℕ) (rest : List ℕ) (quote : is_quote b ≡ true) where
       let m : length (take n rest) ≡ n = length_run is_inside rest in
       let d : length (drop n rest) ≡ length rest - n = length-drop n rest in
       let q = quote_behind (drop n rest) (run_stops is_inside rest) (omega arith) in
-      let e : rest ≡ (take n rest ++ 34 ∷ []) ++ q.0 = run_splits is_inside rest ∙ ap (λ (w : List ℕ). take n rest ++ w) q.1 ∙ sym (append_assoc (take n rest) (34 ∷ []) q.0) in (
+      let e : rest ≡ (take n rest ++ 34 ∷ []) ++ q.0 =
+      run_splits is_inside rest ∙ ap (λ (w : List ℕ). take n rest ++ w) q.1 ∙ sym (append_assoc (take n rest) (34 ∷ []) q.0) in (
         b ∷ (take n rest ++ 34 ∷ []),
         q.0,
         ap (λ (w : List ℕ). b ∷ w) e,

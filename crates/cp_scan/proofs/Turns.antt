@@ -16,7 +16,8 @@ at_end (suc n) at found = refl
 abbrev pub after : ℕ → ℕ → List ℕ → List Token → Option Kind → ℕ → Outcome
 after n at text found k len = pieces n (at + len) (drop len text) (with_token k at (at + len) found)
 
-pub turn : (n at b : ℕ) (rest : List ℕ) (found : List Token) → pieces (suc n) at (b ∷ rest) found ≡ goes_on (piece b rest) at (after n at (b ∷ rest) found)
+pub turn : (n at b : ℕ) (rest : List ℕ) (found : List Token)
+    → pieces (suc n) at (b ∷ rest) found ≡ goes_on (piece b rest) at (after n at (b ∷ rest) found)
 unfolding pieces
 turn n at b rest found = refl
 
@@ -25,6 +26,7 @@ has_bytes k [] rest is_piece = absurd (no_empty k rest is_piece)
 has_bytes k (b ∷ bs) rest is_piece = omega arith
 
 -- tokens found before come before the others
-pub put_in_front : (k : Option Kind) (from to : ℕ) (found others : List Token) → with_token k from to found ++ others ≡ found ++ spelling.with_token k from to others
+pub put_in_front : (k : Option Kind) (from to : ℕ) (found others : List Token)
+    → with_token k from to found ++ others ≡ found ++ spelling.with_token k from to others
 put_in_front None from to found others = refl
 put_in_front (Some k) from to found others = append_assoc found (record { kind = k; span = record { from = from; to = to } } ∷ []) others

@@ -43,7 +43,9 @@ IsWordKind (kind.Character n) = ⊥
 word_among_is : (ws : List (List ℕ × Symbol)) (letters : List ℕ) → IsWordKind (word_among ws letters)
 unfolding IsWordKind
 word_among_is [] letters = tt
-word_among_is (w ∷ ws) letters = cond_both (same_text w.0 letters) (kind.Symbol w.1) (word_among ws letters) (λ k. IsWordKind k) (λ e. tt) (λ e. word_among_is ws letters)
+word_among_is (w ∷ ws) letters =
+    cond_both (same_text w.0 letters) (kind.Symbol w.1) (word_among ws letters) (λ k. IsWordKind k) (λ e. tt)
+    (λ e. word_among_is ws letters)
 
 as_piece : (k : Kind) (bytes rest : List ℕ) → IsWordKind k → IsWord k bytes rest → IsPiece (Some k) bytes rest
 unfolding IsWordKind
@@ -78,12 +80,13 @@ module _ (b : ℕ) (rest : List ℕ) (letter : is_letter b ≡ true) where
   unfolding more
   fits over =
       let n : length (take more rest) ≡ more = length_run is_in_word rest in
-      let le = ltb-false 64 (suc more) over in (
+      let le = ltb-false 64 (suc more) over in
+      let letters : List ℕ = map lower (b ∷ take more rest) in (
         b ∷ take more rest,
         drop more rest,
         ap (λ (w : List ℕ). b ∷ w) (run_splits is_in_word rest),
         omega arith,
-        as_piece (kind_of_word (map lower (b ∷ take more rest))) (b ∷ take more rest) (drop more rest) (word_among_is reserved_words (map lower (b ∷ take more rest)))
+        as_piece (kind_of_word letters) (b ∷ take more rest) (drop more rest) (word_among_is reserved_words letters)
             (letter, run_each is_in_word rest, run_stops is_in_word rest, omega arith, refl),
       )
 

@@ -26,18 +26,18 @@ IsFirstCause cause.Size at text = (longest_text < length text) × (at ≡ longes
 IsFirstCause c at text = (length text ≤ longest_text) × ((rest : List ℕ) × SpelledUpTo text at rest × StandsIn c rest)
 
 -- what an error tells of a text. Want of memory tells nothing of it
-abbrev pub IsToldOf : List ℕ → ScanError → Type 0
-IsToldOf text (error.Refused c at) = IsFirstCause c at text
-IsToldOf text error.Memory = Unit {0}
+abbrev pub TellsFirstCause : List ℕ → ScanError → Type 0
+TellsFirstCause text (error.Refused c at) = IsFirstCause c at text
+TellsFirstCause text error.Memory = Unit {0}
 
 -- the error tells this cause at this place, or want of memory
 abbrev pub IsRefusalOrMemory : Cause → ℕ → ScanError → Type 0
 IsRefusalOrMemory c at e = (e ≡ error.Refused c at) ⊎ (e ≡ error.Memory)
 
 -- a text that is refused, and isn't too long, has no tokens at all
-abbrev pub HasNoTokens : List ℕ → ScanError → Type 0
-HasNoTokens text (error.Refused c at) = length text ≤ longest_text → (tokens : List Token) → Spells text tokens → ⊥
-HasNoTokens text error.Memory = Unit {0}
+abbrev pub RulesOutTokens : List ℕ → ScanError → Type 0
+RulesOutTokens text (error.Refused c at) = length text ≤ longest_text → (tokens : List Token) → Spells text tokens → ⊥
+RulesOutTokens text error.Memory = Unit {0}
 
 -- the spans of the tokens have bytes, rise and lie apart, from a place on and up to an end
 abbrev pub RisesFrom : ℕ → List Token → ℕ → Type 0

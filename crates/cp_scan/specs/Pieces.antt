@@ -50,7 +50,8 @@ coded rest =
     let n = run is_digit rest in
     let value = decimal_value (take n rest) in
     let behind = drop n rest in
-    if nat_le 1 n && nat_le n 3 && nat_le value 127 && head_or_zero behind == 58 && head_or_zero (drop 1 behind) == 41 && head_or_zero (drop 2 behind) == 39
+    if nat_le 1 n && nat_le n 3 && nat_le value 127
+    && head_or_zero behind == 58 && head_or_zero (drop 1 behind) == 41 && head_or_zero (drop 2 behind) == 39
     then Ok (Some (kind.Character value), n + 6) else Err cause.Character
 
 unfoldable pub character : List ℕ → Piece

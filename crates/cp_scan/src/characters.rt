@@ -9,7 +9,7 @@ use crate::piece::Front;
 use crate::refusal::Cause;
 use cp_model::token::Kind;
 
-/// The character constant by its ordinal, whose `'(:` stands before this rest of the text.
+// The character constant by its ordinal, whose `'(:` stands before this rest of the text.
 #[tactic(auto, unfolding(crate::specs::Pieces::coded))]
 fn coded(rest: &[u8]) -> Front
     ensures { result ≡ spec.coded rest.now }

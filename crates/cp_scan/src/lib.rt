@@ -11,7 +11,7 @@ mod comments;
 mod marks;
 mod numbers;
 mod piece;
-pub mod refusal;
+mod refusal;
 mod scanning;
 #[cfg(test)]
 mod tests;

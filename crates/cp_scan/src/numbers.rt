@@ -9,8 +9,8 @@ use crate::piece::Front;
 use crate::refusal::Cause;
 use cp_model::token::Kind;
 
-/// The greatest number of a text.
-pub const GREATEST_NUMBER: u32 = 32767;
+// The greatest number that a text may hold.
+const GREATEST_NUMBER: u32 = 32767;
 
 /// The value of decimal digits, or 32768 where it is more.
 pub fn capped_value(digits: &[u8]) -> u32

@@ -4,7 +4,7 @@ ghost use Rattle.std.specs.Prelude.{◌≡◌, ◌≤◌, ℕ, List, drop, lengt
 ghost use Rattle.cp_model.specs.Spelling.{Spells};
 ghost use Rattle.cp_model.specs.declared.token.Token.{Token};
 ghost use Rattle.cp_scan.specs.Failures.{Fails};
-ghost use Rattle.cp_scan.specs.Laws.{IsFirstCause, IsRefusalOrMemory, IsToldOf, RisesFrom, HasNoTokens, longest_text};
+ghost use Rattle.cp_scan.specs.Laws.{IsFirstCause, IsRefusalOrMemory, TellsFirstCause, RisesFrom, RulesOutTokens, longest_text};
 ghost use Rattle.cp_scan.specs.Pieces as spec;
 ghost use Rattle.cp_scan.specs.declared.refusal.Cause.{Cause};
 ghost use Rattle.cp_scan.specs.declared.refusal.ScanError.TheVariants.{Memory};
@@ -14,10 +14,17 @@ use crate::refusal::{Cause, ScanError};
 use cp_model::token::{Kind, Span, Token};
 use std::alloc::{AllocError, Global};
 
-/// The most bytes of a text.
+/// The most bytes of a text that is scanned.
 pub const LONGEST_TEXT: usize = 1_048_576;
 
-/// The tokens that spell the text.
+/// The tokens that spell the text, in its order: words in lower case, and neither blanks nor comments. Each span is the bytes of
+/// its token, so the spans rise and lie apart. No other list of tokens spells the text.
+///
+/// # Errors
+///
+/// `Refused` tells why no tokens spell the text: [`Cause::Size`] at [`LONGEST_TEXT`] where the text is longer than that, whatever it
+/// holds, and else the first place from left to right at which neither a token nor a separator begins, and what stands there.
+/// `Memory` only says that memory was refused.
 pub fn scan(alloc: Global, text: &[u8]) -> Result<Vec<Token>, ScanError>
     ensures spelled { IfOk result (λ tokens. Spells text.now tokens.items) }
     ensures spans { IfOk result (λ tokens. RisesFrom 0 tokens.items (length text.now)) }
@@ -28,10 +35,10 @@ pub fn scan(alloc: Global, text: &[u8]) -> Result<Vec<Token>, ScanError>
         → MatchResult result (λ found. found.items ≡ tokens) (λ error. error ≡ Memory) }
 
     // An error but want of memory is the first cause of the text, and only that one.
-    ensures first { IfErr result (IsToldOf text.now) }
+    ensures first { IfErr result (TellsFirstCause text.now) }
     ensures refused { (cause : Cause) (at : ℕ) → IsFirstCause cause at text.now
         → MatchResult result (λ _. ⊥) (IsRefusalOrMemory cause at) }
-    ensures none { IfErr result (HasNoTokens text.now) }
+    ensures none { IfErr result (RulesOutTokens text.now) }
 {
     if text.len() > LONGEST_TEXT {
         return Err(ScanError::Refused {

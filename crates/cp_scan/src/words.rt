@@ -12,11 +12,11 @@ use crate::refusal::Cause;
 use cp_model::token::{Kind, Name, Symbol};
 use std::alloc::{AllocError, Global};
 
-/// The most letters, digits and underscores of a word.
-pub const LONGEST_WORD: usize = 64;
+// The most letters, digits and underscores of a word.
+const LONGEST_WORD: usize = 64;
 
-/// The reserved words, in lower case.
-pub const RESERVED_WORDS: [(&[u8], Symbol); 36] = [
+// The reserved words, in lower case.
+const RESERVED_WORDS: [(&[u8], Symbol); 36] = [
     (b"array", Symbol::Array),
     (b"begin", Symbol::Begin),
     (b"case", Symbol::Case),
