@@ -14,7 +14,7 @@ ghost use Rattle.cp_grammar.specs.Text as text;
 use crate::lists::{one_or_more, repeated};
 use crate::names::{constant, identifier, names};
 use crate::routines::{body, parameters, routines, variables};
-use crate::tokens::{Read, after, expect, sees_name};
+use crate::tokens::{Read, after, expect, peek, sees_name};
 use crate::types::type_expression;
 use cp_grammar::Stop;
 use cp_model::token::{Kind, Symbol, Token};
@@ -87,14 +87,8 @@ fn written(alloc: Global, room: usize, tokens: &[Token]) -> Read<'_, Defined>
 fn defined(alloc: Global, room: usize, tokens: &[Token]) -> Read<'_, Defined>
     ensures { Gives view.defined_type result (spec.defined_of (type_at room) (deeper_at room) tokens.now) }
 {
-    match tokens {
-        [
-            Token {
-                kind: Kind::Symbol(symbol),
-                ..
-            },
-            ..
-        ] => match symbol {
+    match peek(tokens) {
+        Some(Kind::Symbol(symbol)) => match symbol {
             Symbol::Process => system_type(alloc, room, Sort::Process, tokens),
             Symbol::Monitor => system_type(alloc, room, Sort::Monitor, tokens),
             Symbol::Class => system_type(alloc, room, Sort::Class, tokens),
@@ -143,24 +137,12 @@ fn types(alloc: Global, room: usize, tokens: &[Token]) -> Read<'_, Vec<TypeDefin
 fn section(alloc: Global, room: usize, tokens: &[Token]) -> Read<'_, Section>
     ensures { Gives view.section_of result (spec.section_of (type_at room) (deeper_at room) tokens.now) }
 {
-    match tokens {
-        [
-            Token {
-                kind: Kind::Symbol(Symbol::Const),
-                ..
-            },
-            ..
-        ] => {
+    match peek(tokens) {
+        Some(Kind::Symbol(Symbol::Const)) => {
             let (definitions, rest) = constants(alloc, after(tokens))?;
             Ok((Section::Constants(definitions), rest))
         }
-        [
-            Token {
-                kind: Kind::Symbol(Symbol::Type),
-                ..
-            },
-            ..
-        ] => {
+        Some(Kind::Symbol(Symbol::Type)) => {
             let (definitions, rest) = types(alloc, room, after(tokens))?;
             Ok((Section::Types(definitions), rest))
         }
@@ -172,14 +154,8 @@ fn begins_section(tokens: &[Token]) -> bool
     ensures { result ≡ spec.begins_section (kind_at tokens.now) }
 {
     matches!(
-        tokens,
-        [
-            Token {
-                kind: Kind::Symbol(Symbol::Const | Symbol::Type),
-                ..
-            },
-            ..
-        ]
+        peek(tokens),
+        Some(Kind::Symbol(Symbol::Const | Symbol::Type))
     )
 }
 

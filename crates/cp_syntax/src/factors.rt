@@ -12,7 +12,7 @@ ghost use Rattle.cp_syntax.specs.Nests.{FactorsAt, FactorsBelow};
 use crate::expressions::Expressions;
 use crate::lists::repeated;
 use crate::names::identifier;
-use crate::tokens::{Read, after, expect, place, sees};
+use crate::tokens::{Read, after, expect, peek, place, sees};
 use cp_grammar::Stop;
 use cp_model::token::{Kind, Symbol, Token};
 use cp_model::tree::{Designator, Expression, Identifier, Index, Selector};
@@ -70,21 +70,9 @@ impl<F: Fn(Global, usize, &[Token]) -> Read<'_, Expression> + Copy> Factors<F> {
         requires { FactorsBelow self.now.room (F.pre self.now.factor) (F.post self.now.factor) }
         ensures { Gives view.selector result (spec.selector_of (spec.inner_at self.now.room) tokens.now) }
     {
-        match tokens {
-            [
-                Token {
-                    kind: Kind::Symbol(Symbol::Dot),
-                    ..
-                },
-                ..
-            ] => self.field(tokens),
-            [
-                Token {
-                    kind: Kind::Symbol(Symbol::OpenBracket),
-                    ..
-                },
-                ..
-            ] => self.indexed(tokens),
+        match peek(tokens) {
+            Some(Kind::Symbol(Symbol::Dot)) => self.field(tokens),
+            Some(Kind::Symbol(Symbol::OpenBracket)) => self.indexed(tokens),
             _ => Err(Stop::Wrong(tokens.len())),
         }
     }
@@ -167,42 +155,12 @@ impl<F: Fn(Global, usize, &[Token]) -> Read<'_, Expression> + Copy> Factors<F> {
         ensures { Gives view.expression result (spec.factor_of (spec.inner_at self.now.room) tokens.now) }
     {
         let at = place(tokens);
-        match tokens {
-            [
-                Token {
-                    kind: Kind::Number(value),
-                    ..
-                },
-                rest @ ..,
-            ] => Ok((number(at, *value), rest)),
-            [
-                Token {
-                    kind: Kind::Character(ordinal),
-                    ..
-                },
-                rest @ ..,
-            ] => Ok((character(at, *ordinal), rest)),
-            [
-                Token {
-                    kind: Kind::Name(_),
-                    ..
-                },
-                ..
-            ] => self.named(tokens),
-            [
-                Token {
-                    kind: Kind::Symbol(Symbol::OpenParenthesis),
-                    ..
-                },
-                ..
-            ] => self.parenthesized(tokens),
-            [
-                Token {
-                    kind: Kind::Symbol(Symbol::Not),
-                    ..
-                },
-                ..
-            ] => self.negated(tokens),
+        match peek(tokens) {
+            Some(Kind::Number(value)) => Ok((number(at, *value), after(tokens))),
+            Some(Kind::Character(ordinal)) => Ok((character(at, *ordinal), after(tokens))),
+            Some(Kind::Name(_)) => self.named(tokens),
+            Some(Kind::Symbol(Symbol::OpenParenthesis)) => self.parenthesized(tokens),
+            Some(Kind::Symbol(Symbol::Not)) => self.negated(tokens),
             _ => Err(Stop::Wrong(tokens.len())),
         }
     }
@@ -212,14 +170,8 @@ fn begins_selector(tokens: &[Token]) -> bool
     ensures { result ≡ spec.begins_selector (kind_at tokens.now) }
 {
     matches!(
-        tokens,
-        [
-            Token {
-                kind: Kind::Symbol(Symbol::Dot | Symbol::OpenBracket),
-                ..
-            },
-            ..
-        ]
+        peek(tokens),
+        Some(Kind::Symbol(Symbol::Dot | Symbol::OpenBracket))
     )
 }
 

@@ -5,7 +5,7 @@ ghost use Rattle.cp_grammar.specs.Reading.{kind_at, Gives};
 ghost use Rattle.cp_grammar.specs.Names as spec;
 
 use crate::lists::separated;
-use crate::tokens::{Read, after, place};
+use crate::tokens::{Read, after, peek, place};
 use cp_grammar::Stop;
 use cp_model::token::{Kind, Symbol, Token};
 use cp_model::tree::{Constant, Identifier};
@@ -16,14 +16,8 @@ use std::alloc::Global;
 pub fn identifier(alloc: Global, tokens: &[Token]) -> Read<'_, Identifier>
     ensures { Gives (λ x. x) result (spec.identifier_of tokens.now) }
 {
-    match tokens {
-        [
-            Token {
-                kind: Kind::Name(name),
-                ..
-            },
-            ..
-        ] => {
+    match peek(tokens) {
+        Some(Kind::Name(name)) => {
             let name = name.copy(alloc)?;
             Ok((
                 Identifier {
@@ -51,44 +45,18 @@ pub fn constant(alloc: Global, tokens: &[Token]) -> Read<'_, Constant>
     ensures { Gives (λ c. c) result (spec.constant_of tokens.now) }
 {
     let at = place(tokens);
-    match tokens {
-        [
-            Token {
-                kind: Kind::Number(value),
-                ..
-            },
-            rest @ ..,
-        ] => Ok((Constant::Number { at, value: *value }, rest)),
-        [
-            Token {
-                kind: Kind::Character(ordinal),
-                ..
-            },
-            rest @ ..,
-        ] => Ok((
-            Constant::Character {
-                at,
-                ordinal: *ordinal,
-            },
-            rest,
-        )),
-        [
-            Token {
-                kind: Kind::Name(name),
-                ..
-            },
-            rest @ ..,
-        ] => {
+    let rest = after(tokens);
+    match peek(tokens) {
+        Some(Kind::Number(value)) => Ok((Constant::Number { at, value: *value }, rest)),
+        Some(Kind::Character(ordinal)) => {
+            let ordinal = *ordinal;
+            Ok((Constant::Character { at, ordinal }, rest))
+        }
+        Some(Kind::Name(name)) => {
             let name = name.copy(alloc)?;
             Ok((Constant::Named(Identifier { name, at }), rest))
         }
-        [
-            Token {
-                kind: Kind::Symbol(Symbol::Minus),
-                ..
-            },
-            rest @ ..,
-        ] => negative(at, rest),
+        Some(Kind::Symbol(Symbol::Minus)) => negative(at, rest),
         _ => Err(Stop::Wrong(tokens.len())),
     }
 }
@@ -97,14 +65,8 @@ pub fn constant(alloc: Global, tokens: &[Token]) -> Read<'_, Constant>
 fn negative(at: usize, tokens: &[Token]) -> Read<'_, Constant>
     ensures { Gives (λ c. c) result (spec.negative_by at (kind_at tokens.now) tokens.now) }
 {
-    match tokens {
-        [
-            Token {
-                kind: Kind::Number(value),
-                ..
-            },
-            rest @ ..,
-        ] => Ok((Constant::Negative { at, value: *value }, rest)),
+    match peek(tokens) {
+        Some(Kind::Number(value)) => Ok((Constant::Negative { at, value: *value }, after(tokens))),
         _ => Err(Stop::Wrong(tokens.len())),
     }
 }

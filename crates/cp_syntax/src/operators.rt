@@ -4,6 +4,7 @@ ghost use Rattle.std.specs.Prelude.{◌≡◌};
 ghost use Rattle.cp_grammar.specs.Reading.{kind_at};
 ghost use Rattle.cp_grammar.specs.Expressions as spec;
 
+use crate::tokens::peek;
 use cp_model::token::{Kind, Symbol, Token};
 use cp_model::tree::{Operator, Sign};
 
@@ -11,14 +12,8 @@ use cp_model::tree::{Operator, Sign};
 pub fn product_operator(tokens: &[Token]) -> Option<Operator>
     ensures { result ≡ spec.product_operator (kind_at tokens.now) }
 {
-    match tokens {
-        [
-            Token {
-                kind: Kind::Symbol(symbol),
-                ..
-            },
-            ..
-        ] => match symbol {
+    match peek(tokens) {
+        Some(Kind::Symbol(symbol)) => match symbol {
             Symbol::Star => Some(Operator::Multiply),
             Symbol::Div => Some(Operator::Divide),
             Symbol::Mod => Some(Operator::Modulo),
@@ -33,14 +28,8 @@ pub fn product_operator(tokens: &[Token]) -> Option<Operator>
 pub fn sum_operator(tokens: &[Token]) -> Option<Operator>
     ensures { result ≡ spec.sum_operator (kind_at tokens.now) }
 {
-    match tokens {
-        [
-            Token {
-                kind: Kind::Symbol(symbol),
-                ..
-            },
-            ..
-        ] => match symbol {
+    match peek(tokens) {
+        Some(Kind::Symbol(symbol)) => match symbol {
             Symbol::Plus => Some(Operator::Add),
             Symbol::Minus => Some(Operator::Subtract),
             Symbol::Or => Some(Operator::Or),
@@ -54,14 +43,8 @@ pub fn sum_operator(tokens: &[Token]) -> Option<Operator>
 pub fn relation_operator(tokens: &[Token]) -> Option<Operator>
     ensures { result ≡ spec.relation_operator (kind_at tokens.now) }
 {
-    match tokens {
-        [
-            Token {
-                kind: Kind::Symbol(symbol),
-                ..
-            },
-            ..
-        ] => match symbol {
+    match peek(tokens) {
+        Some(Kind::Symbol(symbol)) => match symbol {
             Symbol::Equal => Some(Operator::Equal),
             Symbol::Unequal => Some(Operator::Unequal),
             Symbol::Less => Some(Operator::Less),
@@ -78,14 +61,8 @@ pub fn relation_operator(tokens: &[Token]) -> Option<Operator>
 pub fn sign(tokens: &[Token]) -> Option<Sign>
     ensures { result ≡ spec.sign_of (kind_at tokens.now) }
 {
-    match tokens {
-        [
-            Token {
-                kind: Kind::Symbol(symbol),
-                ..
-            },
-            ..
-        ] => match symbol {
+    match peek(tokens) {
+        Some(Kind::Symbol(symbol)) => match symbol {
             Symbol::Plus => Some(Sign::Plus),
             Symbol::Minus => Some(Sign::Minus),
             _ => None,

@@ -12,7 +12,7 @@ ghost use Rattle.cp_syntax.specs.Views.{heading};
 use crate::lists::{one_or_more, repeated, separated};
 use crate::names::{identifier, names};
 use crate::statements::block;
-use crate::tokens::{Read, after, expect, optional_symbol, sees, sees_name};
+use crate::tokens::{Read, after, expect, optional_symbol, peek, sees, sees_name};
 use crate::types::{Types, type_expression};
 use cp_grammar::Stop;
 use cp_model::token::{Kind, Symbol, Token};
@@ -167,14 +167,8 @@ fn begins_routine(tokens: &[Token]) -> bool
     ensures { result ≡ spec.begins_routine (kind_at tokens.now) }
 {
     matches!(
-        tokens,
-        [
-            Token {
-                kind: Kind::Symbol(Symbol::Procedure | Symbol::Function),
-                ..
-            },
-            ..
-        ]
+        peek(tokens),
+        Some(Kind::Symbol(Symbol::Procedure | Symbol::Function))
     )
 }
 

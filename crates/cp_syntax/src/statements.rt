@@ -14,7 +14,7 @@ use crate::factors::expression;
 use crate::lists::separated;
 use crate::names::{constants, identifier};
 use crate::simple_statements::{designated, init};
-use crate::tokens::{Read, after, expect, place, sees};
+use crate::tokens::{Read, after, expect, peek, place, sees};
 use cp_grammar::Stop;
 use cp_model::token::{Kind, Symbol, Token};
 use cp_model::tree::{Arm, Body, Constant, Direction, Expression, Identifier, Statement};
@@ -203,21 +203,9 @@ impl<F: Fn(Global, usize, &[Token]) -> Read<'_, Statement> + Copy> StatementRule
         requires { StatementsBelow self.now.room (F.pre self.now.read) (F.post self.now.read) }
         ensures { Gives view.statement result (spec.statement_of (inner_at self.now.room) (spec.deeper_at self.now.room) tokens.now) }
     {
-        match tokens {
-            [
-                Token {
-                    kind: Kind::Name(_),
-                    ..
-                },
-                ..
-            ] => designated(self.alloc, self.room, tokens),
-            [
-                Token {
-                    kind: Kind::Symbol(symbol),
-                    ..
-                },
-                ..
-            ] => match symbol {
+        match peek(tokens) {
+            Some(Kind::Name(_)) => designated(self.alloc, self.room, tokens),
+            Some(Kind::Symbol(symbol)) => match symbol {
                 Symbol::Begin => self.compound(tokens),
                 Symbol::If => self.conditional(tokens),
                 Symbol::Case => self.case(tokens),
@@ -237,21 +225,9 @@ impl<F: Fn(Global, usize, &[Token]) -> Read<'_, Statement> + Copy> StatementRule
 fn direction(tokens: &[Token]) -> Read<'_, Direction>
     ensures { Gives (λ way. way) result (spec.direction_of tokens.now) }
 {
-    match tokens {
-        [
-            Token {
-                kind: Kind::Symbol(Symbol::To),
-                ..
-            },
-            rest @ ..,
-        ] => Ok((Direction::Up, rest)),
-        [
-            Token {
-                kind: Kind::Symbol(Symbol::Downto),
-                ..
-            },
-            rest @ ..,
-        ] => Ok((Direction::Down, rest)),
+    match peek(tokens) {
+        Some(Kind::Symbol(Symbol::To)) => Ok((Direction::Up, after(tokens))),
+        Some(Kind::Symbol(Symbol::Downto)) => Ok((Direction::Down, after(tokens))),
         _ => Err(Stop::Wrong(tokens.len())),
     }
 }

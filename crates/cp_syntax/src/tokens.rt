@@ -1,6 +1,6 @@
 //! The next token of those that are left.
 
-ghost use Rattle.std.specs.Prelude.{◌≡◌, ◌==◌, Some};
+ghost use Rattle.std.specs.Prelude.{◌≡◌, ◌==◌, Some, None, IfSome, IsNone};
 ghost use Rattle.cp_grammar.specs.Kinds.{code, is_symbol, is_name};
 ghost use Rattle.cp_grammar.specs.Reading.{kind_at, place_at, tail, Gives};
 ghost use Rattle.cp_grammar.specs.Reading as reading;
@@ -31,23 +31,22 @@ pub fn after(tokens: &[Token]) -> &[Token]
     }
 }
 
+/// What the next token is: nothing behind the last.
+pub fn peek(tokens: &[Token]) -> Option<&Kind>
+    ensures some { IfSome result (λ kind. kind_at tokens.now ≡ Some kind.now) }
+    ensures none { IsNone result → kind_at tokens.now ≡ None }
+{
+    let first = tokens.first()?;
+    Some(&first.kind)
+}
+
 /// Whether this symbol stands next.
 #[tactic(auto, unfolding(cp_grammar::specs::Kinds::is_symbol))]
 pub fn sees(tokens: &[Token], symbol: Symbol) -> bool
     ensures { result ≡ is_symbol symbol (kind_at tokens.now) }
 {
-    match tokens {
-        [] => false,
-        [first, ..] => is(&first.kind, symbol),
-    }
-}
-
-#[tactic(auto, unfolding(cp_grammar::specs::Kinds::is_symbol))]
-fn is(kind: &Kind, symbol: Symbol) -> bool
-    ensures { result ≡ is_symbol symbol (Some kind.now) }
-{
-    match kind {
-        Kind::Symbol(seen) => same(*seen, symbol),
+    match peek(tokens) {
+        Some(Kind::Symbol(seen)) => same(*seen, symbol),
         _ => false,
     }
 }
@@ -62,16 +61,7 @@ fn same(seen: Symbol, symbol: Symbol) -> bool
 pub fn sees_name(tokens: &[Token]) -> bool
     ensures { result ≡ is_name (kind_at tokens.now) }
 {
-    matches!(
-        tokens,
-        [
-            Token {
-                kind: Kind::Name(_),
-                ..
-            },
-            ..
-        ]
-    )
+    matches!(peek(tokens), Some(Kind::Name(_)))
 }
 
 /// Takes this symbol, and answers its place.

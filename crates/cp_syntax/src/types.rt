@@ -12,7 +12,7 @@ ghost use Rattle.cp_syntax.specs.Nests.{TypesAt, TypesBelow};
 
 use crate::lists::separated;
 use crate::names::{constant, identifier, names};
-use crate::tokens::{Read, after, expect, place};
+use crate::tokens::{Read, after, expect, peek, place};
 use cp_grammar::Stop;
 use cp_model::token::{Kind, Symbol, Token};
 use cp_model::tree::{Constant, Fields, Identifier, TypeExpression};
@@ -115,35 +115,13 @@ impl<F: Fn(Global, usize, &[Token]) -> Read<'_, TypeExpression> + Copy> TypeRule
         requires { TypesBelow self.now.room (F.pre self.now.read) (F.post self.now.read) }
         ensures { Gives view.type_expression result (spec.type_of (spec.inner_type_at self.now.room) tokens.now) }
     {
-        match tokens {
-            [
-                Token {
-                    kind: Kind::Name(_),
-                    ..
-                },
-                ..
-            ] => named_or_subrange(self.alloc, tokens),
-            [
-                Token {
-                    kind: Kind::Number(_) | Kind::Character(_) | Kind::Symbol(Symbol::Minus),
-                    ..
-                },
-                ..
-            ] => subrange(self.alloc, tokens),
-            [
-                Token {
-                    kind: Kind::Symbol(Symbol::Array),
-                    ..
-                },
-                ..
-            ] => self.array(tokens),
-            [
-                Token {
-                    kind: Kind::Symbol(Symbol::Record),
-                    ..
-                },
-                ..
-            ] => self.record(tokens),
+        match peek(tokens) {
+            Some(Kind::Name(_)) => named_or_subrange(self.alloc, tokens),
+            Some(Kind::Number(_) | Kind::Character(_) | Kind::Symbol(Symbol::Minus)) => subrange(
+                self.alloc, tokens,
+            ),
+            Some(Kind::Symbol(Symbol::Array)) => self.array(tokens),
+            Some(Kind::Symbol(Symbol::Record)) => self.record(tokens),
             _ => Err(Stop::Wrong(tokens.len())),
         }
     }
@@ -171,14 +149,8 @@ fn named_or_subrange(alloc: Global, tokens: &[Token]) -> Read<'_, TypeExpression
     ensures { Gives view.type_expression result (and_then (identifier_of tokens.now) (λ x. by_kind (spec.named_or_subrange x))) }
 {
     let (name, rest) = identifier(alloc, tokens)?;
-    match rest {
-        [
-            Token {
-                kind: Kind::Symbol(Symbol::DotDot),
-                ..
-            },
-            ..
-        ] => subrange_from(alloc, Constant::Named(name), rest),
+    match peek(rest) {
+        Some(Kind::Symbol(Symbol::DotDot)) => subrange_from(alloc, Constant::Named(name), rest),
         _ => Ok((named(name), rest)),
     }
 }
