@@ -27,7 +27,7 @@ pub enum Cause {
 pub enum ScanError {
     /// No list of tokens spells the text, or it is too long: the first cause, and the byte at which it stands, from 0.
     Refused { cause: Cause, at: usize },
-    /// Memory was refused; nothing is known of the text.
+    /// M: memory was refused. It tells nothing of the text.
     Memory,
 }
 
