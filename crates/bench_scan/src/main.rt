@@ -9,7 +9,12 @@ use std::io::{self, Read};
 // How often the text is to be scanned.
 fn turns(rt: &HostRuntime) -> io::Result<u32> {
     let words: Vec<String> = env::args(rt)?.collect(rt.alloc())?;
-    Ok(words.get(1).and_then(|word| word.as_str().parse().ok()).unwrap_or(1))
+    Ok(
+        words
+            .get(1)
+            .and_then(|word| word.as_str().parse().ok())
+            .unwrap_or(1),
+    )
 }
 
 fn main(rt: HostRuntime) -> io::Result<()> {
