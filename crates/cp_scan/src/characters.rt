@@ -1,4 +1,5 @@
-//! Character constants.
+//! Character constants: a character between apostrophes, or its ordinal between `'(:` and `:)'`. `character` and `coded` of
+//! `specs/Pieces.antt` define what is read.
 
 ghost use Rattle.std.specs.Prelude.{◌≡◌};
 ghost use Rattle.cp_scan.specs.Pieces as spec;

@@ -1,4 +1,4 @@
-//! Comments.
+//! Comments: any bytes but `"` between two of these. `comment` of `specs/Pieces.antt` defines what is read.
 
 ghost use Rattle.std.specs.Prelude.{◌≡◌};
 ghost use Rattle.cp_scan.specs.Pieces as spec;

@@ -1,4 +1,5 @@
-//! Marks.
+//! Marks, the longest that fits. Their spellings stand in `Spelling` of cp_model; `mark` and `longer_mark` of `specs/Pieces.antt`
+//! find them by the first byte and the one behind it.
 
 ghost use Rattle.std.specs.Prelude.{◌≡◌};
 ghost use Rattle.cp_scan.specs.Pieces as spec;

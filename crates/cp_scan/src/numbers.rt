@@ -1,4 +1,5 @@
-//! Numbers.
+//! Numbers up to 32767, in decimal digits. A value stops growing above that, so any count of digits is read. `number` of
+//! `specs/Pieces.antt` defines what is read.
 
 ghost use Rattle.std.specs.Prelude.{◌≡◌, ◌≤◌, min};
 ghost use Rattle.cp_model.specs.Characters.{decimal_value};

@@ -1,4 +1,4 @@
-//! The piece at the front of a text.
+//! The piece at the front of a text, a token or a separator, by its first byte. `piece` of `specs/Pieces.antt` defines what is read.
 
 ghost use Rattle.std.specs.Prelude.{◌≡◌, ◌<◌, IfOk, length, drop};
 ghost use Rattle.cp_scan.specs.Pieces as spec;

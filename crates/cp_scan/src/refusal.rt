@@ -1,4 +1,4 @@
-//! Why a text has no tokens, or none were found.
+//! Why a text has no tokens, or none were found. What each cause says of a text stands in `specs/Laws.antt`.
 
 ghost use Rattle.std.specs.Prelude.{◌≡◌};
 ghost use Rattle.cp_scan.specs.declared.refusal.ScanError.TheVariants.{Memory};

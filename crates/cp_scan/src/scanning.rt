@@ -1,4 +1,5 @@
-//! All pieces of a text.
+//! All pieces of a text from left to right, and the tokens among them. What the contract of `scan` says of them stands in
+//! `specs/Laws.antt`, over `Spelling` of cp_model.
 
 ghost use Rattle.std.specs.Prelude.{◌≡◌, ◌≤◌, ℕ, List, drop, length, Ok, IfOk, IfErr, OnOk, MatchResult};
 ghost use Rattle.cp_model.specs.Spelling.{Spells};

@@ -1,4 +1,5 @@
-//! Words: reserved ones and names.
+//! Words in lower case: reserved ones, by the table of `Spelling` of cp_model, and names. `word` of `specs/Pieces.antt` defines
+//! what is read.
 
 ghost use Rattle.std.specs.Prelude.{◌≡◌, ◌<◌, map, IfOk, take};
 ghost use Rattle.cp_model.specs.Characters as character;
