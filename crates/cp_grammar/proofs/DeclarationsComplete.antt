@@ -1,11 +1,10 @@
 -- What the grammar allows as a declaration is read.
-use Rattle.std.proofs.Common.{◌≡◌, ℕ, zero, suc, ◌<◌, ◌≤◌, Bool, true, false, List, [], ◌∷◌, length, Option, Some, None, Ok, refl, sym, ap, ◌∙◌, arith}
-use Rattle.cp_model.specs.Languages.{Language, token, symbol, symbol_at, identifier, ◌⋅◌, optional, each, separated}
+use Rattle.std.proofs.Common.{◌≡◌, ℕ, zero, suc, Bool, true, false, List, [], ◌∷◌, Option, Some, None, Ok, refl, sym, ap, ◌∙◌}
+use Rattle.cp_model.specs.Languages.{symbol, symbol_at, identifier, optional, each}
 use Rattle.cp_model.specs.Syntax as s
 use Rattle.cp_model.specs.View.{statements_of}
-use Rattle.cp_model.specs.GrammarExpressions.{constant}
 use Rattle.cp_model.specs.GrammarTypes.{names, type_expression}
-use Rattle.cp_model.specs.Grammar.{body, variable_group, variables, parameter_group, parameters, routine_word, result_type, routine, sort_symbol, system, defined, constant_definition, type_definition, section, text}
+use Rattle.cp_model.specs.Grammar.{body, variable_group, variables, parameter_group, parameters, routine_word, result_type, routine, sort_symbol, system, defined, constant_definition, type_definition, section}
 use Rattle.cp_model.specs.declared.token.Token.{Token}
 use Rattle.cp_model.specs.declared.token.Kind.{Kind}
 use Rattle.cp_model.specs.declared.token.Kind.TheVariants as kind
@@ -17,17 +16,15 @@ use Rattle.cp_model.specs.declared.tree.ConstantDefinition.{ConstantDefinition}
 use Rattle.cp_model.specs.declared.tree.Sort.{Sort}
 use Rattle.cp_model.specs.declared.tree.Sort.TheVariants as sort
 use Rattle.cp_grammar.specs.Kinds.{is_symbol, is_name}
-use Rattle.cp_grammar.specs.Reading.{Outcome, Reader, and_then, ◌>>=◌, pure, take_token, by_kind, kind_at, tail, expect, optional_symbol, repeated, one_or_more, separated_by}
-use Rattle.cp_grammar.specs.Names.{identifier_of, names_of, constant_of}
+use Rattle.cp_grammar.specs.Reading.{Reader, kind_at, tail, optional_symbol, repeated, one_or_more, separated_by}
+use Rattle.cp_grammar.specs.Names.{identifier_of, names_of}
 use Rattle.cp_grammar.specs.Types.{group_of, type_at}
 use Rattle.cp_grammar.specs.Statements.{Deeper, statements_from, block_of, deeper_at}
 use Rattle.cp_grammar.specs.Declarations.{constant_definition_of, parameter_group_of, some_parameters_of, parameters_of, result_type_of, Heading, heading_from, heading_of, begins_routine, variable_group_of, some_variables_of, variables_of, body_of, routine_of, routines_of, system_from, system_type, enumeration_of, written_type, defined_by, defined_of, type_definition_of, section_by, section_of, begins_section}
 use Rattle.cp_grammar.specs.Follows.{ends_type}
 use Rattle.cp_grammar.proofs.Tokens.{is_symbol_refl, kind_of, kind_of_symbol, expect_reads}
-use Rattle.cp_grammar.proofs.Ensures.{some}
-use Rattle.cp_grammar.proofs.Lists.{Each, each_of, ItemReads, separated_reads, each_reads, some_reads}
+use Rattle.cp_grammar.proofs.Lists.{each_of, ItemReads, separated_reads, each_reads, some_reads}
 use Rattle.cp_grammar.proofs.NamesComplete.{identifier_reads, names_reads, constant_reads}
-use Rattle.cp_grammar.proofs.TypesSound.{group}
 use Rattle.cp_grammar.proofs.TypesComplete.{type_complete, group_complete}
 use Rattle.cp_grammar.proofs.StatementsComplete.{readers, deeper_suc, listed_statements, statements_listed, statements_reads, end_follows, end_is_no_semicolon}
 use Rattle.cp_grammar.proofs.StatementsComplete as statements
@@ -119,7 +116,8 @@ routine_begins limit r ts rest h = go r.result_type h.1
     go (Some t) w = rw (kind_of_symbol symbol.Function ts h.0 w) refl
 
 -- routines, and a body behind them
-pub block_begins : (limit : ℕ) (rs : List s.Routine) (b : s.Body) (ts mid rest : List Token) → each (routine limit) rs ts mid → body limit b mid rest → begins_block (kind_at ts) ≡ true
+pub block_begins : (limit : ℕ) (rs : List s.Routine) (b : s.Body) (ts mid rest : List Token) → each (routine limit) rs ts mid → body limit b mid rest
+    → begins_block (kind_at ts) ≡ true
 block_begins limit [] b ts mid rest h g = rw (h, body_begins limit b mid rest g) body_is_block
 block_begins limit (r ∷ rs) b ts mid rest h g = routine_is_block (kind_at ts) (routine_begins limit r ts h.0 h.1)
 
@@ -137,11 +135,17 @@ constant_definition_reads : (d : ConstantDefinition) (ts rest : List Token) → 
 unfolding constant_definition_of
 constant_definition_reads d ts rest h =
     let h1 = h.2 in let h2 = h1.2 in
-    rw (identifier_reads d.name ts h.0 h.1, expect_reads symbol.Equal h1.1.0 h.0 h1.0 h1.1.1, constant_reads d.value h1.0 h2.0 h2.1, expect_reads symbol.Semicolon h2.2.0 h2.0 rest h2.2.1) refl
+    rw (
+      identifier_reads d.name ts h.0 h.1,
+      expect_reads symbol.Equal h1.1.0 h.0 h1.0 h1.1.1,
+      constant_reads d.value h1.0 h2.0 h2.1,
+      expect_reads symbol.Semicolon h2.2.0 h2.0 rest h2.2.1,
+    ) refl
 
 -- ---- parameters and headings
 
-optional_reads : (x : Symbol) (at : Option ℕ) (ts rest : List Token) → optional x at ts rest → is_symbol x (kind_at rest) ≡ false → optional_symbol x ts ≡ Ok (at, rest)
+optional_reads : (x : Symbol) (at : Option ℕ) (ts rest : List Token) → optional x at ts rest → is_symbol x (kind_at rest) ≡ false
+    → optional_symbol x ts ≡ Ok (at, rest)
 unfolding optional_symbol
 optional_reads x None ts rest h stop = rw (h, stop) refl
 optional_reads x (Some at) ts rest h stop = rw (h.1, is_symbol_refl x) refl
@@ -151,23 +155,31 @@ unfolding parameter_group_of
 parameter_group_reads p ts rest h =
     let h1 = h.2 in let h2 = h1.2 in
     let name = names_begin p.names h.0 h1.0 h1.1 in
-    rw (optional_reads symbol.Var p.by_reference ts h.0 h.1 (rw name.1 (name_is_no symbol.Var name.0)),
-        names_reads p.names h.0 h1.0 h1.1 (rw (kind_of_symbol symbol.Colon h1.0 h2.0 h2.1) colon_is_no_comma), expect_reads symbol.Colon h2.1.0 h1.0 h2.0 h2.1.1, identifier_reads p.of h2.0 rest h2.2) refl
+    rw (
+      optional_reads symbol.Var p.by_reference ts h.0 h.1 (rw name.1 (name_is_no symbol.Var name.0)),
+      names_reads p.names h.0 h1.0 h1.1 (rw (kind_of_symbol symbol.Colon h1.0 h2.0 h2.1) colon_is_no_comma),
+      expect_reads symbol.Colon h2.1.0 h1.0 h2.0 h2.1.1,
+      identifier_reads p.of h2.0 rest h2.2,
+    ) refl
 
-parameters_go : (ps : List s.Parameters) (at close : ℕ) (ts t1 t2 rest : List Token) → symbol_at symbol.OpenParenthesis at ts t1 → separated_by symbol.Semicolon parameter_group_of t1 ≡ Ok (ps, t2)
+parameters_go : (ps : List s.Parameters) (at close : ℕ) (ts t1 t2 rest : List Token) → symbol_at symbol.OpenParenthesis at ts t1
+    → separated_by symbol.Semicolon parameter_group_of t1 ≡ Ok (ps, t2)
     → symbol_at symbol.CloseParenthesis close t2 rest → parameters_of ts ≡ Ok (ps, rest)
 unfolding parameters_of some_parameters_of
-parameters_go ps at close ts t1 t2 rest h1 h2 h3 = rw (h1.1, is_symbol_refl symbol.OpenParenthesis, h2, expect_reads symbol.CloseParenthesis close t2 rest h3) refl
+parameters_go ps at close ts t1 t2 rest h1 h2 h3 =
+    rw (h1.1, is_symbol_refl symbol.OpenParenthesis, h2, expect_reads symbol.CloseParenthesis close t2 rest h3) refl
 
-parameters_reads : (ps : List s.Parameters) (ts rest : List Token) → parameters ps ts rest → is_symbol symbol.OpenParenthesis (kind_at rest) ≡ false → parameters_of ts ≡ Ok (ps, rest)
+parameters_reads : (ps : List s.Parameters) (ts rest : List Token) → parameters ps ts rest → is_symbol symbol.OpenParenthesis (kind_at rest) ≡ false
+    → parameters_of ts ≡ Ok (ps, rest)
 unfolding parameters_of
 parameters_reads [] ts rest h stop = rw (h, stop) refl
 parameters_reads (p ∷ ps) ts rest h stop =
     let h1 = h.2 in
     parameters_go (p ∷ ps) h.1.0 h1.2.0 ts h.0 h1.0 rest h.1.1
-      (separated_reads parameter_group parameter_group_of Anything symbol.Semicolon (λ p. tt) parameter_group_shrinks (p ∷ ps)
-        (each_of (ItemReads parameter_group parameter_group_of Anything) (λ p ts rest h u. parameter_group_reads p ts rest h) (p ∷ ps)) h.0 h1.0 h1.1 (λ p. tt)
-        (rw (kind_of_symbol symbol.CloseParenthesis h1.0 rest h1.2) close_is_no_semicolon)) h1.2.1
+    (separated_reads parameter_group parameter_group_of Anything symbol.Semicolon (λ p. tt) parameter_group_shrinks (p ∷ ps)
+    (each_of (ItemReads parameter_group parameter_group_of Anything) (λ p ts rest h u. parameter_group_reads p ts rest h) (p ∷ ps)) h.0 h1.0 h1.1
+    (λ p. tt)
+    (rw (kind_of_symbol symbol.CloseParenthesis h1.0 rest h1.2) close_is_no_semicolon)) h1.2.1
 
 -- the word before a routine says whether it has a result
 abbrev has_result : Option Identifier → Bool
@@ -179,7 +191,8 @@ unfolding result_type_of
 result_reads None ts rest h = rw h refl
 result_reads (Some t) ts rest h = rw (expect_reads symbol.Colon h.1.0 ts h.0 h.1.1, identifier_reads t h.0 rest h.2) refl
 
-result_ends : (t : Option Identifier) (ts mid rest : List Token) → result_type t ts mid → symbol symbol.Semicolon mid rest → is_symbol symbol.OpenParenthesis (kind_at ts) ≡ false
+result_ends : (t : Option Identifier) (ts mid rest : List Token) → result_type t ts mid → symbol symbol.Semicolon mid rest
+    → is_symbol symbol.OpenParenthesis (kind_at ts) ≡ false
 result_ends None ts mid rest h e = rw (h, kind_of_symbol symbol.Semicolon mid rest e) semicolon_is_no_parenthesis
 result_ends (Some t) ts mid rest h e = rw (kind_of_symbol symbol.Colon ts h.0 h.1) colon_is_no_parenthesis
 
@@ -191,8 +204,10 @@ word_taken : (t : Option Identifier) (ts rest : List Token) → routine_word t t
 word_taken None ts rest h = rw h.1.1 refl
 word_taken (Some t) ts rest h = rw h.1.1 refl
 
-heading_go : (b : Bool) (h : Heading) (ts t1 t2 t3 t4 t5 rest : List Token) → is_symbol symbol.Function (kind_at ts) ≡ b → tail ts ≡ t1 → optional_symbol symbol.Entry t1 ≡ Ok (h.entry, t2)
-    → identifier_of t2 ≡ Ok (h.name, t3) → parameters_of t3 ≡ Ok (h.parameters, t4) → result_type_of b t4 ≡ Ok (h.result_type, t5) → symbol symbol.Semicolon t5 rest → heading_of ts ≡ Ok (h, rest)
+heading_go : (b : Bool) (h : Heading) (ts t1 t2 t3 t4 t5 rest : List Token) → is_symbol symbol.Function (kind_at ts) ≡ b → tail ts ≡ t1
+    → optional_symbol symbol.Entry t1 ≡ Ok (h.entry, t2)
+    → identifier_of t2 ≡ Ok (h.name, t3) → parameters_of t3 ≡ Ok (h.parameters, t4) → result_type_of b t4 ≡ Ok (h.result_type, t5)
+    → symbol symbol.Semicolon t5 rest → heading_of ts ≡ Ok (h, rest)
 unfolding heading_of heading_from
 heading_go b h ts t1 t2 t3 t4 t5 rest k h1 h2 h3 h4 h5 h6 = rw (k, h1, h2, h3, h4, h5, expect_reads symbol.Semicolon h6.0 t5 rest h6.1) refl
 
@@ -200,29 +215,36 @@ heading_reads : (h : Heading) (ts rest : List Token) → heading h ts rest → h
 heading_reads h ts rest g =
     let g1 = g.2 in let g2 = g1.2 in let g3 = g2.2 in let g4 = g3.2 in
     let taken = word_taken h.result_type ts g.0 g.1 in
-    let entry_stops : is_symbol symbol.Entry (kind_at g1.0) ≡ false = rw (kind_of (kind.Name h.name.name) h.name.at g1.0 g2.0 g2.1) (name_is_no symbol.Entry h.name.name) in
-    heading_go (has_result h.result_type) h ts g.0 g1.0 g2.0 g3.0 g4.0 rest (word_tells h.result_type ts g.0 g.1) taken (optional_reads symbol.Entry h.entry g.0 g1.0 g1.1 entry_stops)
-      (identifier_reads h.name g1.0 g2.0 g2.1) (parameters_reads h.parameters g2.0 g3.0 g3.1 (result_ends h.result_type g3.0 g4.0 rest g4.1 g4.2)) (result_reads h.result_type g3.0 g4.0 g4.1) g4.2
+    let entry_stops : is_symbol symbol.Entry (kind_at g1.0) ≡ false =
+    rw (kind_of (kind.Name h.name.name) h.name.at g1.0 g2.0 g2.1) (name_is_no symbol.Entry h.name.name) in
+    heading_go (has_result h.result_type) h ts g.0 g1.0 g2.0 g3.0 g4.0 rest (word_tells h.result_type ts g.0 g.1) taken
+    (optional_reads symbol.Entry h.entry g.0 g1.0 g1.1 entry_stops)
+    (identifier_reads h.name g1.0 g2.0 g2.1) (parameters_reads h.parameters g2.0 g3.0 g3.1 (result_ends h.result_type g3.0 g4.0 rest g4.1 g4.2))
+    (result_reads h.result_type g3.0 g4.0 g4.1) g4.2
 
 -- ---- variables, bodies and routines
 
 semicolon_ends_type : ends_type (Some (kind.Symbol symbol.Semicolon)) ≡ true
 semicolon_ends_type = refl
 
-variable_group_go : (p : Reader s.TypeExpression) (g : s.Variables) (ts mid rest : List Token) → group_of p ts ≡ Ok (g, mid) → symbol symbol.Semicolon mid rest → variable_group_of p ts ≡ Ok (g, rest)
+variable_group_go : (p : Reader s.TypeExpression) (g : s.Variables) (ts mid rest : List Token) → group_of p ts ≡ Ok (g, mid)
+    → symbol symbol.Semicolon mid rest → variable_group_of p ts ≡ Ok (g, rest)
 unfolding variable_group_of
 variable_group_go p g ts mid rest one e = rw (one, expect_reads symbol.Semicolon e.0 mid rest e.1) refl
 
-variable_group_reads : (limit : ℕ) (g : s.Variables) (ts rest : List Token) → variable_group limit g ts rest → variable_group_of (type_at limit) ts ≡ Ok (g, rest)
+variable_group_reads : (limit : ℕ) (g : s.Variables) (ts rest : List Token) → variable_group limit g ts rest
+    → variable_group_of (type_at limit) ts ≡ Ok (g, rest)
 variable_group_reads limit g ts rest h =
     let h1 = h.2 in let h2 = h1.2 in
     variable_group_go (type_at limit) g ts h2.0 rest
-      (group_complete limit g (type_complete g.of) ts h2.0 (h.0, h.1, (h1.0, h1.1, h2.1)) (rw (kind_of_symbol symbol.Semicolon h2.0 rest h2.2) semicolon_ends_type)) h2.2
+    (group_complete limit g (type_complete g.of) ts h2.0 (h.0, h.1, (h1.0, h1.1, h2.1))
+    (rw (kind_of_symbol symbol.Semicolon h2.0 rest h2.2) semicolon_ends_type)) h2.2
 
 group_begins : (limit : ℕ) (g : s.Variables) (ts rest : List Token) → variable_group limit g ts rest → is_name (kind_at ts) ≡ true
 group_begins limit g ts rest h = let name = names_begin g.names ts h.0 h.1 in rw name.1 refl
 
-variables_go : (p : Reader s.TypeExpression) (gs : List s.Variables) (ts mid rest : List Token) → symbol symbol.Var ts mid → one_or_more is_name (variable_group_of p) mid ≡ Ok (gs, rest) → variables_of p ts ≡ Ok (gs, rest)
+variables_go : (p : Reader s.TypeExpression) (gs : List s.Variables) (ts mid rest : List Token) → symbol symbol.Var ts mid
+    → one_or_more is_name (variable_group_of p) mid ≡ Ok (gs, rest) → variables_of p ts ≡ Ok (gs, rest)
 unfolding variables_of some_variables_of
 variables_go p gs ts mid rest v h = rw (v.1.1, is_symbol_refl symbol.Var, h) refl
 
@@ -230,20 +252,25 @@ variables_stop : (p : Reader s.TypeExpression) (ts : List Token) → is_symbol s
 unfolding variables_of
 variables_stop p ts stop = rw stop refl
 
-pub variables_reads : (limit : ℕ) (gs : List s.Variables) (ts rest : List Token) → variables limit gs ts rest → begins_block (kind_at rest) ≡ true → variables_of (type_at limit) ts ≡ Ok (gs, rest)
+pub variables_reads : (limit : ℕ) (gs : List s.Variables) (ts rest : List Token) → variables limit gs ts rest → begins_block (kind_at rest) ≡ true
+    → variables_of (type_at limit) ts ≡ Ok (gs, rest)
 variables_reads limit [] ts rest h block = rw h (variables_stop (type_at limit) rest (block_is_no_var (kind_at rest) block))
 variables_reads limit (g ∷ gs) ts rest h block =
     variables_go (type_at limit) (g ∷ gs) ts h.0 rest h.1
-      (some_reads (variable_group limit) (variable_group_of (type_at limit)) Anything is_name (group_begins limit) (λ g k go. tt) (variable_group_shrinks limit) (g ∷ gs)
-        (each_of (ItemReads (variable_group limit) (variable_group_of (type_at limit)) Anything) (λ g ts rest h u. variable_group_reads limit g ts rest h) (g ∷ gs))
-        h.0 rest h.2 (λ g. tt) (block_is_no_name (kind_at rest) block))
+    (some_reads (variable_group limit) (variable_group_of (type_at limit)) Anything is_name (group_begins limit) (λ g k go. tt)
+    (variable_group_shrinks limit) (g ∷ gs)
+    (each_of (ItemReads (variable_group limit) (variable_group_of (type_at limit)) Anything)
+    (λ g ts rest h u. variable_group_reads limit g ts rest h) (g ∷ gs))
+    h.0 rest h.2 (λ g. tt) (block_is_no_name (kind_at rest) block))
 
 -- what follows the definitions before variables: none that begins with a name
-pub variables_begin : (limit : ℕ) (gs : List s.Variables) (ts mid : List Token) → variables limit gs ts mid → begins_block (kind_at mid) ≡ true → (is_name (kind_at ts) ≡ false) × (begins_section (kind_at ts) ≡ false)
+pub variables_begin : (limit : ℕ) (gs : List s.Variables) (ts mid : List Token) → variables limit gs ts mid → begins_block (kind_at mid) ≡ true
+    → (is_name (kind_at ts) ≡ false) × (begins_section (kind_at ts) ≡ false)
 variables_begin limit [] ts mid h block = rw h (block_is_no_name (kind_at mid) block, block_is_no_section (kind_at mid) block)
 variables_begin limit (g ∷ gs) ts mid h block = rw (kind_of_symbol symbol.Var ts h.0 h.1) (refl, refl)
 
-body_go : (d : Deeper) (at end : ℕ) (l : List s.Statement) (ts t1 t2 rest : List Token) → symbol_at symbol.Begin at ts t1 → statements_from d.statement t1 ≡ Ok (l, t2) → symbol_at symbol.End end t2 rest
+body_go : (d : Deeper) (at end : ℕ) (l : List s.Statement) (ts t1 t2 rest : List Token) → symbol_at symbol.Begin at ts t1
+    → statements_from d.statement t1 ≡ Ok (l, t2) → symbol_at symbol.End end t2 rest
     → body_of (Some d) ts ≡ Ok (record { at = at; list = statements_of l }, rest)
 unfolding body_of block_of
 body_go d at end l ts t1 t2 rest h1 h2 h3 = rw (h1.1, is_symbol_refl symbol.Begin, h2, expect_reads symbol.End end t2 rest h3) refl
@@ -254,43 +281,55 @@ body_reads (suc room) b ts rest h =
     let e = h.2.2 in
     rw (deeper_suc room)
     (body_go (readers room) b.at e.0 (listed_statements b.list) ts h.0 h.2.0 rest h.1
-      (statements_reads b.list (statements.all_complete b.list) room h.0 h.2.0 h.2.1 (rw (kind_of_symbol symbol.End h.2.0 rest e) end_follows) (rw (kind_of_symbol symbol.End h.2.0 rest e) end_is_no_semicolon)) e.1
+    (statements_reads b.list (statements.all_complete b.list) room h.0 h.2.0 h.2.1 (rw (kind_of_symbol symbol.End h.2.0 rest e) end_follows)
+    (rw (kind_of_symbol symbol.End h.2.0 rest e) end_is_no_semicolon)) e.1
     ∙ ap (λ (l : s.Statements). Ok (record { at = b.at; list = l }, rest)) (statements_listed b.list))
 
 routine_go : (p : Reader s.TypeExpression) (d : Option Deeper) (r : s.Routine) (h : Heading) (ts t1 t2 t3 rest : List Token)
     → r ≡ record { entry = h.entry; name = h.name; parameters = h.parameters; result_type = h.result_type; variables = r.variables; body = r.body }
-    → heading_of ts ≡ Ok (h, t1) → variables_of p t1 ≡ Ok (r.variables, t2) → body_of d t2 ≡ Ok (r.body, t3) → symbol symbol.Semicolon t3 rest → routine_of p d ts ≡ Ok (r, rest)
+    → heading_of ts ≡ Ok (h, t1) → variables_of p t1 ≡ Ok (r.variables, t2) → body_of d t2 ≡ Ok (r.body, t3) → symbol symbol.Semicolon t3 rest
+    → routine_of p d ts ≡ Ok (r, rest)
 unfolding routine_of
-routine_go p d r h ts t1 t2 t3 rest same h1 h2 h3 h4 = rw (h1, h2, h3, expect_reads symbol.Semicolon h4.0 t3 rest h4.1) (ap (λ (r : s.Routine). Ok (r, rest)) (sym same))
+routine_go p d r h ts t1 t2 t3 rest same h1 h2 h3 h4 =
+    rw (h1, h2, h3, expect_reads symbol.Semicolon h4.0 t3 rest h4.1) (ap (λ (r : s.Routine). Ok (r, rest)) (sym same))
 
-routine_reads : (limit : ℕ) (r : s.Routine) (ts rest : List Token) → routine limit r ts rest → routine_of (type_at limit) (deeper_at limit) ts ≡ Ok (r, rest)
+routine_reads : (limit : ℕ) (r : s.Routine) (ts rest : List Token) → routine limit r ts rest
+    → routine_of (type_at limit) (deeper_at limit) ts ≡ Ok (r, rest)
 routine_reads limit r ts rest h =
     let h1 = h.2 in let h2 = h1.2 in let h3 = h2.2 in let h4 = h3.2 in let h5 = h4.2 in let h6 = h5.2 in let h7 = h6.2 in
     let top : Heading = record { entry = r.entry; name = r.name; parameters = r.parameters; result_type = r.result_type } in
     let one = heading_reads top ts h5.0 (h.0, h.1, (h1.0, h1.1, (h2.0, h2.1, (h3.0, h3.1, (h4.0, h4.1, h5.1))))) in
     let block : begins_block (kind_at h6.0) ≡ true = rw (body_begins limit r.body h6.0 h7.0 h7.1) body_is_block in
-    routine_go (type_at limit) (deeper_at limit) r top ts h5.0 h6.0 h7.0 rest refl one (variables_reads limit r.variables h5.0 h6.0 h6.1 block) (body_reads limit r.body h6.0 h7.0 h7.1) h7.2
+    routine_go (type_at limit) (deeper_at limit) r top ts h5.0 h6.0 h7.0 rest refl one (variables_reads limit r.variables h5.0 h6.0 h6.1 block)
+    (body_reads limit r.body h6.0 h7.0 h7.1) h7.2
 
-pub routines_reads : (limit : ℕ) (rs : List s.Routine) (b : s.Body) (ts mid rest : List Token) → each (routine limit) rs ts mid → body limit b mid rest → routines_of (type_at limit) (deeper_at limit) ts ≡ Ok (rs, mid)
+pub routines_reads : (limit : ℕ) (rs : List s.Routine) (b : s.Body) (ts mid rest : List Token) → each (routine limit) rs ts mid
+    → body limit b mid rest → routines_of (type_at limit) (deeper_at limit) ts ≡ Ok (rs, mid)
 unfolding routines_of
 routines_reads limit rs b ts mid rest h g =
-    each_reads (routine limit) (routine_of (type_at limit) (deeper_at limit)) Anything begins_routine (routine_begins limit) (λ r k go. tt) (routine_shrinks limit) rs
-      (each_of (ItemReads (routine limit) (routine_of (type_at limit) (deeper_at limit)) Anything) (λ r ts rest h u. routine_reads limit r ts rest h) rs)
-      ts mid h (λ r. tt) (rw (body_begins limit b mid rest g) refl)
+    each_reads (routine limit) (routine_of (type_at limit) (deeper_at limit)) Anything begins_routine (routine_begins limit) (λ r k go. tt)
+    (routine_shrinks limit) rs
+    (each_of (ItemReads (routine limit) (routine_of (type_at limit) (deeper_at limit)) Anything)
+    (λ r ts rest h u. routine_reads limit r ts rest h) rs)
+    ts mid h (λ r. tt) (rw (body_begins limit b mid rest g) refl)
 
 -- ---- types
 
-system_go : (p : Reader s.TypeExpression) (d : Option Deeper) (y : s.System) (ts t1 t2 t3 t4 t5 rest : List Token) → symbol (sort_symbol y.sort) ts t1 → parameters_of t1 ≡ Ok (y.parameters, t2) → symbol symbol.Semicolon t2 t3
-    → variables_of p t3 ≡ Ok (y.variables, t4) → routines_of p d t4 ≡ Ok (y.routines, t5) → body_of d t5 ≡ Ok (y.body, rest) → system_from p d y.sort ts ≡ Ok (y, rest)
+system_go : (p : Reader s.TypeExpression) (d : Option Deeper) (y : s.System) (ts t1 t2 t3 t4 t5 rest : List Token) → symbol (sort_symbol y.sort) ts t1
+    → parameters_of t1 ≡ Ok (y.parameters, t2) → symbol symbol.Semicolon t2 t3
+    → variables_of p t3 ≡ Ok (y.variables, t4) → routines_of p d t4 ≡ Ok (y.routines, t5) → body_of d t5 ≡ Ok (y.body, rest)
+    → system_from p d y.sort ts ≡ Ok (y, rest)
 unfolding system_from
 system_go p d y ts t1 t2 t3 t4 t5 rest h1 h2 h3 h4 h5 h6 = rw (h1.1.1, h2, expect_reads symbol.Semicolon h3.0 t2 t3 h3.1, h4, h5, h6) refl
 
-system_reads : (limit : ℕ) (y : s.System) (ts rest : List Token) → system limit y ts rest → system_from (type_at limit) (deeper_at limit) y.sort ts ≡ Ok (y, rest)
+system_reads : (limit : ℕ) (y : s.System) (ts rest : List Token) → system limit y ts rest
+    → system_from (type_at limit) (deeper_at limit) y.sort ts ≡ Ok (y, rest)
 system_reads limit y ts rest h =
     let h1 = h.2 in let h2 = h1.2 in let h3 = h2.2 in let h4 = h3.2 in
     system_go (type_at limit) (deeper_at limit) y ts h.0 h1.0 h2.0 h3.0 h4.0 rest h.1
-      (parameters_reads y.parameters h.0 h1.0 h1.1 (rw (kind_of_symbol symbol.Semicolon h1.0 h2.0 h2.1) semicolon_is_no_parenthesis)) h2.1
-      (variables_reads limit y.variables h2.0 h3.0 h3.1 (block_begins limit y.routines y.body h3.0 h4.0 rest h4.1 h4.2)) (routines_reads limit y.routines y.body h3.0 h4.0 rest h4.1 h4.2) (body_reads limit y.body h4.0 rest h4.2)
+    (parameters_reads y.parameters h.0 h1.0 h1.1 (rw (kind_of_symbol symbol.Semicolon h1.0 h2.0 h2.1) semicolon_is_no_parenthesis)) h2.1
+    (variables_reads limit y.variables h2.0 h3.0 h3.1 (block_begins limit y.routines y.body h3.0 h4.0 rest h4.1 h4.2))
+    (routines_reads limit y.routines y.body h3.0 h4.0 rest h4.1 h4.2) (body_reads limit y.body h4.0 rest h4.2)
 
 sort_by : (p : Reader s.TypeExpression) (d : Option Deeper) (x : Sort) → defined_by p d (Some (kind.Symbol (sort_symbol x))) ≡ system_type p d x
 unfolding defined_by
@@ -298,15 +337,18 @@ sort_by p d sort.Process = refl
 sort_by p d sort.Monitor = refl
 sort_by p d sort.Class = refl
 
-system_type_reads : (p : Reader s.TypeExpression) (d : Option Deeper) (y : s.System) (ts rest : List Token) → system_from p d y.sort ts ≡ Ok (y, rest) → system_type p d y.sort ts ≡ Ok (s.SystemType y, rest)
+system_type_reads : (p : Reader s.TypeExpression) (d : Option Deeper) (y : s.System) (ts rest : List Token) → system_from p d y.sort ts ≡ Ok (y, rest)
+    → system_type p d y.sort ts ≡ Ok (s.SystemType y, rest)
 unfolding system_type
 system_type_reads p d y ts rest h = rw h refl
 
-by_defined : (p : Reader s.TypeExpression) (d : Option Deeper) (k : Option Kind) (q : Reader s.Defined) (x : s.Defined) (ts rest : List Token) → kind_at ts ≡ k → defined_by p d k ≡ q → q ts ≡ Ok (x, rest) → defined_of p d ts ≡ Ok (x, rest)
+by_defined : (p : Reader s.TypeExpression) (d : Option Deeper) (k : Option Kind) (q : Reader s.Defined) (x : s.Defined) (ts rest : List Token)
+    → kind_at ts ≡ k → defined_by p d k ≡ q → q ts ≡ Ok (x, rest) → defined_of p d ts ≡ Ok (x, rest)
 unfolding defined_of
 by_defined p d k q x ts rest e same h = rw (e, same) h
 
-enumeration_reads : (p : Reader s.TypeExpression) (d : Option Deeper) (xs : List Identifier) (ts t1 t2 rest : List Token) → symbol symbol.OpenParenthesis ts t1 → names_of t1 ≡ Ok (xs, t2) → symbol symbol.CloseParenthesis t2 rest
+enumeration_reads : (p : Reader s.TypeExpression) (d : Option Deeper) (xs : List Identifier) (ts t1 t2 rest : List Token)
+    → symbol symbol.OpenParenthesis ts t1 → names_of t1 ≡ Ok (xs, t2) → symbol symbol.CloseParenthesis t2 rest
     → enumeration_of p d ts ≡ Ok (s.Enumeration xs, rest)
 unfolding enumeration_of
 enumeration_reads p d xs ts t1 t2 rest h1 h2 h3 = rw (h1.1.1, h2, expect_reads symbol.CloseParenthesis h3.0 t2 rest h3.1) refl
@@ -342,31 +384,42 @@ type_begins (suc room) (s.Array at is e) ts rest h = rw h.1.1 refl
 type_begins zero (s.Record at gs) ts rest h = absurd h
 type_begins (suc room) (s.Record at gs) ts rest h = rw h.1.1 refl
 
-written_reads : (p : Reader s.TypeExpression) (d : Option Deeper) (t : s.TypeExpression) (ts rest : List Token) → p ts ≡ Ok (t, rest) → written_type p d ts ≡ Ok (s.Written t, rest)
+written_reads : (p : Reader s.TypeExpression) (d : Option Deeper) (t : s.TypeExpression) (ts rest : List Token) → p ts ≡ Ok (t, rest)
+    → written_type p d ts ≡ Ok (s.Written t, rest)
 unfolding written_type
 written_reads p d t ts rest h = rw h refl
 
-defined_reads : (limit : ℕ) (x : s.Defined) (ts rest : List Token) → defined limit x ts rest → ends_type (kind_at rest) ≡ true → defined_of (type_at limit) (deeper_at limit) ts ≡ Ok (x, rest)
+defined_reads : (limit : ℕ) (x : s.Defined) (ts rest : List Token) → defined limit x ts rest → ends_type (kind_at rest) ≡ true
+    → defined_of (type_at limit) (deeper_at limit) ts ≡ Ok (x, rest)
 defined_reads limit (s.Written t) ts rest h ends =
     by_defined (type_at limit) (deeper_at limit) (kind_at ts) (written_type (type_at limit) (deeper_at limit)) (s.Written t) ts rest refl
-      (written_by (type_at limit) (deeper_at limit) (kind_at ts) (type_begins limit t ts rest h)) (written_reads (type_at limit) (deeper_at limit) t ts rest (type_complete t limit ts rest h ends))
+    (written_by (type_at limit) (deeper_at limit) (kind_at ts) (type_begins limit t ts rest h))
+    (written_reads (type_at limit) (deeper_at limit) t ts rest (type_complete t limit ts rest h ends))
 defined_reads limit (s.Enumeration xs) ts rest h ends =
-    by_defined (type_at limit) (deeper_at limit) (Some (kind.Symbol symbol.OpenParenthesis)) (enumeration_of (type_at limit) (deeper_at limit)) (s.Enumeration xs) ts rest (kind_of_symbol symbol.OpenParenthesis ts h.0 h.1)
-      (enumeration_by (type_at limit) (deeper_at limit))
-      (enumeration_reads (type_at limit) (deeper_at limit) xs ts h.0 h.2.0 rest h.1 (names_reads xs h.0 h.2.0 h.2.1 (rw (kind_of_symbol symbol.CloseParenthesis h.2.0 rest h.2.2) close_is_no_comma)) h.2.2)
+    by_defined (type_at limit) (deeper_at limit) (Some (kind.Symbol symbol.OpenParenthesis)) (enumeration_of (type_at limit) (deeper_at limit))
+    (s.Enumeration xs) ts rest (kind_of_symbol symbol.OpenParenthesis ts h.0 h.1)
+    (enumeration_by (type_at limit) (deeper_at limit))
+    (enumeration_reads (type_at limit) (deeper_at limit) xs ts h.0 h.2.0 rest h.1
+    (names_reads xs h.0 h.2.0 h.2.1 (rw (kind_of_symbol symbol.CloseParenthesis h.2.0 rest h.2.2) close_is_no_comma)) h.2.2)
 defined_reads limit (s.SystemType y) ts rest h ends =
-    by_defined (type_at limit) (deeper_at limit) (Some (kind.Symbol (sort_symbol y.sort))) (system_type (type_at limit) (deeper_at limit) y.sort) (s.SystemType y) ts rest (kind_of_symbol (sort_symbol y.sort) ts h.0 h.1)
-      (sort_by (type_at limit) (deeper_at limit) y.sort) (system_type_reads (type_at limit) (deeper_at limit) y ts rest (system_reads limit y ts rest h))
+    by_defined (type_at limit) (deeper_at limit) (Some (kind.Symbol (sort_symbol y.sort))) (system_type (type_at limit) (deeper_at limit) y.sort)
+    (s.SystemType y) ts rest (kind_of_symbol (sort_symbol y.sort) ts h.0 h.1)
+    (sort_by (type_at limit) (deeper_at limit) y.sort)
+    (system_type_reads (type_at limit) (deeper_at limit) y ts rest (system_reads limit y ts rest h))
 
-type_definition_go : (p : Reader s.TypeExpression) (d : Option Deeper) (x : s.TypeDefinition) (ts t1 t2 t3 rest : List Token) → identifier x.name ts t1 → symbol symbol.Equal t1 t2 → defined_of p d t2 ≡ Ok (x.defined, t3)
+type_definition_go : (p : Reader s.TypeExpression) (d : Option Deeper) (x : s.TypeDefinition) (ts t1 t2 t3 rest : List Token)
+    → identifier x.name ts t1 → symbol symbol.Equal t1 t2 → defined_of p d t2 ≡ Ok (x.defined, t3)
     → symbol symbol.Semicolon t3 rest → type_definition_of p d ts ≡ Ok (x, rest)
 unfolding type_definition_of
-type_definition_go p d x ts t1 t2 t3 rest h1 h2 h3 h4 = rw (identifier_reads x.name ts t1 h1, expect_reads symbol.Equal h2.0 t1 t2 h2.1, h3, expect_reads symbol.Semicolon h4.0 t3 rest h4.1) refl
+type_definition_go p d x ts t1 t2 t3 rest h1 h2 h3 h4 =
+    rw (identifier_reads x.name ts t1 h1, expect_reads symbol.Equal h2.0 t1 t2 h2.1, h3, expect_reads symbol.Semicolon h4.0 t3 rest h4.1) refl
 
-type_definition_reads : (limit : ℕ) (x : s.TypeDefinition) (ts rest : List Token) → type_definition limit x ts rest → type_definition_of (type_at limit) (deeper_at limit) ts ≡ Ok (x, rest)
+type_definition_reads : (limit : ℕ) (x : s.TypeDefinition) (ts rest : List Token) → type_definition limit x ts rest
+    → type_definition_of (type_at limit) (deeper_at limit) ts ≡ Ok (x, rest)
 type_definition_reads limit x ts rest h =
     let h1 = h.2 in let h2 = h1.2 in
-    type_definition_go (type_at limit) (deeper_at limit) x ts h.0 h1.0 h2.0 rest h.1 h1.1 (defined_reads limit x.defined h1.0 h2.0 h2.1 (rw (kind_of_symbol symbol.Semicolon h2.0 rest h2.2) semicolon_ends_type)) h2.2
+    type_definition_go (type_at limit) (deeper_at limit) x ts h.0 h1.0 h2.0 rest h.1 h1.1
+    (defined_reads limit x.defined h1.0 h2.0 h2.1 (rw (kind_of_symbol symbol.Semicolon h2.0 rest h2.2) semicolon_ends_type)) h2.2
 
 -- ---- sections
 
@@ -376,12 +429,14 @@ section_begins limit (s.Constants (d ∷ ds)) ts rest h = rw (kind_of_symbol sym
 section_begins limit (s.Types []) ts rest h = absurd h
 section_begins limit (s.Types (d ∷ ds)) ts rest h = rw (kind_of_symbol symbol.Type ts h.0 h.1) refl
 
-constants_go : (p : Reader s.TypeExpression) (d : Option Deeper) (ds : List ConstantDefinition) (ts mid rest : List Token) → symbol symbol.Const ts mid → one_or_more is_name constant_definition_of mid ≡ Ok (ds, rest)
+constants_go : (p : Reader s.TypeExpression) (d : Option Deeper) (ds : List ConstantDefinition) (ts mid rest : List Token)
+    → symbol symbol.Const ts mid → one_or_more is_name constant_definition_of mid ≡ Ok (ds, rest)
     → section_of p d ts ≡ Ok (s.Constants ds, rest)
 unfolding section_of section_by
 constants_go p d ds ts mid rest w h = rw (w.1.1, h) refl
 
-types_go : (p : Reader s.TypeExpression) (d : Option Deeper) (ds : List s.TypeDefinition) (ts mid rest : List Token) → symbol symbol.Type ts mid → one_or_more is_name (type_definition_of p d) mid ≡ Ok (ds, rest)
+types_go : (p : Reader s.TypeExpression) (d : Option Deeper) (ds : List s.TypeDefinition) (ts mid rest : List Token) → symbol symbol.Type ts mid
+    → one_or_more is_name (type_definition_of p d) mid ≡ Ok (ds, rest)
     → section_of p d ts ≡ Ok (s.Types ds, rest)
 unfolding section_of section_by
 types_go p d ds ts mid rest w h = rw (w.1.1, h) refl
@@ -394,16 +449,23 @@ section_reads : (limit : ℕ) (x : s.Section) → ItemReads (section limit) (sec
 section_reads limit (s.Constants []) ts rest h stop = absurd h
 section_reads limit (s.Constants (d ∷ ds)) ts rest h stop =
     constants_go (type_at limit) (deeper_at limit) (d ∷ ds) ts h.0 rest h.1
-      (some_reads constant_definition constant_definition_of Anything is_name (λ d ts rest h. rw h.1.1 refl) (λ d k go. tt) constant_definition_shrinks (d ∷ ds)
-        (each_of (ItemReads constant_definition constant_definition_of Anything) (λ d ts rest h u. constant_definition_reads d ts rest h) (d ∷ ds)) h.0 rest h.2 (λ d. tt) stop)
+    (some_reads constant_definition constant_definition_of Anything is_name (λ d ts rest h. rw h.1.1 refl)
+    (λ d k go. tt) constant_definition_shrinks (d ∷ ds)
+    (each_of (ItemReads constant_definition constant_definition_of Anything) (λ d ts rest h u. constant_definition_reads d ts rest h)
+    (d ∷ ds)) h.0 rest h.2 (λ d. tt) stop)
 section_reads limit (s.Types []) ts rest h stop = absurd h
 section_reads limit (s.Types (d ∷ ds)) ts rest h stop =
     types_go (type_at limit) (deeper_at limit) (d ∷ ds) ts h.0 rest h.1
-      (some_reads (type_definition limit) (type_definition_of (type_at limit) (deeper_at limit)) Anything is_name (λ d ts rest h. rw h.1.1 refl) (λ d k go. tt) (type_definition_shrinks limit) (d ∷ ds)
-        (each_of (ItemReads (type_definition limit) (type_definition_of (type_at limit) (deeper_at limit)) Anything) (λ d ts rest h u. type_definition_reads limit d ts rest h) (d ∷ ds)) h.0 rest h.2 (λ d. tt) stop)
+    (some_reads (type_definition limit) (type_definition_of (type_at limit) (deeper_at limit)) Anything is_name (λ d ts rest h. rw h.1.1 refl)
+    (λ d k go. tt) (type_definition_shrinks limit) (d ∷ ds)
+    (each_of (ItemReads (type_definition limit) (type_definition_of (type_at limit) (deeper_at limit)) Anything)
+    (λ d ts rest h u. type_definition_reads limit d ts rest h) (d ∷ ds)) h.0 rest h.2 (λ d. tt) stop)
 
-pub sections_reads : (limit : ℕ) (xs : List s.Section) (ts rest : List Token) → each (section limit) xs ts rest → is_name (kind_at rest) ≡ false → begins_section (kind_at rest) ≡ false
+pub sections_reads : (limit : ℕ) (xs : List s.Section) (ts rest : List Token) → each (section limit) xs ts rest → is_name (kind_at rest) ≡ false
+    → begins_section (kind_at rest) ≡ false
     → repeated begins_section (section_of (type_at limit) (deeper_at limit)) [] ts ≡ Ok (xs, rest)
 sections_reads limit xs ts rest h no_name stop =
-    each_reads (section limit) (section_of (type_at limit) (deeper_at limit)) NoName begins_section (section_begins limit) (λ x k go. section_is_no_name k go) (section_shrinks limit) xs
-      (each_of (ItemReads (section limit) (section_of (type_at limit) (deeper_at limit)) NoName) (section_reads limit) xs) ts rest h (λ x. no_name) stop
+    each_reads (section limit) (section_of (type_at limit) (deeper_at limit)) NoName begins_section (section_begins limit)
+    (λ x k go. section_is_no_name k go) (section_shrinks limit) xs
+    (each_of (ItemReads (section limit) (section_of (type_at limit) (deeper_at limit)) NoName) (section_reads limit) xs) ts rest h
+    (λ x. no_name) stop

@@ -1,5 +1,5 @@
 -- What ends an expression has none of the operators and selectors that would carry it on.
-use Rattle.std.proofs.Common.{◌≡◌, Bool, true, false, Option, Some, None, refl}
+use Rattle.std.proofs.Common.{◌≡◌, true, false, Option, Some, None, refl}
 use Rattle.cp_model.specs.GrammarExpressions.{is_product, is_sum, is_relation, operator_symbol}
 use Rattle.cp_model.specs.declared.token.Kind.{Kind}
 use Rattle.cp_model.specs.declared.token.Kind.TheVariants as kind

@@ -1,9 +1,8 @@
 -- What a reader that succeeds ensures.
-use Rattle.std.proofs.Common.{◌≡◌, ℕ, zero, suc, Bool, true, false, cond, List, [], ◌∷◌, ◌++◌, length, Option, Some, None, Result, Ok, Err, refl, sym, ap, subst, ◌∙◌}
-use Rattle.cp_model.specs.Languages.{Language, empty, never, token, symbol, symbol_at, identifier, ◌⋅◌, optional, each, each_behind, separated}
+use Rattle.std.proofs.Common.{◌≡◌, ℕ, zero, suc, Bool, true, false, cond, List, [], ◌∷◌, ◌++◌, length, Option, Some, None, Ok, Err, refl, sym, subst}
+use Rattle.cp_model.specs.Languages.{Language, never, symbol, symbol_at, optional, each, each_behind, separated}
 use Rattle.cp_model.specs.declared.token.Token.{Token}
 use Rattle.cp_model.specs.declared.token.Kind.{Kind}
-use Rattle.cp_model.specs.declared.token.Kind.TheVariants as kind
 use Rattle.cp_model.specs.declared.token.Symbol.{Symbol}
 use Rattle.cp_grammar.specs.Kinds.{is_symbol}
 use Rattle.cp_grammar.specs.Reading.{Outcome, Reader, and_then, ◌>>=◌, pure, refuse, take_token, kind_at, place_at, tail, expect, optional_symbol, inside, repeat, repeated, one_or_more, separated_by}
@@ -22,13 +21,15 @@ pub ensures_then : {A B : Type 0} (o : Outcome A) (f : A → Reader B) (Q : A �
 ensures_then (Ok x) f Q R h k = k x.0 x.1 h
 ensures_then (Err e) f Q R h k = tt
 
-pub ensures_weaker : {A : Type 0} (o : Outcome A) (Q R : A → List Token → Type 0) → Ensures o Q → ((x : A) (mid : List Token) → Q x mid → R x mid) → Ensures o R
+pub ensures_weaker : {A : Type 0} (o : Outcome A) (Q R : A → List Token → Type 0) → Ensures o Q → ((x : A) (mid : List Token) → Q x mid → R x mid)
+    → Ensures o R
 ensures_weaker (Ok x) Q R h k = k x.0 x.1 h
 ensures_weaker (Err e) Q R h k = tt
 
 -- ---- symbols
 
-expect_if : (x : Symbol) (ts : List Token) (b : Bool) → is_symbol x (kind_at ts) ≡ b → Ensures (cond b take_token refuse ts) (λ at rest. symbol_at x at ts rest)
+expect_if : (x : Symbol) (ts : List Token) (b : Bool) → is_symbol x (kind_at ts) ≡ b
+    → Ensures (cond b take_token refuse ts) (λ at rest. symbol_at x at ts rest)
 expect_if x ts true e = head_symbol ts x e
 expect_if x ts false e = tt
 
@@ -79,43 +80,47 @@ module _ {A : Type 0} (goes_on : Option Kind → Bool) (item : Reader A) (Holds 
           (λ x mid g. again (xs ++ x ∷ []) mid g)
 
 module _ {A : Type 0} (f : A → Language) (x : Symbol) where
-  behind_push : (as' : List A) (a : A) (ts mid next rest : List Token) → each_behind x f as' ts mid → symbol x mid next → f a next rest → each_behind x f (as' ++ a ∷ []) ts rest
+  behind_push : (items : List A) (a : A) (ts mid next rest : List Token) → each_behind x f items ts mid → symbol x mid next → f a next rest
+      → each_behind x f (items ++ a ∷ []) ts rest
   behind_push [] a ts mid next rest h k g = (next, subst (λ (t : List Token). symbol x t next) (sym h) k, (rest, g, refl))
   behind_push (y ∷ ys) a ts mid next rest h k g = (h.0, h.1, (h.2.0, h.2.1, behind_push ys a h.2.0 mid next rest h.2.2 k g))
 
-  separated_push : (as' : List A) (a : A) (ts mid next rest : List Token) → separated x f as' ts mid → symbol x mid next → f a next rest → separated x f (as' ++ a ∷ []) ts rest
+  pub separated_push : (items : List A) (a : A) (ts mid next rest : List Token) → separated x f items ts mid → symbol x mid next → f a next rest
+      → separated x f (items ++ a ∷ []) ts rest
   separated_push [] a ts mid next rest h k g = absurd h
   separated_push (y ∷ ys) a ts mid next rest h k g = (h.0, h.1, behind_push ys a h.0 mid next rest h.2 k g)
 
   pub separated_sound : (item : Reader A) → Sound item f → Sound (separated_by x item) (separated x f)
-  separated_sound item ok ts = ensures_then (item ts) (λ a. repeated (is_symbol x) (take_token >>= λ _. item) (a ∷ [])) (λ a rest. f a ts rest) _ (ok ts)
-      (λ a mid h. repeat_sound (is_symbol x) (take_token >>= λ _. item) (λ as' rest. separated x f as' ts rest)
-        (λ as' at g c. ensures_weaker (item (tail at)) (λ a rest. f a (tail at) rest) _ (ok (tail at))
-          (λ a rest one. separated_push as' a ts at (tail at) rest g (place_at at, head_symbol at x c) one))
-        (length mid) (a ∷ []) mid (mid, h, refl))
-
-module _ {A : Type 0} (f : A → Language) (goes_on : Option Kind → Bool) (item : Reader A) where
-  each_push : (as' : List A) (a : A) (ts mid rest : List Token) → each f as' ts mid → f a mid rest → each f (as' ++ a ∷ []) ts rest
-  each_push [] a ts mid rest h g = (rest, subst (λ (t : List Token). f a t rest) (sym h) g, refl)
-  each_push (y ∷ ys) a ts mid rest h g = (h.0, h.1, each_push ys a h.0 mid rest h.2 g)
-
-  pub each_sound : ((ts : List Token) → goes_on (kind_at ts) ≡ true → Ensures (item ts) (λ a rest. f a ts rest)) → Sound (repeated goes_on item []) (each f)
-  each_sound ok ts = repeat_sound goes_on item (λ as' rest. each f as' ts rest)
-      (λ as' at g c. ensures_weaker (item at) (λ a rest. f a at rest) _ (ok at c) (λ a rest one. each_push as' a ts at rest g one))
-      (length ts) [] ts refl
+  separated_sound item ok ts = ensures_then (item ts) (λ a. repeated (is_symbol x) (take_token >>= λ _. item) (a ∷ [])) (λ a rest. f a ts rest) _
+      (ok ts)
+      (λ a mid h. repeat_sound (is_symbol x) (take_token >>= λ _. item) (λ items rest. separated x f items ts rest)
+      (λ items at g c. ensures_weaker (item (tail at)) (λ a rest. f a (tail at) rest) _ (ok (tail at))
+      (λ a rest one. separated_push items a ts at (tail at) rest g (place_at at, head_symbol at x c) one))
+      (length mid) (a ∷ []) mid (mid, h, refl))
 
 -- one or more
 abbrev pub some : {A : Type 0} → (A → Language) → List A → Language
 some f [] = never
-some f (a ∷ as') = each f (a ∷ as')
+some f (a ∷ items) = each f (a ∷ items)
 
-module _ {A : Type 0} (f : A → Language) (goes_on : Option Kind → Bool) (item : Reader A) (ok : Sound item f) where
-  some_push : (as' : List A) (a : A) (ts mid rest : List Token) → some f as' ts mid → f a mid rest → some f (as' ++ a ∷ []) ts rest
+module _ {A : Type 0} (f : A → Language) where
+  pub each_push : (items : List A) (a : A) (ts mid rest : List Token) → each f items ts mid → f a mid rest → each f (items ++ a ∷ []) ts rest
+  each_push [] a ts mid rest h g = (rest, subst (λ (t : List Token). f a t rest) (sym h) g, refl)
+  each_push (y ∷ ys) a ts mid rest h g = (h.0, h.1, each_push ys a h.0 mid rest h.2 g)
+
+  pub some_push : (items : List A) (a : A) (ts mid rest : List Token) → some f items ts mid → f a mid rest → some f (items ++ a ∷ []) ts rest
   some_push [] a ts mid rest h g = absurd h
-  some_push (y ∷ ys) a ts mid rest h g = each_push f goes_on item (y ∷ ys) a ts mid rest h g
+  some_push (y ∷ ys) a ts mid rest h g = each_push (y ∷ ys) a ts mid rest h g
 
-  pub some_sound : Sound (one_or_more goes_on item) (some f)
-  some_sound ts = ensures_then (item ts) (λ a. repeated goes_on item (a ∷ [])) (λ a rest. f a ts rest) _ (ok ts)
-      (λ a mid h. repeat_sound goes_on item (λ as' rest. some f as' ts rest)
-        (λ as' at g c. ensures_weaker (item at) (λ a rest. f a at rest) _ (ok at) (λ a rest one. some_push as' a ts at rest g one))
-        (length mid) (a ∷ []) mid (mid, h, refl))
+  pub each_sound : (goes_on : Option Kind → Bool) (item : Reader A)
+      → ((ts : List Token) → goes_on (kind_at ts) ≡ true → Ensures (item ts) (λ a rest. f a ts rest))
+      → Sound (repeated goes_on item []) (each f)
+  each_sound goes_on item ok ts = repeat_sound goes_on item (λ items rest. each f items ts rest)
+      (λ items at g c. ensures_weaker (item at) (λ a rest. f a at rest) _ (ok at c) (λ a rest one. each_push items a ts at rest g one))
+      (length ts) [] ts refl
+
+  pub some_sound : (goes_on : Option Kind → Bool) (item : Reader A) → Sound item f → Sound (one_or_more goes_on item) (some f)
+  some_sound goes_on item ok ts = ensures_then (item ts) (λ a. repeated goes_on item (a ∷ [])) (λ a rest. f a ts rest) _ (ok ts)
+      (λ a mid h. repeat_sound goes_on item (λ items rest. some f items ts rest)
+      (λ items at g c. ensures_weaker (item at) (λ a rest. f a at rest) _ (ok at) (λ a rest one. some_push items a ts at rest g one))
+      (length mid) (a ∷ []) mid (mid, h, refl))

@@ -1,26 +1,19 @@
 -- What the grammar allows as an expression is read.
-use Rattle.std.proofs.Common.{◌≡◌, ℕ, zero, suc, ◌+◌, ◌<◌, ◌≤◌, Bool, true, false, cond, List, [], ◌∷◌, ◌++◌, length, Option, Some, None, Result, Ok, Err, refl, sym, ap, subst, ◌∙◌, append_assoc, arith}
-use Rattle.std.proofs.lemmas.List.{append-nil}
-use Rattle.cp_model.specs.Languages.{Language, token, symbol, symbol_at, identifier, ◌⋅◌, opens, each, each_behind, separated}
+use Rattle.std.proofs.Common.{◌≡◌, ℕ, zero, suc, ◌<◌, ◌≤◌, true, false, List, [], ◌∷◌, ◌++◌, length, Option, Some, None, Ok, refl, sym, ap, ◌∙◌, arith}
+use Rattle.cp_model.specs.Languages.{symbol_at}
 use Rattle.cp_model.specs.Syntax as s
 use Rattle.cp_model.specs.Syntax.{chain_of}
-use Rattle.cp_model.specs.View.{PlacedIndex, expressions_of, selectors_of, indices_of}
-use Rattle.cp_model.specs.GrammarExpressions.{is_product, is_sum, is_relation, is_factor, is_term, is_simple, IsLeft, IsRight, operator_symbol, sign_symbol, expression, expressions, more_expressions, designator, selectors, selector, indices, more_indices, arguments}
+use Rattle.cp_model.specs.GrammarExpressions.{is_product, is_sum, is_relation, is_factor, is_term, is_simple, IsLeft, IsRight, operator_symbol, sign_symbol, expression}
 use Rattle.cp_model.specs.declared.token.Token.{Token}
 use Rattle.cp_model.specs.declared.token.Kind.{Kind}
 use Rattle.cp_model.specs.declared.token.Kind.TheVariants as kind
-use Rattle.cp_model.specs.declared.token.Symbol.{Symbol}
-use Rattle.cp_model.specs.declared.token.Symbol.TheVariants as symbol
-use Rattle.cp_model.specs.declared.tree.Identifier.{Identifier}
 use Rattle.cp_model.specs.declared.tree.Operator.{Operator}
 use Rattle.cp_model.specs.declared.tree.Operator.TheVariants as operator
 use Rattle.cp_model.specs.declared.tree.Sign.{Sign}
 use Rattle.cp_model.specs.declared.tree.Sign.TheVariants as sign
-use Rattle.cp_grammar.specs.Kinds.{is_symbol}
-use Rattle.cp_grammar.specs.Reading.{Outcome, Reader, and_then, ◌>>=◌, pure, refuse, take_token, by_kind, kind_at, place_at, tail, expect, if_some, inside, repeat, repeated, one_or_more, separated_by}
-use Rattle.cp_grammar.specs.Names.{identifier_of}
-use Rattle.cp_grammar.specs.Expressions.{product_operator, sum_operator, relation_operator, sign_of, goes_on, operation_of, chain_from, term_of, signed_term, simple_of, expression_of, expressions_from, index_of, indices_from, begins_selector, field_of, indexed_of, selector_by, selector_of, designator_of, arguments_of, optional_arguments_of, call_or_part, named_of, parenthesized_of, not_of, factor_by, factor_of, inner_at, factor_at, expression_at}
-use Rattle.cp_grammar.proofs.Tokens.{is_symbol_refl, kind_of, kind_of_symbol, token_shrinks, symbol_shrinks, expect_reads}
+use Rattle.cp_grammar.specs.Reading.{Outcome, Reader, and_then, ◌>>=◌, pure, kind_at, repeat}
+use Rattle.cp_grammar.specs.Expressions.{product_operator, sum_operator, relation_operator, sign_of, goes_on, operation_of, chain_from, term_of, signed_term, simple_of, expression_of, factor_at, expression_at}
+use Rattle.cp_grammar.proofs.Tokens.{kind_of, token_shrinks}
 use Rattle.cp_grammar.proofs.Lists.{repeat_stops, repeat_goes}
 use Rattle.cp_grammar.specs.Follows.{ends_factor, ends_term, ends_simple, ends_expression}
 use Rattle.cp_grammar.proofs.Ends.{term_then_factor, simple_then_term, expression_then_simple, ends_product, ends_sum, ends_relation, ends_at_operator, ends_at_sum, ends_at_relation, product_is, sum_is, relation_is}
@@ -39,20 +32,26 @@ module _ (operators : Option Kind → Option Operator) (operand : Reader s.Expre
 
   -- the reader stands behind the expression, and looks for a further operator
   abbrev pub Comes : Reader s.Expression → s.Expression → List Token → List Token → Type 0
-  Comes reader e ts rest = (n : ℕ) × (first : s.Expression) × (os : List s.Operation) × (chain_of first os ≡ e) × (length rest ≤ n) × (reader ts ≡ chain_after first n os rest)
+  Comes reader e ts rest = (n : ℕ) × (first : s.Expression) × (os : List s.Operation) × (chain_of first os ≡ e) × (length rest ≤ n)
+      × (reader ts ≡ chain_after first n os rest)
 
-  comes_done : (reader : Reader s.Expression) (e : s.Expression) (ts rest : List Token) → operators (kind_at rest) ≡ None → Comes reader e ts rest → reader ts ≡ Ok (e, rest)
+  comes_done : (reader : Reader s.Expression) (e : s.Expression) (ts rest : List Token) → operators (kind_at rest) ≡ None → Comes reader e ts rest
+      → reader ts ≡ Ok (e, rest)
   comes_done reader e ts rest none c =
       let stop : goes_on operators operand (kind_at rest) ≡ false = rw none refl in
-      c.5 ∙ rw (repeat_stops (goes_on operators operand) (operation_of operators operand) c.0 c.2 rest stop) (ap (λ (e : s.Expression). Ok (e, rest)) c.3)
+      c.5 ∙ rw (repeat_stops (goes_on operators operand) (operation_of operators operand) c.0 c.2 rest stop)
+      (ap (λ (e : s.Expression). Ok (e, rest)) c.3)
 
-  operation_reads : (o : Operator) (at : ℕ) (b : s.Expression) (ts mid rest : List Token) → symbol_at (operator_symbol o) at ts mid → operators (Some (kind.Symbol (operator_symbol o))) ≡ Some o
+  operation_reads : (o : Operator) (at : ℕ) (b : s.Expression) (ts mid rest : List Token) → symbol_at (operator_symbol o) at ts mid
+      → operators (Some (kind.Symbol (operator_symbol o))) ≡ Some o
       → operand mid ≡ Ok (b, rest) → operation_of operators operand ts ≡ Ok (record { operator = o; at = at; operand = b }, rest)
   unfolding operation_of
   operation_reads o at b ts mid rest t some one = rw (t.1, some, one) refl
 
-  comes_on : (reader : Reader s.Expression) (a : s.Expression) (o : Operator) (at : ℕ) (b : s.Expression) (ts mid last rest : List Token) → Comes reader a ts mid
-      → symbol_at (operator_symbol o) at mid last → operators (Some (kind.Symbol (operator_symbol o))) ≡ Some o → operand last ≡ Ok (b, rest) → length rest < length last
+  comes_on : (reader : Reader s.Expression) (a : s.Expression) (o : Operator) (at : ℕ) (b : s.Expression) (ts mid last rest : List Token)
+      → Comes reader a ts mid
+      → symbol_at (operator_symbol o) at mid last → operators (Some (kind.Symbol (operator_symbol o))) ≡ Some o → operand last ≡ Ok (b, rest)
+      → length rest < length last
       → Comes reader (s.Binary a o at b) ts rest
   comes_on reader a o at b ts mid last rest c t some one lt = turn c.0 c.4 c.5
     where
@@ -60,10 +59,16 @@ module _ (operators : Option Kind → Option Operator) (operand : Reader s.Expre
       turn zero le so_far = absurd (omega (arith, token_shrinks _ at mid last t))
       turn (suc n) le so_far =
           let go : goes_on operators operand (kind_at mid) ≡ true = rw (t.1, some) refl in
-          let next : s.Operation = record { operator = o; at = at; operand = b } in
-          (n, c.1, c.2 ++ next ∷ [], chain_push c.1 c.2 next ∙ ap (λ (a : s.Expression). s.Binary a o at b) c.3, omega (arith, token_shrinks _ at mid last t),
+          let next : s.Operation = record { operator = o; at = at; operand = b } in (
+            n,
+            c.1,
+            c.2 ++ next ∷ [],
+            chain_push c.1 c.2 next ∙ ap (λ (a : s.Expression). s.Binary a o at b) c.3,
+            omega (arith, token_shrinks _ at mid last t),
             so_far ∙ ap (λ (r : Outcome (List s.Operation)). and_then r (λ os. pure (chain_of c.1 os)))
-              (repeat_goes (goes_on operators operand) (operation_of operators operand) n c.2 mid rest next go (operation_reads o at b mid last rest t some one)))
+                (repeat_goes (goes_on operators operand) (operation_of operators operand) n c.2 mid rest next go
+                (operation_reads o at b mid last rest t some one)),
+          )
 
 abbrev pub TermReads : s.Expression → Type 0
 TermReads e = (room : ℕ) (ts rest : List Token) → expression room e ts rest → ends_factor (kind_at rest) ≡ true
@@ -74,7 +79,8 @@ SimpleReads e = (room : ℕ) (ts rest : List Token) → expression room e ts res
     → Comes sum_operator (term_of (factor_at room)) (simple_of (factor_at room)) e ts rest
 
 abbrev pub WholeReads : s.Expression → Type 0
-WholeReads e = (room : ℕ) (ts rest : List Token) → expression room e ts rest → ends_expression (kind_at rest) ≡ true → expression_at room ts ≡ Ok (e, rest)
+WholeReads e = (room : ℕ) (ts rest : List Token) → expression room e ts rest → ends_expression (kind_at rest) ≡ true
+    → expression_at room ts ≡ Ok (e, rest)
 
 pub record Complete (e : s.Expression) : Type 0 where
   pub factor : IsFactor e → FactorReads e
@@ -86,13 +92,17 @@ sign_is : (x : Sign) → sign_of (Some (kind.Symbol (sign_symbol x))) ≡ Some x
 sign_is sign.Plus = refl
 sign_is sign.Minus = refl
 
-term_done : (e : s.Expression) → TermReads e → (room : ℕ) (ts rest : List Token) → expression room e ts rest → ends_term (kind_at rest) ≡ true → term_of (factor_at room) ts ≡ Ok (e, rest)
+term_done : (e : s.Expression) → TermReads e → (room : ℕ) (ts rest : List Token) → expression room e ts rest → ends_term (kind_at rest) ≡ true
+    → term_of (factor_at room) ts ≡ Ok (e, rest)
 term_done e reads room ts rest h ends =
-    comes_done product_operator (factor_at room) (term_of (factor_at room)) e ts rest (ends_product (kind_at rest) ends) (reads room ts rest h (term_then_factor (kind_at rest) ends))
+    comes_done product_operator (factor_at room) (term_of (factor_at room)) e ts rest (ends_product (kind_at rest) ends)
+    (reads room ts rest h (term_then_factor (kind_at rest) ends))
 
-simple_done : (e : s.Expression) → SimpleReads e → (room : ℕ) (ts rest : List Token) → expression room e ts rest → ends_simple (kind_at rest) ≡ true → simple_of (factor_at room) ts ≡ Ok (e, rest)
+simple_done : (e : s.Expression) → SimpleReads e → (room : ℕ) (ts rest : List Token) → expression room e ts rest → ends_simple (kind_at rest) ≡ true
+    → simple_of (factor_at room) ts ≡ Ok (e, rest)
 simple_done e reads room ts rest h ends =
-    comes_done sum_operator (term_of (factor_at room)) (simple_of (factor_at room)) e ts rest (ends_sum (kind_at rest) ends) (reads room ts rest h (simple_then_term (kind_at rest) ends))
+    comes_done sum_operator (term_of (factor_at room)) (simple_of (factor_at room)) e ts rest (ends_sum (kind_at rest) ends)
+    (reads room ts rest h (simple_then_term (kind_at rest) ends))
 
 -- a term begins with no sign
 no_sign : (e : s.Expression) (room : ℕ) (ts rest : List Token) → IsTerm e → expression room e ts rest → sign_of (kind_at ts) ≡ None
@@ -116,7 +126,8 @@ module _ (f : Reader s.Expression) (e : s.Expression) (ts rest : List Token) whe
   unfolding term_of chain_from
   term_from_factor h = rw h refl
 
-  simple_from_term : sign_of (kind_at ts) ≡ None → term_of f ts ≡ Ok (e, rest) → simple_of f ts ≡ chain_after sum_operator (term_of f) e (length rest) [] rest
+  simple_from_term : sign_of (kind_at ts) ≡ None → term_of f ts ≡ Ok (e, rest)
+      → simple_of f ts ≡ chain_after sum_operator (term_of f) e (length rest) [] rest
   unfolding simple_of signed_term chain_from
   simple_from_term none h = rw (none, h) refl
 
@@ -129,21 +140,38 @@ module _ (f : Reader s.Expression) (e : s.Expression) (ts rest : List Token) whe
   unfolding expression_of
   whole_from_simple h none = rw (h, none) refl
 
-  whole_from_relation : (o : Operator) (at : ℕ) (mid last : List Token) (b : s.Expression) → simple_of f ts ≡ Ok (e, rest) → symbol_at (operator_symbol o) at rest mid
-      → relation_operator (Some (kind.Symbol (operator_symbol o))) ≡ Some o → simple_of f mid ≡ Ok (b, last) → expression_of f ts ≡ Ok (s.Binary e o at b, last)
+  whole_from_relation : (o : Operator) (at : ℕ) (mid last : List Token) (b : s.Expression) → simple_of f ts ≡ Ok (e, rest)
+      → symbol_at (operator_symbol o) at rest mid
+      → relation_operator (Some (kind.Symbol (operator_symbol o))) ≡ Some o → simple_of f mid ≡ Ok (b, last)
+      → expression_of f ts ≡ Ok (s.Binary e o at b, last)
   unfolding expression_of
   whole_from_relation o at mid last b h t some g = rw (h, t.1, some, g) refl
 
 by_simple : (e : s.Expression) → SimpleReads e → WholeReads e
 by_simple e reads room ts rest h ends =
-    whole_from_simple (factor_at room) e ts rest (simple_done e reads room ts rest h (expression_then_simple (kind_at rest) ends)) (ends_relation (kind_at rest) ends)
+    whole_from_simple (factor_at room) e ts rest (simple_done e reads room ts rest h (expression_then_simple (kind_at rest) ends))
+    (ends_relation (kind_at rest) ends)
 
 by_term : (e : s.Expression) → IsTerm e → TermReads e → SimpleReads e
-by_term e t reads room ts rest h ends =
-    (length rest, e, [], refl, omega arith, simple_from_term (factor_at room) e ts rest (no_sign e room ts rest t h) (term_done e reads room ts rest h ends))
+by_term e t reads room ts rest h ends = (
+  length rest,
+  e,
+  [],
+  refl,
+  omega arith,
+  simple_from_term (factor_at room) e ts rest (no_sign e room ts rest t h)
+      (term_done e reads room ts rest h ends),
+)
 
 by_factor : (e : s.Expression) → FactorReads e → TermReads e
-by_factor e reads room ts rest h ends = (length rest, e, [], refl, omega arith, term_from_factor (factor_at room) e ts rest (reads room ts rest h ends))
+by_factor e reads room ts rest h ends = (
+  length rest,
+  e,
+  [],
+  refl,
+  omega arith,
+  term_from_factor (factor_at room) e ts rest (reads room ts rest h ends),
+)
 
 pub complete_factor : (e : s.Expression) → IsTerm e → FactorReads e → Complete e
 complete_factor e t reads = record {
@@ -157,23 +185,29 @@ complete_factor e t reads = record {
 
 module _ (a : s.Expression) (o : Operator) (at : ℕ) (b : s.Expression) (room : ℕ) (ts mid last rest : List Token)
     (ha : expression room a ts mid) (t : symbol_at (operator_symbol o) at mid last) (hb : expression room b last rest) where
-  product_turn : is_product o ≡ true → TermReads a → FactorReads b → ends_factor (kind_at rest) ≡ true → Comes product_operator (factor_at room) (term_of (factor_at room)) (s.Binary a o at b) ts rest
+  product_turn : is_product o ≡ true → TermReads a → FactorReads b → ends_factor (kind_at rest) ≡ true
+      → Comes product_operator (factor_at room) (term_of (factor_at room)) (s.Binary a o at b) ts rest
   product_turn k ra rb ends =
       comes_on product_operator (factor_at room) (term_of (factor_at room)) a o at b ts mid last rest
-        (ra room ts mid ha (rw (kind_of (kind.Symbol (operator_symbol o)) at mid last t) (ends_at_operator o))) t (product_is o k) (rb room last rest hb ends) (expression_shrinks b room last rest hb)
+      (ra room ts mid ha (rw (kind_of (kind.Symbol (operator_symbol o)) at mid last t) (ends_at_operator o))) t (product_is o k)
+      (rb room last rest hb ends) (expression_shrinks b room last rest hb)
 
-  sum_turn : is_sum o ≡ true → SimpleReads a → TermReads b → ends_term (kind_at rest) ≡ true → Comes sum_operator (term_of (factor_at room)) (simple_of (factor_at room)) (s.Binary a o at b) ts rest
+  sum_turn : is_sum o ≡ true → SimpleReads a → TermReads b → ends_term (kind_at rest) ≡ true
+      → Comes sum_operator (term_of (factor_at room)) (simple_of (factor_at room)) (s.Binary a o at b) ts rest
   sum_turn k ra rb ends =
       comes_on sum_operator (term_of (factor_at room)) (simple_of (factor_at room)) a o at b ts mid last rest
-        (ra room ts mid ha (rw (kind_of (kind.Symbol (operator_symbol o)) at mid last t) (ends_at_sum o k))) t (sum_is o k) (term_done b rb room last rest hb ends) (expression_shrinks b room last rest hb)
+      (ra room ts mid ha (rw (kind_of (kind.Symbol (operator_symbol o)) at mid last t) (ends_at_sum o k))) t (sum_is o k)
+      (term_done b rb room last rest hb ends) (expression_shrinks b room last rest hb)
 
-  relation_turn : is_relation o ≡ true → SimpleReads a → SimpleReads b → ends_expression (kind_at rest) ≡ true → expression_at room ts ≡ Ok (s.Binary a o at b, rest)
+  relation_turn : is_relation o ≡ true → SimpleReads a → SimpleReads b → ends_expression (kind_at rest) ≡ true
+      → expression_at room ts ≡ Ok (s.Binary a o at b, rest)
   relation_turn k ra rb ends =
       whole_from_relation (factor_at room) a ts mid o at last rest b
       (simple_done a ra room ts mid ha (rw (kind_of (kind.Symbol (operator_symbol o)) at mid last t) (ends_at_relation o k))) t (relation_is o k)
       (simple_done b rb room last rest hb (expression_then_simple (kind_at rest) ends))
 
-product_complete : (a : s.Expression) (o : Operator) (at : ℕ) (b : s.Expression) → IsTerm (s.Binary a o at b) → TermReads (s.Binary a o at b) → Complete (s.Binary a o at b)
+product_complete : (a : s.Expression) (o : Operator) (at : ℕ) (b : s.Expression) → IsTerm (s.Binary a o at b) → TermReads (s.Binary a o at b)
+    → Complete (s.Binary a o at b)
 product_complete a o at b t reads = record {
   factor = λ f. absurd cc;
   term = λ t. reads;
@@ -207,21 +241,25 @@ record Operands (a : s.Expression) (o : Operator) (at : ℕ) (b : s.Expression) 
   pub operator : symbol_at (operator_symbol o) at mid last
   pub behind : expression room b last rest
 
-operands : (a : s.Expression) (o : Operator) (at : ℕ) (b : s.Expression) (room : ℕ) (ts rest : List Token) → expression room (s.Binary a o at b) ts rest → Operands a o at b room ts rest
+operands : (a : s.Expression) (o : Operator) (at : ℕ) (b : s.Expression) (room : ℕ) (ts rest : List Token)
+    → expression room (s.Binary a o at b) ts rest → Operands a o at b room ts rest
 operands a o at b room ts rest h =
     let g = h.1.1 in
     record { left = h.0; right = h.1.0; mid = g.0; last = g.2.0; before = g.1; operator = g.2.1; behind = g.2.2 }
 
 module _ (a : s.Expression) (at : ℕ) (b : s.Expression) (ca : Complete a) (cb : Complete b) where
-  product_case : (o : Operator) → is_product o ≡ true → ((r : IsLeft o a) → IsTerm a) → ((r : IsRight o b) → IsFactor b) → IsTerm (s.Binary a o at b) → Complete (s.Binary a o at b)
+  product_case : (o : Operator) → is_product o ≡ true → ((r : IsLeft o a) → IsTerm a) → ((r : IsRight o b) → IsFactor b) → IsTerm (s.Binary a o at b)
+      → Complete (s.Binary a o at b)
   product_case o k l r t = product_complete a o at b t (λ room ts rest h ends. let g = operands a o at b room ts rest h in
       product_turn a o at b room ts g.mid g.last rest g.before g.operator g.behind k (ca.term (l g.left)) (cb.factor (r g.right)) ends)
 
-  sum_case : (o : Operator) → is_sum o ≡ true → ((r : IsLeft o a) → IsSimple a) → ((r : IsRight o b) → IsTerm b) → is_term (s.Binary a o at b) ≡ false → Complete (s.Binary a o at b)
+  sum_case : (o : Operator) → is_sum o ≡ true → ((r : IsLeft o a) → IsSimple a) → ((r : IsRight o b) → IsTerm b) → is_term (s.Binary a o at b) ≡ false
+      → Complete (s.Binary a o at b)
   sum_case o k l r t = sum_complete (s.Binary a o at b) refl t (λ room ts rest h ends. let g = operands a o at b room ts rest h in
       sum_turn a o at b room ts g.mid g.last rest g.before g.operator g.behind k (ca.simple (l g.left)) (cb.term (r g.right)) ends)
 
-  relation_case : (o : Operator) → is_relation o ≡ true → ((r : IsLeft o a) → IsSimple a) → ((r : IsRight o b) → IsSimple b) → is_term (s.Binary a o at b) ≡ false → is_simple (s.Binary a o at b) ≡ false
+  relation_case : (o : Operator) → is_relation o ≡ true → ((r : IsLeft o a) → IsSimple a) → ((r : IsRight o b) → IsSimple b)
+      → is_term (s.Binary a o at b) ≡ false → is_simple (s.Binary a o at b) ≡ false
       → Complete (s.Binary a o at b)
   relation_case o k l r t i = relation_complete (s.Binary a o at b) refl t i (λ room ts rest h ends. let g = operands a o at b room ts rest h in
       relation_turn a o at b room ts g.mid g.last rest g.before g.operator g.behind k (ca.simple (l g.left)) (cb.simple (r g.right)) ends)
@@ -242,5 +280,11 @@ module _ (a : s.Expression) (at : ℕ) (b : s.Expression) (ca : Complete a) (cb 
   binary_complete operator.AtLeast = relation_case operator.AtLeast refl (λ h. h) (λ h. h) refl refl
 
 pub sign_complete : (x : Sign) (at : ℕ) (e : s.Expression) → Complete e → Complete (s.Signed x at e)
-sign_complete x at e c = sum_complete (s.Signed x at e) refl refl (λ room ts rest h ends.
-    (length rest, s.Signed x at e, [], refl, omega arith, simple_from_sign (factor_at room) e ts rest x at h.1.0 h.1.1 (term_done e (c.term h.0) room h.1.0 rest h.1.2 ends)))
+sign_complete x at e c = sum_complete (s.Signed x at e) refl refl (λ room ts rest h ends. (
+  length rest,
+  s.Signed x at e,
+  [],
+  refl,
+  omega arith,
+  simple_from_sign (factor_at room) e ts rest x at h.1.0 h.1.1 (term_done e (c.term h.0) room h.1.0 rest h.1.2 ends),
+))

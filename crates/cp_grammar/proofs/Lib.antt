@@ -28,3 +28,10 @@ pub mod DeclarationsSteady
 pub mod TextSteady
 pub mod Wider
 pub mod Refusals
+pub mod Viable
+pub mod NamesViable
+pub mod ExpressionsViable
+pub mod TypesViable
+pub mod StatementsViable
+pub mod DeclarationsViable
+pub mod TextViable

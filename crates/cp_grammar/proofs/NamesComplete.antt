@@ -1,20 +1,19 @@
 -- Names and constants of the grammar are read.
-use Rattle.std.proofs.Common.{◌≡◌, ℕ, ◌<◌, ◌≤◌, Bool, true, false, List, [], ◌∷◌, length, Option, Some, None, Ok, refl, arith}
-use Rattle.cp_model.specs.Languages.{Language, token, symbol, symbol_at, anywhere, identifier, separated}
+use Rattle.std.proofs.Common.{◌≡◌, ◌<◌, ◌≤◌, false, List, length, Ok, refl, arith}
+use Rattle.cp_model.specs.Languages.{identifier, separated}
 use Rattle.cp_model.specs.GrammarExpressions.{constant}
 use Rattle.cp_model.specs.GrammarTypes.{names}
 use Rattle.cp_model.specs.declared.token.Token.{Token}
-use Rattle.cp_model.specs.declared.token.Kind.{Kind}
 use Rattle.cp_model.specs.declared.token.Kind.TheVariants as kind
 use Rattle.cp_model.specs.declared.token.Symbol.TheVariants as symbol
 use Rattle.cp_model.specs.declared.tree.Identifier.{Identifier}
 use Rattle.cp_model.specs.declared.tree.Constant.{Constant}
 use Rattle.cp_model.specs.declared.tree.Constant.TheVariants as written
 use Rattle.cp_grammar.specs.Kinds.{is_symbol}
-use Rattle.cp_grammar.specs.Reading.{Reader, kind_at}
+use Rattle.cp_grammar.specs.Reading.{kind_at}
 use Rattle.cp_grammar.specs.Names.{identifier_of, names_of, constant_of, constants_of}
-use Rattle.cp_grammar.proofs.Tokens.{kind_of, token_shrinks}
-use Rattle.cp_grammar.proofs.Lists.{Each, each_of, ItemReads, separated_reads, separated_shrinks}
+use Rattle.cp_grammar.proofs.Tokens.{token_shrinks}
+use Rattle.cp_grammar.proofs.Lists.{each_of, ItemReads, separated_reads, separated_shrinks}
 
 pub identifier_reads : (x : Identifier) (ts rest : List Token) → identifier x ts rest → identifier_of ts ≡ Ok (x, rest)
 unfolding identifier_of
@@ -26,7 +25,8 @@ identifier_shrinks x ts rest h = token_shrinks (kind.Name x.name) x.at ts rest h
 identifier_is_no_more : (x : Identifier) (ts rest : List Token) → identifier x ts rest → length rest ≤ length ts
 identifier_is_no_more x ts rest h = omega (arith, identifier_shrinks x ts rest h)
 
-pub names_reads : (xs : List Identifier) (ts rest : List Token) → names xs ts rest → is_symbol symbol.Comma (kind_at rest) ≡ false → names_of ts ≡ Ok (xs, rest)
+pub names_reads : (xs : List Identifier) (ts rest : List Token) → names xs ts rest → is_symbol symbol.Comma (kind_at rest) ≡ false
+    → names_of ts ≡ Ok (xs, rest)
 unfolding names_of
 names_reads xs ts rest h stop = separated_reads identifier identifier_of (λ x k. Unit {0}) symbol.Comma (λ x. tt) identifier_is_no_more xs
     (each_of (ItemReads identifier identifier_of (λ x k. Unit {0})) (λ x ts rest h u. identifier_reads x ts rest h) xs) ts rest h (λ x. tt) stop
@@ -43,14 +43,16 @@ constant_reads (written.Named x) ts rest h = rw h.1 refl
 
 pub constant_shrinks : (c : Constant) (ts rest : List Token) → constant c ts rest → length rest < length ts
 constant_shrinks (written.Number at value) ts rest h = token_shrinks (kind.Number value) at ts rest h
-constant_shrinks (written.Negative at value) ts rest h = omega (arith, token_shrinks (kind.Symbol symbol.Minus) at ts h.0 h.1, token_shrinks (kind.Number value) h.2.0 h.0 rest h.2.1)
+constant_shrinks (written.Negative at value) ts rest h =
+    omega (arith, token_shrinks (kind.Symbol symbol.Minus) at ts h.0 h.1, token_shrinks (kind.Number value) h.2.0 h.0 rest h.2.1)
 constant_shrinks (written.Character at ordinal) ts rest h = token_shrinks (kind.Character ordinal) at ts rest h
 constant_shrinks (written.Named x) ts rest h = identifier_shrinks x ts rest h
 
 constant_is_no_more : (c : Constant) (ts rest : List Token) → constant c ts rest → length rest ≤ length ts
 constant_is_no_more c ts rest h = omega (arith, constant_shrinks c ts rest h)
 
-pub constants_reads : (cs : List Constant) (ts rest : List Token) → separated symbol.Comma constant cs ts rest → is_symbol symbol.Comma (kind_at rest) ≡ false → constants_of ts ≡ Ok (cs, rest)
+pub constants_reads : (cs : List Constant) (ts rest : List Token) → separated symbol.Comma constant cs ts rest
+    → is_symbol symbol.Comma (kind_at rest) ≡ false → constants_of ts ≡ Ok (cs, rest)
 unfolding constants_of
 constants_reads cs ts rest h stop = separated_reads constant constant_of (λ x k. Unit {0}) symbol.Comma (λ x. tt) constant_is_no_more cs
     (each_of (ItemReads constant constant_of (λ x k. Unit {0})) (λ c ts rest h u. constant_reads c ts rest h) cs) ts rest h (λ x. tt) stop

@@ -1,18 +1,16 @@
 -- What is read as a name or a constant is in the grammar.
-use Rattle.std.proofs.Common.{◌≡◌, ℕ, Bool, true, false, List, [], ◌∷◌, Option, Some, None, Ok, Err, refl}
-use Rattle.cp_model.specs.Languages.{Language, token, symbol_at, anywhere, identifier, ◌⋅◌, separated}
+use Rattle.std.proofs.Common.{◌≡◌, List, Option, Some, refl}
+use Rattle.cp_model.specs.Languages.{identifier, separated}
 use Rattle.cp_model.specs.GrammarExpressions.{constant}
 use Rattle.cp_model.specs.GrammarTypes.{names}
 use Rattle.cp_model.specs.declared.token.Token.{Token}
 use Rattle.cp_model.specs.declared.token.Kind.{Kind}
 use Rattle.cp_model.specs.declared.token.Kind.TheVariants as kind
 use Rattle.cp_model.specs.declared.token.Symbol.TheVariants as symbol
-use Rattle.cp_model.specs.declared.tree.Identifier.{Identifier}
-use Rattle.cp_model.specs.declared.tree.Constant.{Constant}
-use Rattle.cp_grammar.specs.Reading.{Reader, ◌>>=◌, pure, take_token, by_kind, kind_at, place_at, tail}
+use Rattle.cp_grammar.specs.Reading.{kind_at, place_at, tail}
 use Rattle.cp_grammar.specs.Names.{identifier_by, identifier_of, names_of, negative_by, constant_by, constant_of, constants_of}
 use Rattle.cp_grammar.proofs.Tokens.{head}
-use Rattle.cp_grammar.proofs.Ensures.{Ensures, Sound, ensures_then, separated_sound}
+use Rattle.cp_grammar.proofs.Ensures.{Ensures, Sound, separated_sound}
 
 identifier_by_sound : (ts : List Token) (k : Option Kind) → kind_at ts ≡ k → Ensures (identifier_by k ts) (λ x rest. identifier x ts rest)
 identifier_by_sound ts (Some (kind.Name name)) k = head ts (kind.Name name) k
@@ -28,7 +26,8 @@ names_sound = separated_sound identifier symbol.Comma identifier_of identifier_s
 
 negative_sound : (ts : List Token) (k : Option Kind) → kind_at ts ≡ Some (kind.Symbol symbol.Minus) → kind_at (tail ts) ≡ k
     → Ensures (negative_by (place_at ts) k (tail ts)) (λ c rest. constant c ts rest)
-negative_sound ts (Some (kind.Number value)) m k = (tail ts, head ts (kind.Symbol symbol.Minus) m, (place_at (tail ts), head (tail ts) (kind.Number value) k))
+negative_sound ts (Some (kind.Number value)) m k =
+    (tail ts, head ts (kind.Symbol symbol.Minus) m, (place_at (tail ts), head (tail ts) (kind.Number value) k))
 negative_sound ts _ m k = tt
 
 constant_by_sound : (ts : List Token) (k : Option Kind) → kind_at ts ≡ k → Ensures (constant_by k ts) (λ c rest. constant c ts rest)

@@ -1,13 +1,12 @@
 -- Names and constants are read steadily.
-use Rattle.std.proofs.Common.{◌≡◌, ℕ, List, [], ◌∷◌, Option, Some, None, refl}
+use Rattle.std.proofs.Common.{◌≡◌, ℕ, ◌∷◌, Option, Some, refl}
 use Rattle.cp_model.specs.Levels.{identifier_levels, names_levels, constant_levels, constants_levels}
 use Rattle.cp_model.specs.declared.token.Kind.{Kind}
 use Rattle.cp_model.specs.declared.token.Kind.TheVariants as kind
 use Rattle.cp_model.specs.declared.token.Symbol.TheVariants as symbol
 use Rattle.cp_model.specs.declared.tree.Constant.TheVariants as written
-use Rattle.cp_grammar.specs.Reading.{Reader, ◌>>=◌, pure, take_token, by_kind}
 use Rattle.cp_grammar.specs.Names.{identifier_by, identifier_of, names_of, negative_by, constant_by, constant_of, constants_of}
-use Rattle.cp_grammar.proofs.Steady.{Cut, Mode, Start, Anywhere, Before, start_of, Steady, Has, then, finish, refuse_steady, take_steady, kind_steady}
+use Rattle.cp_grammar.proofs.Steady.{Cut, Mode, Anywhere, start_of, Steady, Has, then, finish, refuse_steady, take_steady, kind_steady}
 use Rattle.cp_grammar.proofs.SteadyLists.{separated_steady}
 
 module _ {c : Cut} {m : Mode} where

@@ -1,18 +1,17 @@
 -- Where a text is refused: at the first token that no text has there, or at the token that opens one level too many.
-use Rattle.std.proofs.Common.{◌≡◌, ℕ, zero, suc, ◌+◌, ◌<◌, ◌≤◌, ◌⊎◌, inl, inr, List, [], ◌∷◌, ◌++◌, length, get_or, Result, Ok, Err, refl, sym, ap, subst, ◌∙◌, append_assoc, arith, length-append}
-use Rattle.std.proofs.lemmas.List.{append-nil}
+use Rattle.std.proofs.Common.{◌≡◌, ℕ, suc, ◌+◌, ◌≤◌, inl, inr, List, [], ◌∷◌, ◌++◌, length, get_or, Ok, Err, refl, sym, ap, ◌∙◌, append_assoc, arith, length-append}
 use Rattle.cp_model.specs.Syntax as s
-use Rattle.cp_model.specs.Grammar.{text, Begins}
+use Rattle.cp_model.specs.Grammar.{text}
 use Rattle.cp_model.specs.Levels.{text_levels}
 use Rattle.cp_model.specs.declared.token.Token.{Token}
 use Rattle.cp_model.specs.declared.token.Kind.TheVariants as kind
 use Rattle.cp_grammar.specs.declared.stop.Stop.{Stop}
-use Rattle.cp_grammar.specs.declared.stop.Stop.TheVariants.{Memory, Wrong, Deep}
+use Rattle.cp_grammar.specs.declared.stop.Stop.TheVariants.{Wrong, Deep}
 use Rattle.cp_grammar.specs.Reading.{Outcome}
 use Rattle.cp_grammar.specs.Text.{text_at}
 use Rattle.cp_grammar.specs.Laws.{StopsInside, WrongIsFirst, DeepIsFirst, DeepOpensTheNext, LevelsAreOfTokens}
 use Rattle.cp_grammar.proofs.Ensures.{Ensures}
-use Rattle.cp_grammar.proofs.Steady.{Cut, Equal, Wider, Tame, Opened}
+use Rattle.cp_grammar.proofs.Steady.{Cut, Tame, Opened}
 use Rattle.cp_grammar.proofs.TextSteady.{text_steady, text_wider}
 use Rattle.cp_grammar.proofs.TextComplete.{text_is_complete}
 use Rattle.cp_grammar.proofs.Wider.{text_grammar_wider}
@@ -28,10 +27,12 @@ not_both o x e h g = cc
 joined : (front : List Token) (t : Token) (more : List Token) → (front ++ t ∷ []) ++ more ≡ front ++ t ∷ more
 joined front t more = append_assoc front (t ∷ []) more
 
-module _ (room limit : ℕ) (front : List Token) (t : Token) (more : List Token) (tree : s.Tree) (h : text limit tree ((front ++ t ∷ []) ++ more) []) where
+module _ (room limit : ℕ) (front : List Token) (t : Token) (more : List Token) (tree : s.Tree)
+    (h : text limit tree ((front ++ t ∷ []) ++ more) []) where
   -- the continuation is read within as many levels and more
   read_wider : (wide : ℕ) → limit ≤ wide → text_at wide (front ++ t ∷ more) ≡ Ok (tree, [])
-  read_wider wide le = text_is_complete wide (front ++ t ∷ more) tree (text_grammar_wider limit wide le tree (front ++ t ∷ more) [] (rw (joined front t more) at h))
+  read_wider wide le = text_is_complete wide (front ++ t ∷ more) tree
+      (text_grammar_wider limit wide le tree (front ++ t ∷ more) [] (rw (joined front t more) at h))
 
 pub wrong_is_first : WrongIsFirst
 wrong_is_first room front t behind h begins =
@@ -39,14 +40,16 @@ wrong_is_first room front t behind h begins =
     let c : Cut = record { token = t; here = behind; there = more; top = suc room } in
     let like = (text_wider c room (limit + room) (omega arith) refl).like front in
     let fails = rw h at like in
-    not_both (text_at (limit + room) (front ++ t ∷ more)) (tree, []) (Wrong (suc (length more))) (read_wider room limit front t more tree begins.3 (limit + room) (omega arith)) (fails refl)
+    not_both (text_at (limit + room) (front ++ t ∷ more)) (tree, []) (Wrong (suc (length more)))
+    (read_wider room limit front t more tree begins.3 (limit + room) (omega arith)) (fails refl)
 
 pub deep_is_first : DeepIsFirst
 deep_is_first room front t behind h more tree within =
     let c : Cut = record { token = t; here = behind; there = more; top = suc room } in
     let like = (text_steady c room).like front in
     let fails = rw h at like in
-    not_both (text_at room (front ++ t ∷ more)) (tree, []) (Deep (suc (length more))) (read_wider room room front t more tree within room (omega arith)) (fails refl)
+    not_both (text_at room (front ++ t ∷ more)) (tree, []) (Deep (suc (length more)))
+    (read_wider room room front t more tree within room (omega arith)) (fails refl)
 
 -- the entry behind some
 entry_behind : (before behind : List ℕ) (n : ℕ) → get_or (before ++ n ∷ behind) (length before) 0 ≡ n
@@ -54,7 +57,8 @@ entry_behind [] behind n = refl
 entry_behind (x ∷ before) behind n = entry_behind before behind n
 
 -- a tree of whole tokens has a level for each
-tame_levels : (ts : List Token) (tree : s.Tree) (o : Outcome s.Tree) → o ≡ Ok (tree, []) → Tame (λ t l. l ≡ text_levels t) o ts → length (text_levels tree) ≡ length ts
+tame_levels : (ts : List Token) (tree : s.Tree) (o : Outcome s.Tree) → o ≡ Ok (tree, []) → Tame (λ t l. l ≡ text_levels t) o ts
+    → length (text_levels tree) ≡ length ts
 tame_levels ts tree o e tame =
     let took = rw e at tame in
     let same : length took.2 ≡ length (text_levels tree) = ap length took.3 in
@@ -64,8 +68,10 @@ tame_levels ts tree o e tame =
 pub levels_are_of_tokens : LevelsAreOfTokens
 levels_are_of_tokens room ts tree h = tame_levels ts tree (text_at room ts) (text_is_complete room ts tree h) ((text_steady any_cut room).tame ts tt)
 
-opens_at : (top : ℕ) (front more : List Token) (t : Token) (tree : s.Tree) (o : Outcome s.Tree) → o ≡ Ok (tree, []) → length (text_levels tree) ≡ length (front ++ t ∷ more)
-    → Ensures o (Opened (record { token = t; here = []; there = more; top = top }) (λ t l. l ≡ text_levels t)) → get_or (text_levels tree) (length front) 0 ≡ top
+opens_at : (top : ℕ) (front more : List Token) (t : Token) (tree : s.Tree) (o : Outcome s.Tree) → o ≡ Ok (tree, [])
+    → length (text_levels tree) ≡ length (front ++ t ∷ more)
+    → Ensures o (Opened (record { token = t; here = []; there = more; top = top }) (λ t l. l ≡ text_levels t))
+    → get_or (text_levels tree) (length front) 0 ≡ top
 opens_at top front more t tree o e n opened =
     let p = rw e at opened in
     let levels : text_levels tree ≡ p.2 ++ top ∷ p.3 = sym p.1 ∙ p.4 in
@@ -79,7 +85,8 @@ deep_opens_the_next room front t behind h limit more tree any =
     let read = read_wider room limit front t more tree any (limit + room) (omega arith) in
     let like = (text_wider c room (limit + room) (omega arith) refl).like front in
     let stops = rw h at like in
-    let n = tame_levels (front ++ t ∷ more) tree (text_at (limit + room) (front ++ t ∷ more)) read ((text_steady c (limit + room)).tame (front ++ t ∷ more) tt) in
+    let n = tame_levels (front ++ t ∷ more) tree (text_at (limit + room) (front ++ t ∷ more)) read
+    ((text_steady c (limit + room)).tame (front ++ t ∷ more) tt) in
     opens_at (suc room) front more t tree (text_at (limit + room) (front ++ t ∷ more)) read n (stops refl)
 
 pub stops_inside : StopsInside

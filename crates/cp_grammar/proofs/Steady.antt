@@ -1,7 +1,7 @@
 -- Two readers on two texts that agree up to a token and with it. Up to that token they answer the same, since no reader looks
 -- further; and each answer stands for as many tokens as its tree has levels. The second may have more levels to open: where the
 -- first stops for want of a level at that token, the second opens there the level that is one too many for the first.
-use Rattle.std.proofs.Common.{◌≡◌, ℕ, zero, suc, ◌+◌, ◌<◌, ◌≤◌, ◌⊎◌, inl, inr, Bool, true, false, cond, List, [], ◌∷◌, ◌++◌, length, Option, Some, None, Result, Ok, Err, refl, sym, ap, subst, ◌∙◌, append_assoc, arith, length-append}
+use Rattle.std.proofs.Common.{◌≡◌, ℕ, suc, ◌+◌, ◌≤◌, ◌⊎◌, inl, inr, Bool, true, false, cond, List, [], ◌∷◌, ◌++◌, length, Option, Some, None, Ok, Err, refl, sym, ap, subst, ◌∙◌, append_assoc, arith, length-append}
 use Rattle.std.proofs.lemmas.List.{append-nil}
 use Rattle.cp_model.specs.Levels.{optional_levels}
 use Rattle.cp_model.specs.declared.token.Token.{Token}
@@ -10,7 +10,7 @@ use Rattle.cp_model.specs.declared.token.Symbol.{Symbol}
 use Rattle.cp_grammar.specs.declared.stop.Stop.{Stop}
 use Rattle.cp_grammar.specs.declared.stop.Stop.TheVariants.{Memory, Wrong, Deep}
 use Rattle.cp_grammar.specs.Kinds.{is_symbol}
-use Rattle.cp_grammar.specs.Reading.{Outcome, Reader, and_then, ◌>>=◌, pure, refuse, too_deep, take_token, by_kind, kind_at, place_at, tail, expect, optional_symbol, if_some, inside}
+use Rattle.cp_grammar.specs.Reading.{Outcome, Reader, and_then, ◌>>=◌, pure, refuse, too_deep, take_token, by_kind, expect, optional_symbol, if_some, inside}
 use Rattle.cp_grammar.proofs.Tokens.{no_symbol}
 use Rattle.cp_grammar.proofs.Ensures.{Ensures, ensures_weaker}
 
@@ -59,18 +59,25 @@ stop_weaken Memory front mid ts e h = tt
 stop_weaken (Wrong n) front mid ts e h = rw e (omega (arith, length-append front mid))
 stop_weaken (Deep n) front mid ts e h = rw e (omega (arith, length-append front mid))
 
-pub tame_imply : {A : Type 0} (T U : A → List ℕ → Type 0) (o : Outcome A) (ts : List Token) → ((x : A) (l : List ℕ) → T x l → U x l) → Tame T o ts → Tame U o ts
+pub tame_imply : {A : Type 0} (T U : A → List ℕ → Type 0) (o : Outcome A) (ts : List Token) → ((x : A) (l : List ℕ) → T x l → U x l) → Tame T o ts
+    → Tame U o ts
 tame_imply T U (Ok x) ts h g = (g.0, g.1, g.2, h x.0 g.2 g.3, g.4)
 tame_imply T U (Err s) ts h g = g
 
 module _ {A B : Type 0} (T : A → List ℕ → Type 0) (U : B → List ℕ → Type 0) where
-  tame_behind : (o : Outcome B) (x : A) (l : List ℕ) (front mid ts : List Token) → ts ≡ front ++ mid → length l ≡ length front → Tame (λ y m. U y (l ++ m)) o mid → Tame U o ts
-  tame_behind (Ok y) x l front mid ts e n h =
-      (front ++ h.0, e ∙ ap (λ (r : List Token). front ++ r) h.1 ∙ sym (append_assoc front h.0 y.1),
-        l ++ h.2, h.3, omega (arith, length-append l h.2, length-append front h.0, h.4))
+  tame_behind : (o : Outcome B) (x : A) (l : List ℕ) (front mid ts : List Token) → ts ≡ front ++ mid → length l ≡ length front
+      → Tame (λ y m. U y (l ++ m)) o mid → Tame U o ts
+  tame_behind (Ok y) x l front mid ts e n h = (
+    front ++ h.0,
+    e ∙ ap (λ (r : List Token). front ++ r) h.1 ∙ sym (append_assoc front h.0 y.1),
+    l ++ h.2,
+    h.3,
+    omega (arith, length-append l h.2, length-append front h.0, h.4),
+  )
   tame_behind (Err s) x l front mid ts e n h = stop_weaken s front mid ts e h
 
-  pub tame_then : (o : Outcome A) (k : A → Reader B) (ts : List Token) → Tame T o ts → ((x : A) (l : List ℕ) → T x l → (mid : List Token) → Tame (λ y m. U y (l ++ m)) (k x mid) mid) → Tame U (and_then o k) ts
+  pub tame_then : (o : Outcome A) (k : A → Reader B) (ts : List Token) → Tame T o ts
+      → ((x : A) (l : List ℕ) → T x l → (mid : List Token) → Tame (λ y m. U y (l ++ m)) (k x mid) mid) → Tame U (and_then o k) ts
   tame_then (Ok x) k ts h g = tame_behind (k x.0 x.1) x.0 h.2 h.0 x.1 ts h.1 h.4 (g x.0 h.2 h.3 x.1)
   tame_then (Err s) k ts h g = h
 
@@ -95,7 +102,8 @@ split t a (x ∷ f) (y ∷ h) mid e = let tails : f ++ t ∷ a ≡ h ++ mid = cc
 module _ (c : Cut) where
   -- among its levels the tree has the level that is one too many, at the token of the cut
   abbrev pub Opened : {A : Type 0} → (A → List ℕ → Type 0) → A → List Token → Type 0
-  Opened T x rest = (levels : List ℕ) × T x levels × (before : List ℕ) × (behind : List ℕ) × (levels ≡ before ++ c.top ∷ behind) × (length behind + length rest ≡ length c.there)
+  Opened T x rest = (levels : List ℕ) × T x levels × (before : List ℕ) × (behind : List ℕ) × (levels ≡ before ++ c.top ∷ behind)
+      × (length behind + length rest ≡ length c.there)
 
   -- what a stop at the token of the cut says of the second reader
   abbrev pub LikeStop : Mode → {A : Type 0} → (A → List ℕ → Type 0) → Stop → Outcome A → Type 0
@@ -108,21 +116,24 @@ module _ (c : Cut) where
   Like m T (Ok x) o = (g : List Token) → x.1 ≡ g ++ c.token ∷ c.here → o ≡ Ok (x.0, g ++ c.token ∷ c.there)
   Like m T (Err s) o = LikeStop m T s o
 
-  like_short : {A : Type 0} (m : Mode) (T U : A → List ℕ → Type 0) (o o' : Outcome A) (mid : List Token) → Tame T o mid → length mid ≤ length c.here → Like m U o o'
+  like_short : {A : Type 0} (m : Mode) (T U : A → List ℕ → Type 0) (o o' : Outcome A) (mid : List Token) → Tame T o mid → length mid ≤ length c.here
+      → Like m U o o'
   like_short m T U (Ok x) o' mid h le = λ g e. absurd
       (let n : length mid ≡ length (h.0 ++ x.1) = ap length h.1 in let k : length x.1 ≡ length (g ++ c.token ∷ c.here) = ap length e in
-        omega (arith, length-append h.0 x.1, length-append g (c.token ∷ c.here)))
+      omega (arith, length-append h.0 x.1, length-append g (c.token ∷ c.here)))
   like_short m T U (Err Memory) o' mid h le = tt
   like_short m T U (Err (Wrong n)) o' mid h le = λ e. absurd (omega arith)
   like_short Equal T U (Err (Deep n)) o' mid h le = λ e. absurd (omega arith)
   like_short Wider T U (Err (Deep n)) o' mid h le = λ e. absurd (omega arith)
 
-  opened_imply : {A : Type 0} (T U : A → List ℕ → Type 0) (l : List ℕ) (o : Outcome A) → ((x : A) (m : List ℕ) → T x m → U x (l ++ m)) → Ensures o (Opened T) → Ensures o (Opened U)
+  opened_imply : {A : Type 0} (T U : A → List ℕ → Type 0) (l : List ℕ) (o : Outcome A) → ((x : A) (m : List ℕ) → T x m → U x (l ++ m))
+      → Ensures o (Opened T) → Ensures o (Opened U)
   opened_imply T U l o h g = ensures_weaker o (Opened T) (Opened U) g (λ x rest p.
       let e : l ++ p.0 ≡ (l ++ p.2) ++ c.top ∷ p.3 = ap (λ (m : List ℕ). l ++ m) p.4 ∙ sym (append_assoc l p.2 (c.top ∷ p.3)) in
       (l ++ p.0, h x p.0 p.1, l ++ p.2, p.3, e, p.5))
 
-  pub like_imply : {A : Type 0} (m : Mode) (T U : A → List ℕ → Type 0) (l : List ℕ) (o o' : Outcome A) → ((x : A) (k : List ℕ) → T x k → U x (l ++ k)) → Like m T o o' → Like m U o o'
+  pub like_imply : {A : Type 0} (m : Mode) (T U : A → List ℕ → Type 0) (l : List ℕ) (o o' : Outcome A) → ((x : A) (k : List ℕ) → T x k → U x (l ++ k))
+      → Like m T o o' → Like m U o o'
   like_imply m T U l (Ok x) o' h g = g
   like_imply m T U l (Err Memory) o' h g = tt
   like_imply m T U l (Err (Wrong n)) o' h g = g
@@ -155,7 +166,7 @@ module _ (c : Cut) where
         → ((x : A) (l : List ℕ) → T x l → (mid : List Token) → Tame (λ y m. U y (l ++ m)) (k x mid) mid)
         → ((x : A) (l : List ℕ) → T x l → (mid : List Token) → Tame (λ y m. U y (l ++ m)) (k' x mid) mid)
         → ((x : A) (l : List ℕ) → T x l → (g : List Token) → length l + length g ≡ length f
-            → Like m (λ y m. U y (l ++ m)) (k x (g ++ c.token ∷ c.here)) (k' x (g ++ c.token ∷ c.there)))
+        → Like m (λ y m. U y (l ++ m)) (k x (g ++ c.token ∷ c.here)) (k' x (g ++ c.token ∷ c.there)))
         → Like m U (and_then o k) (and_then o' k')
     like_then m (Err s) o' k k' f h p tame tame' next = stop_then m s o' k' p tame'
     like_then m (Ok x) o' k k' f h p tame tame' next = cut (split c.token c.here f h.0 x.1 h.1)
@@ -164,9 +175,11 @@ module _ (c : Cut) where
         cut (inr short) = like_short m (λ y m. U y (h.2 ++ m)) U (k x.0 x.1) (and_then o' k') x.1 (tame x.0 h.2 h.3 x.1) short
         cut (inl g) =
             let n : length h.2 + length g.0 ≡ length f =
-              (let i : length (f ++ c.token ∷ c.here) ≡ length (h.0 ++ x.1) = ap length h.1 in let j : length x.1 ≡ length (g.0 ++ c.token ∷ c.here) = ap length g.1 in
-                omega (arith, length-append h.0 x.1, length-append g.0 (c.token ∷ c.here), length-append f (c.token ∷ c.here), h.4)) in
-            let one = like_imply m (λ y m. U y (h.2 ++ m)) U h.2 (k x.0 (g.0 ++ c.token ∷ c.here)) (k' x.0 (g.0 ++ c.token ∷ c.there)) (λ y m u. u) (next x.0 h.2 h.3 g.0 n) in
+            (let i : length (f ++ c.token ∷ c.here) ≡ length (h.0 ++ x.1) = ap length h.1 in let j : length x.1 ≡ length (g.0 ++ c.token ∷ c.here) =
+            ap length g.1 in
+            omega (arith, length-append h.0 x.1, length-append g.0 (c.token ∷ c.here), length-append f (c.token ∷ c.here), h.4)) in
+            let one = like_imply m (λ y m. U y (h.2 ++ m)) U h.2 (k x.0 (g.0 ++ c.token ∷ c.here)) (k' x.0 (g.0 ++ c.token ∷ c.there)) (λ y m u. u)
+            (next x.0 h.2 h.3 g.0 n) in
             rw (p g.0 g.1) (subst (λ (r : List Token). Like m U (k x.0 r) (k' x.0 (g.0 ++ c.token ∷ c.there))) (sym g.1) one)
 
 -- ---- steady readers
@@ -186,7 +199,8 @@ at_cut Anywhere f t a = tt
 at_cut Before [] t a = tt
 at_cut Before (x ∷ f) t a = tt
 
-pub imply : {c : Cut} {m : Mode} {w : Start} {A : Type 0} {T : A → List ℕ → Type 0} {p q : Reader A} (U : A → List ℕ → Type 0) → Steady c m w T p q → ((x : A) (l : List ℕ) → T x l → U x l) → Steady c m w U p q
+pub imply : {c : Cut} {m : Mode} {w : Start} {A : Type 0} {T : A → List ℕ → Type 0} {p q : Reader A} (U : A → List ℕ → Type 0) → Steady c m w T p q
+    → ((x : A) (l : List ℕ) → T x l → U x l) → Steady c m w U p q
 imply {c} {m} {w} {A} {T} {p} {q} U s h = record {
   tame = λ ts k. tame_imply T U (p ts) ts h (s.tame ts k);
   tame' = λ ts k. tame_imply T U (q ts) ts h (s.tame' ts k);
@@ -196,16 +210,19 @@ imply {c} {m} {w} {A} {T} {p} {q} U s h = record {
 pub before : {c : Cut} {m : Mode} {A : Type 0} {T : A → List ℕ → Type 0} {p q : Reader A} → Steady c m Anywhere T p q → Steady c m Before T p q
 before s = record { tame = λ ts k. s.tame ts tt; tame' = λ ts k. s.tame' ts tt; like = s.like }
 
-pub then_any : {c : Cut} {m : Mode} {w : Start} {A B : Type 0} {T : A → List ℕ → Type 0} {U : B → List ℕ → Type 0} {p q : Reader A} {k k' : A → Reader B} → Steady c m w T p q
+pub then_any : {c : Cut} {m : Mode} {w : Start} {A B : Type 0} {T : A → List ℕ → Type 0} {U : B → List ℕ → Type 0} {p q : Reader A} {k k' : A
+    → Reader B} → Steady c m w T p q
     → ((x : A) (l : List ℕ) → T x l → Steady c m Anywhere (λ y j. U y (l ++ j)) (k x) (k' x)) → Steady c m w U (p >>= k) (q >>= k')
 then_any {c} {m} {w} {A} {B} {T} {U} {p} {q} {k} {k'} s next = record {
   tame = λ ts at. tame_then T U (p ts) k ts (s.tame ts at) (λ x l h mid. (next x l h).tame mid tt);
   tame' = λ ts at. tame_then T U (q ts) k' ts (s.tame' ts at) (λ x l h mid. (next x l h).tame' mid tt);
-  like = λ f. like_then c T U m (p (f ++ c.token ∷ c.here)) (q (f ++ c.token ∷ c.there)) k k' f (s.tame (f ++ c.token ∷ c.here) (at_cut w f c.token c.here)) (s.like f)
-    (λ x l h mid. (next x l h).tame mid tt) (λ x l h mid. (next x l h).tame' mid tt) (λ x l h r e. (next x l h).like r);
+  like = λ f. like_then c T U m (p (f ++ c.token ∷ c.here)) (q (f ++ c.token ∷ c.there)) k k' f
+      (s.tame (f ++ c.token ∷ c.here) (at_cut w f c.token c.here)) (s.like f)
+      (λ x l h mid. (next x l h).tame mid tt) (λ x l h mid. (next x l h).tame' mid tt) (λ x l h r e. (next x l h).like r);
 }
 
-pub then : {c : Cut} {m : Mode} {w : Start} {A B : Type 0} {g : A → List ℕ} {U : B → List ℕ → Type 0} {p q : Reader A} {k k' : A → Reader B} → Steady c m w (Has g) p q
+pub then : {c : Cut} {m : Mode} {w : Start} {A B : Type 0} {g : A → List ℕ} {U : B → List ℕ → Type 0} {p q : Reader A} {k k' : A → Reader B}
+    → Steady c m w (Has g) p q
     → ((x : A) → Steady c m Anywhere (λ y l. U y (g x ++ l)) (k x) (k' x)) → Steady c m w U (p >>= k) (q >>= k')
 then {c} {m} {w} {A} {B} {g} {U} {p} {q} {k} {k'} s next =
     then_any s (λ x l h. subst (λ (l : List ℕ). Steady c m Anywhere (λ y j. U y (l ++ j)) (k x) (k' x)) (sym h) (next x))
@@ -219,7 +236,8 @@ pure_steady {c} {m} {A} {T} x h = record {
   like = λ f g e. ap (λ (r : List Token). Ok (x, r ++ c.token ∷ c.there)) (cancel c.token c.here f g e);
 }
 
-pub finish : {c : Cut} {m : Mode} {w : Start} {A B : Type 0} {g : A → List ℕ} {U : B → List ℕ → Type 0} {p q : Reader A} (h : A → B) → Steady c m w (Has g) p q
+pub finish : {c : Cut} {m : Mode} {w : Start} {A B : Type 0} {g : A → List ℕ} {U : B → List ℕ → Type 0} {p q : Reader A} (h : A → B)
+    → Steady c m w (Has g) p q
     → ((x : A) → U (h x) (g x)) → Steady c m w U (p >>= λ x. pure (h x)) (q >>= λ x. pure (h x))
 finish {c} {m} {w} {A} {B} {g} {U} {p} {q} h s u =
     then s (λ x. pure_steady (h x) (subst (U (h x)) (sym (append-nil (g x))) (u x)))
@@ -228,60 +246,72 @@ pub refuse_steady : {c : Cut} {m : Mode} {w : Start} {A : Type 0} {T : A → Lis
 refuse_steady {c} {m} {w} {A} {T} = record {
   tame = λ ts k. omega arith;
   tame' = λ ts k. omega arith;
-  like = λ f e. (let n : length f ≡ 0 = omega (arith, length-append f (c.token ∷ c.here)) in let k : length (f ++ c.token ∷ c.there) ≡ suc (length c.there) = omega (arith, length-append f (c.token ∷ c.there)) in
-    ap (λ n. Err (Wrong n)) k);
+  like = λ f e. (let n : length f ≡ 0 = omega (arith, length-append f (c.token ∷ c.here)) in
+      let k : length (f ++ c.token ∷ c.there) ≡ suc (length c.there) = omega (arith, length-append f (c.token ∷ c.there)) in
+      ap (λ n. Err (Wrong n)) k);
 }
 
 take_tame : (n : ℕ) (ts : List Token) → At Before ts → Tame (Has (λ at. n ∷ [])) (take_token ts) ts
 take_tame n [] k = absurd k
 take_tame n (x ∷ ts) k = (x ∷ [], refl, n ∷ [], refl, refl)
 
-take_like : (c : Cut) (m : Mode) (n : ℕ) (f : List Token) → Like c m (Has (λ at. n ∷ [])) (take_token (f ++ c.token ∷ c.here)) (take_token (f ++ c.token ∷ c.there))
-take_like c m n [] g e = absurd (let n : length c.here ≡ length (g ++ c.token ∷ c.here) = ap length e in omega (arith, length-append g (c.token ∷ c.here)))
+take_like : (c : Cut) (m : Mode) (n : ℕ) (f : List Token)
+    → Like c m (Has (λ at. n ∷ [])) (take_token (f ++ c.token ∷ c.here)) (take_token (f ++ c.token ∷ c.there))
+take_like c m n [] g e = absurd (let n : length c.here ≡ length (g ++ c.token ∷ c.here) = ap length e in
+    omega (arith, length-append g (c.token ∷ c.here)))
 take_like c m n (x ∷ f) g e = ap (λ (h : List Token). Ok (x.span.from, h ++ c.token ∷ c.there)) (cancel c.token c.here f g e)
 
 -- a token that opens this level, or none
 pub take_steady : {c : Cut} {m : Mode} (n : ℕ) → Steady c m Before (Has (λ at. n ∷ [])) take_token take_token
 take_steady {c} {m} n = record { tame = take_tame n; tame' = take_tame n; like = take_like c m n }
 
-pub kind_steady : {c : Cut} {m : Mode} {A : Type 0} {T : A → List ℕ → Type 0} {p q : Option Kind → Reader A} → ((k : Option Kind) → Steady c m (start_of k) T (p k) (q k)) → Steady c m Anywhere T (by_kind p) (by_kind q)
+pub kind_steady : {c : Cut} {m : Mode} {A : Type 0} {T : A → List ℕ → Type 0} {p q : Option Kind → Reader A}
+    → ((k : Option Kind) → Steady c m (start_of k) T (p k) (q k)) → Steady c m Anywhere T (by_kind p) (by_kind q)
 kind_steady {c} {m} {A} {T} {p} {q} s = record { tame = tame; tame' = tame'; like = like }
   where
     tame : (ts : List Token) → At Anywhere ts → Tame T (by_kind p ts) ts
     tame [] k = (s None).tame [] tt
     tame (x ∷ ts) k = (s (Some x.kind)).tame (x ∷ ts) tt
+
     tame' : (ts : List Token) → At Anywhere ts → Tame T (by_kind q ts) ts
     tame' [] k = (s None).tame' [] tt
     tame' (x ∷ ts) k = (s (Some x.kind)).tame' (x ∷ ts) tt
+
     like : (f : List Token) → Like c m T (by_kind p (f ++ c.token ∷ c.here)) (by_kind q (f ++ c.token ∷ c.there))
     like [] = (s (Some c.token.kind)).like []
     like (x ∷ f) = (s (Some x.kind)).like (x ∷ f)
 
-pub kind_before : {c : Cut} {m : Mode} {A : Type 0} {T : A → List ℕ → Type 0} (p q : Option Kind → Reader A) → ((k : Kind) → Steady c m Before T (p (Some k)) (q (Some k))) → Steady c m Before T (by_kind p) (by_kind q)
+pub kind_before : {c : Cut} {m : Mode} {A : Type 0} {T : A → List ℕ → Type 0} (p q : Option Kind → Reader A)
+    → ((k : Kind) → Steady c m Before T (p (Some k)) (q (Some k))) → Steady c m Before T (by_kind p) (by_kind q)
 kind_before {c} {m} {A} {T} p q s = record { tame = tame; tame' = tame'; like = like }
   where
     tame : (ts : List Token) → At Before ts → Tame T (by_kind p ts) ts
     tame [] k = absurd k
     tame (x ∷ ts) k = (s x.kind).tame (x ∷ ts) tt
+
     tame' : (ts : List Token) → At Before ts → Tame T (by_kind q ts) ts
     tame' [] k = absurd k
     tame' (x ∷ ts) k = (s x.kind).tame' (x ∷ ts) tt
+
     like : (f : List Token) → Like c m T (by_kind p (f ++ c.token ∷ c.here)) (by_kind q (f ++ c.token ∷ c.there))
     like [] = (s c.token.kind).like []
     like (x ∷ f) = (s x.kind).like (x ∷ f)
 
-pub symbol_steady : {c : Cut} {m : Mode} {A : Type 0} {T : A → List ℕ → Type 0} (x : Symbol) (h h' : Bool → Reader A) → Steady c m Before T (h true) (h' true) → Steady c m Anywhere T (h false) (h' false)
+pub symbol_steady : {c : Cut} {m : Mode} {A : Type 0} {T : A → List ℕ → Type 0} (x : Symbol) (h h' : Bool → Reader A)
+    → Steady c m Before T (h true) (h' true) → Steady c m Anywhere T (h false) (h' false)
     → Steady c m Anywhere T (by_kind (λ k. h (is_symbol x k))) (by_kind (λ k. h' (is_symbol x k)))
 symbol_steady {c} {m} {A} {T} x h h' s r = kind_steady go
   where
     by : (b : Bool) → Steady c m Before T (h b) (h' b)
     by true = s
     by false = before r
+
     go : (k : Option Kind) → Steady c m (start_of k) T (h (is_symbol x k)) (h' (is_symbol x k))
     go None = rw (no_symbol x) r
     go (Some k) = by (is_symbol x (Some k))
 
-pub if_some_steady : {c : Cut} {m : Mode} {w : Start} {A B : Type 0} {T : B → List ℕ → Type 0} (o : Option A) {p p' : Reader B} {k k' : A → Reader B} → Steady c m w T p p' → ((x : A) → Steady c m w T (k x) (k' x))
+pub if_some_steady : {c : Cut} {m : Mode} {w : Start} {A B : Type 0} {T : B → List ℕ → Type 0} (o : Option A) {p p' : Reader B} {k k' : A → Reader B}
+    → Steady c m w T p p' → ((x : A) → Steady c m w T (k x) (k' x))
     → Steady c m w T (if_some o p k) (if_some o p' k')
 if_some_steady None s n = s
 if_some_steady (Some x) s n = n x
@@ -292,7 +322,8 @@ expect_steady x = symbol_steady x (λ b. cond b take_token refuse) (λ b. cond b
 
 pub optional_steady : {c : Cut} {m : Mode} (x : Symbol) → Steady c m Anywhere (Has optional_levels) (optional_symbol x) (optional_symbol x)
 unfolding optional_symbol
-optional_steady x = symbol_steady x (λ b. cond b (take_token >>= λ at. pure (Some at)) (pure None)) (λ b. cond b (take_token >>= λ at. pure (Some at)) (pure None))
+optional_steady x = symbol_steady x (λ b. cond b (take_token >>= λ at. pure (Some at)) (pure None))
+    (λ b. cond b (take_token >>= λ at. pure (Some at)) (pure None))
     (finish (λ at. Some at) (take_steady 0) (λ at. refl)) (pure_steady None refl)
 
 -- ---- levels
@@ -309,8 +340,9 @@ too_deep_steady : {c : Cut} {m : Mode} {A : Type 0} {T : A → List ℕ → Type
 too_deep_steady {c} {m} {A} {T} = record { tame = λ ts k. omega arith; tame' = λ ts k. omega arith; like = λ f. like m f }
   where
     like : (m : Mode) (f : List Token) → Like c m T (too_deep (f ++ c.token ∷ c.here)) (too_deep (f ++ c.token ∷ c.there))
-    like Equal f = λ e. (let n : length f ≡ 0 = omega (arith, length-append f (c.token ∷ c.here)) in let k : length (f ++ c.token ∷ c.there) ≡ suc (length c.there) = omega (arith, length-append f (c.token ∷ c.there)) in
-      ap (λ n. Err (Deep n)) k)
+    like Equal f = λ e. (let n : length f ≡ 0 = omega (arith, length-append f (c.token ∷ c.here)) in
+        let k : length (f ++ c.token ∷ c.there) ≡ suc (length c.there) = omega (arith, length-append f (c.token ∷ c.there)) in
+        ap (λ n. Err (Deep n)) k)
     like Wider f = λ e. tt
 
 module _ {c : Cut} {A B : Type 0} (T : A → List ℕ → Type 0) (R : Mode → ℕ → B → B → Type 0) (depth : ℕ) (h : B → ℕ → Reader A)
@@ -333,7 +365,8 @@ module _ {c : Cut} {A B : Type 0} (T : A → List ℕ → Type 0) (R : Mode → 
   too_many f top r (x ∷ g) e = absurd (omega (arith, length-append g (c.token ∷ c.here)))
 
   -- what opens a level begins with the token that opens it
-  pub opening_steady : (m : Mode) (i i' : Option B) → SteadyInner c R m depth i i' → Steady c m Before T (inside i (λ f. take_token >>= h f)) (inside i' (λ f. take_token >>= h f))
+  pub opening_steady : (m : Mode) (i i' : Option B) → SteadyInner c R m depth i i'
+      → Steady c m Before T (inside i (λ f. take_token >>= h f)) (inside i' (λ f. take_token >>= h f))
   opening_steady m None None s = too_deep_steady
   opening_steady Equal None (Some f) s = absurd s
   opening_steady Wider None (Some f) s = record {

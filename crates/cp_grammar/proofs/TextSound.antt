@@ -1,14 +1,13 @@
 -- What is read as a whole text is one.
-use Rattle.std.proofs.Common.{◌≡◌, ℕ, List, [], ◌∷◌, Option, Some, None, Result, Ok, Err, refl}
+use Rattle.std.proofs.Common.{ℕ, List, [], ◌∷◌, Option}
 use Rattle.cp_model.specs.Syntax as s
 use Rattle.cp_model.specs.Grammar.{text}
 use Rattle.cp_model.specs.declared.token.Token.{Token}
-use Rattle.cp_model.specs.declared.token.Kind.{Kind}
 use Rattle.cp_model.specs.declared.token.Symbol.TheVariants as symbol
-use Rattle.cp_grammar.specs.Reading.{Outcome, Reader, and_then, ◌>>=◌, pure, by_kind, kind_at}
+use Rattle.cp_grammar.specs.Reading.{Reader, kind_at}
 use Rattle.cp_grammar.specs.Types.{type_at}
 use Rattle.cp_grammar.specs.Statements.{Deeper, deeper_at}
-use Rattle.cp_grammar.specs.Text.{at_end, tree_of, text_of, text_at}
+use Rattle.cp_grammar.specs.Text.{at_end, tree_of, text_of}
 use Rattle.cp_grammar.specs.Laws.{TextIsSound}
 use Rattle.cp_grammar.proofs.Ensures.{Ensures, Sound, ensures_then, expect_sound, SoundInner}
 use Rattle.cp_grammar.proofs.TypesSound.{SoundType, type_sound}
@@ -23,7 +22,8 @@ module _ (limit : ℕ) (p : Reader s.TypeExpression) (ok : SoundType limit p) (d
       ensures_then _ _ _ _ (routines_sound limit p ok deeper okd t2) (λ rs t3 h3.
       ensures_then _ _ _ _ (body_sound limit deeper okd t3) (λ b t4 h4.
       ensures_then _ _ _ _ (expect_sound symbol.Dot t4) (λ p5 t5 h5.
-      let made : text limit (record { sections = ss; variables = vs; routines = rs; body = b }) ts t5 = (t1, h1, (t2, h2, (t3, h3, (t4, h4, (p5, h5))))) in made)))))
+      let made : text limit (record { sections = ss; variables = vs; routines = rs; body = b }) ts t5 =
+      (t1, h1, (t2, h2, (t3, h3, (t4, h4, (p5, h5))))) in made)))))
 
   at_end_sound : (t : s.Tree) (ts mid : List Token) → text limit t ts mid → Ensures (at_end t (kind_at mid) mid) (λ t rest. text limit t ts [])
   at_end_sound t ts [] h = h

@@ -1,27 +1,27 @@
 -- The token at the head of a list: which it is, and that it is one token.
-use Rattle.std.proofs.Common.{◌≡◌, ℕ, ◌<◌, Bool, true, false, List, [], ◌∷◌, length, get_or, Option, Some, None, Ok, refl, sym, ap, ◌∙◌, arith}
+use Rattle.std.proofs.Common.{◌≡◌, ℕ, ◌<◌, true, false, List, [], ◌∷◌, length, get_or, Option, Some, None, Ok, refl, sym, ap, ◌∙◌, arith}
 use Rattle.std.proofs.lemmas.Bool.{eqb-true}
-use Rattle.cp_model.specs.Languages.{token, symbol, symbol_at, identifier}
+use Rattle.cp_model.specs.Languages.{token, symbol, symbol_at}
 use Rattle.cp_model.specs.declared.token.Token.{Token}
 use Rattle.cp_model.specs.declared.token.Kind.{Kind}
 use Rattle.cp_model.specs.declared.token.Kind.TheVariants as kind
 use Rattle.cp_model.specs.declared.token.Symbol.{Symbol}
 use Rattle.cp_model.specs.declared.token.Symbol.TheVariants as symbol
-use Rattle.cp_grammar.specs.Kinds.{code, is_symbol, is_name}
-use Rattle.cp_grammar.specs.Reading.{kind_at, place_at, tail, take_token, expect}
+use Rattle.cp_grammar.specs.Kinds.{code, is_symbol}
+use Rattle.cp_grammar.specs.Reading.{kind_at, place_at, tail, expect}
 
 -- ---- a symbol is known by its number
 
 symbols : List Symbol
 symbols =
     symbol.Array ∷ symbol.Begin ∷ symbol.Case ∷ symbol.Class ∷ symbol.Const ∷ symbol.Cycle ∷ symbol.Div ∷ symbol.Do
-  ∷ symbol.Downto ∷ symbol.Else ∷ symbol.End ∷ symbol.Entry ∷ symbol.For ∷ symbol.Function ∷ symbol.If ∷ symbol.In
-  ∷ symbol.Init ∷ symbol.Mod ∷ symbol.Monitor ∷ symbol.Not ∷ symbol.Of ∷ symbol.Or ∷ symbol.Procedure ∷ symbol.Process
-  ∷ symbol.Program ∷ symbol.Record ∷ symbol.Repeat ∷ symbol.Set ∷ symbol.Then ∷ symbol.To ∷ symbol.Type ∷ symbol.Univ
-  ∷ symbol.Until ∷ symbol.Var ∷ symbol.While ∷ symbol.With ∷ symbol.Plus ∷ symbol.Minus ∷ symbol.Star
-  ∷ symbol.Ampersand ∷ symbol.Equal ∷ symbol.Unequal ∷ symbol.Less ∷ symbol.Greater ∷ symbol.AtMost ∷ symbol.AtLeast
-  ∷ symbol.OpenParenthesis ∷ symbol.CloseParenthesis ∷ symbol.OpenBracket ∷ symbol.CloseBracket ∷ symbol.Comma
-  ∷ symbol.Semicolon ∷ symbol.Colon ∷ symbol.Assign ∷ symbol.Dot ∷ symbol.DotDot ∷ []
+    ∷ symbol.Downto ∷ symbol.Else ∷ symbol.End ∷ symbol.Entry ∷ symbol.For ∷ symbol.Function ∷ symbol.If ∷ symbol.In
+    ∷ symbol.Init ∷ symbol.Mod ∷ symbol.Monitor ∷ symbol.Not ∷ symbol.Of ∷ symbol.Or ∷ symbol.Procedure ∷ symbol.Process
+    ∷ symbol.Program ∷ symbol.Record ∷ symbol.Repeat ∷ symbol.Set ∷ symbol.Then ∷ symbol.To ∷ symbol.Type ∷ symbol.Univ
+    ∷ symbol.Until ∷ symbol.Var ∷ symbol.While ∷ symbol.With ∷ symbol.Plus ∷ symbol.Minus ∷ symbol.Star
+    ∷ symbol.Ampersand ∷ symbol.Equal ∷ symbol.Unequal ∷ symbol.Less ∷ symbol.Greater ∷ symbol.AtMost ∷ symbol.AtLeast
+    ∷ symbol.OpenParenthesis ∷ symbol.CloseParenthesis ∷ symbol.OpenBracket ∷ symbol.CloseBracket ∷ symbol.Comma
+    ∷ symbol.Semicolon ∷ symbol.Colon ∷ symbol.Assign ∷ symbol.Dot ∷ symbol.DotDot ∷ []
 
 decode : ℕ → Symbol
 unfolding symbols
@@ -180,9 +180,6 @@ pub symbol_shrinks : (x : Symbol) (ts rest : List Token) → symbol x ts rest �
 symbol_shrinks x ts rest h = token_shrinks (kind.Symbol x) h.0 ts rest h.1
 
 -- ---- it is taken
-
-pub take_reads : (k : Kind) (at : ℕ) (ts rest : List Token) → token k at ts rest → take_token ts ≡ Ok (at, rest)
-take_reads k at ts rest h = rw h.1 refl
 
 pub expect_reads : (x : Symbol) (at : ℕ) (ts rest : List Token) → symbol_at x at ts rest → expect x ts ≡ Ok (at, rest)
 unfolding expect

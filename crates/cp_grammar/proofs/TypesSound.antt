@@ -1,6 +1,6 @@
 -- What is read as a type is in the grammar.
-use Rattle.std.proofs.Common.{◌≡◌, ℕ, zero, suc, Bool, true, false, List, [], ◌∷◌, Option, Some, None, Ok, Err, refl}
-use Rattle.cp_model.specs.Languages.{Language, symbol, symbol_at, identifier, ◌⋅◌, opens, each_behind, separated}
+use Rattle.std.proofs.Common.{◌≡◌, ℕ, zero, suc, List, [], ◌∷◌, Option, Some, refl}
+use Rattle.cp_model.specs.Languages.{Language, symbol, identifier, ◌⋅◌, each_behind, separated}
 use Rattle.cp_model.specs.Syntax as s
 use Rattle.cp_model.specs.View.{types_of, fields_of}
 use Rattle.cp_model.specs.GrammarExpressions.{constant}
@@ -12,44 +12,51 @@ use Rattle.cp_model.specs.declared.token.Symbol.TheVariants as symbol
 use Rattle.cp_model.specs.declared.tree.Identifier.{Identifier}
 use Rattle.cp_model.specs.declared.tree.Constant.{Constant}
 use Rattle.cp_model.specs.declared.tree.Constant.TheVariants as written
-use Rattle.cp_grammar.specs.Reading.{Reader, ◌>>=◌, pure, take_token, by_kind, kind_at, place_at, tail, expect, inside, separated_by}
-use Rattle.cp_grammar.specs.Names.{identifier_of, names_of, constant_of}
+use Rattle.cp_grammar.specs.Reading.{Reader, ◌>>=◌, kind_at, place_at, tail}
+use Rattle.cp_grammar.specs.Names.{constant_of}
 use Rattle.cp_grammar.specs.Types.{subrange_from, named_or_subrange, group_of, array_of, record_of, type_by, type_of, inner_type_at, type_at}
 use Rattle.cp_grammar.specs.Laws.{TypesAreSound}
 use Rattle.cp_grammar.proofs.Tokens.{head}
-use Rattle.cp_grammar.proofs.Ensures.{Ensures, Sound, ensures_then, ensures_weaker, expect_sound, SoundInner, inside_sound, separated_sound}
+use Rattle.cp_grammar.proofs.Ensures.{Ensures, Sound, ensures_then, expect_sound, SoundInner, inside_sound, separated_sound}
 use Rattle.cp_grammar.proofs.NamesSound.{identifier_sound, names_sound, constant_sound}
 
 -- ---- lists
 
-behind_types : (room : ℕ) (xs : List s.TypeExpression) (ts rest : List Token) → each_behind symbol.Comma (type_expression room) xs ts rest → more_types room (types_of xs) ts rest
+behind_types : (room : ℕ) (xs : List s.TypeExpression) (ts rest : List Token) → each_behind symbol.Comma (type_expression room) xs ts rest
+    → more_types room (types_of xs) ts rest
 behind_types room [] ts rest h = h
 behind_types room (x ∷ xs) ts rest h = (h.0, h.1, (h.2.0, h.2.1, behind_types room xs h.2.0 rest h.2.2))
 
-separated_types : (room : ℕ) (xs : List s.TypeExpression) (ts rest : List Token) → separated symbol.Comma (type_expression room) xs ts rest → types room (types_of xs) ts rest
+pub separated_types : (room : ℕ) (xs : List s.TypeExpression) (ts rest : List Token) → separated symbol.Comma (type_expression room) xs ts rest
+    → types room (types_of xs) ts rest
 separated_types room [] ts rest h = h
 separated_types room (x ∷ xs) ts rest h = (h.0, h.1, behind_types room xs h.0 rest h.2)
 
 abbrev pub group : ℕ → s.Variables → Language
 group room g = names g.names ⋅ symbol symbol.Colon ⋅ type_expression room g.of
 
-behind_fields : (room : ℕ) (xs : List s.Variables) (ts rest : List Token) → each_behind symbol.Semicolon (group room) xs ts rest → more_fields room (fields_of xs) ts rest
+behind_fields : (room : ℕ) (xs : List s.Variables) (ts rest : List Token) → each_behind symbol.Semicolon (group room) xs ts rest
+    → more_fields room (fields_of xs) ts rest
 behind_fields room [] ts rest h = h
-behind_fields room (x ∷ xs) ts rest h = let g = h.2.1 in (h.0, h.1, (g.0, g.1, (g.2.0, g.2.1, (h.2.0, g.2.2, behind_fields room xs h.2.0 rest h.2.2))))
+behind_fields room (x ∷ xs) ts rest h = let g = h.2.1 in
+    (h.0, h.1, (g.0, g.1, (g.2.0, g.2.1, (h.2.0, g.2.2, behind_fields room xs h.2.0 rest h.2.2))))
 
-separated_fields : (room : ℕ) (xs : List s.Variables) (ts rest : List Token) → separated symbol.Semicolon (group room) xs ts rest → fields room (fields_of xs) ts rest
+pub separated_fields : (room : ℕ) (xs : List s.Variables) (ts rest : List Token) → separated symbol.Semicolon (group room) xs ts rest
+    → fields room (fields_of xs) ts rest
 separated_fields room [] ts rest h = h
 separated_fields room (x ∷ xs) ts rest h = let g = h.1 in (g.0, g.1, (g.2.0, g.2.1, (h.0, g.2.2, behind_fields room xs h.0 rest h.2)))
 
 -- ---- types
 
-subrange_sound : (room : ℕ) (low : Constant) (ts mid : List Token) → constant low ts mid → Ensures (subrange_from low mid) (λ t rest. type_expression room t ts rest)
+subrange_sound : (room : ℕ) (low : Constant) (ts mid : List Token) → constant low ts mid
+    → Ensures (subrange_from low mid) (λ t rest. type_expression room t ts rest)
 unfolding subrange_from
 subrange_sound room low ts mid h = ensures_then _ _ _ _ (expect_sound symbol.DotDot mid) (λ at last d.
     ensures_then _ _ _ _ (constant_sound last) (λ high rest g.
     let made : type_expression room (s.Subrange low high) ts rest = (mid, h, (last, (at, d), g)) in made))
 
-named_sound : (room : ℕ) (x : Identifier) (ts mid : List Token) (k : Option Kind) → identifier x ts mid → Ensures (named_or_subrange x k mid) (λ t rest. type_expression room t ts rest)
+named_sound : (room : ℕ) (x : Identifier) (ts mid : List Token) (k : Option Kind) → identifier x ts mid
+    → Ensures (named_or_subrange x k mid) (λ t rest. type_expression room t ts rest)
 unfolding named_or_subrange
 named_sound room x ts mid (Some (kind.Symbol symbol.DotDot)) h = subrange_sound room (written.Named x) ts mid h
 named_sound room x ts mid _ h = h
@@ -65,7 +72,8 @@ abbrev pub SoundType : ℕ → Reader s.TypeExpression → Type 0
 SoundType room p = Sound p (type_expression room)
 
 module _ (room : ℕ) (inner : Option (Reader s.TypeExpression)) (ok : SoundInner SoundType room inner) where
-  array_sound : (ts : List Token) → kind_at ts ≡ Some (kind.Symbol symbol.Array) → Ensures (array_of inner ts) (λ t rest. type_expression room t ts rest)
+  array_sound : (ts : List Token) → kind_at ts ≡ Some (kind.Symbol symbol.Array)
+      → Ensures (array_of inner ts) (λ t rest. type_expression room t ts rest)
   unfolding array_of
   array_sound ts k = inside_sound SoundType (λ room t rest. type_expression room t ts rest) _ ts (λ room p ok.
       ensures_then _ _ _ _ (expect_sound symbol.OpenBracket (tail ts)) (λ at1 t1 h1.
@@ -73,16 +81,20 @@ module _ (room : ℕ) (inner : Option (Reader s.TypeExpression)) (ok : SoundInne
       ensures_then _ _ _ _ (expect_sound symbol.CloseBracket t2) (λ at3 t3 h3.
       ensures_then _ _ _ _ (expect_sound symbol.Of t3) (λ at4 t4 h4.
       ensures_then _ _ _ _ (ok t4) (λ e rest g.
-      let made : type_expression (suc room) (s.Array (place_at ts) (types_of is) e) ts rest =
-        (tail ts, head ts (kind.Symbol symbol.Array) k, (t1, (at1, h1), (t2, separated_types room is t1 t2 h2, (t3, (at3, h3), (t4, (at4, h4), g))))) in made)))))) room inner ok
+      let made : type_expression (suc room) (s.Array (place_at ts) (types_of is) e) ts rest = (
+        tail ts,
+        head ts (kind.Symbol symbol.Array) k,
+        (t1, (at1, h1), (t2, separated_types room is t1 t2 h2, (t3, (at3, h3), (t4, (at4, h4), g)))),
+      ) in made)))))) room inner ok
 
-  record_sound : (ts : List Token) → kind_at ts ≡ Some (kind.Symbol symbol.Record) → Ensures (record_of inner ts) (λ t rest. type_expression room t ts rest)
+  record_sound : (ts : List Token) → kind_at ts ≡ Some (kind.Symbol symbol.Record)
+      → Ensures (record_of inner ts) (λ t rest. type_expression room t ts rest)
   unfolding record_of
   record_sound ts k = inside_sound SoundType (λ room t rest. type_expression room t ts rest) _ ts (λ room p ok.
       ensures_then _ _ _ _ (separated_sound (group room) symbol.Semicolon (group_of p) (group_sound room p ok) (tail ts)) (λ gs mid h.
       ensures_then _ _ _ _ (expect_sound symbol.End mid) (λ at rest c.
       let made : type_expression (suc room) (s.Record (place_at ts) (fields_of gs)) ts rest =
-        (tail ts, head ts (kind.Symbol symbol.Record) k, (mid, separated_fields room gs (tail ts) mid h, (at, c))) in made))) room inner ok
+      (tail ts, head ts (kind.Symbol symbol.Record) k, (mid, separated_fields room gs (tail ts) mid h, (at, c))) in made))) room inner ok
 
   from_constant : (ts : List Token) → Ensures ((constant_of >>= subrange_from) ts) (λ t rest. type_expression room t ts rest)
   from_constant ts = ensures_then _ _ _ _ (constant_sound ts) (λ low mid h. subrange_sound room low ts mid h)

@@ -128,7 +128,8 @@ module _ (inner : Option (Reader s.Expression)) where
   named_of = designator_of >>= λ d. by_kind (λ k. call_or_part d (is_symbol symbol.OpenParenthesis k))
 
   unfoldable pub parenthesized_of : Reader s.Expression
-  parenthesized_of = inside inner (λ f. take_token >>= λ at. expression_of f >>= λ e. expect symbol.CloseParenthesis >>= λ _. pure (s.Parenthesized at e))
+  parenthesized_of = inside inner (λ f. take_token >>= λ at. expression_of f >>= λ e. expect symbol.CloseParenthesis >>= λ _. pure
+      (s.Parenthesized at e))
 
   unfoldable pub not_of : Reader s.Expression
   not_of = inside inner (λ f. take_token >>= λ at. f >>= λ e. pure (s.Not at e))

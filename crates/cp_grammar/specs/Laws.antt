@@ -1,15 +1,12 @@
 -- That the reading functions read exactly what the grammar allows.
-use Rattle.std.specs.Prelude.{◌≡◌, ℕ, suc, ◌≤◌, ◌⊎◌, Bool, true, false, List, [], ◌∷◌, ◌++◌, length, get_or, Option, Some, Ok, Err}
+use Rattle.std.specs.Prelude.{◌≡◌, ℕ, suc, ◌<◌, ◌≤◌, ◌⊎◌, true, List, [], ◌∷◌, ◌++◌, length, get_or, Ok, Err}
 use Rattle.cp_model.specs.Syntax as s
 use Rattle.cp_model.specs.GrammarExpressions as g
 use Rattle.cp_model.specs.GrammarTypes.{type_expression}
-use Rattle.cp_model.specs.GrammarStatements.{statement, ends_open}
+use Rattle.cp_model.specs.GrammarStatements.{statement}
 use Rattle.cp_model.specs.Grammar.{text, Begins}
 use Rattle.cp_model.specs.Levels.{text_levels}
 use Rattle.cp_model.specs.declared.token.Token.{Token}
-use Rattle.cp_model.specs.declared.token.Kind.{Kind}
-use Rattle.cp_model.specs.declared.token.Kind.TheVariants as kind
-use Rattle.cp_model.specs.declared.token.Symbol.TheVariants as symbol
 use Rattle.cp_grammar.specs.declared.stop.Stop.TheVariants.{Wrong, Deep}
 use Rattle.cp_grammar.specs.Reading.{kind_at}
 use Rattle.cp_grammar.specs.Expressions.{expression_at}
@@ -22,19 +19,22 @@ abbrev pub ExpressionsAreSound : Type 0
 ExpressionsAreSound = (room : ℕ) (ts rest : List Token) (e : s.Expression) → expression_at room ts ≡ Ok (e, rest) → g.expression room e ts rest
 
 abbrev pub ExpressionsAreComplete : Type 0
-ExpressionsAreComplete = (room : ℕ) (ts rest : List Token) (e : s.Expression) → g.expression room e ts rest → ends_expression (kind_at rest) ≡ true → expression_at room ts ≡ Ok (e, rest)
+ExpressionsAreComplete = (room : ℕ) (ts rest : List Token) (e : s.Expression) → g.expression room e ts rest → ends_expression (kind_at rest) ≡ true
+    → expression_at room ts ≡ Ok (e, rest)
 
 abbrev pub StatementsAreSound : Type 0
 StatementsAreSound = (room : ℕ) (ts rest : List Token) (x : s.Statement) → statement_at room ts ≡ Ok (x, rest) → statement room x ts rest
 
 abbrev pub StatementsAreComplete : Type 0
-StatementsAreComplete = (room : ℕ) (ts rest : List Token) (x : s.Statement) → statement room x ts rest → MayFollow x (kind_at rest) → statement_at room ts ≡ Ok (x, rest)
+StatementsAreComplete = (room : ℕ) (ts rest : List Token) (x : s.Statement) → statement room x ts rest → MayFollow x (kind_at rest)
+    → statement_at room ts ≡ Ok (x, rest)
 
 abbrev pub TypesAreSound : Type 0
 TypesAreSound = (room : ℕ) (ts rest : List Token) (t : s.TypeExpression) → type_at room ts ≡ Ok (t, rest) → type_expression room t ts rest
 
 abbrev pub TypesAreComplete : Type 0
-TypesAreComplete = (room : ℕ) (ts rest : List Token) (t : s.TypeExpression) → type_expression room t ts rest → ends_type (kind_at rest) ≡ true → type_at room ts ≡ Ok (t, rest)
+TypesAreComplete = (room : ℕ) (ts rest : List Token) (t : s.TypeExpression) → type_expression room t ts rest → ends_type (kind_at rest) ≡ true
+    → type_at room ts ≡ Ok (t, rest)
 
 abbrev pub TextIsSound : Type 0
 TextIsSound = (room : ℕ) (ts rest : List Token) (t : s.Tree) → text_at room ts ≡ Ok (t, rest) → text room t ts []
@@ -52,20 +52,30 @@ TreeIsUnique = (room : ℕ) (ts : List Token) (t u : s.Tree) → text room t ts 
 abbrev pub StopsInside : Type 0
 StopsInside = (room : ℕ) (ts : List Token) (n : ℕ) → (text_at room ts ≡ Err (Wrong n)) ⊎ (text_at room ts ≡ Err (Deep n)) → n ≤ length ts
 
+-- some text within the levels begins with the tokens that were read before reading stopped
+abbrev pub FrontBeginsAText : Type 0
+FrontBeginsAText = (room : ℕ) (front behind : List Token) → 0 < room
+    → (text_at room (front ++ behind) ≡ Err (Wrong (length behind))) ⊎ (text_at room (front ++ behind) ≡ Err (Deep (length behind)))
+    → (more : List Token) × (tree : s.Tree) × text room tree (front ++ more) []
+
 -- no text of any depth begins with the tokens up to the wrong one and with it
 abbrev pub WrongIsFirst : Type 0
-WrongIsFirst = (room : ℕ) (front : List Token) (t : Token) (behind : List Token) → text_at room (front ++ t ∷ behind) ≡ Err (Wrong (suc (length behind)))
+WrongIsFirst = (room : ℕ) (front : List Token) (t : Token) (behind : List Token)
+    → text_at room (front ++ t ∷ behind) ≡ Err (Wrong (suc (length behind)))
     → Begins (front ++ t ∷ []) → ⊥
 
 -- no text within the levels begins with the tokens up to the one that is too deep and with it
 abbrev pub DeepIsFirst : Type 0
-DeepIsFirst = (room : ℕ) (front : List Token) (t : Token) (behind : List Token) → text_at room (front ++ t ∷ behind) ≡ Err (Deep (suc (length behind)))
+DeepIsFirst = (room : ℕ) (front : List Token) (t : Token) (behind : List Token)
+    → text_at room (front ++ t ∷ behind) ≡ Err (Deep (suc (length behind)))
     → (more : List Token) (tree : s.Tree) → text room tree ((front ++ t ∷ []) ++ more) [] → ⊥
 
 -- in each text of any depth that begins with them, that token opens the level that is one too many
 abbrev pub DeepOpensTheNext : Type 0
-DeepOpensTheNext = (room : ℕ) (front : List Token) (t : Token) (behind : List Token) → text_at room (front ++ t ∷ behind) ≡ Err (Deep (suc (length behind)))
-    → (limit : ℕ) (more : List Token) (tree : s.Tree) → text limit tree ((front ++ t ∷ []) ++ more) [] → get_or (text_levels tree) (length front) 0 ≡ suc room
+DeepOpensTheNext = (room : ℕ) (front : List Token) (t : Token) (behind : List Token)
+    → text_at room (front ++ t ∷ behind) ≡ Err (Deep (suc (length behind)))
+    → (limit : ℕ) (more : List Token) (tree : s.Tree) → text limit tree ((front ++ t ∷ []) ++ more) []
+    → get_or (text_levels tree) (length front) 0 ≡ suc room
 
 -- a tree has a level for each of its tokens
 abbrev pub LevelsAreOfTokens : Type 0
