@@ -1,14 +1,14 @@
 -- Where reading stopped, and that the tokens then have no tree.
 use Rattle.std.proofs.Common.{◌≡◌, ℕ, suc, ◌-◌, ◌<◌, ◌≤◌, ◌⊎◌, inl, inr, List, [], ◌∷◌, ◌++◌, length, get_or, take, drop, Ok, Err, refl, sym, ap, ◌∙◌, drop-cons, length-drop, arith}
-use Rattle.std.proofs.lemmas.List.{take-append-drop}
-use Rattle.cp_model.specs.Grammar.{nesting_limit}
+use Rattle.std.proofs.lemmas.List.{take-append-drop, append-nil}
+use Rattle.cp_model.specs.Grammar.{nesting_limit, BeginsWithin}
 use Rattle.cp_model.specs.declared.token.Token.{Token}
-use Rattle.cp_grammar.specs.Laws.{TextIsComplete, StopsInside, WrongIsFirst, DeepIsFirst, DeepOpensTheNext}
+use Rattle.cp_grammar.specs.Laws.{TextIsComplete, StopsInside, FrontBeginsAText, WrongIsFirst, DeepIsFirst, DeepOpensTheNext}
 use Rattle.cp_grammar.specs.Reading.{Fails}
 use Rattle.cp_grammar.specs.Text.{text_at}
 use Rattle.cp_grammar.specs.declared.stop.Stop.{Stop}
 use Rattle.cp_grammar.specs.declared.stop.Stop.TheVariants.{Memory, Wrong, Deep}
-use Rattle.cp_syntax.specs.Refusals.{TokenAt, NoTokenAt, HasNoTree, StopsAtEnd, NoTextHas, OpensTooDeep, Refused, Tells}
+use Rattle.cp_syntax.specs.Refusals.{TokenAt, NoTokenAt, HasNoTree, NoTextHas, OpensTooDeep, Refused, Tells}
 use Rattle.cp_syntax.specs.declared.refusal.SyntaxError.{SyntaxError}
 use Rattle.cp_syntax.specs.declared.refusal.SyntaxError.TheVariants as error
 
@@ -26,8 +26,13 @@ token_at ts left index t fits e within is =
       begins = refl;
     }
 
+-- for whichever reason, reading stops where so many tokens are left
+abbrev StopsAt : List Token → ℕ → Type 0
+StopsAt ts left = (text_at nesting_limit ts ≡ Err (Wrong left)) ⊎ (text_at nesting_limit ts ≡ Err (Deep left))
+
 -- the laws of the reading functions
-module _ (complete : TextIsComplete) (inside : StopsInside) (wrong : WrongIsFirst) (deep : DeepIsFirst) (opens : DeepOpensTheNext) (ts : List Token) (len : ℕ) where
+module _ (complete : TextIsComplete) (inside : StopsInside) (begun : FrontBeginsAText) (wrong : WrongIsFirst) (deep : DeepIsFirst)
+    (opens : DeepOpensTheNext) (ts : List Token) (len : ℕ) where
   no_tree : (s : Stop) → text_at nesting_limit ts ≡ Err s → HasNoTree ts
   no_tree s stopped t reads = let read : text_at nesting_limit ts ≡ Ok (t, []) = complete nesting_limit ts t reads in cc
 
@@ -42,15 +47,23 @@ module _ (complete : TextIsComplete) (inside : StopsInside) (wrong : WrongIsFirs
         beyond = opens nesting_limit k.front k.token k.behind there;
       }
 
-  at_end : (left : ℕ) → NoTokenAt ts left → (text_at nesting_limit ts ≡ Err (Wrong left)) ⊎ (text_at nesting_limit ts ≡ Err (Deep left)) → StopsAtEnd ts
-  at_end left (inl none) stopped = rw none at stopped
+  before : (left at : ℕ) (k : TokenAt ts left at) → StopsAt ts left → BeginsWithin k.front
+  before left at k stopped = begun nesting_limit k.front (k.token ∷ k.behind) (omega arith) (rw (k.stands, k.counted) at stopped)
+
+  at_end : (left : ℕ) → NoTokenAt ts left → StopsAt ts left → BeginsWithin ts
+  at_end left (inl none) stopped =
+      let last : StopsAt ts 0 = rw none at stopped in
+      let there : StopsAt (ts ++ []) 0 = rw (append-nil ts) last in
+      begun nesting_limit ts [] (omega arith) there
   at_end left (inr more) stopped = let fits : left ≤ length ts = inside nesting_limit ts left stopped in absurd (omega arith)
 
   pub refused : (s : Stop) (e : SyntaxError) → Fails s (text_at nesting_limit ts) → Tells ts len s e → Refused ts len e
   refused Memory error.Memory stopped told = tt
-  refused (Wrong left) (error.Unexpected at) stopped told = (no_tree (Wrong left) stopped, (left, told, stopped, no_text left at told stopped))
+  refused (Wrong left) (error.Unexpected at) stopped told =
+      (no_tree (Wrong left) stopped, (left, told, before left at told (inl stopped), no_text left at told stopped))
   refused (Wrong left) (error.Unfinished at) stopped told = (no_tree (Wrong left) stopped, at_end left told.0 (inl stopped), told.1)
-  refused (Deep left) (error.TooDeep at) stopped told = (no_tree (Deep left) stopped, (left, told, stopped, too_deep left at told stopped))
+  refused (Deep left) (error.TooDeep at) stopped told =
+      (no_tree (Deep left) stopped, (left, told, before left at told (inr stopped), too_deep left at told stopped))
   refused (Deep left) (error.Unfinished at) stopped told = (no_tree (Deep left) stopped, at_end left told.0 (inr stopped), told.1)
   refused Memory (error.Unexpected at) stopped told = absurd told
   refused Memory (error.Unfinished at) stopped told = absurd told

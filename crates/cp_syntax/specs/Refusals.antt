@@ -1,12 +1,11 @@
 -- What a refusal says of the tokens.
-use Rattle.std.specs.Prelude.{◌≡◌, ◌<◌, ◌⊎◌, ℕ, suc, List, [], ◌∷◌, ◌++◌, length, get_or, Err}
+use Rattle.std.specs.Prelude.{◌≡◌, ◌<◌, ◌⊎◌, ℕ, suc, List, [], ◌∷◌, ◌++◌, length, get_or}
 use Rattle.cp_model.specs.Syntax as s
 use Rattle.cp_model.specs.Grammar.{Reads, Begins, BeginsWithin, text, nesting_limit}
 use Rattle.cp_model.specs.Levels.{text_levels}
 use Rattle.cp_model.specs.declared.token.Token.{Token}
 use Rattle.cp_grammar.specs.declared.stop.Stop.{Stop}
 use Rattle.cp_grammar.specs.declared.stop.Stop.TheVariants.{Memory, Wrong, Deep}
-use Rattle.cp_grammar.specs.Text.{text_at}
 use Rattle.cp_syntax.specs.declared.refusal.SyntaxError.{SyntaxError}
 use Rattle.cp_syntax.specs.declared.refusal.SyntaxError.TheVariants as error
 
@@ -36,18 +35,12 @@ pub record OpensTooDeep {tokens : List Token} {left at : ℕ} (k : TokenAt token
   pub beyond : (limit : ℕ) (more : List Token) (t : s.Tree) → text limit t (up_to k ++ more) []
       → get_or (text_levels t) (length k.front) 0 ≡ suc nesting_limit
 
--- reading stops for this reason, and looks at no token behind the one at which it stops
-abbrev pub Stops : List Token → Stop → Type 0
-Stops tokens s = text_at nesting_limit tokens ≡ Err s
-
--- each token was read, and more of them were wanted
-abbrev pub StopsAtEnd : List Token → Type 0
-StopsAtEnd tokens = Stops tokens (Wrong 0) ⊎ Stops tokens (Deep 0)
-
+-- Of all but want of memory: there is no tree, and the token told is the first that no text has there, or that is nested too deep.
+-- Behind the last token: some text begins with the tokens.
 abbrev pub Refused : List Token → ℕ → SyntaxError → Type 0
-Refused tokens len (error.Unexpected at) = HasNoTree tokens × ((left : ℕ) × (k : TokenAt tokens left at) × Stops tokens (Wrong left) × NoTextHas k)
-Refused tokens len (error.Unfinished at) = HasNoTree tokens × StopsAtEnd tokens × (at ≡ len)
-Refused tokens len (error.TooDeep at) = HasNoTree tokens × ((left : ℕ) × (k : TokenAt tokens left at) × Stops tokens (Deep left) × OpensTooDeep k)
+Refused tokens len (error.Unexpected at) = HasNoTree tokens × ((left : ℕ) × (k : TokenAt tokens left at) × BeginsWithin k.front × NoTextHas k)
+Refused tokens len (error.Unfinished at) = HasNoTree tokens × BeginsWithin tokens × (at ≡ len)
+Refused tokens len (error.TooDeep at) = HasNoTree tokens × ((left : ℕ) × (k : TokenAt tokens left at) × BeginsWithin k.front × OpensTooDeep k)
 Refused tokens len error.Memory = Unit {0}
 
 -- no token has so many left from it on

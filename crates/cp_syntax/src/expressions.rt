@@ -25,6 +25,7 @@ pub struct Expressions<F> {
 }
 
 impl<F: Fn(Global, usize, &[Token]) -> Read<'_, Expression>> Expressions<F> {
+    /// A factor, by the reader that was given.
     pub fn factor<'a>(&self, tokens: &'a [Token]) -> Read<'a, Expression>
         requires { FactorsAt self.now.room (F.pre self.now.factor) (F.post self.now.factor) }
         ensures { Gives view.expression result (spec.factor_at self.now.room tokens.now) }
@@ -45,6 +46,7 @@ impl<F: Fn(Global, usize, &[Token]) -> Read<'_, Expression>> Expressions<F> {
         Ok((operation(operator, place(tokens), operand), rest))
     }
 
+    /// Factors with operators between them.
     #[tactic(auto, unfolding(cp_grammar::specs::Expressions::term_of, cp_grammar::specs::Expressions::chain_from))]
     fn term<'a>(&self, tokens: &'a [Token]) -> Read<'a, Expression>
         requires { FactorsAt self.now.room (F.pre self.now.factor) (F.post self.now.factor) }
@@ -86,6 +88,7 @@ impl<F: Fn(Global, usize, &[Token]) -> Read<'_, Expression>> Expressions<F> {
         Ok((operation(operator, place(tokens), operand), rest))
     }
 
+    /// Terms with operators between them, and a sign before the first or none.
     #[tactic(auto, unfolding(cp_grammar::specs::Expressions::simple_of, cp_grammar::specs::Expressions::chain_from))]
     fn simple<'a>(&self, tokens: &'a [Token]) -> Read<'a, Expression>
         requires { FactorsAt self.now.room (F.pre self.now.factor) (F.post self.now.factor) }
@@ -101,6 +104,7 @@ impl<F: Fn(Global, usize, &[Token]) -> Read<'_, Expression>> Expressions<F> {
         Ok((chain(self.alloc, first, additions)?, rest))
     }
 
+    /// Simple expressions with one relation between them, or one alone.
     #[tactic(auto, unfolding(cp_grammar::specs::Expressions::expression_of))]
     pub fn expression<'a>(&self, tokens: &'a [Token]) -> Read<'a, Expression>
         requires { FactorsAt self.now.room (F.pre self.now.factor) (F.post self.now.factor) }

@@ -65,6 +65,7 @@ impl<F: Fn(Global, usize, &[Token]) -> Read<'_, Expression> + Copy> Factors<F> {
         Ok((indexed(indices), rest))
     }
 
+    /// A field or indices, by the mark that stands next.
     #[tactic(auto, unfolding(cp_grammar::specs::Expressions::selector_of, cp_grammar::specs::Expressions::selector_by))]
     fn selector<'a>(&self, tokens: &'a [Token]) -> Read<'a, Selector>
         requires { FactorsBelow self.now.room (F.pre self.now.factor) (F.post self.now.factor) }
@@ -77,6 +78,7 @@ impl<F: Fn(Global, usize, &[Token]) -> Read<'_, Expression> + Copy> Factors<F> {
         }
     }
 
+    /// A name, and the parts that are selected of what it names.
     #[tactic(auto, unfolding(cp_grammar::specs::Expressions::designator_of))]
     pub fn designator<'a>(&self, tokens: &'a [Token]) -> Read<'a, Designator>
         requires { FactorsBelow self.now.room (F.pre self.now.factor) (F.post self.now.factor) }
@@ -129,6 +131,7 @@ impl<F: Fn(Global, usize, &[Token]) -> Read<'_, Expression> + Copy> Factors<F> {
         Ok((call(d, arguments), rest))
     }
 
+    /// An expression in parentheses.
     #[tactic(auto, unfolding(cp_grammar::specs::Expressions::parenthesized_of))]
     fn parenthesized<'a>(&self, tokens: &'a [Token]) -> Read<'a, Expression>
         requires { FactorsBelow self.now.room (F.pre self.now.factor) (F.post self.now.factor) }
@@ -149,6 +152,7 @@ impl<F: Fn(Global, usize, &[Token]) -> Read<'_, Expression> + Copy> Factors<F> {
         Ok((negated(self.alloc, place(tokens), operand)?, rest))
     }
 
+    /// A factor, by the token that stands next.
     #[tactic(auto, unfolding(cp_grammar::specs::Expressions::factor_of, cp_grammar::specs::Expressions::factor_by))]
     fn factor<'a>(&self, tokens: &'a [Token]) -> Read<'a, Expression>
         requires { FactorsBelow self.now.room (F.pre self.now.factor) (F.post self.now.factor) }
@@ -235,7 +239,7 @@ fn negated(alloc: Global, at: usize, operand: Expression) -> Result<Expression, 
     })
 }
 
-/// A factor, where so many levels may be opened.
+/// A factor, where so many levels may be opened. It hands itself to the rules, which call it one level deeper alone.
 pub fn factor(alloc: Global, room: usize, tokens: &[Token]) -> Read<'_, Expression>
     ensures { Gives view.expression result (spec.factor_at room tokens.now) }
 {

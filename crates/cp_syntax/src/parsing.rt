@@ -16,7 +16,7 @@ use std::alloc::Global;
 /// How many levels a text may have open at once.
 const LEVELS: usize = 200;
 
-/// The tree of the tokens of a text of `len` bytes.
+/// The tree of the tokens of a text of `len` bytes. There is one at most.
 ///
 /// It reads each token once, from the first to the last, and looks at no token behind the next one. So of the reasons why tokens
 /// have no tree, it tells the one that comes first in their order.

@@ -198,6 +198,7 @@ impl<F: Fn(Global, usize, &[Token]) -> Read<'_, Statement> + Copy> StatementRule
         Ok((cycle(body), rest))
     }
 
+    /// A statement, by the token that stands next: nothing is one, too.
     #[tactic(auto, unfolding(cp_grammar::specs::Statements::statement_of, cp_grammar::specs::Statements::statement_by))]
     fn statement<'a>(&self, tokens: &'a [Token]) -> Read<'a, Statement>
         requires { StatementsBelow self.now.room (F.pre self.now.read) (F.post self.now.read) }
@@ -326,7 +327,7 @@ fn cycle(body: Vec<Statement>) -> Statement
     Statement::Cycle(body)
 }
 
-/// A statement, where so many levels may be opened.
+/// A statement, where so many levels may be opened. It hands itself to the rules, which call it one level deeper alone.
 pub fn statement(alloc: Global, room: usize, tokens: &[Token]) -> Read<'_, Statement>
     ensures { Gives view.statement result (spec.statement_at room tokens.now) }
 {

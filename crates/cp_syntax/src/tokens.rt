@@ -51,6 +51,7 @@ pub fn sees(tokens: &[Token], symbol: Symbol) -> bool
     }
 }
 
+/// Whether two symbols are one. Contracts compare their numbers.
 fn same(seen: Symbol, symbol: Symbol) -> bool
     ensures { result ≡ (code seen == code symbol) }
 {

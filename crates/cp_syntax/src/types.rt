@@ -194,7 +194,7 @@ fn record(at: usize, groups: Vec<Fields>) -> TypeExpression
     TypeExpression::Record { at, groups }
 }
 
-/// A type, where so many levels may be opened.
+/// A type, where so many levels may be opened. It hands itself to the rules, which call it one level deeper alone.
 pub fn type_expression(alloc: Global, room: usize, tokens: &[Token]) -> Read<'_, TypeExpression>
     ensures { Gives view.type_expression result (spec.type_at room tokens.now) }
 {

@@ -1,4 +1,6 @@
 //! The trees of texts that use every alternative of the grammar, node by node.
+//!
+//! What is wanted was worked out from the grammar apart from the parser.
 
 use crate::words::tokens;
 use cp_syntax::parse;
