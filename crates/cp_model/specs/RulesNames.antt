@@ -103,7 +103,7 @@ c2_before_index x ss e = []
 -- what a name stands for before its parts are selected. Where none is, its use judges it
 abbrev pub before_selectors : Environment → Identifier → s.Selectors → Entity → Judged Entity
 before_selectors env x s.NoSelectors e = Sound e
-before_selectors env x (s.MoreSelectors y ys) e = also (c4_c9_named env x e ++ c2_before_index x (s.MoreSelectors y ys) e) (Sound e)
+before_selectors env x (s.MoreSelectors y ys) e = also (c4_c9_named env x e) (also (c2_before_index x (s.MoreSelectors y ys) e) (Sound e))
 
 -- ---- queues
 

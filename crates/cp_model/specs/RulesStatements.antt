@@ -103,8 +103,12 @@ fits_selector (Some base) c = nat_eq base c.0
 abbrev pub c2_c3_label : Option ℕ → List Label → ℕ → Label → Judged Label
 c2_c3_label base seen at c = also (unless (fits_selector base c) C2 at) (provided (not (is_among c seen)) C3 at c)
 
+-- each label once
+abbrev pub with_label : List Label → Label → List Label
+with_label seen c = if is_among c seen then seen else seen ++ c ∷ []
+
 abbrev pub more_seen : List Label → Judged Label → List Label
-more_seen seen (Sound c) = seen ++ c ∷ []
+more_seen seen (Sound c) = with_label seen c
 more_seen seen (Broken v vs) = seen
 
 -- the labels that were seen, and what is broken in them
