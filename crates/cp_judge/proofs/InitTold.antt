@@ -1,0 +1,41 @@
+-- What is told of the parts of `init`.
+use Rattle.std.proofs.Common.{◌≡◌, ◌≤◌, ◌+◌, ◌++◌, ℕ, zero, suc, List, [], ◌∷◌, Option, Some, None, refl, ap, length, drop, slice_get, arith}
+use Rattle.cp_model.specs.Syntax as s
+use Rattle.cp_model.specs.declared.tree.Identifier.{Identifier}
+use Rattle.cp_model.specs.declared.tree.Selector.{Selector}
+use Rattle.cp_model.specs.declared.rules.ParameterRow.{ParameterRow}
+use Rattle.cp_model.specs.declared.rules.SystemRow.{SystemRow}
+use Rattle.cp_model.specs.RulesJudged.{Judged, Sound, Broken, meaning_of, violations_of}
+use Rattle.cp_model.specs.RulesEnvironment.{Environment}
+use Rattle.cp_model.specs.RulesStatements as st
+use Rattle.cp_judge.specs.InitParts as parts
+
+pub unselected_some : (x : Identifier) (ss : List Selector) → 1 ≤ length ss → parts.unselected x (parts.selectors ss) ≡ None
+unselected_some x [] some = absurd (omega (arith, some))
+unselected_some x (y ∷ ys) some = refl
+
+pub argument_named : (env : Environment) (u : ℕ) (e : s.Expression) (x : Identifier) → Some x ≡ parts.name_alone e → st.component_argument env u e ≡ parts.passed_alone env u x
+argument_named env u (s.Designated (s.Designate y s.NoSelectors)) x h = let same : y ≡ x = cc in ap (parts.passed_alone env u) same
+argument_named env u (s.Designated (s.Designate y (s.MoreSelectors z zs))) x h = absurd (cc)
+argument_named env u (s.Number at n) x h = absurd (cc)
+argument_named env u (s.Character at n) x h = absurd (cc)
+argument_named env u (s.Call d es) x h = absurd (cc)
+argument_named env u (s.Parenthesized at e) x h = absurd (cc)
+argument_named env u (s.Not at e) x h = absurd (cc)
+argument_named env u (s.Signed sign at e) x h = absurd (cc)
+argument_named env u (s.Binary a o at b) x h = absurd (cc)
+
+-- the argument of number k, and those behind it
+pub arguments_step : (env : Environment) (ps : List ParameterRow) (k m : ℕ) (e : s.Expression) (es : s.Expressions) → k + 1 ≡ m
+    → st.init_arguments env (drop k ps) (s.MoreExpressions e es) ≡ violations_of (st.init_argument env (parts.type_if (slice_get ps k)) e) ++ st.init_arguments env (drop m ps) es
+arguments_step env ps k zero e es next = absurd (omega (arith, next))
+arguments_step env [] zero (suc m) e es next = refl
+arguments_step env [] (suc k) (suc m) e es next = refl
+arguments_step env (p ∷ ps) zero (suc m) e es next =
+    let same : 0 ≡ m = omega (arith, next) in
+    ap (λ i. violations_of (st.init_argument env p.of e) ++ st.init_arguments env (drop i ps) es) same
+arguments_step env (p ∷ ps) (suc k) (suc m) e es next = arguments_step env ps k m e es (omega (arith, next))
+
+pub parameters_told : (env : Environment) (y : Option SystemRow) (j : Judged SystemRow) → y ≡ meaning_of j → parts.parameters_if env y ≡ st.parameters_in env j
+parameters_told env y (Sound x) h = ap (parts.parameters_if env) h
+parameters_told env y (Broken v vs) h = ap (parts.parameters_if env) h

@@ -1,0 +1,11 @@
+pub mod Seen
+pub mod Lists
+pub mod Views
+pub mod Tells
+pub mod CalleesTold
+pub mod ExpressionsTold
+pub mod StatementsTold
+pub mod InitTold
+pub mod LabelsTold
+pub mod StatementViews
+pub mod NeedsOfChains

@@ -1,0 +1,111 @@
+use Rattle.std.proofs.Common.{◌≡◌, ◌+◌, ◌-◌, ◌≤◌, ◌∷◌, map, take, drop, length, slice_get, ap, sym, ◌∙◌, refl, arith}
+use Rattle.std.proofs.lemmas.Bool.Decides.{nat_tests}
+use Rattle.std.proofs.lemmas.List.{at_drop_more}
+use Rattle.cp_model.specs.Syntax as s
+use Rattle.cp_model.specs.Syntax.{chain_of}
+use Rattle.cp_model.specs.declared.rules.Mode.TheVariants as mode
+use Rattle.cp_model.specs.RulesExpressions as x
+use Rattle.cp_model.specs.RulesJudged.{both}
+use Rattle.cp_model.specs.RulesNames as n
+use Rattle.cp_model.specs.View.{designator, expression, index, operation, indices_of, expressions_of}
+use Rattle.cp_judge.specs.Arguments.{form_rules}
+use Rattle.cp_judge.specs.Callees.{wants_of, result_if}
+use Rattle.cp_judge.specs.Environments.{environment}
+use Rattle.cp_judge.specs.ExpressionParts as parts
+use Rattle.cp_judge.proofs.ExpressionsTold.{argument_parts, first_operand_again, judge_chain, more_step, first_told, count_expressions, wants_told, result_told}
+use Rattle.cp_judge.proofs.Tells.{also_told}
+use Rattle.cp_judge.proofs.Views.{view_call, view_chain, view_operation, view_index}
+use Rattle.cp_judge.proofs.expressions.+judge.Goals as goal
+
+pub argument-returns : goal.argument-returns
+argument-returns t c =
+    let env = environment c.args.env.now in
+    let e = expression c.args.e.now in
+    let w = c.in-Some.want in
+    rw (c.in-Some.is, argument_parts env w e (x.judge env (x.mode_of w) e), c.answer_if.ensures)
+    (also_told c.args.told.now c.has_form-has_form.new.told c.argument_typed-t.new.told c.has_form-has_form.result (form_rules env w e)
+    c.argument_typed-t.result (parts.argument_typed env w e) c.has_form-has_form.ensures c.argument_typed-t.ensures)
+
+pub chain-loop-o-preserved : goal.chain-loop-o-preserved
+chain-loop-o-preserved t c = λ t0 m e told.
+    let env = environment c.args.env.now in
+    let so_far = c.loop-o.invariant t0 m e told in
+    let f = so_far.0 in
+    let o = c.o-item.result in
+    let i = c.loop-o.o-index in
+    let rest = c.args.rest.now in
+    let step : chain_of f (map operation (drop i rest)) ≡ chain_of f (map operation (o ∷ drop (i + 1) rest)) =
+    at_drop_more (λ os. chain_of f (map operation os)) rest i o c.loop-o-test.true ∙ ap (λ p. chain_of f (map operation (p ∷ drop (i + 1) rest))) (sym c.o-item.is) in
+    let view = ap (λ p. chain_of f (p ∷ map operation (drop (i + 1) rest))) (view_operation o) in (
+      s.Binary f o.operator o.at (expression o.operand),
+      rw (first_operand_again m) (c.operated-left.ensures t0 c.loop-o.told (x.judge env (x.first_operand m) f) (x.judge env mode.Value (expression o.operand)) so_far.1 c.judge-right.ensures),
+      sym (step ∙ view) ∙ so_far.2,
+    )
+
+pub indexed-loop-i-preserved : goal.indexed-loop-i-preserved
+indexed-loop-i-preserved t c = λ t0 j told.
+    let env = environment c.args.env.now in
+    let so_far = c.loop-i.invariant t0 j told in
+    let k = so_far.0 in
+    let o = c.i-item.result in
+    let i = c.loop-i.i-index in
+    let all = c.args.indices.now in
+    let e = expression o.value in
+    let step : x.indexed env k (indices_of (map index (drop i all))) ≡ x.indexed env k (indices_of (map index (o ∷ drop (i + 1) all))) =
+    at_drop_more (λ os. x.indexed env k (indices_of (map index os))) all i o c.loop-i-test.true ∙ ap (λ p. x.indexed env k (indices_of (map index (p ∷ drop (i + 1) all)))) (sym c.i-item.is) in
+    let view = ap (λ p. x.indexed env k (indices_of (p ∷ map index (drop (i + 1) all)))) (view_index o) in (
+      both (parts.array_of env o.at k) (x.judge env mode.Value e) (n.c2_index env (n.first_token e)),
+      (rw c.first_token.ensures at c.element_if-part.ensures) t0 c.array_if-of.new.told (parts.array_of env o.at k) (x.judge env mode.Value e)
+          (c.array_if-of.ensures t0 k so_far.1) c.judge-t.ensures,
+      sym (step ∙ view) ∙ so_far.2,
+    )
+
+pub arguments-loop-number-preserved : goal.arguments-loop-number-preserved
+arguments-loop-number-preserved t c =
+    let env = environment c.args.env.now in
+    let ws = wants_of env c.args.wants in
+    let all = c.args.list.now in
+    let rest = take (length all - 1) (drop 1 all) in
+    let i = c.loop-number.number in
+    let so_far = c.loop-number.invariant in
+    let j = so_far.0 in
+    let o = c.index-rest-number.result in
+    let e = expression o in
+    let step : x.more_arguments env j (drop (i + 1) ws) (expressions_of (map expression (drop i rest))) ≡ x.more_arguments env j (drop (i + 1) ws) (expressions_of (map expression (o ∷ drop (i + 1) rest))) =
+    at_drop_more (λ os. x.more_arguments env j (drop (i + 1) ws) (expressions_of (map expression os))) rest i o c.loop-number-test.true
+    ∙ ap (λ p. x.more_arguments env j (drop (i + 1) ws) (expressions_of (map expression (p ∷ drop (i + 1) rest)))) (sym c.index-rest-number.is) in
+    let next = more_step env j ws (i + 1) (i + 1 + 1) e (expressions_of (map expression (drop (i + 1) rest))) refl in
+    let k = parts.argument_for env (slice_get ws (i + 1)) e in (
+      both j k x.first_type,
+      rw c.and-t.ensures (first_told c.args.told.now c.loop-number.told c.argument-u.new.told c.loop-number.t c.argument-u.result j k so_far.1
+          (rw c.want-in-loop-number.ensures at c.argument-u.ensures)),
+      sym (step ∙ next) ∙ so_far.2,
+    )
+
+pub judge-returns-else-is_empty : goal.judge-returns-else-is_empty
+judge-returns-else-is_empty t c =
+    let env = environment c.args.env.now in
+    let e = expression c.in-Chain.first.value in
+    let rest = c.in-Chain.rest.items in
+    let v : expression c.args.e.now ≡ chain_of e (map operation rest) = rw c.in-Chain.is (view_chain c.in-Chain.first c.in-Chain.rest) in
+    let some : 1 ≤ length rest = grind (arith, nat_tests) in
+    let left = rw (c.first_operand.ensures, c.deref-in-Chain.ensures) at c.judge-left.ensures in
+    rw (v, judge_chain env c.args.mode e rest some) (rw c.deref-in-Chain-2.ensures.value at (c.chain.ensures c.args.told.now c.args.mode e left))
+
+pub judge-returns-in-Call : goal.judge-returns-in-Call
+judge-returns-in-Call t c =
+    let env = environment c.args.env.now in
+    let d = designator c.in-Call.d in
+    let list = c.in-Call.list.items in
+    let es = expressions_of (map expression list) in
+    let v : expression c.args.e.now ≡ s.Call d es = rw c.in-Call.is (view_call c.in-Call.d c.in-Call.list) in
+    let count : c.len.result ≡ n.count_of es = c.len.ensures ∙ sym c.deref.ensures.len ∙ ap length c.deref.ensures.value ∙ sym (count_expressions list) in
+    let jc = parts.callee_of env c.args.mode d (n.count_of es) in
+    let ja = x.arguments env (x.wants_in jc) es in
+    let callee = rw count at c.callee-callee.ensures in
+    let wanted = wants_told env c.callee-callee.result jc callee.1 in
+    let given = rw (c.wants.ensures, wanted, c.deref.ensures.value) at c.arguments-t.ensures in
+    let result = result_told env c.queue_named-no_queue.new.told c.callee-callee.new.told c.arguments-t.new.told c.callee-callee.result c.arguments-t.result jc ja callee given in
+    rw (v, c.answer_if.ensures, c.result.ensures) (also_told c.args.told.now c.queue_named-no_queue.new.told c.arguments-t.new.told c.queue_named-no_queue.result
+    (n.c8_named env mode.Value (n.first_name d)) (result_if env c.callee-callee.result c.arguments-t.result) (both jc ja (x.result_of env))
+    (rw c.first_name.ensures at c.queue_named-no_queue.ensures) result)

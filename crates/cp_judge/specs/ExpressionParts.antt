@@ -1,0 +1,47 @@
+-- The parts of an expression's judgement that functions of the code answer.
+use Rattle.std.specs.Prelude.{ℕ, List, Option, Some, None}
+use Rattle.cp_model.specs.Syntax as s
+use Rattle.cp_model.specs.Syntax.{chain_of}
+use Rattle.cp_model.specs.declared.rules.Violation.{Violation}
+use Rattle.cp_model.specs.declared.rules.Entity.{Entity}
+use Rattle.cp_model.specs.declared.rules.Mode.{Mode}
+use Rattle.cp_model.specs.declared.rules.Mode.TheVariants as mode
+use Rattle.cp_model.specs.declared.rules.Want.{Want}
+use Rattle.cp_model.specs.declared.rules.ArrayPart.{ArrayPart}
+use Rattle.cp_model.specs.RulesJudged.{Judged, also, then_judge}
+use Rattle.cp_model.specs.RulesEnvironment.{Environment}
+use Rattle.cp_model.specs.RulesNames.{Callee, first_name, value_of, c8_named, c2_indexed, function_of, c2_array}
+use Rattle.cp_judge.specs.Arguments.{type_rule}
+use Rattle.cp_judge.specs.Tells.{Tells}
+use Rattle.cp_model.specs.RulesExpressions.{judge, designated, argument, mode_of, first_operand}
+
+-- the type of a designator
+abbrev pub typed : Environment → Mode → s.Designator → Judged ℕ
+typed env m d = then_judge (designated env d) (value_of env m d)
+
+abbrev pub used : Environment → Mode → s.Designator → Judged ℕ
+used env m d = also (c8_named env m (first_name d)) (typed env m d)
+
+-- what is called
+abbrev pub named_callee : Environment → Mode → s.Designator → ℕ → Judged Callee
+named_callee env m d n = then_judge (designated env d) (function_of env m d n)
+
+abbrev pub callee_of : Environment → Mode → s.Designator → ℕ → Judged Callee
+callee_of env m d n = also (c2_indexed env m d) (named_callee env m d n)
+
+-- behind an operand that was judged: the operators, and their right operands
+abbrev pub TellsChain : Environment → Option Violation → Option Violation → Option ℕ → Option ℕ → List s.Operation → Type 0
+TellsChain env old new left answer os =
+    (t : Option Violation) (m : Mode) (e : s.Expression) → Tells t old left (judge env (first_operand m) e) → Tells t new answer (judge env (first_operand m) (chain_of e os))
+
+-- an argument, where a want is left for it
+abbrev pub argument_for : Environment → Option Want → s.Expression → Judged ℕ
+argument_for env None e = judge env mode.Value e
+argument_for env (Some w) e = argument env w e (judge env (mode_of w) e)
+
+-- an array that is indexed
+abbrev pub array_of : Environment → ℕ → Judged Entity → Judged ArrayPart
+array_of env at j = then_judge j (c2_array env at)
+
+abbrev pub argument_typed : Environment → Want → s.Expression → Judged ℕ
+argument_typed env w e = then_judge (judge env (mode_of w) e) (type_rule env w e)

@@ -1,0 +1,15 @@
+-- The labels of a `case` so far.
+use Rattle.std.specs.Prelude.{ℕ, Option, Some, None, List, []}
+use Rattle.cp_model.specs.RulesEnvironment.{Environment, base_of}
+use Rattle.cp_model.specs.RulesStatements.{Label}
+
+abbrev pub Labels : Type 0
+Labels = List Label
+
+abbrev pub no_labels : Labels
+no_labels = []
+
+-- the base of a selector's type, where that is known
+abbrev pub base_if : Environment → Option ℕ → Option ℕ
+base_if env (Some t) = base_of env t
+base_if env None = None

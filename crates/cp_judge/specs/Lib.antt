@@ -1,0 +1,12 @@
+pub mod Scopes
+pub mod Tells
+pub mod Environments
+pub mod Callees
+pub mod Designated
+pub mod Arguments
+pub mod Roots
+pub mod ExpressionParts
+pub mod StatementParts
+pub mod Labels
+pub mod InitParts
+pub mod Needs

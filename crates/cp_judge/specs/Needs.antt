@@ -1,0 +1,22 @@
+-- The parts of a need that functions of the code answer.
+use Rattle.std.specs.Prelude.{ℕ, max, List, [], ◌∷◌, Option, Some, None}
+use Rattle.cp_model.specs.Syntax as s
+use Rattle.cp_model.specs.declared.rules.Entity.{Entity}
+use Rattle.cp_model.specs.declared.rules.Entity.TheVariants as entity
+use Rattle.cp_model.specs.RulesEnvironment.{Environment, routine_of, c1_named}
+use Rattle.cp_model.specs.RulesNeeds.{need_expression, need_expressions, need_initialised}
+
+-- the right operands of a chain
+abbrev pub need_operations : Environment → List s.Operation → ℕ
+need_operations env [] = 0
+need_operations env (o ∷ os) = max (need_expression env o.operand) (need_operations env os)
+
+-- what a designator stands for, if that is known
+abbrev pub need_if_called : Environment → Option Entity → ℕ
+need_if_called env (Some (entity.Routine r)) = (routine_of env r).need
+need_if_called env (Some (entity.Entry r)) = (routine_of env r).need
+need_if_called env e = 0
+
+-- one component that an `init` names
+abbrev pub need_item : Environment → s.InitItem → ℕ
+need_item env i = max (need_initialised env (c1_named env i.component)) (need_expressions env i.arguments)

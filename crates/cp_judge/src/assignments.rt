@@ -1,0 +1,188 @@
+//! Assignments: the left side, the right side, and whether they agree.
+
+ghost use Rattle.std.specs.Prelude.{◌≡◌, ◌++◌, [], ◌∷◌, map, Option, None, Some};
+ghost use Rattle.cp_model.specs.RulesEnvironment as r;
+ghost use Rattle.cp_model.specs.RulesJudged.{least};
+ghost use Rattle.cp_model.specs.RulesStatements as st;
+ghost use Rattle.cp_model.specs.View.{designator, expression, selector, selectors_of};
+ghost use Rattle.cp_judge.specs.Environments.{environment};
+ghost use Rattle.cp_judge.specs.StatementParts as parts;
+ghost use Rattle.cp_judge.specs.Tells.{Tells, TellsOf, TellsBoth};
+
+use crate::environment::{Environment, agree, is_component};
+use crate::expressions::{judge, typed};
+use crate::names::{known, queue_named};
+use crate::places::first_name;
+use crate::telling::{answer_if, broken, tell};
+use crate::values::{designated, variable_designated};
+use cp_model::rules::{Entity, Mode, Returns, Rule, Violation};
+use cp_model::tree::{Designator, Expression, Identifier, Selector};
+
+// The result of the function that is being defined, where its name is the whole left side.
+fn whole_result(told: &mut Option<Violation>, x: &Identifier, returns: Returns) -> Option<usize>
+    ensures { Tells told.old told.new result (st.own_result x.now (selectors_of []) returns) }
+{
+    match returns {
+        Returns::Value(t) => Some(t),
+        Returns::Broken(violation) => {
+            tell(told, violation);
+            None
+        }
+        Returns::Nothing => {
+            tell(
+                told,
+                Violation {
+                    rule: Rule::C4,
+                    at: x.at,
+                },
+            );
+            broken(told, Rule::C10, x.at)
+        }
+    }
+}
+
+// C10: a part of that result. C4: a procedure's own name.
+fn part_of_result(told: &mut Option<Violation>, x: &Identifier, returns: Returns) -> Option<usize>
+    ensures { Tells told.old told.new result (parts.part_of_result x.now returns) }
+{
+    if let Returns::Nothing = returns {
+        tell(
+            told,
+            Violation {
+                rule: Rule::C4,
+                at: x.at,
+            },
+        );
+    }
+    broken(told, Rule::C10, x.at)
+}
+
+fn own_result(
+    told: &mut Option<Violation>,
+    x: &Identifier,
+    selectors: &[Selector],
+    returns: Returns,
+) -> Option<usize>
+    ensures { Tells told.old told.new result (st.own_result x.now (selectors_of (map selector selectors.now)) returns) }
+{
+    match selectors {
+        [] => whole_result(told, x, returns),
+        _ => part_of_result(told, x, returns),
+    }
+}
+
+fn other_left(env: &Environment, told: &mut Option<Violation>, d: &Designator) -> Option<usize>
+    ensures { Tells told.old told.new result (st.other_left (environment env.now) (designator d.now)) }
+{
+    let no_queue = queue_named(env, told, Mode::Value, first_name(d));
+    let is_variable = variable_designated(env, told, d);
+    let t = typed(env, told, Mode::Variable, d);
+    answer_if(no_queue && is_variable, t)
+}
+
+// The type of a left side.
+fn left(env: &Environment, told: &mut Option<Violation>, d: &Designator) -> Option<usize>
+    ensures { Tells told.old told.new result (st.left (environment env.now) (designator d.now)) }
+{
+    match known(env, &d.root) {
+        Some(Entity::UnfinishedRoutine(row)) => {
+            own_result(told, &d.root, &d.selectors, row.returns)
+        }
+        _ => other_left(env, told, d),
+    }
+}
+
+fn component(env: &Environment, x: &Identifier) -> Option<usize>
+    ensures { result ≡ st.component_by (environment env.now) (r.c1_named (environment env.now) x.now) }
+{
+    match known(env, x) {
+        Some(Entity::Variable(t, _)) => { if is_component(env, t) { Some(t) } else { None } }
+        _ => None,
+    }
+}
+
+// The type of a component whose name is the whole designator.
+fn component_alone(env: &Environment, x: &Identifier, selectors: &[Selector]) -> Option<usize>
+    ensures { result ≡ parts.component_alone (environment env.now) x.now (selectors_of (map selector selectors.now)) }
+{
+    match selectors {
+        [] => component(env, x),
+        _ => None,
+    }
+}
+
+fn lone_component(env: &Environment, e: &Expression) -> Option<usize>
+    ensures { result ≡ st.lone_component (environment env.now) (expression e.now) }
+{
+    let d = designated(e)?;
+    component_alone(env, &d.root, &d.selectors)
+}
+
+// The type of a right side. A component's name is judged as a value only where the left side is no component.
+fn right(
+    env: &Environment,
+    told: &mut Option<Violation>,
+    to_component: bool,
+    e: &Expression,
+) -> Option<usize>
+    ensures { Tells told.old told.new result (parts.right (environment env.now) to_component (expression e.now)) }
+{
+    if to_component {
+        if let Some(t) = lone_component(env, e) {
+            return Some(t);
+        }
+    }
+    judge(env, told, Mode::Value, e)
+}
+
+fn is_component_type(env: &Environment, target: Option<usize>) -> bool
+    ensures { result ≡ parts.is_component_if (environment env.now) target }
+{
+    match target {
+        Some(t) => is_component(env, t),
+        None => false,
+    }
+}
+
+fn agreed(
+    env: &Environment,
+    told: &mut Option<Violation>,
+    at: usize,
+    a: usize,
+    b: usize,
+) -> Option<usize>
+    ensures { Tells told.old told.new result (st.c2_sides (environment env.now) at a b) }
+{
+    if agree(env, a, b) {
+        return Some(a);
+    }
+    broken(told, Rule::C2, at)
+}
+
+// C2: the sides of an assignment don't agree.
+fn sides(
+    env: &Environment,
+    told: &mut Option<Violation>,
+    at: usize,
+    a: Option<usize>,
+    b: Option<usize>,
+) -> Option<usize>
+    ensures { TellsBoth told.old told.new a b result (st.c2_sides (environment env.now) at) }
+{
+    agreed(env, told, at, a?, b?)
+}
+
+/// An assignment, whose `:=` stands at the place. C2: its sides don't agree. C10: the left one is no variable.
+pub fn assigned(
+    env: &Environment,
+    told: &mut Option<Violation>,
+    d: &Designator,
+    at: usize,
+    e: &Expression,
+)
+    ensures { told.new ≡ least told.old (st.assigned (environment env.now) (designator d.now) at (expression e.now)) }
+{
+    let a = left(env, told, d);
+    let b = right(env, told, is_component_type(env, a), e);
+    sides(env, told, at, a, b);
+}

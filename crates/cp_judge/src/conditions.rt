@@ -1,0 +1,138 @@
+//! Conditions, selectors of `case`, and the variable and the bounds of `for`.
+
+ghost use Rattle.std.specs.Prelude.{◌≡◌, ◌++◌, [], ◌∷◌, map, ℕ, Option, None, Some};
+ghost use Rattle.cp_model.specs.RulesEnvironment as r;
+ghost use Rattle.cp_model.specs.RulesNames as n;
+ghost use Rattle.cp_model.specs.RulesJudged.{Judged, least, meaning_of, provided};
+ghost use Rattle.cp_model.specs.declared.rules.Rule.TheVariants.{C2};
+ghost use Rattle.cp_model.specs.declared.rules.Mode.TheVariants as mode;
+ghost use Rattle.cp_model.specs.RulesStatements as st;
+ghost use Rattle.cp_model.specs.View.{designator, expression, selector, selectors_of};
+ghost use Rattle.cp_judge.specs.Environments.{environment};
+ghost use Rattle.cp_judge.specs.StatementParts as parts;
+ghost use Rattle.cp_judge.specs.Tells.{Tells, TellsOf};
+
+use crate::environment::{BOOLEAN, Environment, agree, base, is_base, is_simple};
+use crate::expressions::judge;
+use crate::names::{anywhere, named, queue_named, unfinished};
+use crate::places::first_token;
+use crate::telling::{answer_if, broken, unless_holds};
+use crate::values::is_variable;
+use cp_model::rules::{Entity, Mode, Rule, Violation};
+use cp_model::tree::{Expression, Identifier};
+
+// C2: another type than is wanted.
+fn wanted(told: &mut Option<Violation>, fits: bool, at: usize, t: usize) -> Option<usize>
+    ensures { Tells told.old told.new result (provided fits C2 at t) }
+{
+    if fits {
+        return Some(t);
+    }
+    broken(told, Rule::C2, at)
+}
+
+/// C2: a condition isn't Boolean.
+pub fn condition(env: &Environment, told: &mut Option<Violation>, e: &Expression) -> Option<usize>
+    ensures { Tells told.old told.new result (st.c2_condition (environment env.now) (expression e.now)) }
+{
+    let t = judge(env, told, Mode::Value, e)?;
+    wanted(told, is_base(BOOLEAN, base(env, t)), first_token(e), t)
+}
+
+/// C2: the selector of a `case` isn't simple.
+pub fn selector(env: &Environment, told: &mut Option<Violation>, e: &Expression) -> Option<usize>
+    ensures { Tells told.old told.new result (st.c2_selector (environment env.now) (expression e.now)) }
+{
+    let t = judge(env, told, Mode::Value, e)?;
+    wanted(told, is_simple(env, t), first_token(e), t)
+}
+
+/// C2: a bound of a `for` doesn't agree with its variable, where the type of that is known.
+pub fn bound(
+    env: &Environment,
+    told: &mut Option<Violation>,
+    variable: Option<usize>,
+    e: &Expression,
+) -> Option<usize>
+    ensures { (j : Judged ℕ) → variable ≡ meaning_of j → Tells told.old told.new result (st.bound (environment env.now) j (expression e.now)) }
+{
+    let u = judge(env, told, Mode::Value, e)?;
+    match variable {
+        Some(t) => wanted(told, agree(env, t, u), first_token(e), u),
+        None => Some(u),
+    }
+}
+
+// What a name alone is, where a variable is wanted. C10: anything else than a variable, a constant's value apart.
+fn plain_value(
+    env: &Environment,
+    told: &mut Option<Violation>,
+    v: &Identifier,
+    entity: Entity,
+) -> Option<usize>
+    ensures { Tells told.old told.new result (n.value_of (environment env.now) mode.Variable (st.plain v.now) entity) }
+{
+    match entity {
+        Entity::Constant(base, _) => Some(base),
+        Entity::Variable(t, _) => Some(t),
+        Entity::Type(_) => broken(told, Rule::C10, v.at),
+        Entity::UnfinishedConstant => {
+            unfinished(told, v, entity);
+            broken(told, Rule::C10, v.at)
+        }
+        Entity::UnfinishedType => {
+            unfinished(told, v, entity);
+            broken(told, Rule::C10, v.at)
+        }
+        _ => {
+            anywhere(env, told, v, entity);
+            broken(told, Rule::C10, v.at)
+        }
+    }
+}
+
+fn plain_named(env: &Environment, told: &mut Option<Violation>, v: &Identifier) -> Option<usize>
+    ensures { Tells told.old told.new result (parts.plain_named (environment env.now) v.now) }
+{
+    let entity = named(env, told, v)?;
+    plain_value(env, told, v, entity)
+}
+
+fn plain_judged(env: &Environment, told: &mut Option<Violation>, v: &Identifier) -> Option<usize>
+    ensures { Tells told.old told.new result (parts.plain_judged (environment env.now) v.now) }
+{
+    let no_queue = queue_named(env, told, Mode::Variable, v);
+    let t = plain_named(env, told, v);
+    answer_if(no_queue, t)
+}
+
+fn simple_variable(env: &Environment, told: &mut Option<Violation>, v: &Identifier) -> Option<usize>
+    ensures { Tells told.old told.new result (parts.simple_variable (environment env.now) v.now) }
+{
+    let t = plain_judged(env, told, v)?;
+    wanted(told, is_simple(env, t), v.at, t)
+}
+
+// C10: the variable of a `for` isn't a variable. C2: it isn't simple.
+fn for_variable(env: &Environment, told: &mut Option<Violation>, v: &Identifier) -> Option<usize>
+    ensures { Tells told.old told.new result (st.for_variable (environment env.now) v.now) }
+{
+    let changeable = unless_holds(told, is_variable(env, v, &[]), Rule::C10, v.at);
+    let t = simple_variable(env, told, v);
+    answer_if(changeable, t)
+}
+
+/// The variable and the bounds of a `for`.
+pub fn for_header(
+    env: &Environment,
+    told: &mut Option<Violation>,
+    v: &Identifier,
+    from: &Expression,
+    last: &Expression,
+)
+    ensures { told.new ≡ least told.old (parts.for_header (environment env.now) v.now (expression from.now) (expression last.now)) }
+{
+    let t = for_variable(env, told, v);
+    bound(env, told, t, from);
+    bound(env, told, t, last);
+}

@@ -1,0 +1,303 @@
+//! Expressions: their types, and the rules inside them.
+//!
+//! An expression, its designators and its arguments lead to one another; what doesn't stands in modules of its own.
+//! `specs/ExpressionParts.antt` names the parts of the definition that functions answer.
+
+ghost use Rattle.std.specs.Prelude.{◌≡◌, ℕ, ◌+◌, ◌*◌, ◌<◌, ◌++◌, [], ◌∷◌, map, drop, length, Option, None, Some, slice_get};
+ghost use Rattle.cp_model.specs.Syntax as s;
+ghost use Rattle.cp_model.specs.RulesJudged.{Judged};
+ghost use Rattle.cp_model.specs.RulesExpressions as x;
+ghost use Rattle.cp_model.specs.RulesNames as n;
+ghost use Rattle.cp_model.specs.View.{designator, expression, selector, index, operation, indices_of, expressions_of, selectors_of};
+ghost use Rattle.cp_model.specs.declared.rules.Entity.{Entity as EntityValue};
+ghost use Rattle.cp_judge.specs.Environments.{environment};
+ghost use Rattle.cp_judge.specs.Callees.{wants_of, wants_if, result_if, TellsCallee};
+ghost use Rattle.cp_judge.specs.ExpressionParts as parts;
+ghost use Rattle.cp_judge.specs.Tells.{Tells, TellsOf, TellsBoth};
+
+use crate::callees::{Callee, Wants, function, no_indexed_value, want};
+use crate::environment::{BOOLEAN, CHAR, Environment, INTEGER};
+use crate::members::member;
+use crate::names::{array, element, queue_named};
+use crate::operands::{first_operand, has_form, has_type, mode as mode_of, operand, operands};
+use crate::places::{first_name, first_token};
+use crate::roots::root;
+use crate::telling::answer_if;
+use crate::values::{given, value};
+use cp_model::rules::{ArrayPart, Entity, Mode, Violation, Want};
+use cp_model::tree::{Designator, Expression, Index, Operation, Operator, Selector};
+
+/// The type of an expression.
+#[cycle(judge)]
+pub fn judge(
+    env: &Environment,
+    told: &mut Option<Violation>,
+    mode: Mode,
+    e: &Expression,
+) -> Option<usize>
+    ensures { Tells told.old told.new result (x.judge (environment env.now) mode (expression e.now)) }
+{
+    match e {
+        Expression::Number { .. } => Some(INTEGER),
+        Expression::Character { .. } => Some(CHAR),
+        Expression::Designated(d) => used(env, told, mode, d),
+        Expression::Call(d, list) => {
+            let no_queue = queue_named(env, told, Mode::Value, first_name(d));
+            let callee = callee(env, told, mode, d, list.len());
+            let t = arguments(env, told, wants(callee), list);
+            answer_if(no_queue, result(env, callee, t))
+        }
+        Expression::Parenthesized { inner, .. } => judge(env, told, Mode::Value, inner),
+        Expression::Not { at, operand: e } => {
+            let t = judge(env, told, Mode::Value, e)?;
+            operand(env, told, BOOLEAN, *at, t)
+        }
+        Expression::Signed { at, operand: e, .. } => {
+            let t = judge(env, told, Mode::Value, e)?;
+            operand(env, told, INTEGER, *at, t)
+        }
+        Expression::Chain { first, rest } => {
+            if rest.is_empty() {
+                return judge(env, told, mode, first);
+            }
+            let left = judge(env, told, first_operand(mode), first);
+            chain(env, told, left, rest)
+        }
+    }
+}
+
+// The operators behind an operand, and their right operands.
+#[cycle(judge)]
+fn chain(
+    env: &Environment,
+    told: &mut Option<Violation>,
+    left: Option<usize>,
+    rest: &[Operation],
+) -> Option<usize>
+    ensures { parts.TellsChain (environment env.now) told.old told.new left result (map operation rest.now) }
+{
+    let mut left = left;
+    for o in rest {
+        let right = judge(env, told, Mode::Value, &o.operand);
+        left = operated(env, told, o.operator, o.at, left, right);
+    }
+    left
+}
+
+// An operator, where the types of both operands are known.
+fn operated(
+    env: &Environment,
+    told: &mut Option<Violation>,
+    operator: Operator,
+    at: usize,
+    left: Option<usize>,
+    right: Option<usize>,
+) -> Option<usize>
+    ensures { TellsBoth told.old told.new left right result (x.c2_operands (environment env.now) operator at) }
+{
+    operands(env, told, operator, at, left?, right?)
+}
+
+// A designator that is used as a value, or as what should be a variable.
+#[cycle(judge)]
+fn used(
+    env: &Environment,
+    told: &mut Option<Violation>,
+    mode: Mode,
+    d: &Designator,
+) -> Option<usize>
+    ensures { Tells told.old told.new result (parts.used (environment env.now) mode (designator d.now)) }
+{
+    let no_queue = queue_named(env, told, mode, first_name(d));
+    let t = typed(env, told, mode, d);
+    answer_if(no_queue, t)
+}
+
+/// The type of a designator that is used as a value, or as what should be a variable.
+#[cycle(judge)]
+pub fn typed(
+    env: &Environment,
+    told: &mut Option<Violation>,
+    mode: Mode,
+    d: &Designator,
+) -> Option<usize>
+    ensures { Tells told.old told.new result (parts.typed (environment env.now) mode (designator d.now)) }
+{
+    let entity = designated(env, told, d)?;
+    value(env, told, mode, d, entity)
+}
+
+/// What a designator stands for.
+#[cycle(judge)]
+pub fn designated(env: &Environment, told: &mut Option<Violation>, d: &Designator) -> Option<Entity>
+    ensures { Tells told.old told.new result (x.designated (environment env.now) (designator d.now)) }
+{
+    let mut part = root(env, told, d);
+    for s in &d.selectors {
+        part = select(env, told, part, s);
+    }
+    part
+}
+
+// A part of what was designated so far.
+#[cycle(judge)]
+fn select(
+    env: &Environment,
+    told: &mut Option<Violation>,
+    part: Option<Entity>,
+    s: &Selector,
+) -> Option<Entity>
+    ensures { (t : Option Violation) (j : Judged EntityValue) → Tells t told.old part j → Tells t told.new result (x.select (environment env.now) j (selector s.now)) }
+{
+    match s {
+        Selector::Field { at, name } => {
+            let entity = part?;
+            member(env, told, *at, name, entity)
+        }
+        Selector::Indexed(indices) => indexed(env, told, part, indices),
+    }
+}
+
+#[cycle(judge)]
+fn indexed(
+    env: &Environment,
+    told: &mut Option<Violation>,
+    part: Option<Entity>,
+    indices: &[Index],
+) -> Option<Entity>
+    ensures { (t : Option Violation) (j : Judged EntityValue) → Tells t told.old part j → Tells t told.new result (x.indexed (environment env.now) j (indices_of (map index indices.now))) }
+{
+    let mut part = part;
+    for i in indices {
+        let of = array_if(env, told, i.at, part);
+        let t = judge(env, told, Mode::Value, &i.value);
+        part = element_if(env, told, first_token(&i.value), of, t);
+    }
+    part
+}
+
+// The array that is indexed, where it is known what is.
+fn array_if(
+    env: &Environment,
+    told: &mut Option<Violation>,
+    at: usize,
+    part: Option<Entity>,
+) -> Option<ArrayPart>
+    ensures { (t : Option Violation) (j : Judged EntityValue) → Tells t told.old part j → Tells t told.new result (parts.array_of (environment env.now) at j) }
+{
+    let entity = part?;
+    array(env, told, at, entity)
+}
+
+// An element of an array, where the array and the type of the index are known.
+fn element_if(
+    env: &Environment,
+    told: &mut Option<Violation>,
+    at: usize,
+    of: Option<ArrayPart>,
+    t: Option<usize>,
+) -> Option<Entity>
+    ensures { TellsBoth told.old told.new of t result (n.c2_index (environment env.now) at) }
+{
+    element(env, told, at, of?, t?)
+}
+
+// The type of what a call gives, where what is called and the type of the first argument are known.
+fn result(env: &Environment, callee: Option<Callee>, t: Option<usize>) -> Option<usize>
+    ensures { result ≡ result_if (environment env.now) callee t }
+{
+    match (callee, t) {
+        (Some(callee), Some(t)) => Some(given(env, t, callee.gives)),
+        _ => None,
+    }
+}
+
+/// What the arguments have to meet: nothing, where it isn't known what is called.
+pub fn wants(callee: Option<Callee>) -> Wants
+    ensures { result ≡ wants_if callee }
+{
+    match callee {
+        Some(callee) => callee.wants,
+        None => Wants::Nothing,
+    }
+}
+
+#[cycle(judge)]
+fn callee(
+    env: &Environment,
+    told: &mut Option<Violation>,
+    mode: Mode,
+    d: &Designator,
+    count: usize,
+) -> Option<Callee>
+    ensures { TellsCallee (environment env.now) told.old told.new result (parts.callee_of (environment env.now) mode (designator d.now) count) }
+{
+    let no_value = no_indexed_value(env, told, mode, d);
+    let callee = named_callee(env, told, mode, d, count);
+    answer_if(no_value, callee)
+}
+
+#[cycle(judge)]
+fn named_callee(
+    env: &Environment,
+    told: &mut Option<Violation>,
+    mode: Mode,
+    d: &Designator,
+    count: usize,
+) -> Option<Callee>
+    ensures { TellsCallee (environment env.now) told.old told.new result (parts.named_callee (environment env.now) mode (designator d.now) count) }
+{
+    let entity = designated(env, told, d)?;
+    function(env, told, mode, d, count, entity)
+}
+
+/// The type of the first argument. All are judged, against what they have to meet.
+#[cycle(judge)]
+pub fn arguments(
+    env: &Environment,
+    told: &mut Option<Violation>,
+    wants: Wants,
+    list: &[Expression],
+) -> Option<usize>
+    ensures { Tells told.old told.new result (x.arguments (environment env.now) (wants_of (environment env.now) wants) (expressions_of (map expression list.now))) }
+{
+    let [first, rest @ ..] = list else {
+        return Some(INTEGER);
+    };
+    let mut t = argument(env, told, want(env, wants, 0), first);
+    for (number, e) in rest.iter().enumerate() {
+        let u = argument(env, told, want(env, wants, number + 1), e);
+        t = u.and(t);
+    }
+    t
+}
+
+#[cycle(judge)]
+fn argument(
+    env: &Environment,
+    told: &mut Option<Violation>,
+    want: Option<Want>,
+    e: &Expression,
+) -> Option<usize>
+    ensures { Tells told.old told.new result (parts.argument_for (environment env.now) want (expression e.now)) }
+{
+    let Some(want) = want else {
+        return judge(env, told, Mode::Value, e);
+    };
+    let has_form = has_form(env, told, want, e);
+    let t = argument_typed(env, told, want, e);
+    answer_if(has_form, t)
+}
+
+#[cycle(judge)]
+fn argument_typed(
+    env: &Environment,
+    told: &mut Option<Violation>,
+    want: Want,
+    e: &Expression,
+) -> Option<usize>
+    ensures { Tells told.old told.new result (parts.argument_typed (environment env.now) want (expression e.now)) }
+{
+    let t = judge(env, told, mode_of(want), e)?;
+    has_type(env, told, want, e, t)
+}

@@ -1,0 +1,140 @@
+//! The labels of a `case`.
+
+ghost use Rattle.std.specs.Prelude.{◌≡◌, ◌++◌, [], ◌∷◌, OnOk, map, not, Option, None, Some};
+ghost use Rattle.cp_model.specs.RulesJudged.{least, then_judge, provided, violations_of};
+ghost use Rattle.cp_model.specs.RulesStatements as st;
+ghost use Rattle.cp_model.specs.RulesTypes as types;
+ghost use Rattle.cp_model.specs.declared.rules.Rule.TheVariants as rules;
+ghost use Rattle.cp_judge.specs.Environments.{environment};
+ghost use Rattle.cp_judge.specs.Labels as spec;
+ghost use Rattle.cp_judge.specs.Tells.{Tells, TellsOf};
+
+use crate::constants::{constant, constant_at};
+use crate::environment::{Environment, base};
+use crate::telling::{answer_if, broken, unless_holds};
+use cp_model::rules::{Rule, Violation};
+use cp_model::tree::Constant;
+use indexmap::IndexSet;
+use std::alloc::{AllocError, Global};
+use std::marker::Model;
+
+/// The labels of one `case` so far: the base type and the ordinal of each. Contracts see them in the order of the text.
+#[derive(Drop)]
+pub struct Labels {
+    seen: IndexSet<(usize, i32)>,
+}
+
+impl Model for Labels {
+    ghost Value = { spec.Labels };
+
+    ghost view = { λ s. s.seen.keys };
+}
+
+impl Labels {
+    /// No labels.
+    pub fn new(alloc: Global) -> Labels
+        ensures { result ≡ spec.no_labels }
+    {
+        Labels {
+            seen: IndexSet::new(alloc),
+        }
+    }
+
+    /// Whether this is one of them.
+    fn has(&self, label: (usize, i32)) -> bool
+        ensures { result ≡ st.is_among label self.now }
+    {
+        self.seen.contains(&label)
+    }
+
+    /// One more, if it is new. It fails only for want of memory.
+    fn add(&mut self, label: (usize, i32)) -> Result<(), AllocError>
+        ensures { OnOk result (self.new ≡ st.with_label self.old label) }
+    {
+        self.seen.insert(label)?;
+        Ok(())
+    }
+}
+
+fn fits(base: Option<usize>, label: (usize, i32)) -> bool
+    ensures { result ≡ st.fits_selector base label }
+{
+    match base {
+        Some(base) => base == label.0,
+        None => true,
+    }
+}
+
+// C3: a label that stands twice.
+fn once(
+    told: &mut Option<Violation>,
+    seen: &Labels,
+    at: usize,
+    label: (usize, i32),
+) -> Option<(usize, i32)>
+    ensures { Tells told.old told.new result (provided (not (st.is_among label seen.now)) rules.C3 at label) }
+{
+    if seen.has(label) {
+        return broken(told, Rule::C3, at);
+    }
+    Some(label)
+}
+
+// C2: a label of another base than the selector's, where that is known.
+fn fitting(
+    told: &mut Option<Violation>,
+    base: Option<usize>,
+    seen: &Labels,
+    at: usize,
+    label: (usize, i32),
+) -> Option<(usize, i32)>
+    ensures { Tells told.old told.new result (st.c2_c3_label base seen.now at label) }
+{
+    let fits = unless_holds(told, fits(base, label), Rule::C2, at);
+    let label = once(told, seen, at, label);
+    answer_if(fits, label)
+}
+
+/// The labels of one statement of a `case`, behind those that were seen. It fails only for want of memory.
+pub fn labelled(
+    env: &Environment,
+    told: &mut Option<Violation>,
+    base: Option<usize>,
+    seen: &mut Labels,
+    list: &[Constant],
+) -> Result<(), AllocError>
+    ensures told { OnOk result (told.new ≡ least told.old (st.labels (environment env.now) base seen.old list.now).violations) }
+    ensures seen { OnOk result (seen.new ≡ (st.labels (environment env.now) base seen.old list.now).seen) }
+{
+    for c in list {
+        label(env, told, base, seen, c)?;
+    }
+    Ok(())
+}
+
+// A label, behind those that were seen.
+fn label(
+    env: &Environment,
+    told: &mut Option<Violation>,
+    base: Option<usize>,
+    seen: &mut Labels,
+    c: &Constant,
+) -> Result<(), AllocError>
+    ensures told { OnOk result (told.new ≡ least told.old (violations_of (then_judge (types.constant (environment env.now) c.now) (st.c2_c3_label base seen.old (types.constant_at c.now))))) }
+    ensures seen { OnOk result (seen.new ≡ st.more_seen seen.old (types.constant (environment env.now) c.now)) }
+{
+    match constant(env, told, c) {
+        None => Ok(()),
+        Some(label) => {
+            fitting(told, base, seen, constant_at(c), label);
+            seen.add(label)
+        }
+    }
+}
+
+/// The base of a selector's type, where that is known.
+pub fn selector_base(env: &Environment, selector: Option<usize>) -> Option<usize>
+    ensures { result ≡ spec.base_if (environment env.now) selector }
+{
+    base(env, selector?)
+}

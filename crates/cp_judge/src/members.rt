@@ -1,0 +1,43 @@
+//! Fields of records, and routines of components: what stands behind a `.`.
+
+ghost use Rattle.std.specs.Prelude.{◌≡◌, ◌∷◌, [], map, Option, None, Some, get_or};
+ghost use Rattle.cp_model.specs.RulesEnvironment as r;
+ghost use Rattle.cp_model.specs.RulesNames as n;
+ghost use Rattle.cp_judge.specs.Environments.{environment};
+ghost use Rattle.cp_judge.specs.Tells.{Tells, TellsOf};
+
+use crate::environment::{self, Environment};
+use crate::names::member_named;
+use crate::telling::broken;
+use cp_model::rules::{Entity, Member, Rule, Structure, Violation};
+use cp_model::tree::Identifier;
+
+// A member of a table of members, by its name.
+fn find(env: &Environment, table: usize, x: &Identifier) -> Option<Member>
+    ensures { result ≡ r.lookup x.now.name (get_or (environment env.now).members table []) }
+{
+    env.members.get(table)?.get(x.name.as_bytes()).copied()
+}
+
+/// What a name behind a `.` stands for. C2: `.` behind what is neither a record nor a component.
+pub fn member(
+    env: &Environment,
+    told: &mut Option<Violation>,
+    at: usize,
+    x: &Identifier,
+    entity: Entity,
+) -> Option<Entity>
+    ensures { Tells told.old told.new result (n.member_of (environment env.now) at x.now entity) }
+{
+    let Entity::Variable(t, access) = entity else {
+        return broken(told, Rule::C2, at);
+    };
+    match environment::structure(env, t) {
+        Structure::Record(k) => member_named(env, told, x, access, find(env, k, x)),
+        Structure::System(y) => {
+            let k = environment::system_row(env, y).members;
+            member_named(env, told, x, access, find(env, k, x))
+        }
+        _ => broken(told, Rule::C2, at),
+    }
+}

@@ -1,0 +1,246 @@
+//! What is judged of a name: whether it is visible, and of which sort it is.
+
+ghost use Rattle.std.specs.Prelude.{◌≡◌, ◌++◌, [], ◌∷◌, map, length, Option, None, Some};
+ghost use Rattle.cp_model.specs.RulesEnvironment as r;
+ghost use Rattle.cp_model.specs.RulesNames as n;
+ghost use Rattle.cp_model.specs.RulesJudged.{meaning_of, unless};
+ghost use Rattle.cp_model.specs.View.{designator, selector, selectors_of};
+ghost use Rattle.cp_judge.specs.Environments.{environment};
+ghost use Rattle.cp_judge.specs.Tells.{Tells, TellsOf};
+
+use crate::environment::{self, Environment};
+use crate::places::{first_name, has_field, last_name};
+use crate::telling::{broken, tell, unless_holds};
+use cp_model::rules::{
+    Access, ArrayPart, Entity, Member, Mode, Part, Region, Rule, Standard, Structure, Violation,
+};
+use cp_model::tree::{Designator, Identifier, Selector, Sort};
+
+/// What a name stands for, told where it isn't visible, and nothing where its declaration is broken.
+pub fn named(env: &Environment, told: &mut Option<Violation>, x: &Identifier) -> Option<Entity>
+    ensures { Tells told.old told.new result (r.c1_named (environment env.now) x.now) }
+{
+    match env.names.find(x.name.as_bytes()) {
+        None => broken(told, Rule::C1, x.at),
+        Some(Entity::Hidden) => broken(told, Rule::C1, x.at),
+        Some(Entity::Broken(violation)) => {
+            tell(told, violation);
+            None
+        }
+        Some(entity) => Some(entity),
+    }
+}
+
+/// What a name stands for, if that is known.
+pub fn known(env: &Environment, x: &Identifier) -> Option<Entity>
+    ensures { result ≡ meaning_of (r.c1_named (environment env.now) x.now) }
+{
+    match env.names.find(x.name.as_bytes()) {
+        None => None,
+        Some(Entity::Hidden) => None,
+        Some(Entity::Broken(_)) => None,
+        Some(entity) => Some(entity),
+    }
+}
+
+/// C4: a constant, type or routine is named inside its own definition.
+pub fn unfinished(told: &mut Option<Violation>, x: &Identifier, entity: Entity) -> bool
+    ensures { TellsOf told.old told.new result (r.c4_unfinished x.now entity) }
+{
+    let finished = match entity {
+        Entity::UnfinishedConstant => false,
+        Entity::UnfinishedType => false,
+        Entity::UnfinishedRoutine(_) => false,
+        _ => true,
+    };
+    unless_holds(told, finished, Rule::C4, x.at)
+}
+
+fn is_monitor(sort: Sort) -> bool
+    ensures { result ≡ r.is_monitor sort }
+{
+    match sort {
+        Sort::Monitor => true,
+        _ => false,
+    }
+}
+
+fn is_process(sort: Sort) -> bool
+    ensures { result ≡ r.is_process sort }
+{
+    match sort {
+        Sort::Process => true,
+        _ => false,
+    }
+}
+
+/// Whether the part is a routine.
+pub fn is_in_routine(part: Part) -> bool
+    ensures { result ≡ r.is_in_routine part }
+{
+    match part {
+        Part::Body => false,
+        _ => true,
+    }
+}
+
+fn is_in_entry(part: Part) -> bool
+    ensures { result ≡ r.is_in_entry part }
+{
+    match part {
+        Part::EntryRoutine => true,
+        _ => false,
+    }
+}
+
+fn is_allowed(region: Region, standard: Standard) -> bool
+    ensures { result ≡ r.is_allowed region standard }
+{
+    match standard {
+        Standard::Delay => is_monitor(region.sort) && is_in_routine(region.part),
+        Standard::Empty => is_monitor(region.sort) && is_in_routine(region.part),
+        Standard::Continue => is_monitor(region.sort) && is_in_entry(region.part),
+        Standard::Wait => is_process(region.sort),
+        _ => true,
+    }
+}
+
+/// C9: a standard name out of its place.
+pub fn in_place(
+    env: &Environment,
+    told: &mut Option<Violation>,
+    x: &Identifier,
+    entity: Entity,
+) -> bool
+    ensures { TellsOf told.old told.new result (r.c9_standard (environment env.now) x.now entity) }
+{
+    match entity {
+        Entity::Standard(standard) => {
+            unless_holds(told, is_allowed(env.region, standard), Rule::C9, x.at)
+        }
+        _ => true,
+    }
+}
+
+/// C4 and C9: what is judged of a name wherever it stands.
+pub fn anywhere(
+    env: &Environment,
+    told: &mut Option<Violation>,
+    x: &Identifier,
+    entity: Entity,
+) -> bool
+    ensures { TellsOf told.old told.new result (r.c4_c9_named (environment env.now) x.now entity) }
+{
+    let finished = unfinished(told, x, entity);
+    let in_place = in_place(env, told, x, entity);
+    finished && in_place
+}
+
+/// C5: a routine behind a `.` without `entry`.
+fn entry_behind_dot(
+    env: &Environment,
+    told: &mut Option<Violation>,
+    x: &Identifier,
+    routine: usize,
+) -> Option<Entity>
+    ensures { Tells told.old told.new result (n.routine_behind_dot (environment env.now) x.now routine) }
+{
+    if environment::routine(env, routine).entry {
+        return Some(Entity::Entry(routine));
+    }
+    broken(told, Rule::C5, x.at)
+}
+
+/// What a member of a record or a component stands for. C1: there is none of this name.
+pub fn member_named(
+    env: &Environment,
+    told: &mut Option<Violation>,
+    x: &Identifier,
+    access: Access,
+    member: Option<Member>,
+) -> Option<Entity>
+    ensures { Tells told.old told.new result (n.member_named (environment env.now) x.now access member) }
+{
+    match member {
+        None => broken(told, Rule::C1, x.at),
+        Some(Member::Field(t)) => Some(Entity::Variable(t, access)),
+        Some(Member::Routine(routine)) => entry_behind_dot(env, told, x, routine),
+    }
+}
+
+/// C2: `[` behind what is no array.
+pub fn array(
+    env: &Environment,
+    told: &mut Option<Violation>,
+    at: usize,
+    entity: Entity,
+) -> Option<ArrayPart>
+    ensures { Tells told.old told.new result (n.c2_array (environment env.now) at entity) }
+{
+    if let Entity::Variable(t, access) = entity {
+        if let Structure::Array(index, element) = environment::structure(env, t) {
+            return Some(ArrayPart {
+                index,
+                element,
+                access,
+            });
+        }
+    }
+    broken(told, Rule::C2, at)
+}
+
+/// C2: an index that doesn't agree. The element is a part of the same variable.
+pub fn element(
+    env: &Environment,
+    told: &mut Option<Violation>,
+    at: usize,
+    part: ArrayPart,
+    t: usize,
+) -> Option<Entity>
+    ensures { Tells told.old told.new result (n.c2_index (environment env.now) at part t) }
+{
+    if environment::agree(env, part.index, t) {
+        return Some(Entity::Variable(part.element, part.access));
+    }
+    broken(told, Rule::C2, at)
+}
+
+fn is_queue_variable(env: &Environment, x: &Identifier) -> bool
+    ensures { result ≡ n.has_queues (environment env.now) (r.c1_named (environment env.now) x.now) }
+{
+    match known(env, x) {
+        Some(Entity::Variable(t, _)) => environment::has_queues(env, t),
+        _ => false,
+    }
+}
+
+/// C8: a variable with queues named elsewhere than as the argument of `delay`, `continue`, `empty`.
+pub fn queue_named(
+    env: &Environment,
+    told: &mut Option<Violation>,
+    mode: Mode,
+    x: &Identifier,
+) -> bool
+    ensures { TellsOf told.old told.new result (n.c8_named (environment env.now) mode x.now) }
+{
+    match mode {
+        Mode::Queue => true,
+        _ => unless_holds(told, !is_queue_variable(env, x), Rule::C8, x.at),
+    }
+}
+
+/// The rule of a name of another sort than is wanted: C2, or C10 where that judges the place.
+pub fn sort_rule(mode: Mode, d: &Designator) -> Rule
+    ensures { result ≡ n.sort_rule mode (designator d.now) }
+{
+    match mode {
+        Mode::Variable => {
+            if has_field(&d.selectors) {
+                Rule::C2
+            } else {
+                Rule::C10
+            }
+        }
+        _ => Rule::C2,
+    }
+}

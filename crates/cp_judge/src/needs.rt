@@ -1,0 +1,235 @@
+//! Needs: the words of the activations that expressions and statements call for, one inside the other.
+//!
+//! They are defined in cp_model's `specs/RulesNeeds.antt`. Each is the greatest of the needs of routines and bodies, which the
+//! tables hold, so it is one of them or 0. `specs/Needs.antt` names the parts of the definition that functions answer.
+
+ghost use Rattle.std.specs.Prelude.{◌≡◌, map, max, drop};
+ghost use Rattle.cp_model.specs.RulesEnvironment as r;
+ghost use Rattle.cp_model.specs.RulesExpressions as x;
+ghost use Rattle.cp_model.specs.RulesJudged.{meaning_of};
+ghost use Rattle.cp_model.specs.RulesNeeds as n;
+ghost use Rattle.cp_model.specs.View.{designator, expression, selector, index, operation, statement, arm, init_item, indices_of, expressions_of, selectors_of, statements_of, arms_of};
+ghost use Rattle.cp_judge.specs.Environments.{environment};
+ghost use Rattle.cp_judge.specs.Needs as parts;
+
+use crate::environment::{Environment, routine, system, system_row};
+use crate::expressions::designated;
+use crate::names::known;
+use cp_model::rules::{Entity, SystemRow};
+use cp_model::tree::{
+    Arm, Designator, Expression, Identifier, Index, InitItem, Operation, Selector, Sort, Statement,
+};
+
+/// The need of an expression, in words: the greatest need among the routines that are called in it, or 0.
+#[cycle(need_in_expressions)]
+pub fn need_of_expression(env: &Environment, e: &Expression) -> usize
+    ensures { result ≡ n.need_expression (environment env.now) (expression e.now) }
+{
+    match e {
+        Expression::Number { .. } => 0,
+        Expression::Character { .. } => 0,
+        Expression::Designated(d) => need_of_designator(env, d),
+        Expression::Call(d, list) => need_of_designator(env, d).max(need_of_expressions(env, list)),
+        Expression::Parenthesized { inner, .. } => need_of_expression(env, inner),
+        Expression::Not { operand, .. } => need_of_expression(env, operand),
+        Expression::Signed { operand, .. } => need_of_expression(env, operand),
+        Expression::Chain { first, rest } => {
+            need_of_expression(env, first).max(need_of_operations(env, rest))
+        }
+    }
+}
+
+#[cycle(need_in_expressions)]
+fn need_of_operations(env: &Environment, rest: &[Operation]) -> usize
+    ensures { result ≡ parts.need_operations (environment env.now) (map operation rest.now) }
+{
+    let mut need = 0;
+    for o in rest {
+        need = need.max(need_of_expression(env, &o.operand));
+    }
+    need
+}
+
+#[cycle(need_in_expressions)]
+fn need_of_expressions(env: &Environment, list: &[Expression]) -> usize
+    ensures { result ≡ n.need_expressions (environment env.now) (expressions_of (map expression list.now)) }
+{
+    let mut need = 0;
+    for e in list {
+        need = need.max(need_of_expression(env, e));
+    }
+    need
+}
+
+#[cycle(need_in_expressions)]
+fn need_of_designator(env: &Environment, d: &Designator) -> usize
+    ensures { result ≡ n.need_designator (environment env.now) (designator d.now) }
+{
+    need_if_called(env, designation(env, d)).max(need_of_selectors(env, &d.selectors))
+}
+
+#[cycle(need_in_expressions)]
+fn need_of_selectors(env: &Environment, selectors: &[Selector]) -> usize
+    ensures { result ≡ n.need_selectors (environment env.now) (selectors_of (map selector selectors.now)) }
+{
+    let mut need = 0;
+    for s in selectors {
+        need = need.max(need_of_selector(env, s));
+    }
+    need
+}
+
+#[cycle(need_in_expressions)]
+fn need_of_selector(env: &Environment, s: &Selector) -> usize
+    ensures { result ≡ n.need_selector (environment env.now) (selector s.now) }
+{
+    match s {
+        Selector::Field { .. } => 0,
+        Selector::Indexed(indices) => need_of_indices(env, indices),
+    }
+}
+
+#[cycle(need_in_expressions)]
+fn need_of_indices(env: &Environment, indices: &[Index]) -> usize
+    ensures { result ≡ n.need_indices (environment env.now) (indices_of (map index indices.now)) }
+{
+    let mut need = 0;
+    for i in indices {
+        need = need.max(need_of_expression(env, &i.value));
+    }
+    need
+}
+
+// What a designator stands for, where nothing is broken in it.
+fn designation(env: &Environment, d: &Designator) -> Option<Entity>
+    ensures { result ≡ meaning_of (x.designated (environment env.now) (designator d.now)) }
+{
+    let mut told = None;
+    designated(env, &mut told, d)
+}
+
+// The need of the routine that is called, if it is one.
+fn need_if_called(env: &Environment, entity: Option<Entity>) -> usize
+    ensures { result ≡ parts.need_if_called (environment env.now) entity }
+{
+    match entity {
+        Some(Entity::Routine(r)) => routine(env, r).need,
+        Some(Entity::Entry(r)) => routine(env, r).need,
+        _ => 0,
+    }
+}
+
+/// The need of a statement, in words: the greatest need among the routines that are called in it and the bodies of the classes
+/// and monitors that it initialises, or 0.
+#[cycle(need_in_statements)]
+pub fn need_of_statement(env: &Environment, s: &Statement) -> usize
+    ensures { result ≡ n.need_statement (environment env.now) (statement s.now) }
+{
+    match s {
+        Statement::Empty => 0,
+        Statement::Assign { target, value, .. } => {
+            need_of_designator(env, target).max(need_of_expression(env, value))
+        }
+        Statement::Call(d, list) => need_of_designator(env, d).max(need_of_expressions(env, list)),
+        Statement::Compound(list) => need_of_statements(env, list),
+        Statement::If { condition, then } => {
+            need_of_expression(env, condition).max(need_of_statement(env, then))
+        }
+        Statement::IfElse {
+            condition,
+            then,
+            otherwise,
+        } => {
+            let branches = need_of_statement(env, then).max(need_of_statement(env, otherwise));
+            need_of_expression(env, condition).max(branches)
+        }
+        Statement::Case { selector, arms } => {
+            need_of_expression(env, selector).max(need_of_arms(env, arms))
+        }
+        Statement::While { condition, body } => {
+            need_of_expression(env, condition).max(need_of_statement(env, body))
+        }
+        Statement::Repeat { body, condition } => {
+            need_of_statements(env, body).max(need_of_expression(env, condition))
+        }
+        Statement::For {
+            from,
+            last,
+            body,
+            ..
+        } => {
+            let bounds = need_of_expression(env, from).max(need_of_expression(env, last));
+            bounds.max(need_of_statement(env, body))
+        }
+        Statement::Cycle(list) => need_of_statements(env, list),
+        Statement::Init { items, .. } => need_of_items(env, items),
+    }
+}
+
+/// The need of statements, in words: the greatest need among them, or 0.
+#[cycle(need_in_statements)]
+pub fn need_of_statements(env: &Environment, list: &[Statement]) -> usize
+    ensures { result ≡ n.need_statements (environment env.now) (statements_of (map statement list.now)) }
+{
+    let mut need = 0;
+    for s in list {
+        need = need.max(need_of_statement(env, s));
+    }
+    need
+}
+
+#[cycle(need_in_statements)]
+fn need_of_arms(env: &Environment, arms: &[Arm]) -> usize
+    ensures { result ≡ n.need_arms (environment env.now) (arms_of (map arm arms.now)) }
+{
+    let mut need = 0;
+    for a in arms {
+        need = need.max(need_of_statement(env, &a.body));
+    }
+    need
+}
+
+fn need_of_items(env: &Environment, items: &[InitItem]) -> usize
+    ensures { result ≡ n.need_items (environment env.now) (map init_item items.now) }
+{
+    let mut need = 0;
+    for i in items {
+        need = need.max(need_of_item(env, i));
+    }
+    need
+}
+
+fn need_of_item(env: &Environment, i: &InitItem) -> usize
+    ensures { result ≡ parts.need_item (environment env.now) (init_item i.now) }
+{
+    need_if_initialised(env, &i.component).max(need_of_expressions(env, &i.arguments))
+}
+
+// The need of the body of the component that is initialised, if it is one.
+fn need_if_initialised(env: &Environment, component: &Identifier) -> usize
+    ensures { result ≡ n.need_initialised (environment env.now) (r.c1_named (environment env.now) component.now) }
+{
+    match known(env, component) {
+        Some(Entity::Variable(t, _)) => need_of_system(env, system(env, t)),
+        _ => 0,
+    }
+}
+
+fn need_of_system(env: &Environment, number: Option<usize>) -> usize
+    ensures { result ≡ n.need_system (environment env.now) number }
+{
+    match number {
+        Some(number) => need_of_body(system_row(env, number)),
+        None => 0,
+    }
+}
+
+// The body of a process is run by the process itself.
+fn need_of_body(row: SystemRow) -> usize
+    ensures { result ≡ n.need_body_of row row.sort }
+{
+    match row.sort {
+        Sort::Process => 0,
+        _ => row.body_need,
+    }
+}

@@ -1,0 +1,191 @@
+//! What operators and arguments want of a type.
+
+ghost use Rattle.std.specs.Prelude.{◌≡◌, [], ◌∷◌, ◌++◌, Option, None, Some};
+ghost use Rattle.cp_model.specs.RulesEnvironment as r;
+ghost use Rattle.cp_model.specs.RulesNames as n;
+ghost use Rattle.cp_model.specs.RulesExpressions as x;
+ghost use Rattle.cp_model.specs.View.{expression};
+ghost use Rattle.cp_judge.specs.Environments.{environment};
+ghost use Rattle.cp_judge.specs.Arguments.{form_rules, type_rule, is_standard_type};
+ghost use Rattle.cp_judge.specs.Tells.{Tells, TellsOf};
+
+use crate::environment::{
+    BOOLEAN, CHAR, Environment, INTEGER, QUEUE, agree, base, is_base, is_simple,
+};
+use crate::places::first_token;
+use crate::telling::broken;
+use crate::values::variable;
+use cp_model::rules::{Mode, Rule, Violation, Want};
+use cp_model::tree::{Expression, Operator};
+
+fn are_of_one_base(a: Option<usize>, b: Option<usize>) -> bool
+    ensures { result ≡ x.operands_fit None a b }
+{
+    match a {
+        Some(a) => is_base(a, b),
+        None => false,
+    }
+}
+
+fn operands_fit(operator: Operator, a: Option<usize>, b: Option<usize>) -> bool
+    ensures { result ≡ x.operands_fit (x.signature operator).wants a b }
+{
+    match operator {
+        Operator::Add => is_base(INTEGER, a) && is_base(INTEGER, b),
+        Operator::Subtract => is_base(INTEGER, a) && is_base(INTEGER, b),
+        Operator::Multiply => is_base(INTEGER, a) && is_base(INTEGER, b),
+        Operator::Divide => is_base(INTEGER, a) && is_base(INTEGER, b),
+        Operator::Modulo => is_base(INTEGER, a) && is_base(INTEGER, b),
+        Operator::And => is_base(BOOLEAN, a) && is_base(BOOLEAN, b),
+        Operator::Or => is_base(BOOLEAN, a) && is_base(BOOLEAN, b),
+        _ => are_of_one_base(a, b),
+    }
+}
+
+fn operator_gives(operator: Operator) -> usize
+    ensures { result ≡ (x.signature operator).gives }
+{
+    match operator {
+        Operator::Add => INTEGER,
+        Operator::Subtract => INTEGER,
+        Operator::Multiply => INTEGER,
+        Operator::Divide => INTEGER,
+        Operator::Modulo => INTEGER,
+        _ => BOOLEAN,
+    }
+}
+
+/// C2: operands that don't fit.
+pub fn operands(
+    env: &Environment,
+    told: &mut Option<Violation>,
+    operator: Operator,
+    at: usize,
+    a: usize,
+    b: usize,
+) -> Option<usize>
+    ensures { Tells told.old told.new result (x.c2_operands (environment env.now) operator at a b) }
+{
+    if operands_fit(operator, base(env, a), base(env, b)) {
+        return Some(operator_gives(operator));
+    }
+    broken(told, Rule::C2, at)
+}
+
+/// C2: the operand of a sign or of `not`, which wants this base.
+pub fn operand(
+    env: &Environment,
+    told: &mut Option<Violation>,
+    wanted: usize,
+    at: usize,
+    t: usize,
+) -> Option<usize>
+    ensures { Tells told.old told.new result (x.c2_operand (environment env.now) wanted at t) }
+{
+    if is_base(wanted, base(env, t)) {
+        return Some(wanted);
+    }
+    broken(told, Rule::C2, at)
+}
+
+/// How the first name of an argument is judged.
+pub fn mode(want: Want) -> Mode
+    ensures { result ≡ x.mode_of want }
+{
+    match want {
+        Want::Parameter(p) => {
+            if p.by_reference {
+                Mode::Variable
+            } else {
+                Mode::Value
+            }
+        }
+        Want::CharVariable => Mode::Variable,
+        Want::QueueVariable => Mode::Queue,
+        _ => Mode::Value,
+    }
+}
+
+/// How the first operand of an operator is judged: it isn't the argument itself.
+pub fn first_operand(mode: Mode) -> Mode
+    ensures { result ≡ x.first_operand mode }
+{
+    match mode {
+        Mode::Queue => Mode::Value,
+        _ => mode,
+    }
+}
+
+// C2: a passive argument that doesn't agree. C10: a `var` argument that isn't of the parameter's very type.
+fn fits_type(
+    env: &Environment,
+    told: &mut Option<Violation>,
+    by_reference: bool,
+    of: Option<usize>,
+    e: &Expression,
+    t: usize,
+) -> Option<usize>
+    ensures { Tells told.old told.new result (x.fits_type (environment env.now) by_reference of (expression e.now) t) }
+{
+    let Some(u) = of else {
+        return Some(t);
+    };
+    let (fits, rule) = if by_reference {
+        (t == u, Rule::C10)
+    } else {
+        (agree(env, u, t), Rule::C2)
+    };
+    if fits {
+        return Some(t);
+    }
+    broken(told, rule, first_token(e))
+}
+
+/// C10 of an argument that should be a variable, whatever is broken in it.
+pub fn has_form(env: &Environment, told: &mut Option<Violation>, want: Want, e: &Expression) -> bool
+    ensures { TellsOf told.old told.new result (form_rules (environment env.now) want (expression e.now)) }
+{
+    match want {
+        Want::Parameter(p) => {
+            if p.by_reference {
+                variable(env, told, e)
+            } else {
+                true
+            }
+        }
+        Want::CharVariable => variable(env, told, e),
+        _ => true,
+    }
+}
+
+// Whether a type is wanted of a standard call's argument.
+fn is_wanted(env: &Environment, want: Want, t: usize) -> bool
+    ensures { result ≡ is_standard_type (environment env.now) want t }
+{
+    match want {
+        Want::Parameter(_) => true,
+        Want::Simple => is_simple(env, t),
+        Want::Integer => is_base(INTEGER, base(env, t)),
+        Want::CharVariable => is_base(CHAR, base(env, t)),
+        Want::QueueVariable => t == QUEUE,
+    }
+}
+
+/// The rule of an argument's type.
+pub fn has_type(
+    env: &Environment,
+    told: &mut Option<Violation>,
+    want: Want,
+    e: &Expression,
+    t: usize,
+) -> Option<usize>
+    ensures { Tells told.old told.new result (type_rule (environment env.now) want (expression e.now) t) }
+{
+    if let Want::Parameter(p) = want {
+        return fits_type(env, told, p.by_reference, p.of, e, t);
+    }
+    if is_wanted(env, want, t) {
+        return Some(t);
+    }
+    broken(told, Rule::C2, first_token(e))
+}

@@ -1,0 +1,56 @@
+//! Where the names and the first tokens of designators and expressions stand.
+
+ghost use Rattle.std.specs.Prelude.{◌≡◌, map, drop};
+ghost use Rattle.cp_model.specs.RulesNames as r;
+ghost use Rattle.cp_model.specs.View.{designator, expression, selector, selectors_of};
+
+use cp_model::tree::{Designator, Expression, Identifier, Selector};
+
+/// The first name of a designator.
+pub fn first_name(d: &Designator) -> &Identifier
+    ensures { result.now ≡ r.first_name (designator d.now) }
+{
+    &d.root
+}
+
+/// The last name of a designator: that of its last field, or the first.
+pub fn last_name(d: &Designator) -> &Identifier
+    ensures { result.now ≡ r.last_name (designator d.now) }
+{
+    let mut last = &d.root;
+    for s in &d.selectors {
+        if let Selector::Field { name, .. } = s {
+            last = name;
+        }
+    }
+    last
+}
+
+/// Whether a field is selected.
+pub fn has_field(selectors: &[Selector]) -> bool
+    ensures { result ≡ r.has_field (selectors_of (map selector selectors.now)) }
+{
+    for s in selectors {
+        if let Selector::Field { .. } = s {
+            return true;
+        }
+    }
+    false
+}
+
+/// The place of the first token of an expression.
+#[tactic(auto, using(crate::proofs::Views::first_token_chain))]
+pub fn first_token(e: &Expression) -> usize
+    ensures { result ≡ r.first_token (expression e.now) }
+{
+    match e {
+        Expression::Number { at, .. } => *at,
+        Expression::Character { at, .. } => *at,
+        Expression::Designated(d) => first_name(d).at,
+        Expression::Call(d, _) => first_name(d).at,
+        Expression::Parenthesized { at, .. } => *at,
+        Expression::Not { at, .. } => *at,
+        Expression::Signed { at, .. } => *at,
+        Expression::Chain { first, .. } => first_token(first),
+    }
+}

@@ -1,0 +1,160 @@
+//! What a designator is used as: a value, or what should be a variable.
+
+ghost use Rattle.std.specs.Prelude.{◌≡◌, ◌++◌, [], ◌∷◌, map, Option, None, Some};
+ghost use Rattle.cp_model.specs.RulesEnvironment as r;
+ghost use Rattle.cp_model.specs.RulesNames as n;
+ghost use Rattle.cp_model.specs.View.{designator, expression, selector, selectors_of};
+ghost use Rattle.cp_judge.specs.Environments.{environment};
+ghost use Rattle.cp_judge.specs.Tells.{Tells, TellsOf};
+ghost use Rattle.cp_judge.specs.Designated.{designator_if, designator_in};
+
+use crate::callees::function;
+use crate::environment::{Environment, INTEGER, base, is_component};
+use crate::names::{anywhere, known, sort_rule, unfinished};
+use crate::places::{first_name, first_token, last_name};
+use crate::telling::{broken, unless_holds};
+use cp_model::rules::{Access, Entity, Gives, Mode, Rule, Violation};
+use cp_model::tree::{Designator, Expression, Identifier, Selector};
+
+/// The type of what a call gives, whose first argument is of a type.
+pub fn given(env: &Environment, argument: usize, gives: Gives) -> usize
+    ensures { result ≡ n.given (environment env.now) argument gives }
+{
+    match gives {
+        Gives::Value(t) => t,
+        Gives::ArgumentBase => base(env, argument).unwrap_or(argument),
+        Gives::Nothing => argument,
+    }
+}
+
+// A routine without arguments: called as a function, but not where C10 judges the place.
+fn function_alone(
+    env: &Environment,
+    told: &mut Option<Violation>,
+    mode: Mode,
+    d: &Designator,
+    entity: Entity,
+) -> Option<Gives>
+    ensures { Tells told.old told.new result (n.function_alone (environment env.now) mode (designator d.now) entity) }
+{
+    match mode {
+        Mode::Variable => {
+            anywhere(env, told, first_name(d), entity);
+            broken(told, Rule::C10, first_name(d).at)
+        }
+        _ => {
+            let callee = function(env, told, mode, d, 0, entity)?;
+            Some(callee.gives)
+        }
+    }
+}
+
+fn is_no_component(env: &Environment, mode: Mode, t: usize) -> bool
+    ensures { result ≡ n.is_used_as_component mode (environment env.now) t }
+{
+    match mode {
+        Mode::Variable => true,
+        _ => !is_component(env, t),
+    }
+}
+
+/// The type of a designator that is used as a value. C2: its name is of another sort; a component as a value.
+pub fn value(
+    env: &Environment,
+    told: &mut Option<Violation>,
+    mode: Mode,
+    d: &Designator,
+    entity: Entity,
+) -> Option<usize>
+    ensures { Tells told.old told.new result (n.value_of (environment env.now) mode (designator d.now) entity) }
+{
+    match entity {
+        Entity::Constant(base, _) => Some(base),
+        Entity::Variable(t, _) => {
+            if is_no_component(env, mode, t) {
+                return Some(t);
+            }
+            broken(told, Rule::C2, last_name(d).at)
+        }
+        Entity::Type(_) => broken(told, sort_rule(mode, d), last_name(d).at),
+        Entity::UnfinishedConstant => {
+            unfinished(told, last_name(d), entity);
+            broken(told, sort_rule(mode, d), last_name(d).at)
+        }
+        Entity::UnfinishedType => {
+            unfinished(told, last_name(d), entity);
+            broken(told, sort_rule(mode, d), last_name(d).at)
+        }
+        _ => {
+            let gives = function_alone(env, told, mode, d, entity)?;
+            Some(given(env, INTEGER, gives))
+        }
+    }
+}
+
+fn is_changeable(access: Access) -> bool
+    ensures { result ≡ n.is_changeable access }
+{
+    match access {
+        Access::Passive => false,
+        _ => true,
+    }
+}
+
+fn selects_field_first(selectors: &[Selector]) -> bool
+    ensures { result ≡ n.selects_field_first (selectors_of (map selector selectors.now)) }
+{
+    match selectors {
+        [Selector::Field { .. }, ..] => true,
+        _ => false,
+    }
+}
+
+/// Whether a name with these selectors behind it is a variable or a part of one. A name that is unknown is told of elsewhere.
+pub fn is_variable(env: &Environment, x: &Identifier, selectors: &[Selector]) -> bool
+    ensures { result ≡ n.is_variable (environment env.now) (selectors_of (map selector selectors.now)) (r.c1_named (environment env.now) x.now) }
+{
+    match known(env, x) {
+        Some(Entity::Variable(t, access)) => {
+            is_changeable(access) && !(is_component(env, t) && selects_field_first(selectors))
+        }
+        Some(_) => false,
+        None => true,
+    }
+}
+
+/// C10: not a variable or `var` parameter or a part of one.
+pub fn variable_designated(env: &Environment, told: &mut Option<Violation>, d: &Designator) -> bool
+    ensures { TellsOf told.old told.new result (n.c10_designator (environment env.now) (designator d.now)) }
+{
+    unless_holds(
+        told,
+        is_variable(env, &d.root, &d.selectors),
+        Rule::C10,
+        d.root.at,
+    )
+}
+
+/// The designator that an expression is, if it is one. A chain of one operand is that operand.
+pub fn designated(e: &Expression) -> Option<&Designator>
+    ensures { designator_if result ≡ designator_in (expression e.now) }
+{
+    match e {
+        Expression::Designated(d) => Some(d),
+        Expression::Chain { first, rest } => match rest.as_slice() {
+            [] => designated(first),
+            _ => None,
+        },
+        _ => None,
+    }
+}
+
+/// C10: an expression that should be a variable.
+pub fn variable(env: &Environment, told: &mut Option<Violation>, e: &Expression) -> bool
+    ensures { TellsOf told.old told.new result (n.c10_variable (environment env.now) (expression e.now)) }
+{
+    match designated(e) {
+        Some(d) => variable_designated(env, told, d),
+        None => unless_holds(told, false, Rule::C10, first_token(e)),
+    }
+}
