@@ -1,0 +1,6 @@
+//! What a process does on its own: its words, what it has left to do, its output, and its private steps.
+//!
+//! `specs/PartOf.antt` says when the private state of a process is its own part of a state of the system.
+#![tactic(auto)]
+
+pub mod private;
