@@ -1,0 +1,2 @@
+pub mod KernelOf
+pub mod Starting

@@ -1,0 +1,76 @@
+//! The kernel's state: of each process whether it was started, and its transcript.
+
+ghost use Rattle.std.specs.Prelude.{◌≡◌, ◌≢◌, ◌≤◌, ◌-◌, ℕ, IfOk, [], Some, slice_get, vec_len, vec_capacity};
+ghost use Rattle.cp_model.specs.Start.{start};
+ghost use Rattle.cp_model.specs.States.{Setup, State};
+ghost use Rattle.cp_program.specs.StandsFor.{StandsFor};
+ghost use Rattle.cp_kernel.specs.KernelOf.{AreEmpty, AreFirst, HasRoom, KernelOf, moved};
+
+use cp_private::private::Private;
+use cp_program::program::Program;
+use std::alloc::{AllocError, Global};
+
+/// How far a process is started.
+#[derive(Clone, Copy, Debug, PartialEq, Eq)]
+pub enum Stage {
+    Unstarted,
+    /// Started in the running round.
+    Fresh,
+    Started,
+}
+
+/// The kernel's state. The processes stand in it by number.
+#[derive(Debug, Drop)]
+pub struct Kernel {
+    pub stages: Vec<Stage>,
+    pub transcripts: Vec<Vec<u8>>,
+}
+
+// The initial process is started; no other is.
+fn first_stages(alloc: Global, processes: usize) -> Result<Vec<Stage>, AllocError>
+    ensures { IfOk result (λ all. AreFirst processes all.items) }
+{
+    let mut all = Vec::with_capacity(alloc, processes)?;
+    for i in 0..processes {
+        all.push(if i == 0 { Stage::Started } else { Stage::Unstarted })?;
+    }
+    Ok(all)
+}
+
+fn no_transcripts(alloc: Global, processes: usize) -> Result<Vec<Vec<u8>>, AllocError>
+    ensures { IfOk result (λ all. AreEmpty processes all.items) }
+{
+    let mut all = Vec::with_capacity(alloc, processes)?;
+    for _i in 0..processes {
+        all.push(Vec::new(alloc))?;
+    }
+    Ok(all)
+}
+
+impl Kernel {
+    /// The kernel's part at the start. It fails only for want of memory.
+    pub fn new(alloc: Global, program: &Program) -> Result<Kernel, AllocError>
+        ensures start { IfOk result (λ k. (setup : Setup) → StandsFor program.now setup → KernelOf setup (start setup) k) }
+        ensures moved { IfOk result (λ k. (i : ℕ) → moved k i ≡ []) }
+    {
+        let processes = program.processes.len();
+        Ok(Kernel {
+            stages: first_stages(alloc, processes)?,
+            transcripts: no_transcripts(alloc, processes)?,
+        })
+    }
+
+    /// Makes room in the transcript of process p for the output that its private state holds. It fails only for want of memory,
+    /// and changes nothing else.
+    pub fn reserve(&mut self, private: &Private, p: usize) -> Result<(), AllocError>
+        ensures same { (setup : Setup) (s : State) → KernelOf setup s self.old → KernelOf setup s self.new }
+        ensures moved { (i : ℕ) → moved self.new i ≡ moved self.old i }
+        ensures others { (i : ℕ) (x : Private) → i ≢ p - 1 → HasRoom self.old i x → HasRoom self.new i x }
+        ensures room { IfOk result (λ _. HasRoom self.new (p - 1) private.now) }
+    {
+        match self.transcripts.get_mut(p.saturating_sub(1)) {
+            Some(transcript) => transcript.reserve(private.output.len()),
+            None => Ok(()),
+        }
+    }
+}
