@@ -1,3 +1,6 @@
 pub mod Lists
 pub mod Ready
 pub mod KernelSteps
+pub mod Inversion
+pub mod KernelParts
+pub mod Turning

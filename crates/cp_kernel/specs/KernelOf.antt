@@ -29,14 +29,18 @@ pub record AreFirst (n : ℕ) (all : List Stage) : Type 0 where
   pub count : length all ≡ n
   pub each : (i : ℕ) (g : Stage) → slice_get all i ≡ Some g → g ≡ first_stage i
 
--- k is the kernel's part of the state s. What is left of a process that has not begun is its whole body.
-pub record KernelOf (setup : Setup) (s : State) (k : Kernel) : Type 0 where
-  pub count : length k.stages.items ≡ process_count setup
-  pub transcripts : length k.transcripts.items ≡ process_count setup
-  pub stages : (i : ℕ) (g : Stage) → slice_get k.stages.items i ≡ Some g → g ≡ stage_of (s.status (suc i))
+-- The stages are those of the state s. What is left of a process that has not begun is its whole body.
+pub record StagesOf (setup : Setup) (s : State) (all : List Stage) : Type 0 where
+  pub count : length all ≡ process_count setup
+  pub each : (i : ℕ) (g : Stage) → slice_get all i ≡ Some g → g ≡ stage_of (s.status (suc i))
   pub store : (p : ℕ) → HasNotBegun (s.status p) → (l : Location) → is_own p l.owner ≡ true → s.store l ≡ (start setup).store l
   pub fresh : (p : ℕ) → s.status p ≡ c.Fresh
       → s.continuation p ≡ push (system_of setup p).body (environment_of setup p) (EndProcess ∷ [])
+
+-- k is the kernel's part of the state s.
+pub record KernelOf (setup : Setup) (s : State) (k : Kernel) : Type 0 where
+  pub stages : StagesOf setup s k.stages.items
+  pub transcripts : length k.transcripts.items ≡ process_count setup
 
 abbrev pub Bytes : Type 0
 Bytes = Vec ℕ Global
