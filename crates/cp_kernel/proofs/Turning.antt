@@ -1,5 +1,5 @@
 -- Kernel steps and turns of the code are those of the definitions.
-use Rattle.std.specs.Prelude.{◌≡◌, ◌≢◌, ◌≤◌, refl, ℕ, zero, suc, ◌-◌, Bool, true, false, List, Option, Some, None, slice_get}
+use Rattle.std.specs.Prelude.{◌≡◌, ◌≢◌, ◌≤◌, ◌<◌, refl, ℕ, zero, suc, ◌+◌, ◌-◌, Bool, true, false, List, Option, Some, None, slice_get}
 use Rattle.std.proofs.Common.{sym, ◌∙◌, ap, subst, arith}
 use Rattle.cp_model.specs.Continuations.{Task}
 use Rattle.cp_model.specs.Configurations as c
@@ -137,3 +137,18 @@ module _ (program : Program) (setup : Setup) (p : ℕ) (before : List ℕ) where
     turn_turns zero s m inv was = was
     turn_turns (suc n) s m inv was =
         turn_turns n (t.kernel_step setup s p) (stepped program m) (kernel_step_keeps setup s p inv) (step_turns s m inv was)
+
+-- Where no step is due, a turn does nothing.
+pub turn_rests : (program : Program) (n : ℕ) (m : Turning) → is_due program m ≡ false → turned program n m ≡ m
+turn_rests program zero m e = refl
+turn_rests program (suc n) m e = ap (λ (b : Bool). turned program n (stepped_if b program m)) e ∙ turn_rests program n m e
+
+pub step_rests : (program : Program) (m : Turning) → is_due program m ≡ false → stepped program m ≡ m
+step_rests program m e = ap (λ (b : Bool). stepped_if b program m) e
+
+-- The turn from step i on.
+pub turn_next : (program : Program) (t i : ℕ) (m : Turning) → i < t → turned program (t - i) m ≡ turned program (t - (i + 1)) (stepped program m)
+turn_next program t i m h = ap (λ (n : ℕ). turned program n m) (one_more t i h)
+  where
+    one_more : (t i : ℕ) → i < t → t - i ≡ suc (t - (i + 1))
+    one_more t i h = Prim.omega arith

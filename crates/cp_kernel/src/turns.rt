@@ -1,8 +1,8 @@
 //! Kernel turns: the steps that start processes.
 
-ghost use Rattle.std.specs.Prelude.{◌≡◌, ◌-◌, slice_get};
-ghost use Rattle.cp_program.specs.StandsFor.{op_at};
-ghost use Rattle.cp_kernel.specs.Starting.{is_due, is_unstarted, started, stepped, turning};
+ghost use Rattle.std.specs.Prelude.{◌≡◌, ◌≢◌, ◌++◌, ◌-◌, ℕ, length, slice_get};
+ghost use Rattle.cp_kernel.specs.KernelOf.{HasRoom, moved};
+ghost use Rattle.cp_kernel.specs.Starting.{is_due, is_unstarted, started, stepped, turned, turning};
 
 use crate::kernel::{Kernel, Stage};
 use cp_model::state::Fault;
@@ -47,5 +47,33 @@ fn step(program: &Program, kernel: &mut Kernel, private: &mut Private) -> bool
             true
         }
         _ => false,
+    }
+}
+
+// At most so many steps, while the next one is the kernel's.
+fn steps(program: &Program, kernel: &mut Kernel, private: &mut Private, turn: u32)
+    ensures turn { turning kernel.new private.new ≡ turned program.now turn (turning kernel.old private.old) }
+    ensures transcripts { kernel.new.transcripts ≡ kernel.old.transcripts }
+{
+    for _i in 0..turn {
+        if !step(program, kernel, private) {
+            return;
+        }
+    }
+}
+
+// Moves the output that process p holds to its transcript.
+fn move_output(kernel: &mut Kernel, private: &mut Private, p: usize)
+    requires room { HasRoom kernel.old (p - 1) private.old }
+    ensures moved { moved kernel.new (p - 1) ++ private.new.output.items ≡ moved kernel.old (p - 1) ++ private.old.output.items }
+    ensures private { private.new ≡ record private.old { output = private.new.output } }
+    ensures stages { kernel.new.stages ≡ kernel.old.stages }
+    ensures count { length kernel.new.transcripts.items ≡ length kernel.old.transcripts.items }
+    ensures others { (i : ℕ) → i ≢ p - 1 → slice_get kernel.new.transcripts.items i ≡ slice_get kernel.old.transcripts.items i }
+{
+    if let Some(transcript) = kernel.transcripts.get_mut(p.saturating_sub(1)) {
+        let moved = transcript.extend_from_slice(&private.output);
+        prove!(moved.is_ok());
+        private.output.clear();
     }
 }
