@@ -4,3 +4,5 @@ pub mod KernelSteps
 pub mod Inversion
 pub mod KernelParts
 pub mod Turning
+pub mod ClosedLists
+pub mod Begins

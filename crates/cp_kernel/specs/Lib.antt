@@ -1,2 +1,4 @@
 pub mod KernelOf
 pub mod Starting
+pub mod Closing
+pub mod Stand

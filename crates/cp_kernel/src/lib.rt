@@ -5,4 +5,5 @@
 #![tactic(auto)]
 
 pub mod kernel;
+mod closing;
 mod turns;
