@@ -6,3 +6,5 @@ pub mod KernelParts
 pub mod Turning
 pub mod ClosedLists
 pub mod Begins
+pub mod Pushing
+pub mod Stands
