@@ -8,3 +8,4 @@ pub mod ClosedLists
 pub mod Begins
 pub mod Pushing
 pub mod Stands
+pub mod Beside
