@@ -1,1 +1,4 @@
 pub mod PartOf
+pub mod Values
+pub mod Steps
+pub mod Kinds

@@ -4,3 +4,5 @@
 #![tactic(auto)]
 
 pub mod private;
+pub mod steps;
+pub mod values;

@@ -1,0 +1,19 @@
+-- The kind of the next step of a process, as a machine tells it.
+use Rattle.std.specs.Prelude.{List}
+use Rattle.cp_model.specs.Continuations.{Task}
+use Rattle.cp_model.specs.Configurations.{Asking, Delayed, Status}
+use Rattle.cp_model.specs.Turns as t
+use Rattle.cp_model.specs.Turns.{kind_of}
+use Rattle.cp_private.specs.declared.steps.Kind.{Kind}
+use Rattle.cp_private.specs.declared.steps.Kind.TheVariants as kind
+
+abbrev pub kind_told : Kind → t.Kind
+kind_told kind.Private = t.Private
+kind_told kind.Kernel = t.Kernel
+kind_told kind.None = t.NoStep
+
+-- A process that asks or is delayed is the kernel's.
+abbrev pub told : Status → List Task → t.Kind
+told (Asking m) k = t.Kernel
+told (Delayed m q) k = t.Kernel
+told x k = kind_of x k
