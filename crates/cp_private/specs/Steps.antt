@@ -1,6 +1,6 @@
 -- The steps of a private state, as plain data.
 use Rattle.std.specs.Prelude.{ℕ, ℤ, zero, suc, pos, negsuc, ◌+◌, ◌*◌, ◌≤◌, List, ◌++◌, Option, None, Some, Result, Ok, Err, if◌then◌else◌, slice_set, vec_len, vec_capacity}
-use Rattle.std.specs.Fmt.{signed_decimal}
+use Rattle.cp_model.specs.Decimal.{decimal}
 use Rattle.cp_model.specs.Places.{within}
 use Rattle.cp_model.specs.declared.state.Fault.{Fault}
 use Rattle.cp_model.specs.declared.state.Fault.TheVariants as fault
@@ -48,15 +48,18 @@ set o word next n =
     else record o { activity = activity.Faulted fault.Range }
 
 abbrev pub display : Own → ℕ → ℤ → Own
-display o next n = record o { output = o.output ++ signed_decimal n; place = next }
+display o next n = record o { output = o.output ++ decimal n; place = next }
+
+abbrev pub act_on : Own → Op → Own
+act_on o (op.Set word value next) = with_value o (value_of o.words (numbered value)) (set o word next)
+act_on o (op.Display value next) = with_value o (value_of o.words (numbered value)) (display o next)
+act_on o (op.Cycle body) = record o { place = body }
+act_on o (op.Start r next) = o
+act_on o op.End = record o { activity = activity.Ended }
 
 abbrev pub act : Own → Option Op → Own
 act o None = o
-act o (Some (op.Set word value next)) = with_value o (value_of o.words (numbered value)) (set o word next)
-act o (Some (op.Display value next)) = with_value o (value_of o.words (numbered value)) (display o next)
-act o (Some (op.Cycle body)) = record o { place = body }
-act o (Some (op.Start r next)) = o
-act o (Some op.End) = record o { activity = activity.Ended }
+act o (Some x) = act_on o x
 
 abbrev pub if_running : Activity → Own → Own → Own
 if_running activity.Running a b = a
@@ -74,3 +77,8 @@ steps program (suc n) o = steps program n (step program o)
 -- Room for the output of so many steps: a display writes at most 6 bytes.
 abbrev pub HasRoomFor : Private → ℕ → Type 0
 HasRoomFor x n = vec_len x.output + 6 * n ≤ vec_capacity x.output
+
+-- A step writes at most 6 bytes, and takes no memory.
+pub record KeepsRoom (old new : Private) : Type 0 where
+  pub length : vec_len new.output ≤ vec_len old.output + 6
+  pub capacity : vec_capacity old.output ≤ vec_capacity new.output

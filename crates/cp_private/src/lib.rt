@@ -5,4 +5,5 @@
 
 pub mod private;
 pub mod steps;
+pub mod turn;
 pub mod values;

@@ -1,0 +1,143 @@
+-- A step on plain data is a private step of the process, whatever state it is the part of.
+use Rattle.std.proofs.Common.{◌≡◌, ◌≤◌, ℕ, ℤ, pos, negsuc, List, [], ◌∷◌, ◌++◌, length, Bool, true, false, Result, Ok, Err, Option, Some, None, refl, ap, sym, subst, ◌∙◌, arith}
+use Rattle.std.specs.Prelude.{codes, if◌then◌else◌, slice_get, slice_set}
+use Rattle.std.proofs.lemmas.List.{append_assoc, length-set}
+use Rattle.cp_model.specs.Abstract as a
+use Rattle.cp_model.specs.Abstract.{Integer, Name}
+use Rattle.cp_model.specs.Actions.{Acts, action, is_kernel_action}
+use Rattle.cp_model.specs.Assignments.{writes_of}
+use Rattle.cp_model.specs.Calls.{call_in_task, in_context, or_else}
+use Rattle.cp_model.specs.Configurations.{Asking, Configuration, Context, Delayed, Ended, Faulted, Fresh, Ready, Status, Unstarted, Waiting, own_step, with_continuation, with_writes}
+use Rattle.cp_model.specs.Continuations.{Do, EndProcess, Task, push}
+use Rattle.cp_model.specs.Decimal.{decimal}
+use Rattle.cp_model.specs.Environments.{Environment}
+use Rattle.cp_model.specs.Invariant.{Invariant}
+use Rattle.cp_model.specs.Outcomes.{and_then, provided, Gives}
+use Rattle.cp_model.specs.Parts.{HasBegun, Running, own_status}
+use Rattle.cp_model.specs.Places.{place_of_meaning, within}
+use Rattle.cp_model.specs.StandardCalls.{display_text, standard_procedure}
+use Rattle.cp_model.specs.StateViews.{fault_number}
+use Rattle.cp_model.specs.States.{Setup, State, configuration, context, process_count, set_status, with_configuration}
+use Rattle.cp_model.specs.Step.{run_task}
+use Rattle.cp_model.specs.Stores.{Ordinal, Store, put}
+use Rattle.cp_model.specs.Turns.{Kernel, NoStep, Private, after_step, kind, kind_of, private_step}
+use Rattle.cp_model.specs.Types.{full_range}
+use Rattle.cp_model.specs.declared.state.Fault.{Fault}
+use Rattle.cp_model.specs.declared.state.Fault.TheVariants as fault
+use Rattle.cp_model.proofs.StateMaps.{with_at_here}
+use Rattle.cp_fragment.specs.Processes.{environment_of, variable_location}
+use Rattle.cp_program.specs.declared.code.Op.{Op}
+use Rattle.cp_program.specs.declared.code.Op.TheVariants as op
+use Rattle.cp_program.specs.declared.program.Program.{Program}
+use Rattle.cp_program.specs.Numbered.{numbered}
+use Rattle.cp_program.specs.StandsFor.{CodeFor, ProcessStands, StandsFor, names_of, op_at}
+use Rattle.cp_private.specs.declared.private.Activity.{Activity}
+use Rattle.cp_private.specs.declared.private.Activity.TheVariants as activity
+use Rattle.cp_private.specs.PartOf.{Continues, WordsMean, status_of}
+use Rattle.cp_private.specs.Steps.{Own, act, act_on, display, if_running, set, step, with_value}
+use Rattle.cp_private.specs.Values.{value_of}
+use Rattle.cp_private.proofs.Actions.{acting, init_is_kernel, ready_is, step_acts, step_idle, step_rests}
+use Rattle.cp_private.proofs.Expressions.{callee_none, no_call, told, value_stands, variable_meant}
+use Rattle.cp_private.proofs.Parts.{PartIs, continues_push, no_gates}
+use Rattle.cp_private.proofs.Words.{words_set}
+
+-- A process that isn't running has no step.
+pub idle : (x : Status) (k : List Task) → (own_status x ≡ Running → ⊥) → kind_of x k ≡ NoStep
+idle Ready k h = absurd (h refl)
+idle x k h = refl
+
+module _ (program : Program) (setup : Setup) (p : ℕ) (before : List ℕ) (Q : ProcessStands program setup p) (s : State) (o : Own)
+    (P : PartIs program setup s p before o) where
+  abbrev names : List Name
+  names = names_of program p
+
+  abbrev env : Environment
+  env = environment_of setup p
+
+  abbrev config : Configuration
+  config = configuration s p
+
+  abbrev Steps : Type 0
+  Steps = PartIs program setup (private_step setup s p) p before (step program o)
+
+  arrive : (u : State) (z : Own) → private_step setup s p ≡ u → step program o ≡ z → PartIs program setup u p before z → Steps
+  arrive u z e f h =
+      subst (λ v. PartIs program setup v p before (step program o)) (sym e) (subst (PartIs program setup u p before) (sym f) h)
+
+  module _ (running : o.activity ≡ activity.Running) (ready : s.status p ≡ Ready) where
+    begun : HasBegun (own_status (s.status p))
+    begun = subst (λ x. HasBegun (own_status x)) (sym ready) tt
+
+    step_is : (x : Op) → op_at program o.place ≡ Some x → step program o ≡ act_on o x
+    step_is x h = λ i. if_running (running i) (act o (h i)) o
+
+    moved : (store : Store) (k : List Task) (text output : List ℕ) (words : List ℤ) (place : ℕ) → length words ≡ length names
+        → WordsMean names p words store → Continues program setup names env place k → text ≡ before ++ output
+        → PartIs program setup
+            (with_configuration s p (record { store = store; continuation = k; transcript = text; consumed = s.consumed p }))
+            p before (record o { words = words; place = place; output = output })
+    moved store k text output words place count W C t = record {
+      number = P.number;
+      input = P.input;
+      consumed = P.consumed ∙ sym (with_at_here p (s.consumed p) s.consumed);
+      transcript = with_at_here p text s.transcript ∙ t;
+      status = P.status;
+      count = count;
+      unbegun_place = λ h. absurd (Prim.grind (arith, running, h));
+      unbegun_words = λ h. absurd (Prim.grind (arith, running, h));
+      words = λ h. W;
+      continuation = λ h. subst (Continues program setup names env place) (sym (with_at_here p k s.continuation)) C;
+    }
+
+    faulted : (f : Fault) → PartIs program setup (set_status p (Faulted (fault_number f)) s) p before (record o { activity = activity.Faulted f })
+    faulted f = record {
+      number = P.number;
+      input = P.input;
+      consumed = P.consumed;
+      transcript = P.transcript;
+      status = ap own_status (with_at_here p (Faulted (fault_number f)) s.status);
+      count = P.count;
+      unbegun_place = λ h. absurd (Prim.grind (arith, h));
+      unbegun_words = λ h. absurd (Prim.grind (arith, h));
+      words = λ h. P.words begun;
+      continuation = λ h. absurd (Prim.grind (arith, h));
+    }
+
+    ended : PartIs program setup (set_status p Ended (with_configuration s p (with_continuation config []))) p before (record o { activity = activity.Ended })
+    ended = record {
+      number = P.number;
+      input = P.input;
+      consumed = P.consumed ∙ sym (with_at_here p (s.consumed p) s.consumed);
+      transcript = with_at_here p (s.transcript p) s.transcript ∙ P.transcript;
+      status = ap own_status (with_at_here p Ended s.status);
+      count = P.count;
+      unbegun_place = λ h. absurd (Prim.grind (arith, h));
+      unbegun_words = λ h. absurd (Prim.grind (arith, h));
+      words = λ h. P.words begun;
+      continuation = λ h. absurd (Prim.grind (arith, h));
+    }
+
+    assigned : (x : Name) (k : List Task) (word next : ℕ) (r : Result ℤ Fault) → slice_get names word ≡ Some x
+        → Continues program setup names env next k
+        → PartIs program setup
+            (after_step s p (and_then (told r) (λ v. and_then (writes_of (variable_location p x) (full_range Integer) v) (λ ws. own_step (with_writes config ws k)))))
+            p before (with_value o r (set o word next))
+    assigned x k word next (Err f) named C = faulted f
+    assigned x k word next (Ok n) named C = by (within (negsuc 32767) (pos 32767) n)
+      where
+        by : (b : Bool)
+            → PartIs program setup
+                (after_step s p (and_then (provided b 1 ((variable_location p x, Ordinal n) ∷ [])) (λ ws. own_step (with_writes config ws k))))
+                p before
+                (if b then record o { words = slice_set o.words word n; place = next } else record o { activity = activity.Faulted fault.Range })
+        by true = moved (put (variable_location p x) (Ordinal n) s.store) k (s.transcript p) o.output (slice_set o.words word n) next
+            (length-set o.words word n ∙ P.count) (words_set p names env Q.words o.words P.count s.store word x n named (P.words begun)) C P.transcript
+        by false = faulted fault.Range
+
+    displayed : (k : List Task) (next : ℕ) (r : Result ℤ Fault) → Continues program setup names env next k
+        → PartIs program setup
+            (after_step s p (and_then (told r) (λ v. own_step (record config { continuation = k; transcript = s.transcript p ++ display_text v }))))
+            p before (with_value o r (display o next))
+    displayed k next (Err f) C = faulted f
+    displayed k next (Ok n) C = moved s.store k (s.transcript p ++ decimal n) (o.output ++ decimal n) o.words next P.count (P.words begun) C
+        (ap (λ t. t ++ decimal n) P.transcript ∙ append_assoc before o.output (decimal n))
