@@ -82,7 +82,7 @@ module _ (setup : Setup) (p : ℕ) (names : List Name) where
         let I = A.integers at x h in
         (λ i. if I.is_no_clock i then integer_result (pos (realtime clock)) else Gives (value_of_meaning env store (variable_meant x I i)))
         ∙ ap (λ (v : Value). Gives (record { type = full_range Integer; values = v ∷ [] }))
-        (W at x (word words at) h (word_there p names env A words count at x h))
+        (W at x (word words at) h (word_there names words count at x h))
 
     pub value_stands : (e : a.Expression) (c : Numbered) → Stands names e c → value clock env store e ≡ told (value_of words c)
     value_stands (a.Literal n) (Number m) h = ap (λ k. Gives (simple_value Integer (pos k))) (sym h)

@@ -3,6 +3,9 @@ pub mod Digits
 pub mod Wide
 pub mod Words
 pub mod Expressions
+pub mod Actions
 pub mod Parts
 pub mod Refines
-pub mod Actions
+pub mod Turns
+pub mod KindsTold
+pub mod Carried

@@ -6,9 +6,9 @@ use Rattle.cp_model.specs.Abstract as a
 use Rattle.cp_model.specs.Abstract.{Integer, Name}
 use Rattle.cp_model.specs.Actions.{Acts, action, is_kernel_action}
 use Rattle.cp_model.specs.Assignments.{writes_of}
-use Rattle.cp_model.specs.Calls.{call_in_task, in_context, or_else}
+use Rattle.cp_model.specs.Calls.{UserCall, call_in_task, first_call, in_context, or_else}
 use Rattle.cp_model.specs.Configurations.{Asking, Configuration, Context, Delayed, Ended, Faulted, Fresh, Ready, Status, Unstarted, Waiting, own_step, with_continuation, with_writes}
-use Rattle.cp_model.specs.Continuations.{Do, EndProcess, Task, push}
+use Rattle.cp_model.specs.Continuations.{Do, EndProcess, Task, gates_of, push}
 use Rattle.cp_model.specs.Decimal.{decimal}
 use Rattle.cp_model.specs.Environments.{Environment}
 use Rattle.cp_model.specs.Invariant.{Invariant}
@@ -25,7 +25,7 @@ use Rattle.cp_model.specs.Types.{full_range}
 use Rattle.cp_model.specs.declared.state.Fault.{Fault}
 use Rattle.cp_model.specs.declared.state.Fault.TheVariants as fault
 use Rattle.cp_model.proofs.StateMaps.{with_at_here}
-use Rattle.cp_fragment.specs.Processes.{environment_of, variable_location}
+use Rattle.cp_fragment.specs.Processes.{environment_of, system_of, variable_location}
 use Rattle.cp_program.specs.declared.code.Op.{Op}
 use Rattle.cp_program.specs.declared.code.Op.TheVariants as op
 use Rattle.cp_program.specs.declared.program.Program.{Program}
@@ -45,6 +45,28 @@ use Rattle.cp_private.proofs.Words.{words_set}
 pub idle : (x : Status) (k : List Task) → (own_status x ≡ Running → ⊥) → kind_of x k ≡ NoStep
 idle Ready k h = absurd (h refl)
 idle x k h = refl
+
+-- Statements of the fragment make no call.
+module _ (setup : Setup) (p : ℕ) (no_routines : (system_of setup p).routines ≡ []) where
+  pub quiet_assignment : (x : Name) (e : a.Expression) (k : List Task) → first_call (environment_of setup p) (a.Literal 0) e ≡ None
+      → action (Do (a.Assign (a.Plain x) e) (environment_of setup p) ∷ k) ≡ Acts (Do (a.Assign (a.Plain x) e) (environment_of setup p)) k
+  quiet_assignment x e k h =
+      acting (Do (a.Assign (a.Plain x) e) (environment_of setup p)) k
+      (λ i. in_context (λ y. Do y (environment_of setup p)) (or_else None (in_context (a.Assign (a.Plain x)) (h i))))
+      refl
+
+  pub quiet_display : (x : Name) (e : a.Expression) (k : List Task) → first_call (environment_of setup p) (a.Literal 0) e ≡ None
+      → action (Do (a.Perform (a.Plain x) (a.MoreExpressions e a.NoExpression)) (environment_of setup p) ∷ k)
+      ≡ Acts (Do (a.Perform (a.Plain x) (a.MoreExpressions e a.NoExpression)) (environment_of setup p)) k
+  quiet_display x e k h =
+      let es = a.MoreExpressions e a.NoExpression in
+      acting (Do (a.Perform (a.Plain x) es) (environment_of setup p)) k
+      (λ i. in_context (λ y. Do y (environment_of setup p)) (in_context (a.Perform (a.Plain x))
+      (or_else (in_context (λ y. a.MoreExpressions y a.NoExpression) (h i)) None)))
+      (λ i. elim (callee_none setup p [] no_routines x i) as (λ y. Option UserCall) [
+        | None ↦ None
+        | Some c ↦ Some (record { callee = c; arguments = es; environment = environment_of setup p })
+      ])
 
 module _ (program : Program) (setup : Setup) (p : ℕ) (before : List ℕ) (Q : ProcessStands program setup p) (s : State) (o : Own)
     (P : PartIs program setup s p before o) where
@@ -141,3 +163,81 @@ module _ (program : Program) (setup : Setup) (p : ℕ) (before : List ℕ) (Q : 
     displayed k next (Err f) C = faulted f
     displayed k next (Ok n) C = moved s.store k (s.transcript p ++ decimal n) (o.output ++ decimal n) o.words next P.count (P.words begun) C
         (ap (λ t. t ++ decimal n) P.transcript ∙ append_assoc before o.output (decimal n))
+
+    module _ (t : a.Statement) (k : List Task) (left : s.continuation p ≡ Do t env ∷ k) (none : gates_of k ≡ [])
+        (act' : action (Do t env ∷ k) ≡ Acts (Do t env) k) where
+      private_acts : is_kernel_action (Acts (Do t env) k) ≡ false
+          → private_step setup s p ≡ after_step s p (run_task (context setup s p) config (Do t env) k)
+      private_acts h = step_acts (Do t env) k s p left ready none refl act' setup h
+
+      private_rests : is_kernel_action (Acts (Do t env) k) ≡ true → private_step setup s p ≡ s
+      private_rests h = step_rests (Do t env) k s p left ready none refl act' setup h
+
+    task : (t : a.Statement) (k : List Task) → s.continuation p ≡ Do t env ∷ k
+        → Continues program setup names env o.place (Do t env ∷ k) → Steps
+    task a.Nothing k left h = absurd h.1
+    task (a.Seq t u) k left h = absurd h.1
+    task (a.Assign (a.Plain x) e) k left h =
+        let c = h.2.1 in
+        let value = c.1 in
+        let integer = Q.words.integers c.0 x c.3 in
+        let clock = (context setup s p).clock in
+        arrive _ _
+        (private_acts (a.Assign (a.Plain x) e) k left (no_gates program setup names env k h.2.0 h.2.2)
+        (quiet_assignment setup p Q.no_routines x e k (no_call setup p names Q.no_routines (a.Literal 0) e (numbered value) c.4)) refl
+        ∙ λ i. after_step s p (and_then (Gives (place_of_meaning env s.store (variable_meant setup p names x integer i))) (λ at.
+        and_then (value_stands setup p names Q.words o.words P.count s.store (P.words begun) clock e (numbered value) c.4 i) (λ v.
+        and_then (writes_of at.at at.type v) (λ ws. own_step (with_writes config ws k))))))
+        (step_is (op.Set c.0 value h.2.0) c.2)
+        (assigned x k c.0 h.2.0 (value_of o.words (numbered value)) c.3 h.2.2)
+    task (a.Perform (a.Plain x) (a.MoreExpressions e a.NoExpression)) k left h =
+        let c = h.2.1 in
+        let value = c.0 in
+        let clock = (context setup s p).clock in
+        arrive _ _
+        (private_acts (a.Perform (a.Plain x) (a.MoreExpressions e a.NoExpression)) k left (no_gates program setup names env k h.2.0 h.2.2)
+        (quiet_display setup p Q.no_routines x e k (no_call setup p names Q.no_routines (a.Literal 0) e (numbered value) c.3)) refl
+        ∙ (ap (λ y. after_step s p (standard_procedure (context setup s p) config env k y e)) c.2
+        ∙ λ i. after_step s p (and_then (value_stands setup p names Q.words o.words P.count s.store (P.words begun) clock e (numbered value) c.3 i) (λ v.
+        own_step (record config { continuation = k; transcript = s.transcript p ++ display_text v })))))
+        (step_is (op.Display value h.2.0) c.1)
+        (displayed k h.2.0 (value_of o.words (numbered value)) h.2.2)
+    task (a.Cycle b) k left h =
+        let c = h.2.1 in
+        arrive _ _
+        (private_acts (a.Cycle b) k left (no_gates program setup names env k h.2.0 h.2.2) refl refl)
+        (step_is (op.Cycle c.0) c.1)
+        (moved s.store (push b env (Do (a.Cycle b) env ∷ k)) (s.transcript p) o.output o.words c.0 P.count (P.words begun)
+        (continues_push program setup names env b c.0 o.place (Do (a.Cycle b) env ∷ k) c.2 h) P.transcript)
+    task (a.Init x a.NoExpression) k left h =
+        let c = h.2.1 in
+        arrive _ _
+        (private_rests (a.Init x a.NoExpression) k left (no_gates program setup names env k h.2.0 h.2.2) refl
+        (init_is_kernel setup env x c.0 a.NoExpression k c.2))
+        (step_is (op.Start c.0 h.2.0) c.1) P
+    task t k left h = absurd h.2.1
+
+    continued : (k : List Task) → s.continuation p ≡ k → Continues program setup names env o.place k → Steps
+    continued (EndProcess ∷ []) left h =
+        arrive _ _ (step_acts EndProcess [] s p left ready refl refl refl setup refl) (step_is op.End h) ended
+    continued (Do t e ∷ k) left h =
+        task t k (left ∙ ap (λ (y : Environment). Do t y ∷ k) h.0) (refl, h.1, h.2)
+    continued k left h = absurd h
+
+  resting : (x : Activity) → o.activity ≡ x → (status_of x ≡ Running → ⊥) → ((u v : Own) → if_running x u v ≡ v) → Steps
+  resting x e apart still =
+      arrive s o (step_idle setup s p (idle (s.status p) (s.continuation p) (λ h. apart (sym (P.status ∙ ap status_of e) ∙ h))))
+      ((λ i. if_running (e i) (act o (op_at program o.place)) o) ∙ still (act o (op_at program o.place)) o) P
+
+  -- One step.
+  pub refines : Invariant s → Steps
+  refines I = by o.activity refl
+    where
+      by : (x : Activity) → o.activity ≡ x → Steps
+      by activity.Running e =
+          let h = P.continuation e in
+          let ready = ready_is s p I (P.status ∙ ap status_of e) (no_gates program setup names env (s.continuation p) o.place h) in
+          continued e ready (s.continuation p) refl h
+      by activity.NotBegun e = resting activity.NotBegun e (λ h. Prim.grind (arith, h)) (λ u v. refl)
+      by activity.Ended e = resting activity.Ended e (λ h. Prim.grind (arith, h)) (λ u v. refl)
+      by (activity.Faulted f) e = resting (activity.Faulted f) e (λ h. Prim.grind (arith, h)) (λ u v. refl)

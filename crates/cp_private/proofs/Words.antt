@@ -41,10 +41,11 @@ variable_is p x y h = by (nat_eq p p) (same_name x y) refl h
     by true false e g = absurd (Prim.grind arith)
     by false b e g = absurd (Prim.grind arith)
 
-module _ (p : ℕ) (names : List Name) (env : Environment) (A : AreWords names env) (words : List ℤ) (count : length words ≡ length names) where
-  pub word_there : (at : ℕ) (x : Name) → slice_get names at ≡ Some x → slice_get words at ≡ Some (word words at)
-  word_there at x h = slice_get-get_or words at (pos 0) (omega (arith, slice_get_within names at x h, count))
+pub word_there : (names : List Name) (words : List ℤ) → length words ≡ length names → (at : ℕ) (x : Name)
+    → slice_get names at ≡ Some x → slice_get words at ≡ Some (word words at)
+word_there names words count at x h = slice_get-get_or words at (pos 0) (omega (arith, slice_get_within names at x h, count))
 
+module _ (p : ℕ) (names : List Name) (env : Environment) (A : AreWords names env) (words : List ℤ) (count : length words ≡ length names) where
   -- A value in a word and in its variable.
   pub words_set : (store : Store) (at : ℕ) (x : Name) (n : ℤ) → slice_get names at ≡ Some x → WordsMean names p words store
       → WordsMean names p (slice_set words at n) (put (variable_location p x) (Ordinal n) store)

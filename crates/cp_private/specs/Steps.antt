@@ -12,6 +12,7 @@ use Rattle.cp_program.specs.StandsFor.{op_at}
 use Rattle.cp_private.specs.declared.private.Private.{Private}
 use Rattle.cp_private.specs.declared.private.Activity.{Activity}
 use Rattle.cp_private.specs.declared.private.Activity.TheVariants as activity
+use Rattle.cp_private.specs.declared.turn.Turn.{Turn}
 use Rattle.cp_private.specs.Values.{value_of}
 
 -- What a private state holds.
@@ -77,6 +78,9 @@ steps program (suc n) o = steps program n (step program o)
 -- Room for the output of so many steps: a display writes at most 6 bytes.
 abbrev pub HasRoomFor : Private → ℕ → Type 0
 HasRoomFor x n = vec_len x.output + 6 * n ≤ vec_capacity x.output
+
+abbrev pub HasRoom : Private → Turn → Type 0
+HasRoom x turn = HasRoomFor x turn.steps
 
 -- A step writes at most 6 bytes, and takes no memory.
 pub record KeepsRoom (old new : Private) : Type 0 where

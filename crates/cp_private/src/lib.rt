@@ -3,6 +3,7 @@
 //! `specs/PartOf.antt` says when the private state of a process is its own part of a state of the system.
 #![tactic(auto)]
 
+pub mod kind;
 pub mod private;
 pub mod steps;
 pub mod turn;

@@ -46,7 +46,8 @@ fn apply(operator: Arithmetic, a: i32, b: i32) -> Result<i32, Fault>
     }
 }
 
-fn word(words: &[i16], at: usize) -> i16
+/// A word, or 0 where it is missing.
+pub fn word(words: &[i16], at: usize) -> i16
     ensures { result ≡ plain.word words.now at }
 {
     match words.get(at) {
