@@ -1,20 +1,20 @@
 -- The next action of a process of the fragment is the task itself, and a private step is that task.
-use Rattle.std.proofs.Common.{◌≡◌, ℕ, List, [], ◌∷◌, Bool, true, false, Option, Some, None, refl, ap, sym, subst, ◌∙◌, arith}
+use Rattle.std.proofs.Common.{◌≡◌, ℕ, List, [], ◌∷◌, Bool, true, false, Some, None, refl, ap, sym, subst, ◌∙◌, arith}
 use Rattle.std.specs.Prelude.{◌||◌, if◌then◌else◌, not}
 use Rattle.std.proofs.lemmas.Bool.{true≢false}
 use Rattle.cp_model.specs.Abstract as a
 use Rattle.cp_model.specs.Abstract.{Class, Name, Process, Sort}
 use Rattle.cp_model.specs.Actions.{Action, Acts, Calls, action, is_kernel_action}
-use Rattle.cp_model.specs.Calls.{UserCall, call_in_task, procedure_call}
-use Rattle.cp_model.specs.Components.{Component, component_named, same_sort}
+use Rattle.cp_model.specs.Calls.{call_in_task, procedure_call}
+use Rattle.cp_model.specs.Components.{same_sort}
 use Rattle.cp_model.specs.Configurations.{Asking, Delayed, Ended, Faulted, Fresh, Ready, Status, Unstarted, Waiting}
-use Rattle.cp_model.specs.Continuations.{Do, EndProcess, Task, gates_of, holds_gate, push}
+use Rattle.cp_model.specs.Continuations.{Do, Task, gates_of, holds_gate}
 use Rattle.cp_model.specs.Environments.{Environment}
 use Rattle.cp_model.specs.Invariant.{Invariant, IsBlocked}
 use Rattle.cp_model.specs.Parts.{Running, own_status}
 use Rattle.cp_model.specs.States.{Setup, State, configuration, context}
 use Rattle.cp_model.specs.Step.{run_task, take_action}
-use Rattle.cp_model.specs.Turns.{Kernel, Kind, NoStep, Private, after_step, if_private, kind, kind_of, private_step}
+use Rattle.cp_model.specs.Turns.{Kernel, NoStep, Private, after_step, if_private, kind, kind_of, private_step}
 use Rattle.cp_fragment.specs.Meanings.{MeansProcess}
 
 module _ (i : Task) (k : List Task) where

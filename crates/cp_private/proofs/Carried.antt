@@ -1,28 +1,26 @@
 -- What other parts of the machine need to know of a part: what it depends on, and that it is one at the start.
-use Rattle.std.proofs.Common.{◌≡◌, ◌≤◌, ◌<◌, ℕ, zero, suc, ℤ, pos, List, [], ◌∷◌, ◌++◌, length, Bool, true, false, Some, refl, ap, sym, subst, ◌∙◌, arith}
+use Rattle.std.proofs.Common.{◌≡◌, ◌<◌, ℕ, suc, ℤ, pos, List, [], ◌∷◌, length, Bool, true, false, Some, refl, ap, sym, subst, ◌∙◌, arith}
 use Rattle.std.specs.Prelude.{◌%◌, if◌then◌else◌, nat_eq, replicate, slice_get}
 use Rattle.std.proofs.lemmas.Bool.{eq-eqb, eqb-true, true≢false}
 use Rattle.std.proofs.lemmas.List.{get_or-replicate, length-replicate}
 use Rattle.std.proofs.lemmas.Option.{get_or_from_slice_get, slice_get_within}
-use Rattle.cp_model.specs.Abstract.{Name}
-use Rattle.cp_model.specs.Configurations.{Asking, Delayed, Ended, Faulted, Fresh, Ready, Status, Unstarted, Waiting}
-use Rattle.cp_model.specs.Continuations.{EndProcess, Task}
-use Rattle.cp_model.specs.Locations.{Location}
-use Rattle.cp_model.specs.Parts.{HasBegun, OwnStatus, Running, SameOwnPart, Sleeping, own_status}
+use Rattle.cp_model.specs.Configurations.{Ready, Status, Unstarted, Waiting}
+use Rattle.cp_model.specs.Continuations.{EndProcess}
+use Rattle.cp_model.specs.Parts.{HasBegun, SameOwnPart, Sleeping, own_status}
 use Rattle.cp_model.specs.Rounds.{awakened, wake}
 use Rattle.cp_model.specs.Start.{start}
 use Rattle.cp_model.specs.Stores.{Ordinal}
-use Rattle.cp_model.specs.States.{Setup, State, process_count}
+use Rattle.cp_model.specs.States.{Setup, State}
 use Rattle.cp_model.proofs.StateMaps.{differ, with_at_there}
 use Rattle.cp_fragment.specs.Processes.{environment_of, variable_location}
 use Rattle.cp_program.specs.declared.program.Program.{Program}
-use Rattle.cp_program.specs.StandsFor.{ProcessStands, StandsFor, names_of, start_of}
+use Rattle.cp_program.specs.StandsFor.{ProcessStands, names_of, start_of}
 use Rattle.cp_private.specs.declared.private.Activity.{Activity}
 use Rattle.cp_private.specs.declared.private.Activity.TheVariants as activity
 use Rattle.cp_private.specs.declared.private.Private.{Private}
 use Rattle.cp_private.specs.PartOf.{Continues, PartOf, WordsMean, status_of}
 use Rattle.cp_private.specs.Promises.{IsStart, start_part}
-use Rattle.cp_private.specs.Steps.{Own, own_of}
+use Rattle.cp_private.specs.Steps.{own_of}
 use Rattle.cp_private.proofs.Parts.{PartIs, continues_push, part_of}
 
 no_sleeper : (x : Activity) → status_of x ≡ Sleeping → ⊥

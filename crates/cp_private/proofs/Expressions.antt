@@ -1,10 +1,10 @@
 -- A numbered expression has the value of the expression that it stands for, and no call is in it.
 use Rattle.std.proofs.Common.{◌≡◌, ℕ, ℤ, pos, negsuc, List, [], ◌∷◌, length, Bool, true, false, Result, Ok, Err, Option, Some, None, refl, ap, sym, ◌∙◌}
-use Rattle.std.specs.Prelude.{codes, find, if◌then◌else◌, neg_ℤ, ◌+ℤ◌, ◌-ℤ◌, ◌*ℤ◌, int_div, int_rem, slice_get}
+use Rattle.std.specs.Prelude.{find, if◌then◌else◌, neg_ℤ, ◌+ℤ◌, ◌-ℤ◌, ◌*ℤ◌, int_div, int_rem, slice_get}
 use Rattle.cp_model.specs.Abstract as a
 use Rattle.cp_model.specs.Abstract.{Integer, Name}
-use Rattle.cp_model.specs.Calls.{Callee, Found, UserCall, callee, first_call, in_context, or_else, user_call}
-use Rattle.cp_model.specs.Environments.{Environment, IsVariable, Meaning, constant_or_unknown, meaning, variable_or}
+use Rattle.cp_model.specs.Calls.{Callee, Found, callee, first_call, in_context, or_else}
+use Rattle.cp_model.specs.Environments.{Environment, IsVariable, constant_or_unknown, meaning, variable_or}
 use Rattle.cp_model.specs.Expressions.{value}
 use Rattle.cp_model.specs.Locations.{OfProcess, same_integer}
 use Rattle.cp_model.specs.Names.{lookup, same_name}

@@ -1,13 +1,13 @@
 -- The kind that the code tells is that of the next step.
-use Rattle.std.proofs.Common.{◌≡◌, ◌≤◌, ℕ, List, [], ◌∷◌, Bool, true, false, Option, Some, None, ap, sym, refl, subst, ◌∙◌, arith}
+use Rattle.std.proofs.Common.{◌≡◌, ℕ, List, [], ◌∷◌, Some, ap, sym, refl, ◌∙◌, arith}
 use Rattle.cp_model.specs.Abstract as a
 use Rattle.cp_model.specs.Abstract.{Name}
-use Rattle.cp_model.specs.Configurations.{Asking, Delayed, Ended, Faulted, Fresh, Ready, Status, Unstarted, Waiting}
+use Rattle.cp_model.specs.Configurations.{Asking, Delayed, Ready, Status}
 use Rattle.cp_model.specs.Continuations.{Do, EndProcess, Task}
 use Rattle.cp_model.specs.Environments.{Environment}
 use Rattle.cp_model.specs.Invariant.{Invariant}
-use Rattle.cp_model.specs.Parts.{OwnStatus, Running, own_status}
-use Rattle.cp_model.specs.States.{Setup, State, process_count}
+use Rattle.cp_model.specs.Parts.{Running, own_status}
+use Rattle.cp_model.specs.States.{Setup, State}
 use Rattle.cp_model.specs.Turns as t
 use Rattle.cp_model.specs.Turns.{kind, kind_of}
 use Rattle.cp_program.specs.declared.code.Op.{Op}
@@ -20,7 +20,6 @@ use Rattle.cp_private.specs.declared.private.Activity.{Activity}
 use Rattle.cp_private.specs.declared.private.Activity.TheVariants as activity
 use Rattle.cp_private.specs.declared.private.Private.{Private}
 use Rattle.cp_private.specs.declared.kind.Kind.{Kind}
-use Rattle.cp_private.specs.declared.kind.Kind.TheVariants as k
 use Rattle.cp_private.specs.Kinds.{kind_at, kind_by, kind_told, told}
 use Rattle.cp_private.specs.PartOf.{Continues, status_of}
 use Rattle.cp_private.specs.Promises.{TellsKind}

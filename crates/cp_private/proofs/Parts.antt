@@ -1,9 +1,8 @@
 -- The own part of a process as a relation to plain data.
-use Rattle.std.proofs.Common.{◌≡◌, ◌≤◌, ℕ, ℤ, pos, List, [], ◌∷◌, ◌++◌, length, Some, refl, ap, sym, subst, ◌∙◌}
-use Rattle.std.specs.Prelude.{nat_eq, replicate, slice_get}
+use Rattle.std.proofs.Common.{◌≡◌, ℕ, pos, List, [], ◌∷◌, ◌++◌, length, refl, sym, subst}
+use Rattle.std.specs.Prelude.{replicate}
 use Rattle.cp_model.specs.Abstract as a
 use Rattle.cp_model.specs.Abstract.{Name}
-use Rattle.cp_model.specs.Configurations.{Configuration}
 use Rattle.cp_model.specs.Continuations.{Do, EndProcess, Task, gates_of, push}
 use Rattle.cp_model.specs.Environments.{Environment}
 use Rattle.cp_model.specs.Parts.{HasBegun, own_status}

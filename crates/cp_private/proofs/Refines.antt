@@ -1,13 +1,13 @@
 -- A step on plain data is a private step of the process, whatever state it is the part of.
-use Rattle.std.proofs.Common.{◌≡◌, ◌≤◌, ℕ, ℤ, pos, negsuc, List, [], ◌∷◌, ◌++◌, length, Bool, true, false, Result, Ok, Err, Option, Some, None, refl, ap, sym, subst, ◌∙◌, arith}
-use Rattle.std.specs.Prelude.{codes, if◌then◌else◌, slice_get, slice_set}
+use Rattle.std.proofs.Common.{◌≡◌, ℕ, ℤ, pos, negsuc, List, [], ◌∷◌, ◌++◌, length, Bool, true, false, Result, Ok, Err, Option, Some, None, refl, ap, sym, subst, ◌∙◌, arith}
+use Rattle.std.specs.Prelude.{if◌then◌else◌, slice_get, slice_set}
 use Rattle.std.proofs.lemmas.List.{append_assoc, length-set}
 use Rattle.cp_model.specs.Abstract as a
 use Rattle.cp_model.specs.Abstract.{Integer, Name}
 use Rattle.cp_model.specs.Actions.{Acts, action, is_kernel_action}
 use Rattle.cp_model.specs.Assignments.{writes_of}
-use Rattle.cp_model.specs.Calls.{UserCall, call_in_task, first_call, in_context, or_else}
-use Rattle.cp_model.specs.Configurations.{Asking, Configuration, Context, Delayed, Ended, Faulted, Fresh, Ready, Status, Unstarted, Waiting, own_step, with_continuation, with_writes}
+use Rattle.cp_model.specs.Calls.{UserCall, first_call, in_context, or_else}
+use Rattle.cp_model.specs.Configurations.{Configuration, Ended, Faulted, Ready, Status, own_step, with_continuation, with_writes}
 use Rattle.cp_model.specs.Continuations.{Do, EndProcess, Task, gates_of, push}
 use Rattle.cp_model.specs.Decimal.{decimal}
 use Rattle.cp_model.specs.Environments.{Environment}
@@ -17,10 +17,10 @@ use Rattle.cp_model.specs.Parts.{HasBegun, Running, own_status}
 use Rattle.cp_model.specs.Places.{place_of_meaning, within}
 use Rattle.cp_model.specs.StandardCalls.{display_text, standard_procedure}
 use Rattle.cp_model.specs.StateViews.{fault_number}
-use Rattle.cp_model.specs.States.{Setup, State, configuration, context, process_count, set_status, with_configuration}
+use Rattle.cp_model.specs.States.{Setup, State, configuration, context, set_status, with_configuration}
 use Rattle.cp_model.specs.Step.{run_task}
 use Rattle.cp_model.specs.Stores.{Ordinal, Store, put}
-use Rattle.cp_model.specs.Turns.{Kernel, NoStep, Private, after_step, kind, kind_of, private_step}
+use Rattle.cp_model.specs.Turns.{NoStep, after_step, kind_of, private_step}
 use Rattle.cp_model.specs.Types.{full_range}
 use Rattle.cp_model.specs.declared.state.Fault.{Fault}
 use Rattle.cp_model.specs.declared.state.Fault.TheVariants as fault
@@ -30,7 +30,7 @@ use Rattle.cp_program.specs.declared.code.Op.{Op}
 use Rattle.cp_program.specs.declared.code.Op.TheVariants as op
 use Rattle.cp_program.specs.declared.program.Program.{Program}
 use Rattle.cp_program.specs.Numbered.{numbered}
-use Rattle.cp_program.specs.StandsFor.{CodeFor, ProcessStands, StandsFor, names_of, op_at}
+use Rattle.cp_program.specs.StandsFor.{ProcessStands, names_of, op_at}
 use Rattle.cp_private.specs.declared.private.Activity.{Activity}
 use Rattle.cp_private.specs.declared.private.Activity.TheVariants as activity
 use Rattle.cp_private.specs.PartOf.{Continues, WordsMean, status_of}
@@ -96,8 +96,8 @@ module _ (program : Program) (setup : Setup) (p : ℕ) (before : List ℕ) (Q : 
     moved : (store : Store) (k : List Task) (text output : List ℕ) (words : List ℤ) (place : ℕ) → length words ≡ length names
         → WordsMean names p words store → Continues program setup names env place k → text ≡ before ++ output
         → PartIs program setup
-            (with_configuration s p (record { store = store; continuation = k; transcript = text; consumed = s.consumed p }))
-            p before (record o { words = words; place = place; output = output })
+        (with_configuration s p (record { store = store; continuation = k; transcript = text; consumed = s.consumed p }))
+        p before (record o { words = words; place = place; output = output })
     moved store k text output words place count W C t = record {
       number = P.number;
       input = P.input;
@@ -142,24 +142,24 @@ module _ (program : Program) (setup : Setup) (p : ℕ) (before : List ℕ) (Q : 
     assigned : (x : Name) (k : List Task) (word next : ℕ) (r : Result ℤ Fault) → slice_get names word ≡ Some x
         → Continues program setup names env next k
         → PartIs program setup
-            (after_step s p (and_then (told r) (λ v. and_then (writes_of (variable_location p x) (full_range Integer) v) (λ ws. own_step (with_writes config ws k)))))
-            p before (with_value o r (set o word next))
+        (after_step s p (and_then (told r) (λ v. and_then (writes_of (variable_location p x) (full_range Integer) v) (λ ws. own_step (with_writes config ws k)))))
+        p before (with_value o r (set o word next))
     assigned x k word next (Err f) named C = faulted f
     assigned x k word next (Ok n) named C = by (within (negsuc 32767) (pos 32767) n)
       where
         by : (b : Bool)
             → PartIs program setup
-                (after_step s p (and_then (provided b 1 ((variable_location p x, Ordinal n) ∷ [])) (λ ws. own_step (with_writes config ws k))))
-                p before
-                (if b then record o { words = slice_set o.words word n; place = next } else record o { activity = activity.Faulted fault.Range })
+            (after_step s p (and_then (provided b 1 ((variable_location p x, Ordinal n) ∷ [])) (λ ws. own_step (with_writes config ws k))))
+            p before
+            (if b then record o { words = slice_set o.words word n; place = next } else record o { activity = activity.Faulted fault.Range })
         by true = moved (put (variable_location p x) (Ordinal n) s.store) k (s.transcript p) o.output (slice_set o.words word n) next
             (length-set o.words word n ∙ P.count) (words_set p names env Q.words o.words P.count s.store word x n named (P.words begun)) C P.transcript
         by false = faulted fault.Range
 
     displayed : (k : List Task) (next : ℕ) (r : Result ℤ Fault) → Continues program setup names env next k
         → PartIs program setup
-            (after_step s p (and_then (told r) (λ v. own_step (record config { continuation = k; transcript = s.transcript p ++ display_text v }))))
-            p before (with_value o r (display o next))
+        (after_step s p (and_then (told r) (λ v. own_step (record config { continuation = k; transcript = s.transcript p ++ display_text v }))))
+        p before (with_value o r (display o next))
     displayed k next (Err f) C = faulted f
     displayed k next (Ok n) C = moved s.store k (s.transcript p ++ decimal n) (o.output ++ decimal n) o.words next P.count (P.words begun) C
         (ap (λ t. t ++ decimal n) P.transcript ∙ append_assoc before o.output (decimal n))

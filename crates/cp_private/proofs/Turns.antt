@@ -1,11 +1,11 @@
 -- Turns on plain data are private turns of the process.
-use Rattle.std.proofs.Common.{◌≡◌, ◌≤◌, ℕ, zero, suc, ◌+◌, ◌-◌, List, ap, sym, refl, ◌∙◌}
+use Rattle.std.proofs.Common.{◌≡◌, ℕ, zero, suc, List, ap, refl, ◌∙◌}
 use Rattle.cp_model.specs.Invariant.{Invariant}
-use Rattle.cp_model.specs.States.{Setup, State, process_count}
+use Rattle.cp_model.specs.States.{Setup, State}
 use Rattle.cp_model.specs.Turns.{private_step, private_turn}
 use Rattle.cp_model.proofs.StateInvariant.{private_step_keeps}
 use Rattle.cp_program.specs.declared.program.Program.{Program}
-use Rattle.cp_program.specs.StandsFor.{ProcessStands, StandsFor}
+use Rattle.cp_program.specs.StandsFor.{ProcessStands}
 use Rattle.cp_private.specs.declared.private.Private.{Private}
 use Rattle.cp_private.specs.Promises.{MakesStep, MakesTurn}
 use Rattle.cp_private.specs.Steps.{Own, own_of, step, steps}

@@ -1,7 +1,7 @@
 -- What the code computes in 64 bits of operands of 32 bits is exact.
-use Rattle.std.proofs.Common.{◌≡◌, ℕ, zero, suc, ◌+◌, ◌-◌, ◌/◌, ◌^◌, ◌<◌, ◌≤◌, ℤ, pos, negsuc, ◌+ℤ◌, ◌-ℤ◌, ◌*ℤ◌, Result, Err, Bool, false, refl, ap, sym, ◌∙◌, arith}
+use Rattle.std.proofs.Common.{◌≡◌, ℕ, zero, suc, ◌+◌, ◌-◌, ◌/◌, ◌^◌, ◌<◌, ◌≤◌, ℤ, pos, negsuc, ◌-ℤ◌, ◌*ℤ◌, Result, Err, false, refl, ap, sym, ◌∙◌, arith}
 use Rattle.std.specs.Prelude.{FitsSigned, if◌then◌else◌, int_div, int_rem, neg_ℤ, unsigned_abs}
-use Rattle.std.specs.Int.{Width, w32, w64, cast_signed, cast_unsigned}
+use Rattle.std.specs.Int.{w32, w64, cast_signed, cast_unsigned}
 use Rattle.std.specs.Int.Signed.{mag, mag_rem}
 use Rattle.std.proofs.Math.Nat.{div-le_self}
 use Rattle.std.proofs.lemmas.Int.{ints, fits_signed_mul, to_z-of_z}

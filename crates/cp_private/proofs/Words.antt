@@ -3,14 +3,13 @@ use Rattle.std.proofs.Common.{◌≡◌, ℕ, ◌<◌, ℤ, pos, List, [], ◌�
 use Rattle.std.proofs.Common.{get_or}
 use Rattle.std.specs.Prelude.{◌&&◌, if◌then◌else◌, nat_eq, slice_get, slice_set}
 use Rattle.std.proofs.lemmas.Bool.{eq-eqb, eqb-true}
-use Rattle.std.proofs.lemmas.List.{get_or-set_other, get_or-set_same, length-set}
+use Rattle.std.proofs.lemmas.List.{get_or-set_other, get_or-set_same}
 use Rattle.std.proofs.lemmas.Option.{get_or_from_slice_get, same_Some, slice_get-get_or, slice_get_within}
 use Rattle.cp_model.specs.Abstract.{Name}
 use Rattle.cp_model.specs.Environments.{Environment}
 use Rattle.cp_model.specs.Locations.{same_location}
 use Rattle.cp_model.specs.Names.{same_name}
 use Rattle.cp_model.specs.Stores.{Ordinal, Store, Value, put}
-use Rattle.cp_model.proofs.StateMaps.{differ}
 use Rattle.cp_fragment.specs.Meanings.{AreWords}
 use Rattle.cp_fragment.specs.Processes.{variable_location}
 use Rattle.cp_private.specs.PartOf.{WordsMean}

@@ -1,5 +1,5 @@
 -- The kind of the next step of a process, as a machine tells it.
-use Rattle.std.specs.Prelude.{List, Option, None, Some}
+use Rattle.std.specs.Prelude.{List, Option, Some}
 use Rattle.cp_model.specs.Continuations.{Task}
 use Rattle.cp_model.specs.Configurations.{Asking, Delayed, Status}
 use Rattle.cp_model.specs.Turns as t

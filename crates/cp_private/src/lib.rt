@@ -6,5 +6,7 @@
 pub mod kind;
 pub mod private;
 pub mod steps;
+#[cfg(test)]
+mod tests;
 pub mod turn;
 pub mod values;

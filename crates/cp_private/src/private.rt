@@ -1,16 +1,16 @@
 //! The private state of a process.
 
-ghost use Rattle.std.specs.Prelude.{◌≡◌, IfOk, OnOk, length};
-ghost use Rattle.cp_program.specs.StandsFor.{names_of, start_of};
+ghost use Rattle.std.specs.Prelude.{◌≡◌, IfOk, MatchOption, None, OnOk, Some, length};
+ghost use Rattle.cp_program.specs.StandsFor.{names_of, shape_of, start_of};
 ghost use Rattle.cp_private.specs.Promises.{IsStart, KeepsPart, TellsWord, start_part};
 ghost use Rattle.cp_private.specs.Steps.{HasRoom, own_of};
 ghost use Rattle.cp_private.specs.Values as plain;
 
 use crate::turn::Turn;
 use crate::values;
-use cp_program::program::Program;
-use std::alloc::{AllocError, Global};
 use cp_model::state::Fault;
+use cp_program::program::{Component, Program};
+use std::alloc::{AllocError, Global};
 
 /// Whether a process runs.
 #[derive(Clone, Copy, Debug, PartialEq, Eq)]
@@ -39,36 +39,35 @@ pub struct Private {
     pub consumed: usize,
 }
 
+// The component of process p.
+fn component(program: &Program, p: usize) -> Option<&Component>
+    ensures { MatchOption result (shape_of program.now p ≡ None) (λ c. shape_of program.now p ≡ Some c.now) }
+{
+    let process = program.processes.get(p.saturating_sub(1))?;
+    program.components.get(process.component)
+}
+
 // The place where the body of process p begins.
 fn start(program: &Program, p: usize) -> usize
     ensures { result ≡ start_of program.now p }
 {
-    if let Some(process) = program.processes.get(p.saturating_sub(1)) {
-        if let Some(component) = program.components.get(process.component) {
-            return component.start;
-        }
+    match component(program, p) {
+        Some(component) => component.start,
+        None => 0,
     }
-    0
 }
 
 // How many variables process p has.
 fn word_count(program: &Program, p: usize) -> usize
     ensures { result ≡ length (names_of program.now p) }
 {
-    if let Some(process) = program.processes.get(p.saturating_sub(1)) {
-        if let Some(component) = program.components.get(process.component) {
-            return component.variables.len();
-        }
+    match component(program, p) {
+        Some(component) => component.variables.len(),
+        None => 0,
     }
-    0
 }
 
-fn begin(
-    alloc: Global,
-    program: &Program,
-    p: usize,
-    input: Vec<u8>,
-) -> Result<Private, AllocError>
+fn begin(alloc: Global, program: &Program, p: usize, input: Vec<u8>) -> Result<Private, AllocError>
     ensures { IfOk result (λ x. own_of x ≡ start_part program.now p input.items) }
 {
     let words = Vec::from_elem(alloc, 0, word_count(program, p))?;

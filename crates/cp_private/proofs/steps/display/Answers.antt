@@ -1,10 +1,6 @@
-use Rattle.std.proofs.Common.{rules, ◌≡◌, ◌+◌, ◌≤◌, ◌++◌, length, vec_len, vec_capacity, IsOk, subst, sym, ◌∙◌, ap, arith}
+use Rattle.std.proofs.Common.{rules, ◌≡◌, ◌≤◌, ◌++◌, length, IsOk, ◌∙◌, ap, arith}
 use Rattle.std.specs.Fmt.{signed_decimal}
 use Rattle.cp_private.proofs.Digits.{decimal_is, signed_short}
-use Rattle.cp_private.proofs.Expressions.{value_stands}
-use Rattle.cp_private.proofs.Refines.{idle}
-use Rattle.cp_private.proofs.Parts.{part_moved}
-use Rattle.cp_private.proofs.Actions.{acting}
 use Rattle.cp_private.proofs.steps.display.Goals as goal
 
 pub prove-unreachable-requires : goal.prove-unreachable-requires

@@ -8,5 +8,5 @@ abbrev pub invariant-chain-loop-o : goal.invariant-chain-loop-o
 invariant-chain-loop-o l = record {
   small : IsSmall l.n;
   value : chain_value l.words l.n (map numbered_operation (drop l.o-index l.rest))
-    ≡ chain_value l.fn.words l.fn.first (map numbered_operation l.fn.rest);
+      ≡ chain_value l.fn.words l.fn.first (map numbered_operation l.fn.rest);
 }

@@ -1,4 +1,4 @@
-use Rattle.std.proofs.Common.{◌≡◌, ℤ, ◌-ℤ◌, ◌*ℤ◌, ap, sym, ◌∙◌}
+use Rattle.std.proofs.Common.{◌≡◌, ◌-ℤ◌, ◌*ℤ◌, ap, sym, ◌∙◌}
 use Rattle.std.specs.Prelude.{int_div, int_rem}
 use Rattle.cp_private.specs.Values as plain
 use Rattle.cp_private.proofs.Wide.{apart, unless_zero_passed, wide, widened, in_range_wide, difference_fits, product_fits, quotient_fits, rest_fits}
