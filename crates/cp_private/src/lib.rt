@@ -1,6 +1,14 @@
 //! What a process does on its own: its words, what it has left to do, its output, and its private steps.
 //!
-//! `specs/PartOf.antt` says when the private state of a process is its own part of a state of the system.
+//! `specs/PartOf.antt` says when the private state of a process is its own part of a state of the system, and `specs/Promises.antt`
+//! what each function makes of it there. A function equals a function on plain data (`specs/Steps.antt`), whatever the program and
+//! the private state; that this is a step of the system is a lemma (`proofs/Refines.antt`).
 #![tactic(auto)]
 
+pub mod kind;
 pub mod private;
+pub mod steps;
+#[cfg(test)]
+mod tests;
+pub mod turn;
+pub mod values;

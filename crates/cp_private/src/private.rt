@@ -1,6 +1,16 @@
 //! The private state of a process.
 
+ghost use Rattle.std.specs.Prelude.{◌≡◌, IfOk, MatchOption, None, OnOk, Some, length};
+ghost use Rattle.cp_program.specs.StandsFor.{names_of, shape_of, start_of};
+ghost use Rattle.cp_private.specs.Promises.{IsStart, KeepsPart, TellsWord, start_part};
+ghost use Rattle.cp_private.specs.Steps.{HasRoom, own_of};
+ghost use Rattle.cp_private.specs.Values as plain;
+
+use crate::turn::Turn;
+use crate::values;
 use cp_model::state::Fault;
+use cp_program::program::{Component, Program};
+use std::alloc::{AllocError, Global};
 
 /// Whether a process runs.
 #[derive(Clone, Copy, Debug, PartialEq, Eq)]
@@ -27,4 +37,113 @@ pub struct Private {
     pub input: Vec<u8>,
     /// How many bytes of its input it has taken.
     pub consumed: usize,
+}
+
+// The component of process p.
+fn component(program: &Program, p: usize) -> Option<&Component>
+    ensures { MatchOption result (shape_of program.now p ≡ None) (λ c. shape_of program.now p ≡ Some c.now) }
+{
+    let process = program.processes.get(p.saturating_sub(1))?;
+    program.components.get(process.component)
+}
+
+// The place where the body of process p begins.
+fn start(program: &Program, p: usize) -> usize
+    ensures { result ≡ start_of program.now p }
+{
+    match component(program, p) {
+        Some(component) => component.start,
+        None => 0,
+    }
+}
+
+// How many variables process p has.
+fn word_count(program: &Program, p: usize) -> usize
+    ensures { result ≡ length (names_of program.now p) }
+{
+    match component(program, p) {
+        Some(component) => component.variables.len(),
+        None => 0,
+    }
+}
+
+fn begin(alloc: Global, program: &Program, p: usize, input: Vec<u8>) -> Result<Private, AllocError>
+    ensures { IfOk result (λ x. own_of x ≡ start_part program.now p input.items) }
+{
+    let words = Vec::from_elem(alloc, 0, word_count(program, p))?;
+    Ok(Private {
+        number: p,
+        activity: if p == 1 {
+            Activity::Running
+        } else {
+            Activity::NotBegun
+        },
+        place: start(program, p),
+        words,
+        output: Vec::new(alloc),
+        input,
+        consumed: 0,
+    })
+}
+
+impl Private {
+    /// The private state of process p at the start, with its input.
+    ///
+    /// # Errors
+    ///
+    /// `AllocError` where memory runs out.
+    pub fn new(
+        alloc: Global,
+        program: &Program,
+        p: usize,
+        input: Vec<u8>,
+    ) -> Result<Private, AllocError>
+        ensures start { IfOk result (IsStart program.now p input.items) }
+    {
+        begin(alloc, program, p, input)
+    }
+
+    /// A private state of the same content.
+    ///
+    /// # Errors
+    ///
+    /// `AllocError` where memory runs out.
+    pub fn copy(&self, alloc: Global) -> Result<Private, AllocError>
+        ensures same { IfOk result (KeepsPart self.now) }
+    {
+        self.duplicate(alloc)
+    }
+
+    fn duplicate(&self, alloc: Global) -> Result<Private, AllocError>
+        ensures { IfOk result (λ x. own_of x ≡ own_of self.now) }
+    {
+        Ok(Private {
+            number: self.number,
+            activity: self.activity,
+            place: self.place,
+            words: Vec::from_slice(alloc, &self.words)?,
+            output: Vec::from_slice(alloc, &self.output)?,
+            input: Vec::from_slice(alloc, &self.input)?,
+            consumed: self.consumed,
+        })
+    }
+
+    /// Makes room for the output of a turn. The content stays as it is.
+    ///
+    /// # Errors
+    ///
+    /// `AllocError` where memory runs out.
+    pub fn reserve(&mut self, turn: Turn) -> Result<(), AllocError>
+        ensures room { OnOk result (HasRoom self.new turn) }
+        ensures same { KeepsPart self.old self.new }
+    {
+        self.output.reserve(6 * turn.steps() as usize)
+    }
+
+    /// The value of a word. A missing word reads as 0.
+    pub fn value(&self, word: usize) -> i16
+        ensures value { TellsWord self.now word result }
+    {
+        values::word(&self.words, word)
+    }
 }

@@ -1,0 +1,11 @@
+pub mod Chains
+pub mod Digits
+pub mod Wide
+pub mod Words
+pub mod Expressions
+pub mod Actions
+pub mod Parts
+pub mod Refines
+pub mod Turns
+pub mod KindsTold
+pub mod Carried
