@@ -39,31 +39,10 @@ module _ (program : Program) (setup : Setup) (names : List Name) (env : Environm
   same_start q n e = let f = sym o ∙ e in (Prim.grind (arith, f), Prim.grind (arith, f))
 
   pub init_at : (k : List Task) → Continues program setup names env place k → IsInit k
-  init_at [] h = absurd h
   init_at (EndProcess ∷ []) h = absurd (no_end h)
-  init_at (EndProcess ∷ i ∷ k) h = absurd h
-  init_at (WhileTest now e s v ∷ k) h = absurd h
-  init_at (RepeatTest now s e v ∷ k) h = absurd h
-  init_at (ForNext v d n m s e ∷ k) h = absurd h
-  init_at (EndCall e g ∷ k) h = absurd h
-  init_at (EndBody g ∷ k) h = absurd h
-  init_at (Do a.Nothing e ∷ k) h = absurd h.1
-  init_at (Do (a.Seq s t) e ∷ k) h = absurd h.1
   init_at (Do (a.Assign (a.Plain x) e) v ∷ k) h = absurd (no_set h.2.1.0 h.2.1.1 h.2.0 h.2.1.2)
-  init_at (Do (a.Assign (a.Part d x) e) v ∷ k) h = absurd h.2.1
-  init_at (Do (a.Assign (a.At d i) e) v ∷ k) h = absurd h.2.1
   init_at (Do (a.Perform (a.Plain x) (a.MoreExpressions e a.NoExpression)) v ∷ k) h = absurd (no_display h.2.1.0 h.2.0 h.2.1.1)
-  init_at (Do (a.Perform (a.Plain x) a.NoExpression) v ∷ k) h = absurd h.2.1
-  init_at (Do (a.Perform (a.Plain x) (a.MoreExpressions e (a.MoreExpressions f es))) v ∷ k) h = absurd h.2.1
-  init_at (Do (a.Perform (a.Part d x) es) v ∷ k) h = absurd h.2.1
-  init_at (Do (a.Perform (a.At d i) es) v ∷ k) h = absurd h.2.1
-  init_at (Do (a.If e s t) v ∷ k) h = absurd h.2.1
-  init_at (Do (a.Case e arms) v ∷ k) h = absurd h.2.1
-  init_at (Do (a.While e s) v ∷ k) h = absurd h.2.1
-  init_at (Do (a.Repeat s e) v ∷ k) h = absurd h.2.1
-  init_at (Do (a.For x d e f s) v ∷ k) h = absurd h.2.1
   init_at (Do (a.Cycle s) v ∷ k) h = absurd (no_cycle h.2.1.0 h.2.1.1)
-  init_at (Do (a.Init x (a.MoreExpressions e es)) v ∷ k) h = absurd h.2.1
   init_at (Do (a.Init x a.NoExpression) v ∷ k) h =
       let same = same_start h.2.1.0 h.2.0 h.2.1.1 in
       record {
@@ -73,3 +52,7 @@ module _ (program : Program) (setup : Setup) (names : List Name) (env : Environm
         means = subst (λ (q : ℕ). MeansProcess setup env x q) same.0 h.2.1.2;
         behind = subst (λ (n : ℕ). Continues program setup names env n k) same.1 h.2.2;
       }
+  init_at (Do a.Nothing v ∷ k) h = absurd h.1
+  init_at (Do (a.Seq s t) v ∷ k) h = absurd h.1
+  init_at (Do s v ∷ k) h = absurd h.2.1
+  init_at k h = absurd h

@@ -1,11 +1,10 @@
 pub mod Lists
-pub mod Ready
 pub mod KernelSteps
 pub mod Inversion
 pub mod KernelParts
 pub mod Turning
 pub mod ClosedLists
 pub mod Begins
-pub mod Pushing
 pub mod Stands
 pub mod Beside
+pub mod KernelTurns

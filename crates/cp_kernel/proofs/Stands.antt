@@ -21,7 +21,7 @@ use Rattle.cp_kernel.specs.Stand.{Stand}
 use Rattle.cp_kernel.proofs.Lists.{got_at, got_below}
 use Rattle.cp_kernel.proofs.ClosedLists.{got_begun_below, got_closed_below, length_begun, length_closed}
 use Rattle.cp_kernel.proofs.Begins.{closed_part, closed_stages}
-use Rattle.cp_kernel.proofs.Pushing.{pushed}
+use Rattle.cp_private.proofs.Parts.{continues_push}
 
 -- Output that is moved to the transcript.
 pub moved_part : (program : Program) (setup : Setup) (s : State) (p : ℕ) (before after : List ℕ) (x y : Private)
@@ -62,7 +62,7 @@ module _ (program : Program) (setup : Setup) (stands : StandsFor program setup) 
         (closed_part program setup s (suc j) (moved k j) x.0 (was.parts j x.0 x.1) stands_here
           (λ h name. was.kernel.stages.store (suc j) h (variable_location (suc j) name) (eq-eqb (suc j) (suc j) refl))
           (was.kernel.stages.fresh (suc j))
-          (λ place next ts code h. pushed program setup (names_of program (suc j)) (environment_of setup (suc j)) (system_of setup (suc j)).body place next ts code h)
+          (λ place next ts code h. continues_push program setup (names_of program (suc j)) (environment_of setup (suc j)) (system_of setup (suc j)).body place next ts code h)
           g.0 (was.kernel.stages.each j g.0 g.1))
 
   closed_kernel : KernelOf setup (close_round s) k'

@@ -17,6 +17,12 @@ use Rattle.cp_private.specs.declared.private.Private.{Private}
 use Rattle.cp_private.specs.declared.private.Activity.{Activity}
 use Rattle.cp_private.specs.declared.private.Activity.TheVariants as activity
 use Rattle.cp_private.specs.PartOf.{PartOf}
+use Rattle.cp_private.specs.declared.kind.Kind.{Kind}
+use Rattle.cp_private.specs.declared.kind.Kind.TheVariants as kind
+use Rattle.cp_private.specs.Kinds.{kind_at, kind_told, told}
+use Rattle.cp_private.proofs.Actions.{ready_is}
+use Rattle.cp_private.proofs.KindsTold.{tells_kind}
+use Rattle.cp_private.proofs.Parts.{no_gates}
 use Rattle.cp_kernel.specs.declared.kernel.Stage.{Stage}
 use Rattle.cp_kernel.specs.declared.kernel.Stage.TheVariants as stage
 use Rattle.cp_kernel.specs.KernelOf.{StagesOf, stage_of}
@@ -25,7 +31,6 @@ use Rattle.cp_kernel.proofs.Inversion.{IsInit, init_at}
 use Rattle.cp_kernel.proofs.KernelParts.{apart, faulted_kernel, faulted_part, runs, started_kernel, started_part, unstarted_stage}
 use Rattle.cp_kernel.proofs.KernelSteps.{kernel_steps, started_state}
 use Rattle.cp_kernel.proofs.Lists.{got_at, none_some}
-use Rattle.cp_kernel.proofs.Ready.{ready}
 
 is_started_stage : (y : Status) (g : Stage) → g ≡ stage_of y → (g ≡ stage.Unstarted → ⊥) → is_started y ≡ true
 is_started_stage c.Unstarted g e differs = absurd (differs e)
@@ -36,6 +41,37 @@ is_started_stage c.Waiting g e differs = refl
 is_started_stage (c.Asking m) g e differs = refl
 is_started_stage (c.Delayed m q) g e differs = refl
 is_started_stage (c.Faulted n) g e differs = refl
+
+-- Where the next operation is no start, the next step isn't the kernel's.
+no_kernel : (v : Activity) (o : Option Op) → is_kernel_step v o ≡ false → kind_at v o ≡ kind.Kernel → ⊥
+no_kernel activity.Running (Some (op.Start r n)) e f = Prim.grind (arith, e)
+no_kernel activity.Running (Some (op.Set w v n)) e f = Prim.grind (arith, f)
+no_kernel activity.Running (Some (op.Display v n)) e f = Prim.grind (arith, f)
+no_kernel activity.Running (Some (op.Cycle n)) e f = Prim.grind (arith, f)
+no_kernel activity.Running (Some op.End) e f = Prim.grind (arith, f)
+no_kernel activity.Running None e f = Prim.grind (arith, f)
+no_kernel activity.NotBegun o e f = Prim.grind (arith, f)
+no_kernel activity.Ended o e f = Prim.grind (arith, f)
+no_kernel (activity.Faulted g) o e f = Prim.grind (arith, f)
+
+no_step : (k : Kind) → (k ≡ kind.Kernel → ⊥) → (a b : State) → t.if_kernel (kind_told k) a b ≡ b
+no_step kind.Private h a b = refl
+no_step kind.None h a b = refl
+no_step kind.Kernel h a b = absurd (h refl)
+
+not_told : (y : Status) (ts : List Task) (k : Kind) → kind_told k ≡ told y ts → (k ≡ kind.Kernel → ⊥) → t.kind_of y ts ≡ kind_told k
+not_told c.Ready ts k e h = sym e
+not_told c.Unstarted ts k e h = sym e
+not_told c.Fresh ts k e h = sym e
+not_told c.Ended ts k e h = sym e
+not_told c.Waiting ts k e h = sym e
+not_told (c.Faulted n) ts k e h = sym e
+not_told (c.Asking m) ts kind.Private e h = absurd (Prim.grind (arith, e))
+not_told (c.Asking m) ts kind.None e h = absurd (Prim.grind (arith, e))
+not_told (c.Asking m) ts kind.Kernel e h = absurd (h refl)
+not_told (c.Delayed m q) ts kind.Private e h = absurd (Prim.grind (arith, e))
+not_told (c.Delayed m q) ts kind.None e h = absurd (Prim.grind (arith, e))
+not_told (c.Delayed m q) ts kind.Kernel e h = absurd (h refl)
 
 -- m has the parts of process p, where `before` of its transcript was moved, and of the kernel.
 pub record TurningOf (program : Program) (setup : Setup) (s : State) (p : ℕ) (before : List ℕ) (m : Turning) : Type 0 where
@@ -51,8 +87,8 @@ module _ (program : Program) (setup : Setup) (p : ℕ) (before : List ℕ) where
     init = init_at program setup (names_of program p) (environment_of setup p) m.private.place r next o (s.continuation p) (was.part.continuation running)
 
     is_ready : s.status p ≡ c.Ready
-    is_ready = ready program setup (names_of program p) (environment_of setup p) s p m.private.place inv
-        (runs program setup s p before m.private was.part running) (was.part.continuation running)
+    is_ready = ready_is s p inv (runs program setup s p before m.private was.part running)
+        (no_gates program setup (names_of program p) (environment_of setup p) (s.continuation p) m.private.place (was.part.continuation running))
 
     stepped_state : t.kernel_step setup s p ≡ started_state setup s p r init.rest (is_started (s.status r))
     stepped_state = kernel_steps setup s p r init.name init.rest init.means is_ready init.is
@@ -103,8 +139,17 @@ module _ (program : Program) (setup : Setup) (p : ℕ) (before : List ℕ) where
 
   -- ---- any step
 
-  module _ (not_due : (s : State) (m : Turning) → Invariant s → TurningOf program setup s p before m → is_due program m ≡ false
-      → t.kernel_step setup s p ≡ s) where
+  module _ (stands : StandsFor program setup) (first : 1 ≤ p) (last : p ≤ process_count setup) where
+    not_due : (s : State) (m : Turning) → Invariant s → TurningOf program setup s p before m → is_due program m ≡ false
+        → t.kernel_step setup s p ≡ s
+    not_due s m inv was e =
+        let x = m.private in
+        let k = kind_at x.activity (op_at program x.place) in
+        ap (λ (y : t.Kind). t.if_kernel y (t.step setup s p) s)
+          (not_told (s.status p) (s.continuation p) k (tells_kind program x k refl setup s p before stands inv first last was.part)
+            (no_kernel x.activity (op_at program x.place) e))
+        ∙ no_step k (no_kernel x.activity (op_at program x.place) e) (t.step setup s p) s
+
     due_op : (s : State) (m : Turning) → Invariant s → TurningOf program setup s p before m → m.private.activity ≡ activity.Running
         → (o : Option Op) → op_at program m.private.place ≡ o → is_start o ≡ true
         → TurningOf program setup (t.kernel_step setup s p) p before (acted o m)

@@ -5,5 +5,5 @@
 #![tactic(auto)]
 
 pub mod kernel;
-mod closing;
-mod turns;
+pub mod closing;
+pub mod turns;

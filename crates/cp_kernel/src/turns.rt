@@ -1,12 +1,15 @@
 //! Kernel turns: the steps that start processes.
 
 ghost use Rattle.std.specs.Prelude.{◌≡◌, ◌≢◌, ◌++◌, ◌-◌, ℕ, length, slice_get};
+ghost use Rattle.cp_private.specs.declared.private.Private.{Private};
 ghost use Rattle.cp_kernel.specs.KernelOf.{HasRoom, moved};
+ghost use Rattle.cp_kernel.specs.Stand.{MakesKernelTurn};
 ghost use Rattle.cp_kernel.specs.Starting.{is_due, is_unstarted, started, stepped, turned, turning};
 
 use crate::kernel::{Kernel, Stage};
 use cp_model::state::Fault;
 use cp_private::private::{Activity, Private};
+use cp_private::turn::Turn;
 use cp_program::code::Op;
 use cp_program::program::Program;
 
@@ -51,7 +54,7 @@ fn step(program: &Program, kernel: &mut Kernel, private: &mut Private) -> bool
 }
 
 // At most so many steps, while the next one is the kernel's.
-fn steps(program: &Program, kernel: &mut Kernel, private: &mut Private, turn: u32)
+fn kernel_steps(program: &Program, kernel: &mut Kernel, private: &mut Private, turn: u32)
     ensures turn { turning kernel.new private.new ≡ turned program.now turn (turning kernel.old private.old) }
     ensures transcripts { kernel.new.transcripts ≡ kernel.old.transcripts }
 {
@@ -76,4 +79,22 @@ fn move_output(kernel: &mut Kernel, private: &mut Private, p: usize)
         prove!(moved.is_ok());
         private.output.clear();
     }
+}
+
+/// Process p's kernel turn: its output goes to its transcript, and then come at most so many steps while the next one is the
+/// kernel's. Its private state is handed in. It takes no memory, and always succeeds.
+pub fn kernel_turn(
+    program: &Program,
+    kernel: &mut Kernel,
+    private: &mut Private,
+    p: usize,
+    turn: Turn,
+)
+    requires room { HasRoom kernel.old (p - 1) private.old }
+    ensures turn { MakesKernelTurn program.now turn.steps p kernel.old private.old kernel.new private.new }
+    ensures moved { (i : ℕ) → i ≢ p - 1 → moved kernel.new i ≡ moved kernel.old i }
+    ensures others { (i : ℕ) (x : Private) → i ≢ p - 1 → HasRoom kernel.old i x → HasRoom kernel.new i x }
+{
+    move_output(kernel, private, p);
+    kernel_steps(program, kernel, private, turn.steps());
 }

@@ -1,7 +1,7 @@
 use Rattle.std.proofs.Common.{◌≡◌, ◌-◌, sym, ◌∙◌, arith, Bool, false}
 use Rattle.cp_kernel.specs.Starting.{is_due, turning}
 use Rattle.cp_kernel.proofs.Turning.{step_rests, turn_next, turn_rests}
-use Rattle.cp_kernel.proofs.turns.steps.Goals as goal
+use Rattle.cp_kernel.proofs.turns.kernel_steps.Goals as goal
 
 pub returns-then-not-step-clause-turn : goal.returns-then-not-step-clause-turn
 returns-then-not-step-clause-turn c =

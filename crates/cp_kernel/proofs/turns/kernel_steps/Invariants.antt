@@ -1,6 +1,6 @@
 use Rattle.std.proofs.Common.{◌≡◌, ◌≤◌, ◌-◌}
 use Rattle.cp_kernel.specs.Starting.{turned, turning}
-use Rattle.cp_kernel.proofs.turns.steps.Given as goal
+use Rattle.cp_kernel.proofs.turns.kernel_steps.Given as goal
 
 abbrev pub invariant-loop-i : goal.invariant-loop-i
 invariant-loop-i l = record {
