@@ -1,6 +1,7 @@
 -- The parts of a machine through a round.
 use Rattle.std.specs.Prelude.{◌≡◌, ◌≢◌, refl, ℕ, zero, suc, ◌+◌, ◌-◌, ◌≤◌, ◌<◌, Bool, true, false, nat_eq, if◌then◌else◌, List, [], ◌∷◌, ◌++◌, length, Some, None, slice_get}
-use Rattle.std.proofs.Common.{sym, ◌∙◌, ap, subst, arith, ◌⊎◌, inl, inr, ⊎_elim, set}
+use Rattle.std.proofs.Common.{sym, ◌∙◌, ap, subst, arith, ◌⊎◌, inl, inr, ⊎_elim, set, Result, Ok, Err, IfErr, IfOk}
+use Rattle.std.specs.Result.{is_err}
 use Rattle.std.proofs.lemmas.Bool.{eq-eqb}
 use mathlib.Core.Logic.{dite}
 use native.Mathlib.Decide.{ℕ_discrete}
@@ -18,11 +19,12 @@ use Rattle.cp_program.specs.declared.program.Program.{Program}
 use Rattle.cp_program.specs.StandsFor.{StandsFor}
 use Rattle.cp_private.specs.declared.private.Private.{Private}
 use Rattle.cp_private.specs.PartOf.{PartOf}
+use Rattle.cp_private.proofs.Carried.{seen}
 use Rattle.cp_kernel.specs.declared.kernel.Kernel.{Kernel}
 use Rattle.cp_kernel.specs.KernelOf.{KernelOf, moved}
-use Rattle.cp_kernel.specs.Stand.{Stand}
+use Rattle.cp_kernel.specs.Stand.{MakesKernelTurn, Stand}
 use Rattle.cp_kernel.proofs.Beside.{kernel_beside}
-use Rattle.cp_kernel.proofs.Lists.{got_at, got_below, got_set}
+use Rattle.cp_kernel.proofs.Lists.{got_at, got_below, got_set, got_snoc, some_is}
 use Rattle.cp_rounds.specs.Holds.{AllTurned, Holds, Turned}
 
 -- ---- numbers of processes
@@ -39,6 +41,19 @@ is_in_numbers (suc n) p q a b = dite (ℕ_discrete q p)
 
 is_process : (setup : Setup) (i : ℕ) → i < process_count setup → is_in (suc i) (processes setup) ≡ true
 is_process setup i h = is_in_numbers (process_count setup) 1 (suc i) (Prim.omega arith) (Prim.omega (arith, h))
+
+-- ---- pairs of lists
+
+-- What holds of each pair, holds of each where one list has grown.
+pub each_more : (P : ℕ → Private → Private → Type 0) (xs ys : List Private) (a b : Private) → slice_get xs (length ys) ≡ Some a → P (length ys) a b
+    → ((i : ℕ) (x y : Private) → slice_get xs i ≡ Some x → slice_get ys i ≡ Some y → P i x y)
+    → (i : ℕ) (x y : Private) → slice_get xs i ≡ Some x → slice_get (ys ++ b ∷ []) i ≡ Some y → P i x y
+each_more P xs ys a b g h was i x y e f =
+    ⊎_elim (λ (z : slice_get ys i ≡ Some y). was i x y e z)
+    (λ (z : (i ≡ length ys) × (b ≡ y)).
+      subst (λ (w : Private). P i x w) z.1 (subst (λ (j : ℕ). P j x b) (sym z.0)
+        (subst (λ (w : Private). P (length ys) w b) (some_is a x (sym g ∙ ap (λ (j : ℕ). slice_get xs j) (sym z.0) ∙ e)) h)))
+    (got_snoc ys b i y f)
 
 -- ---- kernel turns, one after another
 
@@ -63,7 +78,7 @@ module _ (setup : Setup) where
 
 -- ---- parts in their places
 
-module _ (program : Program) (setup : Setup) (seen : (s u : State) (p : ℕ) (before : List ℕ) (x : Private) → SameOwnPart p s u → PartOf program setup s p before x → PartOf program setup u p before x) where
+module _ (program : Program) (setup : Setup) where
   -- A kernel turn of one process leaves the other parts in place.
   pub turn_stands : (t i : ℕ) (s : State) (xs : List Private) (x y : Private) (k k' : Kernel) → Invariant s → slice_get xs i ≡ Some x
       → Stand program setup s xs k
@@ -83,7 +98,7 @@ module _ (program : Program) (setup : Setup) (seen : (s u : State) (p : ℕ) (be
             subst (λ (n : ℕ). PartOf program setup (kernel_turn setup t s (suc i)) (suc n) (moved k' n) z) (sym h.0)
             (subst (λ (w : Private). PartOf program setup (kernel_turn setup t s (suc i)) (suc i) (moved k' i) w) h.1 new.0))
           (λ (h : (j ≢ i) × (slice_get xs j ≡ Some z)).
-            seen s (kernel_turn setup t s (suc i)) (suc j) (moved k' j) z
+            seen program setup s (kernel_turn setup t s (suc i)) (suc j) (moved k' j) z
               (kernel_turn_other_parts setup t (suc j) (suc i) s (λ g. h.0 (Prim.omega (arith, g))) inv)
               (subst (λ (b : List ℕ). PartOf program setup s (suc j) b z) (sym (same j h.0)) (st.parts j z h.1)))
           (got_set xs i j y z f)
@@ -102,9 +117,9 @@ module _ (program : Program) (setup : Setup) (seen : (s u : State) (p : ℕ) (be
           let below : i < length xs = subst (λ (n : ℕ). i < n) turned.count (got_below ys i y e) in
           let x = got_at xs i below in
           let inside : i < process_count setup = let n = all in Prim.omega (arith, below, n) in
-          seen (private_turn setup t (wake setup s) (suc i)) (own_parts setup t (wake setup s)) (suc i) (moved k i) y
+          seen program setup (private_turn setup t (wake setup s) (suc i)) (own_parts setup t (wake setup s)) (suc i) (moved k i) y
             (own_part_is_turned setup t (wake setup s) (suc i) (is_process setup i inside))
-            (turned.each i x.0 y x.1 e setup s (moved k i) of inv inside (st.parts i x.0 x.1))
+            (turned.each i x.0 y x.1 e setup s (moved k i) of inv (Prim.omega arith) (Prim.omega (arith, inside)) (st.parts i x.0 x.1))
 
   -- The clauses of the layers make a round.
   pub round_holds : (t rounds : ℕ) (s : State) (xs ys zs ws : List Private) (k k1 k2 k3 : Kernel)
@@ -159,3 +174,57 @@ run_more setup t n s = let e : n + 1 ≡ suc n = Prim.omega arith in ap (λ (k :
     go : (n : ℕ) (s : State) → run setup t (suc n) s ≡ sequential_round setup t (run setup t n s)
     go zero s = refl
     go (suc n) s = go n (sequential_round setup t s)
+
+-- The kernel turn of the process at index i, where the turns before it are made.
+pub next_turn : (program : Program) (setup : Setup) (t i p : ℕ) → p ≡ i + 1 → (s : State) (xs : List Private) (x y : Private) (k k' : Kernel) → Invariant s
+    → StandsFor program setup → i < process_count setup → slice_get xs i ≡ Some x
+    → MakesKernelTurn program t p k x k' y → ((j : ℕ) → j ≢ i → moved k' j ≡ moved k j)
+    → Stand program setup (kernel_turns setup t s (numbers_from 1 i)) xs k
+    → Stand program setup (kernel_turns setup t s (numbers_from 1 p)) (set xs i y) k'
+next_turn program setup t i p is s xs x y k k' inv stands below here turn same st =
+    subst (λ (q : ℕ). Stand program setup (kernel_turns setup t s (numbers_from 1 q)) (set xs i y) k') (sym number)
+    (subst (λ (u : State). Stand program setup u (set xs i y) k') (sym (turns_next setup t i s))
+      (turn_stands program setup t i at xs x y k k' kept here st
+        (subst (λ (j : ℕ). PartOf program setup at (suc i) (moved k j) x → KernelOf setup at k
+            → PartOf program setup (kernel_turn setup t at (suc i)) (suc i) (moved k' j) y × KernelOf setup (kernel_turn setup t at (suc i)) k') back
+          (subst (λ (q : ℕ). PartOf program setup at q (moved k (q - 1)) x → KernelOf setup at k
+              → PartOf program setup (kernel_turn setup t at q) q (moved k' (q - 1)) y × KernelOf setup (kernel_turn setup t at q) k') number
+            (turn setup at stands kept (Prim.omega (arith, is)) (Prim.omega (arith, is, below)))))
+        same))
+  where
+    number : p ≡ suc i
+    number = is ∙ Prim.omega arith
+    back : suc i - 1 ≡ i
+    back = Prim.omega arith
+    at : State
+    at = kernel_turns setup t s (numbers_from 1 i)
+    kept : Invariant at
+    kept = turns_keep setup t (numbers_from 1 i) s inv
+
+-- Room in the transcripts changes nothing of the state.
+pub kept_holds : (program : Program) (setup : Setup) (rounds : ℕ) (s : State) (xs : List Private) (k k1 : Kernel)
+    → ((setup : Setup) (u : State) → KernelOf setup u k → KernelOf setup u k1) → ((i : ℕ) → moved k1 i ≡ moved k i)
+    → Holds program xs k rounds setup s → Holds program xs k1 rounds setup s
+kept_holds program setup rounds s xs k k1 same m h = record {
+  of = h.of;
+  all = h.all;
+  stand = record {
+    parts = λ i x e. subst (λ (b : List ℕ). PartOf program setup s (suc i) b x) (sym (m i)) (h.stand.parts i x e);
+    kernel = same setup s h.stand.kernel;
+  };
+  count = h.count;
+  invariant = h.invariant;
+}
+
+pub if_err : {T E : Type 0} {Q : Type 0} (r : Result T E) → Q → IfErr r (λ x. Q)
+if_err (Ok x) q = tt
+if_err (Err e) q = q
+
+-- What a clause says of an answer whose kind is known.
+pub from_err : {T E : Type 0} {Q : Type 0} (r : Result T E) → is_err r ≡ true → IfErr r (λ x. Q) → Q
+from_err (Ok x) e h = absurd (Prim.grind (arith, e))
+from_err (Err x) e h = h
+
+pub from_ok : {T E : Type 0} {Q : Type 0} (r : Result T E) → is_err r ≡ false → IfOk r (λ x. Q) → Q
+from_ok (Ok x) e h = h
+from_ok (Err x) e h = absurd (Prim.grind (arith, e))

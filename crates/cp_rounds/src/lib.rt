@@ -2,3 +2,9 @@
 //!
 //! `specs/Holds.antt` says when a machine is in a state of the system; each round leaves the state that one processor leaves.
 #![tactic(auto)]
+
+pub mod gate;
+
+pub mod machine;
+pub mod plan;
+pub mod tick;
