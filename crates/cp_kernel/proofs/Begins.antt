@@ -99,9 +99,9 @@ module _ (program : Program) (setup : Setup) (s : State) (p : ℕ) (before : Lis
     (store : HasNotBegun (s.status p) → (name : Name) → s.store (variable_location p name) ≡ (start setup).store (variable_location p name))
     (fresh : s.status p ≡ c.Fresh → s.continuation p ≡ push (system_of setup p).body (environment_of setup p) (EndProcess ∷ []))
     (pushed : (place next : ℕ) (k : List Task)
-      → CodeFor program setup (names_of program p) (environment_of setup p) (system_of setup p).body place next
-      → Continues program setup (names_of program p) (environment_of setup p) next k
-      → Continues program setup (names_of program p) (environment_of setup p) place (push (system_of setup p).body (environment_of setup p) k)) where
+    → CodeFor program setup (names_of program p) (environment_of setup p) (system_of setup p).body place next
+    → Continues program setup (names_of program p) (environment_of setup p) next k
+    → Continues program setup (names_of program p) (environment_of setup p) place (push (system_of setup p).body (environment_of setup p) k)) where
   -- It was fresh, and begins.
   begins : s.status p ≡ c.Fresh → PartOf program setup (close_round s) p before (record x { activity = activity.Running })
   begins e = record {
@@ -114,11 +114,11 @@ module _ (program : Program) (setup : Setup) (s : State) (p : ℕ) (before : Lis
     unbegun_place = λ f. absurd (Prim.grind (arith, f));
     unbegun_words = λ f. absurd (Prim.grind (arith, f));
     words = λ b i name n g h.
-      store (subst (λ (y : Status). HasNotBegun y) (sym e) tt) name ∙ stands.start_values i name g
-      ∙ ap Ordinal (replicated (length (names_of program p)) i n (sym (ap (λ (ws : List ℤ). slice_get ws i) (part.unbegun_words unbegun)) ∙ h));
+        store (subst (λ (y : Status). HasNotBegun y) (sym e) tt) name ∙ stands.start_values i name g
+        ∙ ap Ordinal (replicated (length (names_of program p)) i n (sym (ap (λ (ws : List ℤ). slice_get ws i) (part.unbegun_words unbegun)) ∙ h));
     continuation = λ f. subst (λ (k : List Task). Continues program setup (names_of program p) (environment_of setup p) x.place k) (sym (fresh e))
         (subst (λ (place : ℕ). Continues program setup (names_of program p) (environment_of setup p) place (push (system_of setup p).body (environment_of setup p) (EndProcess ∷ [])))
-          (sym (part.unbegun_place unbegun)) (pushed (start_of program p) stands.end (EndProcess ∷ []) stands.body stands.stop));
+        (sym (part.unbegun_place unbegun)) (pushed (start_of program p) stands.end (EndProcess ∷ []) stands.body stands.stop));
   }
     where
       unbegun : x.activity ≡ activity.NotBegun

@@ -87,10 +87,12 @@ module _ (setup : Setup) (s : State) (p : ℕ) (all : List Stage) (kernel : Stag
       stage_at q false e = ap stage_of (sym (with_at_there p q (c.Faulted 7) s.status e))
       stage_at q true e = let same = eqb-true p q e in
           ap stage_of (sym (ap s.status same) ∙ ready) ∙ ap stage_of (sym (ap (with_at p (c.Faulted 7) s.status) (sym same) ∙ with_at_here p (c.Faulted 7) s.status))
+
       not_begun : (q : ℕ) (b : Bool) → nat_eq p q ≡ b → HasNotBegun (with_at p (c.Faulted 7) s.status q) → HasNotBegun (s.status q)
       not_begun q false e h = subst (λ (y : Status). HasNotBegun y) (with_at_there p q (c.Faulted 7) s.status e) h
       not_begun q true e h = let same = eqb-true p q e in
           absurd (subst (λ (y : Status). HasNotBegun y) (ap (with_at p (c.Faulted 7) s.status) (sym same) ∙ with_at_here p (c.Faulted 7) s.status) h)
+
       is_fresh : (q : ℕ) (b : Bool) → nat_eq p q ≡ b → with_at p (c.Faulted 7) s.status q ≡ c.Fresh → s.status q ≡ c.Fresh
       is_fresh q false e h = sym (with_at_there p q (c.Faulted 7) s.status e) ∙ h
       is_fresh q true e h = let same = eqb-true p q e in
@@ -129,13 +131,15 @@ module _ (setup : Setup) (s : State) (p r : ℕ) (all : List Stage) (kernel : St
           → g ≡ stage_of (with_at r c.Fresh s.status (suc i))
       stage_at i g e = ⊎_elim
           (λ (h : (i ≡ r - 1) × (stage.Fresh ≡ g)).
-            sym h.1 ∙ ap stage_of (sym (with_at_here r c.Fresh s.status)) ∙ ap (λ (q : ℕ). stage_of (with_at r c.Fresh s.status q)) (let f = h.0 in Prim.omega (arith, f)))
+          sym h.1 ∙ ap stage_of (sym (with_at_here r c.Fresh s.status)) ∙ ap (λ (q : ℕ). stage_of (with_at r c.Fresh s.status q)) (let f = h.0 in Prim.omega (arith, f)))
           (λ (h : (i ≢ r - 1) × (slice_get all i ≡ Some g)).
-            kernel.each i g h.1 ∙ ap stage_of (sym (with_at_there r (suc i) c.Fresh s.status (differ r (suc i) (λ f. h.0 (Prim.omega (arith, f)))))))
+          kernel.each i g h.1 ∙ ap stage_of (sym (with_at_there r (suc i) c.Fresh s.status (differ r (suc i) (λ f. h.0 (Prim.omega (arith, f)))))))
           (got_set all (r - 1) i stage.Fresh g e)
+
       not_begun : (q : ℕ) (b : Bool) → nat_eq r q ≡ b → HasNotBegun (with_at r c.Fresh s.status q) → HasNotBegun (s.status q)
       not_begun q false e h = subst (λ (y : Status). HasNotBegun y) (with_at_there r q c.Fresh s.status e) h
       not_begun q true e h = subst (λ (y : Status). HasNotBegun y) (sym (sym (ap s.status (eqb-true r q e)) ∙ status_was)) tt
+
       left : (q : ℕ) (b : Bool) → nat_eq r q ≡ b → with_at r c.Fresh s.status q ≡ c.Fresh
           → (started_state setup s p r ts false).continuation q ≡ push (system_of setup q).body (environment_of setup q) (EndProcess ∷ [])
       left q true e h =

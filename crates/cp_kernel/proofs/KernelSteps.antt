@@ -58,7 +58,7 @@ module _ (setup : Setup) (s : State) (p r : ℕ) (x : Name) (k : List Task) (m :
   result q y ps =
       if is_started (s.status q) then Fault 7
       else and_then (bind (λ l v e. init_argument_writes y.sort (context setup s p).clock env s.store l v.type e)
-          (process_location q) (declarations env.globals ps) a.NoExpression) (λ ws.
+      (process_location q) (declarations env.globals ps) a.NoExpression) (λ ws.
       Gives (
         record (configuration s p) { store = put_all ws s.store; continuation = k },
         Starts q (push y.body (body_environment env y (process_location q)) (EndProcess ∷ [])),
@@ -84,7 +84,7 @@ module _ (setup : Setup) (s : State) (p r : ℕ) (x : Name) (k : List Task) (m :
   after true e = refl
   after false e =
       ap (λ (y : Status). start_process r (push (system_of setup r).body (environment_of setup r) (EndProcess ∷ [])) y
-          (with_configuration s p (record (configuration s p) { continuation = k }))) (unstarted (s.status r) e)
+      (with_configuration s p (record (configuration s p) { continuation = k }))) (unstarted (s.status r) e)
 
   pub steps : s.continuation p ≡ Do (a.Init x a.NoExpression) (environment_of setup p) ∷ k
       → t.step setup s p ≡ started_state setup s p r k (is_started (s.status r))
@@ -111,5 +111,5 @@ module _ (setup : Setup) (s : State) (p r : ℕ) (x : Name) (k : List Task) (m :
       → t.kernel_step setup s p ≡ started_state setup s p r k (is_started (s.status r))
   kernel_steps e h =
       ap (λ (y : t.Kind). t.if_kernel y (t.step setup s p) s)
-          (ap (λ (y : Status). t.kind_of y (s.continuation p)) e ∙ ap (λ (ts : List Task). t.kind_of c.Ready ts) h ∙ kinds)
+      (ap (λ (y : Status). t.kind_of y (s.continuation p)) e ∙ ap (λ (ts : List Task). t.kind_of c.Ready ts) h ∙ kinds)
       ∙ steps h

@@ -59,17 +59,17 @@ module _ (program : Program) (setup : Setup) (stands : StandsFor program setup) 
       let n = all in
       let stands_here = stands.processes (suc j) (Prim.omega arith) (Prim.omega (arith, below, n)) in
       subst (λ (z : Private). PartOf program setup (close_round s) (suc j) (moved k j) z) x.2
-        (closed_part program setup s (suc j) (moved k j) x.0 (was.parts j x.0 x.1) stands_here
-          (λ h name. was.kernel.stages.store (suc j) h (variable_location (suc j) name) (eq-eqb (suc j) (suc j) refl))
-          (was.kernel.stages.fresh (suc j))
-          (λ place next ts code h. continues_push program setup (names_of program (suc j)) (environment_of setup (suc j)) (system_of setup (suc j)).body place next ts code h)
-          g.0 (was.kernel.stages.each j g.0 g.1))
+      (closed_part program setup s (suc j) (moved k j) x.0 (was.parts j x.0 x.1) stands_here
+      (λ h name. was.kernel.stages.store (suc j) h (variable_location (suc j) name) (eq-eqb (suc j) (suc j) refl))
+      (was.kernel.stages.fresh (suc j))
+      (λ place next ts code h. continues_push program setup (names_of program (suc j)) (environment_of setup (suc j)) (system_of setup (suc j)).body place next ts code h)
+      g.0 (was.kernel.stages.each j g.0 g.1))
 
   closed_kernel : KernelOf setup (close_round s) k'
   closed_kernel = record {
     stages = subst (λ (hs : List Stage). Rattle.cp_kernel.specs.KernelOf.StagesOf setup (close_round s) hs) (sym stages)
         (closed_stages setup s gs (closed_below (length xs) gs) was.kernel.stages (length_closed (length xs) gs)
-          (λ j h e. got_closed_below (length xs) j gs h (below h j e) e));
+        (λ j h e. got_closed_below (length xs) j gs h (below h j e) e));
     transcripts = ap (λ (v : Vec Bytes Global). length v.items) transcripts ∙ was.kernel.transcripts;
   }
     where

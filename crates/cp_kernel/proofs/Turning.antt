@@ -146,8 +146,8 @@ module _ (program : Program) (setup : Setup) (p : ℕ) (before : List ℕ) where
         let x = m.private in
         let k = kind_at x.activity (op_at program x.place) in
         ap (λ (y : t.Kind). t.if_kernel y (t.step setup s p) s)
-          (not_told (s.status p) (s.continuation p) k (tells_kind program x k refl setup s p before stands inv first last was.part)
-            (no_kernel x.activity (op_at program x.place) e))
+        (not_told (s.status p) (s.continuation p) k (tells_kind program x k refl setup s p before stands inv first last was.part)
+        (no_kernel x.activity (op_at program x.place) e))
         ∙ no_step k (no_kernel x.activity (op_at program x.place) e) (t.step setup s p) s
 
     due_op : (s : State) (m : Turning) → Invariant s → TurningOf program setup s p before m → m.private.activity ≡ activity.Running

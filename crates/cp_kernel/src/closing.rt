@@ -45,11 +45,9 @@ fn close(kernel: &mut Kernel, privates: &mut [Private])
 
 /// The end of a round: fresh becomes ready. The private states are those of all processes by number. It takes no memory.
 pub fn end_round(_program: &Program, kernel: &mut Kernel, privates: &mut [Private])
-    ensures ends {
-        (setup : Setup) (s : State) → StandsFor _program.now setup → length privates.old ≡ process_count setup
+    ensures ends { (setup : Setup) (s : State) → StandsFor _program.now setup → length privates.old ≡ process_count setup
         → Stand _program.now setup s privates.old kernel.old
-        → Stand _program.now setup (close_round s) privates.new kernel.new
-    }
+        → Stand _program.now setup (close_round s) privates.new kernel.new }
     ensures count { length privates.new ≡ length privates.old }
 {
     close(kernel, privates);

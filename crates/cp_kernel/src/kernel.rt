@@ -32,7 +32,11 @@ fn first_stages(alloc: Global, processes: usize) -> Result<Vec<Stage>, AllocErro
 {
     let mut all = Vec::with_capacity(alloc, processes)?;
     for i in 0..processes {
-        all.push(if i == 0 { Stage::Started } else { Stage::Unstarted })?;
+        all.push(if i == 0 {
+            Stage::Started
+        } else {
+            Stage::Unstarted
+        })?;
     }
     Ok(all)
 }

@@ -4,6 +4,6 @@
 //! states of all processes and a kernel are the parts of one state.
 #![tactic(auto)]
 
-pub mod kernel;
 pub mod closing;
+pub mod kernel;
 pub mod turns;

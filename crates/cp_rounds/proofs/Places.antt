@@ -51,8 +51,8 @@ pub each_more : (P : ℕ → Private → Private → Type 0) (xs ys : List Priva
 each_more P xs ys a b g h was i x y e f =
     ⊎_elim (λ (z : slice_get ys i ≡ Some y). was i x y e z)
     (λ (z : (i ≡ length ys) × (b ≡ y)).
-      subst (λ (w : Private). P i x w) z.1 (subst (λ (j : ℕ). P j x b) (sym z.0)
-        (subst (λ (w : Private). P (length ys) w b) (some_is a x (sym g ∙ ap (λ (j : ℕ). slice_get xs j) (sym z.0) ∙ e)) h)))
+    subst (λ (w : Private). P i x w) z.1 (subst (λ (j : ℕ). P j x b) (sym z.0)
+    (subst (λ (w : Private). P (length ys) w b) (some_is a x (sym g ∙ ap (λ (j : ℕ). slice_get xs j) (sym z.0) ∙ e)) h)))
     (got_snoc ys b i y f)
 
 -- ---- kernel turns, one after another
@@ -83,34 +83,36 @@ module _ (program : Program) (setup : Setup) where
   pub turn_stands : (t i : ℕ) (s : State) (xs : List Private) (x y : Private) (k k' : Kernel) → Invariant s → slice_get xs i ≡ Some x
       → Stand program setup s xs k
       → (PartOf program setup s (suc i) (moved k i) x → KernelOf setup s k
-        → PartOf program setup (kernel_turn setup t s (suc i)) (suc i) (moved k' i) y × KernelOf setup (kernel_turn setup t s (suc i)) k')
+      → PartOf program setup (kernel_turn setup t s (suc i)) (suc i) (moved k' i) y × KernelOf setup (kernel_turn setup t s (suc i)) k')
       → ((j : ℕ) → j ≢ i → moved k' j ≡ moved k j)
       → Stand program setup (kernel_turn setup t s (suc i)) (set xs i y) k'
   turn_stands t i s xs x y k k' inv e st turn same = record { parts = parts; kernel = new.1 }
     where
       after : State
       after = kernel_turn setup t s (suc i)
+
       new : PartOf program setup (kernel_turn setup t s (suc i)) (suc i) (moved k' i) y × KernelOf setup (kernel_turn setup t s (suc i)) k'
       new = turn (st.parts i x e) st.kernel
+
       parts : (j : ℕ) (z : Private) → slice_get (set xs i y) j ≡ Some z → PartOf program setup (kernel_turn setup t s (suc i)) (suc j) (moved k' j) z
       parts j z f = ⊎_elim
           (λ (h : (j ≡ i) × (y ≡ z)).
-            subst (λ (n : ℕ). PartOf program setup (kernel_turn setup t s (suc i)) (suc n) (moved k' n) z) (sym h.0)
-            (subst (λ (w : Private). PartOf program setup (kernel_turn setup t s (suc i)) (suc i) (moved k' i) w) h.1 new.0))
+          subst (λ (n : ℕ). PartOf program setup (kernel_turn setup t s (suc i)) (suc n) (moved k' n) z) (sym h.0)
+          (subst (λ (w : Private). PartOf program setup (kernel_turn setup t s (suc i)) (suc i) (moved k' i) w) h.1 new.0))
           (λ (h : (j ≢ i) × (slice_get xs j ≡ Some z)).
-            seen program setup s (kernel_turn setup t s (suc i)) (suc j) (moved k' j) z
-              (kernel_turn_other_parts setup t (suc j) (suc i) s (λ g. h.0 (Prim.omega (arith, g))) inv)
-              (subst (λ (b : List ℕ). PartOf program setup s (suc j) b z) (sym (same j h.0)) (st.parts j z h.1)))
+          seen program setup s (kernel_turn setup t s (suc i)) (suc j) (moved k' j) z
+          (kernel_turn_other_parts setup t (suc j) (suc i) s (λ g. h.0 (Prim.omega (arith, g))) inv)
+          (subst (λ (b : List ℕ). PartOf program setup s (suc j) b z) (sym (same j h.0)) (st.parts j z h.1)))
           (got_set xs i j y z f)
 
   -- The private turns, put in place by number.
   pub parts_turned : (t : ℕ) (s : State) (xs ys : List Private) (k : Kernel) → StandsFor program setup → Invariant s → length xs ≡ process_count setup
       → AllTurned program t xs ys → Stand program setup s xs k → Stand program setup (own_parts setup t (wake setup s)) ys k
   parts_turned t s xs ys k of inv all turned st = record {
-      parts = parts;
-      kernel = kernel_beside setup (wake setup s) (own_parts setup t (wake setup s)) k (own_parts_kernel_part setup t (wake setup s))
-          (kernel_beside setup s (wake setup s) k (wake_kernel_part setup s) st.kernel);
-    }
+    parts = parts;
+    kernel = kernel_beside setup (wake setup s) (own_parts setup t (wake setup s)) k (own_parts_kernel_part setup t (wake setup s))
+        (kernel_beside setup s (wake setup s) k (wake_kernel_part setup s) st.kernel);
+  }
     where
       parts : (i : ℕ) (y : Private) → slice_get ys i ≡ Some y → PartOf program setup (own_parts setup t (wake setup s)) (suc i) (moved k i) y
       parts i y e =
@@ -118,8 +120,8 @@ module _ (program : Program) (setup : Setup) where
           let x = got_at xs i below in
           let inside : i < process_count setup = let n = all in Prim.omega (arith, below, n) in
           seen program setup (private_turn setup t (wake setup s) (suc i)) (own_parts setup t (wake setup s)) (suc i) (moved k i) y
-            (own_part_is_turned setup t (wake setup s) (suc i) (is_process setup i inside))
-            (turned.each i x.0 y x.1 e setup s (moved k i) of inv (Prim.omega arith) (Prim.omega (arith, inside)) (st.parts i x.0 x.1))
+          (own_part_is_turned setup t (wake setup s) (suc i) (is_process setup i inside))
+          (turned.each i x.0 y x.1 e setup s (moved k i) of inv (Prim.omega arith) (Prim.omega (arith, inside)) (st.parts i x.0 x.1))
 
   -- The clauses of the layers make a round.
   pub round_holds : (t rounds : ℕ) (s : State) (xs ys zs ws : List Private) (k k1 k2 k3 : Kernel)
@@ -140,12 +142,16 @@ module _ (program : Program) (setup : Setup) where
     where
       own : State
       own = own_parts setup t (wake setup s)
+
       own_invariant : Invariant (own_parts setup t (wake setup s))
       own_invariant = own_parts_keep setup t (wake setup s) (wake_keeps setup s h.invariant)
+
       length_ys : length ys ≡ process_count setup
       length_ys = turned.count ∙ h.all
+
       length_zs : length zs ≡ process_count setup
       length_zs = lz ∙ length_ys
+
       first : Stand program setup (own_parts setup t (wake setup s)) ys k1
       first =
           let st = parts_turned t s xs ys k h.of h.invariant h.all turned h.stand in
@@ -153,9 +159,11 @@ module _ (program : Program) (setup : Setup) where
             parts = λ i x e. subst (λ (b : List ℕ). PartOf program setup (own_parts setup t (wake setup s)) (suc i) b x) (sym (m i)) (st.parts i x e);
             kernel = same (own_parts setup t (wake setup s)) st.kernel;
           }
+
       second : Stand program setup (kernel_turns setup t (own_parts setup t (wake setup s)) (processes setup)) zs k2
       second = subst (λ (n : ℕ). Stand program setup (kernel_turns setup t (own_parts setup t (wake setup s)) (numbers_from 1 n)) zs k2) length_ys
           (turns (own_parts setup t (wake setup s)) own_invariant first)
+
       count : rounds + 1 ≡ suc (kernel_turns setup t (own_parts setup t (wake setup s)) (processes setup)).rounds
       count =
           let a = h.count in
@@ -184,20 +192,23 @@ pub next_turn : (program : Program) (setup : Setup) (t i p : ℕ) → p ≡ i + 
 next_turn program setup t i p is s xs x y k k' inv stands below here turn same st =
     subst (λ (q : ℕ). Stand program setup (kernel_turns setup t s (numbers_from 1 q)) (set xs i y) k') (sym number)
     (subst (λ (u : State). Stand program setup u (set xs i y) k') (sym (turns_next setup t i s))
-      (turn_stands program setup t i at xs x y k k' kept here st
-        (subst (λ (j : ℕ). PartOf program setup at (suc i) (moved k j) x → KernelOf setup at k
-            → PartOf program setup (kernel_turn setup t at (suc i)) (suc i) (moved k' j) y × KernelOf setup (kernel_turn setup t at (suc i)) k') back
-          (subst (λ (q : ℕ). PartOf program setup at q (moved k (q - 1)) x → KernelOf setup at k
-              → PartOf program setup (kernel_turn setup t at q) q (moved k' (q - 1)) y × KernelOf setup (kernel_turn setup t at q) k') number
-            (turn setup at stands kept (Prim.omega (arith, is)) (Prim.omega (arith, is, below)))))
-        same))
+    (turn_stands program setup t i at xs x y k k' kept here st
+    (subst (λ (j : ℕ). PartOf program setup at (suc i) (moved k j) x → KernelOf setup at k
+    → PartOf program setup (kernel_turn setup t at (suc i)) (suc i) (moved k' j) y × KernelOf setup (kernel_turn setup t at (suc i)) k') back
+    (subst (λ (q : ℕ). PartOf program setup at q (moved k (q - 1)) x → KernelOf setup at k
+    → PartOf program setup (kernel_turn setup t at q) q (moved k' (q - 1)) y × KernelOf setup (kernel_turn setup t at q) k') number
+    (turn setup at stands kept (Prim.omega (arith, is)) (Prim.omega (arith, is, below)))))
+    same))
   where
     number : p ≡ suc i
     number = is ∙ Prim.omega arith
+
     back : suc i - 1 ≡ i
     back = Prim.omega arith
+
     at : State
     at = kernel_turns setup t s (numbers_from 1 i)
+
     kept : Invariant at
     kept = turns_keep setup t (numbers_from 1 i) s inv
 

@@ -4,7 +4,6 @@
 #![tactic(auto)]
 
 pub mod gate;
-
 pub mod machine;
 pub mod plan;
 pub mod tick;

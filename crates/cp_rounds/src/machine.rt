@@ -83,18 +83,11 @@ fn reserve_all(kernel: &mut Kernel, privates: &[Private]) -> Result<(), AllocErr
 }
 
 // All kernel turns, by number.
-fn all_kernel_turns(
-    program: &Program,
-    kernel: &mut Kernel,
-    privates: &mut [Private],
-    turn: Turn,
-)
+fn all_kernel_turns(program: &Program, kernel: &mut Kernel, privates: &mut [Private], turn: Turn)
     requires ready { AllReady 0 privates.old kernel.old }
-    ensures turns {
-        (setup : Setup) (s : State) → StandsFor program.now setup → Invariant s → length privates.old ≡ process_count setup
+    ensures turns { (setup : Setup) (s : State) → StandsFor program.now setup → Invariant s → length privates.old ≡ process_count setup
         → Stand program.now setup s privates.old kernel.old
-        → Stand program.now setup (r.kernel_turns setup turn.steps s (numbers_from 1 (length privates.old))) privates.new kernel.new
-    }
+        → Stand program.now setup (r.kernel_turns setup turn.steps s (numbers_from 1 (length privates.old))) privates.new kernel.new }
     ensures count { length privates.new ≡ length privates.old }
 {
     for i in 0..privates.len() {
@@ -162,7 +155,12 @@ impl Machine {
         let next = all_turned(self.alloc, &self.program, &self.privates, plan.turn, gate)?;
         reserve_all(&mut self.kernel, &next)?;
         self.privates = next;
-        all_kernel_turns(&self.program, &mut self.kernel, &mut self.privates, plan.turn);
+        all_kernel_turns(
+            &self.program,
+            &mut self.kernel,
+            &mut self.privates,
+            plan.turn,
+        );
         end_round(&self.program, &mut self.kernel, &mut self.privates);
         self.rounds += 1;
         Ok(())

@@ -4,6 +4,6 @@ use Rattle.cp_kernel.proofs.turns.kernel_turn.Goals as goal
 pub returns-clause-turn : goal.returns-clause-turn
 returns-clause-turn c =
     turn_made c.args.program.now c.args.turn.steps c.args.p c.args.kernel.now c.move_output.new.kernel c.kernel_steps.new.kernel
-      c.args.private.now c.move_output.new.private c.kernel_steps.new.private
-      c.move_output.ensures.moved c.move_output.ensures.private c.move_output.ensures.stages c.move_output.ensures.count
-      (rw c.steps.ensures.steps at c.kernel_steps.ensures.turn) c.kernel_steps.ensures.transcripts
+    c.args.private.now c.move_output.new.private c.kernel_steps.new.private
+    c.move_output.ensures.moved c.move_output.ensures.private c.move_output.ensures.stages c.move_output.ensures.count
+    (rw c.steps.ensures.steps at c.kernel_steps.ensures.turn) c.kernel_steps.ensures.transcripts

@@ -28,11 +28,11 @@ loop-i-preserved c =
       bound = omega (arith, below, counted);
       count = counted;
       ready = λ j z b e. ⊎_elim
-        (λ (h : (j ≡ i) × (y ≡ z)). let is = h.0 in absurd (omega (arith, is, b)))
-        (λ (h : (j ≢ i) × (slice_get xs j ≡ Some z)). c.kernel_turn.ensures.others j z (λ f. h.0 (f ∙ back)) (was.ready j z (omega (arith, b)) h.1))
-        (got_set xs i j y z e);
+          (λ (h : (j ≡ i) × (y ≡ z)). let is = h.0 in absurd (omega (arith, is, b)))
+          (λ (h : (j ≢ i) × (slice_get xs j ≡ Some z)). c.kernel_turn.ensures.others j z (λ f. h.0 (f ∙ back)) (was.ready j z (omega (arith, b)) h.1))
+          (got_set xs i j y z e);
       stands = λ setup s stands inv all st.
-        next_turn program setup t i (i + 1) (omega arith) s xs x y c.loop-i.kernel c.kernel_turn.new.kernel inv stands (omega (arith, below, all)) here
+          next_turn program setup t i (i + 1) (omega arith) s xs x y c.loop-i.kernel c.kernel_turn.new.kernel inv stands (omega (arith, below, all)) here
           turn (λ j apart. c.kernel_turn.ensures.moved j (λ f. apart (f ∙ back))) (was.stands setup s stands inv all st);
     }
 

@@ -27,7 +27,7 @@ loop-i-preserved g c =
       bound = bound;
       count = count;
       each = λ j a b e f.
-        each_more (λ j a b. Turned program t (suc j) a b) xs ys x y
+          each_more (λ j a b. Turned program t (suc j) a b) xs ys x y
           (ap (λ (n : ℕ). slice_get xs n) was.count ∙ here)
           (subst (λ (n : ℕ). Turned program t (suc n) x y) (sym was.count) turned)
           was.each j a b e (sym (ap (λ (zs : List Private). slice_get zs j) pushed) ∙ f);

@@ -23,11 +23,11 @@ loop-i-preserved c =
       same = λ setup s h. c.reserve.ensures.same setup s (was.same setup s h);
       moved = λ j. c.reserve.ensures.moved j ∙ was.moved j;
       ready = λ j y b e. dite (ℕ_discrete j i)
-        (λ (is : j ≡ i).
+          (λ (is : j ≡ i).
           subst (λ (n : ℕ). HasRoom c.reserve.new.self n y) (sym is)
           (subst (λ (z : Private). HasRoom c.reserve.new.self i z) (some_is x y (sym here ∙ ap (λ (n : ℕ). slice_get xs n) (sym is) ∙ e))
-            (subst (λ (n : ℕ). HasRoom c.reserve.new.self n x) back c.in_ok-reserve.ensures.room)))
-        (λ (apart : j ≢ i). c.reserve.ensures.others j y (λ f. apart (f ∙ back)) (was.ready j y (omega (arith, b, apart)) e));
+          (subst (λ (n : ℕ). HasRoom c.reserve.new.self n x) back c.in_ok-reserve.ensures.room)))
+          (λ (apart : j ≢ i). c.reserve.ensures.others j y (λ f. apart (f ∙ back)) (was.ready j y (omega (arith, b, apart)) e));
     }
 
 pub returns-clause-ready : goal.returns-clause-ready

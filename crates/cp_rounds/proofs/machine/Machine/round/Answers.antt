@@ -31,9 +31,9 @@ phased_here g c = λ setup s h.
     let lk : length K ≡ length ys = search rules in
     let lw : length W ≡ length K = search rules in
     let made = round_holds program setup t c.args.self.now.rounds s xs ys K W c.args.self.now.kernel c.reserve_all.new.kernel c.all_kernel_turns.new.kernel c.end_round.new.kernel
-        lk lw turned (λ u k. c.reserve_all.ensures.same setup u k) c.reserve_all.ensures.moved
-        (λ u inv st. (rw ey at c.all_kernel_turns.ensures.turns) setup u h.holds.of inv all st)
-        (λ u count st. (rw ez at c.end_round.ensures.ends) setup u h.holds.of count st) h.holds in
+    lk lw turned (λ u k. c.reserve_all.ensures.same setup u k) c.reserve_all.ensures.moved
+    (λ u inv st. (rw ey at c.all_kernel_turns.ensures.turns) setup u h.holds.of inv all st)
+    (λ u count st. (rw ez at c.end_round.ensures.ends) setup u h.holds.of count st) h.holds in
     record {
       holds = subst (λ (ws : List Private). Holds program ws c.end_round.new.kernel (c.args.self.now.rounds + 1) setup (r.phased_round setup t s)) (sym ew) made;
       tick = h.tick;

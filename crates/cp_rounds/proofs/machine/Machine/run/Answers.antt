@@ -14,8 +14,8 @@ returns-then-is_err-clause-partly g c =
       omega arith,
       omega (arith, below),
       λ setup s h.
-        subst (λ (n : ℕ). IsIn c.round.new.self setup (r.run setup t n s)) back
-        (from_err c.round.result (sym c.if-is_err.ensures.value) c.round.ensures.kept setup (r.run setup t done s) (c.loop-done.invariant.stands setup s h)),
+          subst (λ (n : ℕ). IsIn c.round.new.self setup (r.run setup t n s)) back
+          (from_err c.round.result (sym c.if-is_err.ensures.value) c.round.ensures.kept setup (r.run setup t done s) (c.loop-done.invariant.stands setup s h)),
     )
 
 pub loop-done-preserved : goal.loop-done-preserved
@@ -30,8 +30,8 @@ loop-done-preserved g c =
       bound = omega (arith, below);
       count = omega (arith, before, more);
       stands = λ setup s h.
-        subst (λ (u : State). IsIn c.round.new.self setup u) (sym (run_more setup t done s))
-        (from_ok c.round.result (sym c.if-is_err.ensures.value) c.round.ensures.one_processor setup (r.run setup t done s) (was.stands setup s h));
+          subst (λ (u : State). IsIn c.round.new.self setup u) (sym (run_more setup t done s))
+          (from_ok c.round.result (sym c.if-is_err.ensures.value) c.round.ensures.one_processor setup (r.run setup t done s) (was.stands setup s h));
     }
 
 pub returns-clause-done : goal.returns-clause-done
