@@ -6,4 +6,6 @@
 pub mod gate;
 pub mod machine;
 pub mod plan;
+#[cfg(test)]
+mod tests;
 pub mod tick;

@@ -124,6 +124,7 @@ impl Machine {
         tick: Tick,
     ) -> Result<Machine, AllocError>
         requires inputs { length inputs.items ≡ length program.processes.items }
+        ensures rounds { IfOk result (λ machine. machine.rounds ≡ 0) }
         ensures start { IfOk result (λ machine. (setup : Setup) → StandsFor program setup → AreInputs inputs.items setup → setup.tick ≡ tick.rounds → IsIn machine setup (start setup)) }
     {
         let privates = first_privates(alloc, &program, inputs)?;
