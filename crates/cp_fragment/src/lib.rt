@@ -4,4 +4,5 @@
 //! another; the law of `specs/Laws.antt` says that they agree on accepted texts of the fragment.
 #![tactic(auto)]
 
+pub mod law;
 pub mod slot;

@@ -1,0 +1,5 @@
+use Rattle.cp_fragment.proofs.Bodies.{Known}
+use Rattle.cp_fragment.proofs.law.accepted_text_resolves.Goals as goal
+
+pub returns : goal.returns
+returns c = ?
