@@ -1,3 +1,5 @@
 pub mod Names
 pub mod Judging
 pub mod Bodies
+pub mod VariableKinds
+pub mod DeclaredVariables

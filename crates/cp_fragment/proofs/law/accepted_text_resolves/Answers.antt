@@ -1,4 +1,6 @@
 use Rattle.cp_fragment.proofs.Bodies.{Known}
+use Rattle.cp_fragment.proofs.DeclaredVariables.{Base}
+use Rattle.cp_fragment.proofs.VariableKinds.{Kind}
 use Rattle.cp_fragment.proofs.law.accepted_text_resolves.Goals as goal
 
 pub returns : goal.returns
