@@ -131,7 +131,7 @@ entries_variables t (x ∷ xs) = entries_variables t xs
 
 module _ (types : List TypeRow) (systems : List SystemRow) (ss : Systems) where
   -- a sound type is that of the definitions
-  type_found : (x : Identifier) (o v : Option Entity) (t : ℕ) → BaseAs types systems ss x.name o → VariableOrNone v
+  pub type_found : (x : Identifier) (o v : Option Entity) (t : ℕ) → BaseAs types systems ss x.name o → VariableOrNone v
       → then_judge (resolve x (option_or o v)) (c2_type x) ≡ Sound t → TypeAs types systems ss x.name t
   type_found x None None t k g h = absurd (cc)
   type_found x None (Some (entity.Variable u a)) t k g h = absurd (cc)
@@ -210,13 +210,13 @@ with_processes env n = record env { processes = env.processes + n }
 abbrev pub Counted : Environment → Environment → ℕ → Type 0
 Counted env after n = (after ≡ with_processes env n) × (env.processes ≤ 255 → env.processes + n ≤ 255)
 
-counted_none : (env : Environment) → Counted env env 0
+pub counted_none : (env : Environment) → Counted env env 0
 counted_none env = (ap (λ n. record env { processes = n }) (sym (add-zero env.processes)), λ h. omega (arith, h))
 
 not_too_many : (n : ℕ) (b : Bool) → (not (nat_eq (suc n) one_too_many) && b) ≡ true → n ≢ 255
 not_too_many n b h e = true≢false (sym (and_parts (not (nat_eq (suc n) one_too_many)) b h).0 ∙ ap (λ m. not (nat_eq (suc m) one_too_many)) e)
 
-owners_counted : (env : Environment) (y : SystemRow) (xs : List Identifier) → y.sort ≡ sort.Process → (owners_of env y xs).violations ≡ []
+pub owners_counted : (env : Environment) (y : SystemRow) (xs : List Identifier) → y.sort ≡ sort.Process → (owners_of env y xs).violations ≡ []
     → Counted env (owners_of env y xs).env (length xs)
 owners_counted env y [] is h = counted_none env
 owners_counted env y (x ∷ xs) is h =
@@ -230,10 +230,10 @@ owners_counted env y (x ∷ xs) is h =
     ( ap (λ e. (owners_of e y xs).env) one ∙ rest.0 ∙ ap (λ n. record env { processes = n }) (omega arith)
     , λ most. omega (arith, within, most, rest.1 (omega (arith, within, most))))
 
-words_count : (xs : List Identifier) → length (processes_of (with_kind Integer xs)) ≡ 0
+pub words_count : (xs : List Identifier) → length (processes_of (with_kind Integer xs)) ≡ 0
 words_count [] = refl
 words_count (x ∷ xs) = words_count xs
 
-processes_count : (t : Text) (y : s.System) (xs : List Identifier) → length (processes_of (with_kind (OfType t y) xs)) ≡ length xs
+pub processes_count : (t : Text) (y : s.System) (xs : List Identifier) → length (processes_of (with_kind (OfType t y) xs)) ≡ length xs
 processes_count t y [] = refl
 processes_count t y (x ∷ xs) = ap suc (processes_count t y xs)

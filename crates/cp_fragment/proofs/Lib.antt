@@ -3,3 +3,4 @@ pub mod Judging
 pub mod Bodies
 pub mod VariableKinds
 pub mod DeclaredVariables
+pub mod VariableGroups

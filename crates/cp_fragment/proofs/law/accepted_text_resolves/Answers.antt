@@ -1,4 +1,5 @@
 use Rattle.cp_fragment.proofs.Bodies.{Known}
+use Rattle.cp_fragment.proofs.VariableGroups.{Grows}
 use Rattle.cp_fragment.proofs.DeclaredVariables.{Base}
 use Rattle.cp_fragment.proofs.VariableKinds.{Kind}
 use Rattle.cp_fragment.proofs.law.accepted_text_resolves.Goals as goal
