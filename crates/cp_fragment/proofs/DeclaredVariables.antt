@@ -129,6 +129,24 @@ pub entries_variables : (t : ℕ) (xs : List Identifier) → AllVariables (entri
 entries_variables t [] = tt
 entries_variables t (x ∷ xs) = entries_variables t xs
 
+abbrev pub EntityAs : List TypeRow → List SystemRow → Entity → Kind → Type 0
+EntityAs types systems (entity.Variable t a) Integer = t ≡ 0
+EntityAs types systems (entity.Variable t a) (OfType x y) = IsProcessType types systems t
+EntityAs types systems e k = ⊥
+
+abbrev pub Matches : List TypeRow → List SystemRow → Names → Kinds → Type 0
+Matches types systems [] [] = Unit {0}
+Matches types systems (v ∷ vs) (k ∷ ks) = (v.0 ≡ k.0) × EntityAs types systems v.1 k.1 × Matches types systems vs ks
+Matches types systems vs ks = ⊥
+
+abbrev pub FoundAs : Systems → Kind → Type 0
+FoundAs ss Integer = Unit {0}
+FoundAs ss (OfType x y) = lookup x ss ≡ Some y
+
+abbrev pub AllFound : Systems → Kinds → Type 0
+AllFound ss [] = Unit {0}
+AllFound ss (k ∷ ks) = FoundAs ss k.1 × AllFound ss ks
+
 module _ (types : List TypeRow) (systems : List SystemRow) (ss : Systems) where
   -- a sound type is that of the definitions
   pub type_found : (x : Identifier) (o v : Option Entity) (t : ℕ) → BaseAs types systems ss x.name o → VariableOrNone v
@@ -146,52 +164,34 @@ module _ (types : List TypeRow) (systems : List SystemRow) (ss : Systems) where
           cc
   type_found x (Some e) v t k g h = absurd k
 
-  abbrev pub EntityAs : Entity → Kind → Type 0
-  EntityAs (entity.Variable t a) Integer = t ≡ 0
-  EntityAs (entity.Variable t a) (OfType x y) = IsProcessType types systems t
-  EntityAs e k = ⊥
-
-  abbrev pub Matches : Names → Kinds → Type 0
-  Matches [] [] = Unit {0}
-  Matches (v ∷ vs) (k ∷ ks) = (v.0 ≡ k.0) × EntityAs v.1 k.1 × Matches vs ks
-  Matches vs ks = ⊥
-
-  abbrev pub FoundAs : Kind → Type 0
-  FoundAs Integer = Unit {0}
-  FoundAs (OfType x y) = lookup x ss ≡ Some y
-
-  abbrev pub AllFound : Kinds → Type 0
-  AllFound [] = Unit {0}
-  AllFound (k ∷ ks) = FoundAs k.1 × AllFound ks
-
   pub kind_matches : (x : Identifier) (t : ℕ) → TypeAs types systems ss x.name t
-      → EntityAs (own_variable t) (kind_of ss (s.Named x)) × FoundAs (kind_of ss (s.Named x))
-  kind_matches x t (inl h) = subst (λ b. EntityAs (own_variable t) (kind_if b x.name (lookup x.name ss)) × FoundAs (kind_if b x.name (lookup x.name ss)))
+      → EntityAs types systems (own_variable t) (kind_of ss (s.Named x)) × FoundAs ss (kind_of ss (s.Named x))
+  kind_matches x t (inl h) = subst (λ b. EntityAs types systems (own_variable t) (kind_if b x.name (lookup x.name ss)) × FoundAs ss (kind_if b x.name (lookup x.name ss)))
       (sym h.0) (h.1, tt)
   kind_matches x t (inr h) =
       let f : FoundProcess types systems ss x.name t = h.1 in
-      subst (λ b. EntityAs (own_variable t) (kind_if b x.name (lookup x.name ss)) × FoundAs (kind_if b x.name (lookup x.name ss))) (sym h.0)
-      (subst (λ o. EntityAs (own_variable t) (kind_if false x.name o) × FoundAs (kind_if false x.name o)) (sym f.found) (f.is_process, f.found))
+      subst (λ b. EntityAs types systems (own_variable t) (kind_if b x.name (lookup x.name ss)) × FoundAs ss (kind_if b x.name (lookup x.name ss))) (sym h.0)
+      (subst (λ o. EntityAs types systems (own_variable t) (kind_if false x.name o) × FoundAs ss (kind_if false x.name o)) (sym f.found) (f.is_process, f.found))
 
-  pub entries_match : (t : ℕ) (k : Kind) (xs : List Identifier) → EntityAs (own_variable t) k → Matches (entries (own_variable t) xs) (with_kind k xs)
+  pub entries_match : (t : ℕ) (k : Kind) (xs : List Identifier) → EntityAs types systems (own_variable t) k → Matches types systems (entries (own_variable t) xs) (with_kind k xs)
   entries_match t k [] h = tt
   entries_match t k (x ∷ xs) h = (refl, h, entries_match t k xs h)
 
-  pub entries_found : (k : Kind) (xs : List Identifier) → FoundAs k → AllFound (with_kind k xs)
+  pub entries_found : (k : Kind) (xs : List Identifier) → FoundAs ss k → AllFound ss (with_kind k xs)
   entries_found k [] h = tt
   entries_found k (x ∷ xs) h = (h, entries_found k xs h)
 
-  pub matches_append : (vs ws : Names) (ks ls : Kinds) → Matches vs ks → Matches ws ls → Matches (vs ++ ws) (ks ++ ls)
+  pub matches_append : (vs ws : Names) (ks ls : Kinds) → Matches types systems vs ks → Matches types systems ws ls → Matches types systems (vs ++ ws) (ks ++ ls)
   matches_append [] ws [] ls h g = g
   matches_append (v ∷ vs) ws (k ∷ ks) ls h g = (h.0, h.1, matches_append vs ws ks ls h.2 g)
   matches_append [] ws (k ∷ ks) ls h g = absurd h
   matches_append (v ∷ vs) ws [] ls h g = absurd h
 
-  pub found_append : (ks ls : Kinds) → AllFound ks → AllFound ls → AllFound (ks ++ ls)
+  pub found_append : (ks ls : Kinds) → AllFound ss ks → AllFound ss ls → AllFound ss (ks ++ ls)
   found_append [] ls h g = g
   found_append (k ∷ ks) ls h g = (h.0, found_append ks ls h.1 g)
 
-  pub keys_match : (vs : Names) (ks : Kinds) → Matches vs ks → keys vs ≡ keys ks
+  pub keys_match : (vs : Names) (ks : Kinds) → Matches types systems vs ks → keys vs ≡ keys ks
   keys_match [] [] h = refl
   keys_match (v ∷ vs) (k ∷ ks) h = ap₂ (λ x l. x ∷ l) h.0 (keys_match vs ks h.2)
   keys_match [] (k ∷ ks) h = absurd h

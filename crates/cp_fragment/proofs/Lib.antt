@@ -4,3 +4,5 @@ pub mod Bodies
 pub mod VariableKinds
 pub mod DeclaredVariables
 pub mod VariableGroups
+pub mod KnownNames
+pub mod MeantVariables

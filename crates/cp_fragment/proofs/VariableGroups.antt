@@ -29,23 +29,23 @@ use Rattle.cp_fragment.proofs.DeclaredVariables.{AllFound, AllVariables, Base, B
 abbrev group_count : Position → Kind → List Identifier → ℕ
 group_count p k xs = count_at p (with_kind k xs)
 
-initial_counted : (ss : Systems) (env : Environment) (t : ℕ) (k : Kind) (xs : List Identifier) → IntegerRow env.types → EntityAs env.types env.systems ss (own_variable t) k
+initial_counted : (env : Environment) (t : ℕ) (k : Kind) (xs : List Identifier) → IntegerRow env.types → EntityAs env.types env.systems (own_variable t) k
     → (owners_in env (row_of env t).structure xs).violations ≡ []
     → Counted env (owners_in env (row_of env t).structure xs).env (length (processes_of (with_kind k xs)))
-initial_counted ss env t Integer xs row h g =
+initial_counted env t Integer xs row h g =
     let simple : (row_of env t).structure ≡ structure.Simple integer _ _ = ap (λ u. (row_of env u).structure) h ∙ ap (λ r. r.structure) row in
     subst (λ st. Counted env (owners_in env st xs).env (length (processes_of (with_kind Integer xs)))) (sym simple)
     (subst (Counted env env) (sym (words_count xs)) (counted_none env))
-initial_counted ss env t (OfType x y) xs row h g =
+initial_counted env t (OfType x y) xs row h g =
     subst (λ st. Counted env (owners_in env st xs).env (length (processes_of (with_kind (OfType x y) xs)))) (sym h.structure)
     (subst (λ n. Counted env (owners_in env (structure.System h.row) xs).env n) (sym (processes_count x y xs))
     (owners_counted env (system_row env h.row) xs h.sort (subst (λ st. (owners_in env st xs).violations ≡ []) h.structure g)))
 
-group_counted : (ss : Systems) (env : Environment) (p : Position) (t : ℕ) (k : Kind) (xs : List Identifier) → IntegerRow env.types
-    → EntityAs env.types env.systems ss (own_variable t) k → (owners env p (Sound t) xs).violations ≡ []
+group_counted : (env : Environment) (p : Position) (t : ℕ) (k : Kind) (xs : List Identifier) → IntegerRow env.types
+    → EntityAs env.types env.systems (own_variable t) k → (owners env p (Sound t) xs).violations ≡ []
     → Counted env (owners env p (Sound t) xs).env (group_count p k xs)
-group_counted ss env position.InitialVariable t k xs row h g = initial_counted ss env t k xs row h g
-group_counted ss env p t k xs row h g = counted_none env
+group_counted env position.InitialVariable t k xs row h g = initial_counted env t k xs row h g
+group_counted env p t k xs row h g = counted_none env
 
 -- ---- groups
 
@@ -57,8 +57,8 @@ pub record Grows (ss : Systems) (env : Environment) (p : Position) (after : Envi
   pub entries : Names
   pub after_is : after ≡ grown env entries (count_at p ks)
   pub variables : AllVariables entries
-  pub matches : Matches env.types env.systems ss entries ks
-  pub found : AllFound env.types env.systems ss ks
+  pub matches : Matches env.types env.systems entries ks
+  pub found : AllFound ss ks
   pub new : NewNames (keys env.names) (keys ks)
   pub most : env.processes ≤ 255 → env.processes + count_at p ks ≤ 255
 
@@ -113,13 +113,13 @@ module _ (ss : Systems) (env : Environment) (p : Position) (tx : Identifier) (xs
       let is_hidden : defined.env ≡ hidden = all_declared env unfinished_variable xs new in
       let known : TypeAs env.types env.systems ss tx.name t = group_type seen fits t (sym (ap placed is_hidden) ∙ type.1) in
       let kind : Kind = kind_of ss (s.Named tx) in
-      let is : EntityAs env.types env.systems ss (own_variable t) kind × FoundAs env.types env.systems ss kind = kind_matches env.types env.systems ss tx t known in
+      let is : EntityAs env.types env.systems (own_variable t) kind × FoundAs ss kind = kind_matches env.types env.systems ss tx t known in
       let shown : Environment = with_names (env.names ++ entries (own_variable t) xs) env in
       let counted_is : counted_in defined.env (placed defined.env) ≡ owners shown p (Sound t) xs =
           ap (counted_in defined.env) type.1 ∙ ap (λ e. counted_in e (Sound t)) is_hidden
           ∙ ap (λ e. owners e p (Sound t) xs) (all_declared env (own_variable t) xs new) in
       let counted : Counted shown (owners shown p (Sound t) xs).env (group_count p kind xs) =
-          group_counted ss shown p t kind xs seen.integer_row is.0 (sym (ap (λ d. d.violations) counted_is) ∙ rest_empty (defined.violations ++ violations_of (placed defined.env)) _ h) in
+          group_counted shown p t kind xs seen.integer_row is.0 (sym (ap (λ d. d.violations) counted_is) ∙ rest_empty (defined.violations ++ violations_of (placed defined.env)) _ h) in
       record {
         entries = entries (own_variable t) xs;
         after_is = ap (λ d. d.env) counted_is ∙ counted.0;

@@ -1,4 +1,6 @@
 use Rattle.cp_fragment.proofs.Bodies.{Known}
+use Rattle.cp_fragment.proofs.KnownNames.{known_names}
+use Rattle.cp_fragment.proofs.MeantVariables.{variables_meant}
 use Rattle.cp_fragment.proofs.VariableGroups.{Grows}
 use Rattle.cp_fragment.proofs.DeclaredVariables.{Base}
 use Rattle.cp_fragment.proofs.VariableKinds.{Kind}
