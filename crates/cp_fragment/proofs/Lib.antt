@@ -6,3 +6,4 @@ pub mod DeclaredVariables
 pub mod VariableGroups
 pub mod KnownNames
 pub mod MeantVariables
+pub mod DefinedSystems
