@@ -87,7 +87,7 @@ module _ (ss : Systems) (env : Environment) (x : Identifier) (vs : List s.Variab
   }
 
   -- the parts of what is told
-  new_name : (define_system env x (process_of vs b)).violations ≡ [] → c1_declared env x ≡ []
+  pub new_name : (define_system env x (process_of vs b)).violations ≡ [] → c1_declared env x ≡ []
   new_name h = first_empty (c1_declared env x) [] (first_empty _ own.violations (first_empty _ [] (first_empty _ (statements own.env b.list) h)))
 
   sound_variables : (define_system env x (process_of vs b)).violations ≡ [] → own.violations ≡ []

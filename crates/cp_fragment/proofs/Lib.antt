@@ -7,3 +7,4 @@ pub mod VariableGroups
 pub mod KnownNames
 pub mod MeantVariables
 pub mod DefinedSystems
+pub mod Definitions

@@ -1,4 +1,5 @@
 use Rattle.cp_fragment.proofs.Bodies.{Known}
+use Rattle.cp_fragment.proofs.Definitions.{Scope}
 use Rattle.cp_fragment.proofs.DefinedSystems.{body_sound}
 use Rattle.cp_fragment.proofs.KnownNames.{known_names}
 use Rattle.cp_fragment.proofs.MeantVariables.{variables_meant}
