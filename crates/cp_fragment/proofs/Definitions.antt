@@ -171,7 +171,7 @@ process_defined ss g vs b means fits =
     ∙ integers_are_members (kinds ss vs) (all_integers ss vs fits)
     ∙ ap integer_members (sym (word_names-is ss vs)))
 
-some_is : {A : Type 0} {x y : A} → Some x ≡ Some y → x ≡ y
+pub some_is : {A : Type 0} {x y : A} → Some x ≡ Some y → x ≡ y
 some_is {A} {x} {y} h = ap (λ o. or_x o) h
   where
     or_x : Option A → A

@@ -8,3 +8,9 @@ pub mod KnownNames
 pub mod MeantVariables
 pub mod DefinedSystems
 pub mod Definitions
+pub mod ProcessKinds
+pub mod Words
+pub mod StartValues
+pub mod Owners
+pub mod SoundTexts
+pub mod Resolves

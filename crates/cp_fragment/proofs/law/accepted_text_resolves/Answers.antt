@@ -1,4 +1,8 @@
 use Rattle.cp_fragment.proofs.Bodies.{Known}
+use Rattle.cp_fragment.proofs.SoundTexts.{TextSound}
+use Rattle.cp_fragment.proofs.Resolves as r
+use Rattle.cp_fragment.proofs.StartValues.{kind_zero}
+use Rattle.cp_fragment.proofs.Words.{word_named}
 use Rattle.cp_fragment.proofs.Definitions.{Scope}
 use Rattle.cp_fragment.proofs.DefinedSystems.{body_sound}
 use Rattle.cp_fragment.proofs.KnownNames.{known_names}
