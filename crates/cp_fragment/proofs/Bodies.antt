@@ -1,9 +1,9 @@
 -- In a body in which nothing is broken each name has a slot.
-use Rattle.std.proofs.Common.{◌≡◌, ◌⊎◌, inl, inr, ℕ, Bool, true, false, ◌&&◌, not, List, [], ◌∷◌, ◌++◌, Option, Some, None, nat_eq, refl, ap, sym, subst, ◌∙◌, codes, bytes_eq}
+use Rattle.std.proofs.Common.{◌≡◌, ◌⊎◌, inl, inr, ℕ, Bool, true, false, ◌&&◌, not, List, [], ◌∷◌, ◌++◌, Option, Some, None, nat_eq, refl, ap, sym, subst, ◌∙◌, codes}
 use Rattle.std.proofs.lemmas.Bool.{true≢false, and_parts}
 use Rattle.cp_model.specs.Syntax as s
 use Rattle.cp_model.specs.declared.tree.Identifier.{Identifier}
-use Rattle.cp_model.specs.declared.rules.Rule.TheVariants.{C2, C12}
+use Rattle.cp_model.specs.declared.rules.Rule.TheVariants.{C2}
 use Rattle.cp_model.specs.declared.rules.Access.{Access}
 use Rattle.cp_model.specs.declared.rules.Access.TheVariants as access
 use Rattle.cp_model.specs.declared.rules.Entity.{Entity}
@@ -12,17 +12,16 @@ use Rattle.cp_model.specs.declared.rules.Structure.{Structure}
 use Rattle.cp_model.specs.declared.rules.Structure.TheVariants as structure
 use Rattle.cp_model.specs.declared.rules.Standard.TheVariants as standard
 use Rattle.cp_model.specs.declared.rules.Want.TheVariants as want
-use Rattle.cp_model.specs.declared.rules.Gives.TheVariants as gives
 use Rattle.cp_model.specs.declared.rules.Mode.TheVariants as mode
-use Rattle.cp_model.specs.RulesJudged.{Judged, Sound, Broken, Violations, violations_of, also, both, then_judge, provided}
+use Rattle.cp_model.specs.RulesJudged.{Judged, Sound, violations_of, also, then_judge}
 use Rattle.cp_model.specs.RulesEnvironment.{Environment, Text, lookup, resolve, c1_named, is_some, is_component, system_of, system_in, base_in, bases_agree, is_structured, row_of, agree}
-use Rattle.cp_model.specs.RulesNames.{Callee, c8_named, c10_designator, c2_indexed, count_of, first_token, procedure_of, value_of}
-use Rattle.cp_model.specs.RulesExpressions.{argument, arguments, c2_operand, c2_operands, designated, judge, result_of, wants_in}
-use Rattle.cp_model.specs.RulesStatements.{assigned, c12_component, c12_count, c12_init, c2_sides, init_arguments, init_item, init_items, is_component_type, judged_unless, left, left_by, lone_component, other_left, parameters_in, performed, right, statement, statements, system_initialised}
-use Rattle.cp_fragment.specs.Fragment.{calls_display, designator_fits, expression_fits, is_display, is_none, is_one_that_fits, items_fit, name_fits, operator_fits, statement_fits, statements_fit}
+use Rattle.cp_model.specs.RulesNames.{Callee, c8_named, c10_designator, c2_indexed, count_of, procedure_of, value_of}
+use Rattle.cp_model.specs.RulesExpressions.{argument, arguments, c2_operands, judge, result_of, wants_in}
+use Rattle.cp_model.specs.RulesStatements.{assigned, c12_component, c12_count, c12_init, c2_sides, init_arguments, init_item, init_items, judged_unless, left, left_by, lone_component, other_left, parameters_in, performed, right, statement, statements, system_initialised}
+use Rattle.cp_fragment.specs.Fragment.{expression_fits, is_display, is_none, items_fit, name_fits, operator_fits, statement_fits, statements_fit}
 use Rattle.cp_fragment.specs.Slots.{IsProcess, IsWord, ResolvedExpression, ResolvedItems, ResolvedStatement, ResolvedStatements, Slots}
 use Rattle.cp_fragment.proofs.Names.{bytes_same}
-use Rattle.cp_fragment.proofs.Judging.{BothSound, also_rest, also_sound, both_parts, first_empty, provided_holds, rest_empty, sound_has, sound_is_empty, then_first, then_rest}
+use Rattle.cp_fragment.proofs.Judging.{BothSound, also_rest, also_sound, both_parts, first_empty, provided_holds, rest_empty, sound_is_empty, then_first}
 
 -- ---- what the names of the fragment stand for
 
@@ -72,7 +71,7 @@ module _ (env : Environment) (ss : Slots) where
       go : (d : _) → d ≡ standard.Display → violations_of (value_of env mode.Value (s.Designate x s.NoSelectors) (entity.Standard d)) ≡ [] → ⊥
       go d e h =
           let g : violations_of (value_of env mode.Value (s.Designate x s.NoSelectors) (entity.Standard standard.Display)) ≡ [] =
-              subst (λ z. violations_of (value_of env mode.Value (s.Designate x s.NoSelectors) (entity.Standard z)) ≡ []) e h in
+          subst (λ z. violations_of (value_of env mode.Value (s.Designate x s.NoSelectors) (entity.Standard z)) ≡ []) e h in
           cc
   value_known x (Some (entity.Variable t a)) k h =
       the_word x.name t k (not_is (is_component env t) (provided_holds (not (is_component env t)) C2 x.at t h))
@@ -96,9 +95,10 @@ module _ (env : Environment) (ss : Slots) where
   expression_resolved known (s.Binary a o at b) fits h =
       let sides : BothSound (judge env mode.Value a) (judge env mode.Value b) (c2_operands env o at) = both_parts _ _ _ h in
       let parts : ((expression_fits a && operator_fits o) ≡ true) × (expression_fits b ≡ true) = and_parts (expression_fits a && operator_fits o) _ fits in
-      let left : (expression_fits a ≡ true) × (operator_fits o ≡ true) = and_parts (expression_fits a) _ parts.0 in
-      ( expression_resolved known a left.0 (sound_is_empty _ _ sides.left)
-      , expression_resolved known b parts.1 (sound_is_empty _ _ sides.right))
+      let left : (expression_fits a ≡ true) × (operator_fits o ≡ true) = and_parts (expression_fits a) _ parts.0 in (
+        expression_resolved known a left.0 (sound_is_empty _ _ sides.left),
+        expression_resolved known b parts.1 (sound_is_empty _ _ sides.right),
+      )
 
   -- ---- left sides
 
@@ -112,7 +112,7 @@ module _ (env : Environment) (ss : Slots) where
       go : (d : _) → d ≡ standard.Display → value_of env mode.Variable (s.Designate x s.NoSelectors) (entity.Standard d) ≡ Sound t → ⊥
       go d e h =
           let g : value_of env mode.Variable (s.Designate x s.NoSelectors) (entity.Standard standard.Display) ≡ Sound t =
-              subst (λ z. value_of env mode.Variable (s.Designate x s.NoSelectors) (entity.Standard z) ≡ Sound t) e h in
+          subst (λ z. value_of env mode.Variable (s.Designate x s.NoSelectors) (entity.Standard z) ≡ Sound t) e h in
           cc
   left_known x (Some (entity.Variable u a)) t k h =
       let same : u ≡ t = cc in
@@ -152,12 +152,13 @@ module _ (env : Environment) (ss : Slots) where
       let d : s.Designator = s.Designate x s.NoSelectors in
       let sides : BothSound (left env d) (right env (left env d) e) (c2_sides env at) = both_parts _ _ _ h in
       let alone : is_component env sides.x ≡ false =
-          agrees_alone (row_of env sides.x).structure (row_of env sides.y).structure (nat_eq sides.x sides.y) (provided_holds (agree env sides.x sides.y) C2 at sides.x sides.outside) in
+      agrees_alone (row_of env sides.x).structure (row_of env sides.y).structure (nat_eq sides.x sides.y) (provided_holds (agree env sides.x sides.y) C2 at sides.x sides.outside) in
       let value : judge env mode.Value e ≡ Sound sides.y =
-          sym (ap (λ b. judged_unless (judge env mode.Value e) b (lone_component env e)) alone)
-          ∙ sym (ap (λ j. right env j e) sides.left) ∙ sides.right in
-      ( the_word x.name sides.x (left_variable known x sides.x fits sides.left) alone
-      , expression_resolved known e fits_too (sound_is_empty _ _ value))
+      sym (ap (λ b. judged_unless (judge env mode.Value e) b (lone_component env e)) alone)
+      ∙ sym (ap (λ j. right env j e) sides.left) ∙ sides.right in (
+        the_word x.name sides.x (left_variable known x sides.x fits sides.left) alone,
+        expression_resolved known e fits_too (sound_is_empty _ _ value),
+      )
 
   -- ---- display
 
@@ -204,7 +205,7 @@ module _ (env : Environment) (ss : Slots) where
       go : (d : _) → d ≡ standard.Display → violations_of (c12_component env x (entity.Standard d)) ≡ [] → ⊥
       go d e h =
           let g : violations_of (c12_component env x (entity.Standard standard.Display)) ≡ [] =
-              subst (λ z. violations_of (c12_component env x (entity.Standard z)) ≡ []) e h in
+          subst (λ z. violations_of (c12_component env x (entity.Standard z)) ≡ []) e h in
           cc
   initialised_known x (Some (entity.Variable t a)) k h = the_process x.name t k (own_component x a (system_of env t) h)
   initialised_known x (Some e) k h = absurd k
@@ -218,17 +219,18 @@ module _ (env : Environment) (ss : Slots) where
       let x : Identifier = i.component in
       let component : Judged ℕ = then_judge (c1_named env x) (c12_component env x) in
       let sound : violations_of (then_judge component (c12_count env x (count_of i.arguments))) ≡ [] =
-          rest_empty (c8_named env mode.Value x) _ (first_empty _ (init_arguments env (parameters_in env (then_judge component (c12_count env x (count_of i.arguments)))) i.arguments) h) in
+      rest_empty (c8_named env mode.Value x) _ (first_empty _ (init_arguments env (parameters_in env (then_judge component (c12_count env x (count_of i.arguments)))) i.arguments) h) in
       initialised_known x (lookup x.name env.names) (known.names x fits) (then_first component _ sound)
 
   items_resolved : Known env ss → (is : List s.InitItem) → items_fit is ≡ true → init_items env is ≡ [] → ResolvedItems ss is
   items_resolved known [] fits h = tt
   items_resolved known (i ∷ is) fits h =
       let parts : ((name_fits i.component && is_none i.arguments) ≡ true) × (items_fit is ≡ true) = and_parts (name_fits i.component && is_none i.arguments) _ fits in
-      let item : (name_fits i.component ≡ true) × (is_none i.arguments ≡ true) = and_parts (name_fits i.component) _ parts.0 in
-      ( item_process known i item.0 (first_empty (init_item env i) _ h)
-      , none_is i.arguments item.1
-      , items_resolved known is parts.1 (rest_empty (init_item env i) _ h))
+      let item : (name_fits i.component ≡ true) × (is_none i.arguments ≡ true) = and_parts (name_fits i.component) _ parts.0 in (
+        item_process known i item.0 (first_empty (init_item env i) _ h),
+        none_is i.arguments item.1,
+        items_resolved known is parts.1 (rest_empty (init_item env i) _ h),
+      )
 
   -- ---- statements
 
@@ -255,6 +257,7 @@ module _ (env : Environment) (ss : Slots) where
     pub statements_resolved : Known env ss → (l : s.Statements) → statements_fit l ≡ true → statements env l ≡ [] → ResolvedStatements ss l
     statements_resolved known s.NoStatements fits h = tt
     statements_resolved known (s.MoreStatements x xs) fits h =
-        let parts : (statement_fits x ≡ true) × (statements_fit xs ≡ true) = and_parts (statement_fits x) _ fits in
-        ( statement_resolved known x parts.0 (first_empty (statement env x) _ h)
-        , statements_resolved known xs parts.1 (rest_empty (statement env x) _ h))
+        let parts : (statement_fits x ≡ true) × (statements_fit xs ≡ true) = and_parts (statement_fits x) _ fits in (
+          statement_resolved known x parts.0 (first_empty (statement env x) _ h),
+          statements_resolved known xs parts.1 (rest_empty (statement env x) _ h),
+        )

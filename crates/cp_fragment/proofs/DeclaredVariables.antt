@@ -1,13 +1,11 @@
 -- What the rules know behind the variables of a fragment in which nothing is broken.
-use Rattle.std.proofs.Common.{◌≡◌, ◌⊎◌, inl, inr, ◌≤◌, ◌<◌, ℕ, ℤ, pos, negsuc, zero, suc, ◌+◌, Bool, true, false, not, ◌≢◌, ◌&&◌, ◌||◌, List, [], ◌∷◌, ◌++◌, Option, Some, None, if◌then◌else◌, nat_eq, get_or, length, map, refl, ap, ap₂, sym, subst, ◌∙◌, arith, append_assoc, append-nil, add-zero, add_assoc, codes, bytes_eq}
-use Rattle.std.specs.Option.{option_or, unwrap_or}
+use Rattle.std.proofs.Common.{◌≡◌, ◌⊎◌, inl, inr, ◌≤◌, ◌<◌, ℕ, pos, negsuc, suc, ◌+◌, Bool, true, false, not, ◌≢◌, ◌&&◌, List, [], ◌∷◌, ◌++◌, Option, Some, None, if◌then◌else◌, nat_eq, get_or, length, map, refl, ap, ap₂, sym, subst, ◌∙◌, arith, append_assoc, append-nil, add-zero, bytes_eq}
+use Rattle.std.specs.Option.{option_or}
 use Rattle.std.proofs.lemmas.Bool.{true≢false, and_parts}
 use Rattle.cp_model.specs.Syntax as s
 use Rattle.cp_model.specs.declared.tree.Identifier.{Identifier}
-use Rattle.cp_model.specs.declared.tree.Sort.{Sort}
 use Rattle.cp_model.specs.declared.tree.Sort.TheVariants as sort
-use Rattle.cp_model.specs.declared.rules.Rule.TheVariants.{C1, C6, C8, C13}
-use Rattle.cp_model.specs.declared.rules.Access.TheVariants as access
+use Rattle.cp_model.specs.declared.rules.Rule.TheVariants.{C1, C13}
 use Rattle.cp_model.specs.declared.rules.Entity.{Entity}
 use Rattle.cp_model.specs.declared.rules.Entity.TheVariants as entity
 use Rattle.cp_model.specs.declared.rules.Structure.TheVariants as structure
@@ -16,15 +14,15 @@ use Rattle.cp_model.specs.declared.rules.TypeRow.{TypeRow}
 use Rattle.cp_model.specs.declared.rules.SystemRow.{SystemRow}
 use Rattle.cp_model.specs.declared.rules.Position.{Position}
 use Rattle.cp_model.specs.declared.rules.Position.TheVariants as position
-use Rattle.cp_model.specs.RulesJudged.{Judged, Sound, Broken, Violations, violations_of, unless, also, then_judge, provided}
-use Rattle.cp_model.specs.RulesEnvironment.{Environment, Names, Text, c1_declared, declare, declare_if_new, entity_of, integer, is_some, lookup, no_system as no_row, queue_row, resolve, row_of, simple_row, system_row, with_names}
-use Rattle.cp_model.specs.RulesTypes.{c2_type, c6_c8_placed, is_within, named_type, type_placed}
-use Rattle.cp_model.specs.RulesDeclarations.{Declared, Variables, c13_owner, declare_all, one_too_many, own_variable, owners, owners_of, unfinished_variable, variable_group, variables, with_owner}
-use Rattle.cp_fragment.specs.Fragment.{is_integer, is_type_that_fits, name_fits, names_fit, variables_fit}
+use Rattle.cp_model.specs.RulesJudged.{Sound, then_judge}
+use Rattle.cp_model.specs.RulesEnvironment.{Environment, Names, Text, c1_declared, declare, declare_if_new, integer, is_some, lookup, no_system as no_row, queue_row, resolve, simple_row, with_names}
+use Rattle.cp_model.specs.RulesTypes.{c2_type, is_within}
+use Rattle.cp_model.specs.RulesDeclarations.{c13_owner, declare_all, one_too_many, own_variable, owners_of, with_owner}
+use Rattle.cp_fragment.specs.Fragment.{is_integer, name_fits}
 use Rattle.cp_fragment.specs.Slots.{text_of}
-use Rattle.cp_fragment.proofs.Names.{NewNames, keys, keys-append, lookup-append, lookup_none, new_append, none_has}
-use Rattle.cp_fragment.proofs.Judging.{also_rest, first_empty, rest_empty, sound_has, sound_is_empty, then_first, then_rest, unless_holds}
-use Rattle.cp_fragment.proofs.VariableKinds.{Integer, Kind, Kinds, OfType, Systems, kind_if, kind_of, kinds, with_kind, processes_of}
+use Rattle.cp_fragment.proofs.Names.{NewNames, keys, keys-append, lookup_none, none_has}
+use Rattle.cp_fragment.proofs.Judging.{first_empty, rest_empty, unless_holds}
+use Rattle.cp_fragment.proofs.VariableKinds.{Integer, Kind, Kinds, OfType, Systems, kind_if, kind_of, with_kind, processes_of}
 
 -- ---- names that are declared
 
@@ -54,7 +52,7 @@ all_new env e (x ∷ xs) h =
     let none : lookup x.name env.names ≡ None = declared_new env x (first_empty (c1_declared env x) _ h) in
     let rest : NewNames (keys (declare x e env).names) (map text_of xs) = all_new (declare x e env) e xs (rest_empty (c1_declared env x) _ h) in
     let behind : keys (declare x e env).names ≡ keys env.names ++ x.name ∷ [] =
-        ap (λ d. keys d.names) (declare_new env x e none) ∙ keys-append env.names ((x.name, e) ∷ []) in
+    ap (λ d. keys d.names) (declare_new env x e none) ∙ keys-append env.names ((x.name, e) ∷ []) in
     (none_has x.name env.names none, subst (λ ks. NewNames ks (map text_of xs)) behind rest)
 
 pub all_declared : (env : Environment) (e : Entity) (xs : List Identifier) → NewNames (keys env.names) (map text_of xs)
@@ -63,7 +61,7 @@ all_declared env e [] h = ap (λ ns. with_names ns env) (sym (append-nil env.nam
 all_declared env e (x ∷ xs) h =
     let one : declare x e env ≡ with_names (env.names ++ (x.name, e) ∷ []) env = declare_new env x e (lookup_none x.name env.names h.0) in
     let new : NewNames (keys (env.names ++ (x.name, e) ∷ [])) (map text_of xs) =
-        subst (λ ks. NewNames ks (map text_of xs)) (sym (keys-append env.names ((x.name, e) ∷ []))) h.1 in
+    subst (λ ks. NewNames ks (map text_of xs)) (sym (keys-append env.names ((x.name, e) ∷ []))) h.1 in
     ap (λ d. (declare_all d e xs).env) one
     ∙ all_declared (with_names (env.names ++ (x.name, e) ∷ []) env) e xs new
     ∙ ap (λ ns. with_names ns env) (append_assoc env.names ((x.name, e) ∷ []) (entries e xs))
@@ -223,12 +221,13 @@ owners_counted env y (x ∷ xs) is h =
     let next : Environment = record env { processes = suc env.processes } in
     let one : with_owner env y.sort ≡ next = ap (with_owner env) is in
     let none : (owners_of next y xs).violations ≡ [] =
-        sym (ap (λ e. (owners_of e y xs).violations) one) ∙ rest_empty (c13_owner env x y y.sort) _ h in
+    sym (ap (λ e. (owners_of e y xs).violations) one) ∙ rest_empty (c13_owner env x y y.sort) _ h in
     let rest : Counted next (owners_of next y xs).env (length xs) = owners_counted next y xs is none in
     let within : env.processes ≢ 255 =
-        not_too_many env.processes (is_within y.words) (unless_holds _ C13 x.at (sym (ap (c13_owner env x y) is) ∙ first_empty (c13_owner env x y y.sort) _ h)) in
-    ( ap (λ e. (owners_of e y xs).env) one ∙ rest.0 ∙ ap (λ n. record env { processes = n }) (omega arith)
-    , λ most. omega (arith, within, most, rest.1 (omega (arith, within, most))))
+    not_too_many env.processes (is_within y.words) (unless_holds _ C13 x.at (sym (ap (c13_owner env x y) is) ∙ first_empty (c13_owner env x y y.sort) _ h)) in (
+      ap (λ e. (owners_of e y xs).env) one ∙ rest.0 ∙ ap (λ n. record env { processes = n }) (omega arith),
+      λ most. omega (arith, within, most, rest.1 (omega (arith, within, most))),
+    )
 
 pub words_count : (xs : List Identifier) → length (processes_of (with_kind Integer xs)) ≡ 0
 words_count [] = refl

@@ -1,7 +1,6 @@
 -- What the rules know behind one system type of the fragment, and what is sound in it.
-use Rattle.std.proofs.Common.{◌≡◌, ◌<◌, ℕ, ◌+◌, Bool, true, false, ◌&&◌, List, [], ◌∷◌, ◌++◌, Option, Some, None, if◌then◌else◌, get_or, length, refl, ap, sym, subst, ◌∙◌, append-nil, add-zero, codes, bytes_eq}
+use Rattle.std.proofs.Common.{◌≡◌, ℕ, ◌+◌, Bool, true, false, List, [], ◌∷◌, ◌++◌, Option, Some, None, if◌then◌else◌, length, refl, ap, sym, subst, ◌∙◌, append-nil, add-zero, codes, bytes_eq}
 use Rattle.std.specs.Option.{option_or}
-use Rattle.std.proofs.lemmas.Bool.{true≢false, and_parts}
 use Rattle.cp_model.specs.Syntax as s
 use Rattle.cp_model.specs.declared.tree.Identifier.{Identifier}
 use Rattle.cp_model.specs.declared.tree.Sort.TheVariants as sort
@@ -13,18 +12,18 @@ use Rattle.cp_model.specs.declared.rules.TypeRow.{TypeRow}
 use Rattle.cp_model.specs.declared.rules.SystemRow.{SystemRow}
 use Rattle.cp_model.specs.declared.rules.Part.TheVariants as part
 use Rattle.cp_model.specs.declared.rules.Position.TheVariants as position
-use Rattle.cp_model.specs.RulesEnvironment.{Environment, Names, Text, c1_declared, declare, declare_if_new, lookup, process_body, with_names}
+use Rattle.cp_model.specs.RulesEnvironment.{Environment, Names, c1_declared, declare, declare_if_new, lookup}
 use Rattle.cp_model.specs.RulesTypes.{capped, has_name}
 use Rattle.cp_model.specs.RulesNeeds.{need_statements}
 use Rattle.cp_model.specs.RulesStatements.{statements}
 use Rattle.cp_model.specs.RulesDeclarations.{Variables, variables}
 use Rattle.cp_model.specs.Rules.{define_system}
-use Rattle.cp_fragment.specs.Fragment.{integers_fit, name_fits, statements_fit}
+use Rattle.cp_fragment.specs.Fragment.{integers_fit, statements_fit}
 use Rattle.cp_fragment.specs.Slots.{ResolvedStatements, slots}
 use Rattle.cp_fragment.proofs.Names.{Distinct, NewNames, has_first, keys, keys-append, lookup-append, lookup_first, new_is_distinct, there_is_not_new}
 use Rattle.cp_fragment.proofs.Judging.{first_empty, rest_empty}
 use Rattle.cp_fragment.proofs.Bodies.{Known, statements_resolved}
-use Rattle.cp_fragment.proofs.VariableKinds.{Kinds, Systems, integers_fit_too, kinds, kinds_of_integers, slots_from-is, slots_of}
+use Rattle.cp_fragment.proofs.VariableKinds.{Systems, integers_fit_too, kinds, kinds_of_integers, slots_from-is, slots_of}
 use Rattle.cp_fragment.proofs.DeclaredVariables.{Base, BaseAs, IntegerRow, declare_new, declared_new}
 use Rattle.cp_fragment.proofs.VariableGroups.{Grows, Visible, grown, variables_grow}
 use Rattle.cp_fragment.proofs.KnownNames.{known_names}
@@ -153,16 +152,16 @@ module _ (ss : Systems) (env : Environment) (x : Identifier) (vs : List s.Variab
       let none : lookup x.name env.names ≡ None = declared_new env x (new_name h) in
       let behind : Environment = grown inside grow.entries 0 in
       let known : Known behind (slots_of 0 2 (kinds ss vs)) =
-          known_names ss behind base grow.entries (kinds ss vs) (ap (λ l. l ++ grow.entries) (names_inside none)) (base_inside d) d.integer_row grow.matches
-          (lookup_first (codes "display") env.names _ _ d.display) in
+      known_names ss behind base grow.entries (kinds ss vs) (ap (λ l. l ++ grow.entries) (names_inside none)) (base_inside d) d.integer_row grow.matches
+      (lookup_first (codes "display") env.names _ _ d.display) in
       let own_known : Known own.env (slots vs) =
-          subst (λ e. Known e (slots vs)) (sym grow.after_is) (subst (Known behind) (sym (slots_from-is ss vs 0 2)) known) in
+      subst (λ e. Known e (slots vs)) (sym grow.after_is) (subst (Known behind) (sym (slots_from-is ss vs 0 2)) known) in
       let new : NewNames (keys named.names) (keys (kinds [] vs)) =
-          subst (λ ks. NewNames (keys named.names) (keys ks)) (kinds_of_integers ss vs fits) grow.new in
+      subst (λ ks. NewNames (keys named.names) (keys ks)) (kinds_of_integers ss vs fits) grow.new in
       let clock : has_name (codes "realtime") (keys named.names) ≡ true =
-          ap (λ l. has_name (codes "realtime") (keys l)) (names_inside none)
-          ∙ ap (has_name (codes "realtime")) (keys-append env.names ((x.name, entity.UnfinishedType) ∷ []))
-          ∙ has_first (codes "realtime") (keys env.names) (x.name ∷ []) d.clock in
+      ap (λ l. has_name (codes "realtime") (keys l)) (names_inside none)
+      ∙ ap (has_name (codes "realtime")) (keys-append env.names ((x.name, entity.UnfinishedType) ∷ []))
+      ∙ has_first (codes "realtime") (keys env.names) (x.name ∷ []) d.clock in
       record {
         resolved = statements_resolved own.env (slots vs) own_known b.list fits_too (sound_statements h);
         distinct = new_is_distinct (keys named.names) (keys (kinds [] vs)) new;

@@ -1,5 +1,5 @@
 -- The definitions of a text of the fragment: what the rules and the meaning know behind them.
-use Rattle.std.proofs.Common.{◌≡◌, inl, inr, ◌≤◌, ◌<◌, ℕ, zero, suc, ◌+◌, Bool, true, false, not, ◌&&◌, ◌||◌, List, [], ◌∷◌, ◌++◌, Option, Some, None, if◌then◌else◌, get_or, length, map, refl, ap, ap₂, sym, subst, ◌∙◌, arith, append_assoc, append-nil, length-append, codes, bytes_eq}
+use Rattle.std.proofs.Common.{◌≡◌, inl, inr, ◌<◌, ℕ, Bool, true, false, not, ◌&&◌, ◌||◌, List, [], ◌∷◌, ◌++◌, Option, Some, None, if◌then◌else◌, get_or, length, map, refl, ap, sym, subst, ◌∙◌, arith, append_assoc, append-nil, length-append, codes, bytes_eq}
 use Rattle.std.specs.Option.{option_or}
 use Rattle.std.proofs.lemmas.Bool.{true≢false, and_parts}
 use Rattle.std.proofs.lemmas.List.{get_or_append_left}
@@ -17,19 +17,18 @@ use Rattle.cp_model.specs.declared.rules.TypeRow.{TypeRow}
 use Rattle.cp_model.specs.declared.rules.SystemRow.{SystemRow}
 use Rattle.cp_model.specs.Names as meant
 use Rattle.cp_model.specs.Names.{same_name}
-use Rattle.cp_model.specs.RulesJudged.{Violations}
-use Rattle.cp_model.specs.RulesEnvironment.{Environment, Names, Text, c1_declared, is_some, lookup, standard_environment, standard_names, queue_row}
+use Rattle.cp_model.specs.RulesEnvironment.{Environment, Text, is_some, lookup, standard_environment, standard_names, queue_row}
 use Rattle.cp_model.specs.RulesTypes.{has_name}
 use Rattle.cp_model.specs.RulesDeclarations.{Declared}
 use Rattle.cp_model.specs.Rules.{define_as, define_each, define_section, define_system}
-use Rattle.cp_model.specs.Types.{ComponentOf, GlobalScope, NoMembers, ResolvedType, full_range, standard_scope}
-use Rattle.cp_model.specs.Declarations.{declarations, define, define_all, members_from, reported_members}
-use Rattle.cp_fragment.specs.Fragment.{defined_fits, integers_fit, is_display, is_integer, is_process, is_standard, name_fits, no_parameters, no_routines, section_fits, sections_fit, statements_fit, system_fits, types_fit}
-use Rattle.cp_fragment.specs.Slots.{system_in, systems_in, systems_of, word_names}
-use Rattle.cp_fragment.proofs.Names.{bytes_eq-refl, bytes_same, has_first, keys, keys-append, lookup-append, lookup_first, lookup_has, lookup_later, lookup_none, meant_lookup, none_has, same_name-bytes_eq}
+use Rattle.cp_model.specs.Types.{ComponentOf, GlobalScope, NoMembers, ResolvedType, standard_scope}
+use Rattle.cp_model.specs.Declarations.{define, define_all, members_from, reported_members}
+use Rattle.cp_fragment.specs.Fragment.{defined_fits, integers_fit, is_display, is_integer, is_process, is_standard, name_fits, no_parameters, no_routines, sections_fit, statements_fit, system_fits, types_fit}
+use Rattle.cp_fragment.specs.Slots.{system_in, systems_in, systems_of}
+use Rattle.cp_fragment.proofs.Names.{bytes_same, has_first, keys, keys-append, lookup-append, lookup_first, lookup_later, none_has, same_name-bytes_eq}
 use Rattle.cp_fragment.proofs.Judging.{first_empty, rest_empty}
-use Rattle.cp_fragment.proofs.VariableKinds.{Kinds, Systems, all_integers, integers_fit_too, kinds, kinds_of_integers, word_names-is}
-use Rattle.cp_fragment.proofs.DeclaredVariables.{Base, BaseAs, FoundProcess, IntegerRow, IsProcessType, TypeAs, declared_new}
+use Rattle.cp_fragment.proofs.VariableKinds.{Systems, all_integers, integers_fit_too, kinds, word_names-is}
+use Rattle.cp_fragment.proofs.DeclaredVariables.{Base, BaseAs, FoundProcess, IsProcessType, TypeAs, declared_new}
 use Rattle.cp_fragment.proofs.MeantVariables.{MeansTypes, integer_members, integers_are_members, integers_found, process_type, variables_meant}
 use Rattle.cp_fragment.proofs.DefinedSystems.{BodySound, Defines, SystemDefined, body_sound, new_name, process_of, system_defined}
 
@@ -103,22 +102,28 @@ module _ (ss : Systems) (env : Environment) (g : GlobalScope) (x : Identifier) (
     old_known z (entity.Type t) (inl h) = inl h
     old_known z (entity.Type t) (inr h) =
         let f : FoundProcess env.types env.systems ss z t = h.1 in
-        inr (h.0, record {
-          system = f.system;
-          found = lookup_first z ss ((x.name, y) ∷ []) f.system f.found;
-          is_process = row_kept env.types env.systems d.row d.system t f.is_process;
-        })
+        inr (
+          h.0,
+          record {
+            system = f.system;
+            found = lookup_first z ss ((x.name, y) ∷ []) f.system f.found;
+            is_process = row_kept env.types env.systems d.row d.system t f.is_process;
+          },
+        )
     old_known z entity.UnfinishedType h = tt
     old_known z (entity.Standard f) h = h
     old_known z e h = absurd h
 
     new_known : (z : Text) → bytes_eq z x.name ≡ true → lookup z env.names ≡ None → TypeAs grown_types grown_systems more z (length env.types)
     new_known z same fresh =
-        inr (ap is_integer (bytes_same z x.name same) ∙ not_integer, record {
-          system = y;
-          found = lookup_later z ss ((x.name, y) ∷ []) (scope.seen z fresh) ∙ ap (λ b. if b then Some y else None) same;
-          is_process = row_added env.types env.systems d.row d.system d.structure d.sort;
-        })
+        inr (
+          ap is_integer (bytes_same z x.name same) ∙ not_integer,
+          record {
+            system = y;
+            found = lookup_later z ss ((x.name, y) ∷ []) (scope.seen z fresh) ∙ ap (λ b. if b then Some y else None) same;
+            is_process = row_added env.types env.systems d.row d.system d.structure d.sort;
+          },
+        )
 
     all_known : Base grown_types grown_systems more (env.names ++ (x.name, entity.Type (length env.types)) ∷ [])
     all_known z fits = subst (BaseAs grown_types grown_systems more z.name) (sym (lookup-append z.name env.names ((x.name, entity.Type (length env.types)) ∷ [])))
@@ -240,11 +245,11 @@ record SystemFits (y : s.System) : Type 0 where
 system_parts : (y : s.System) → system_fits y ≡ true → SystemFits y
 system_parts y h =
     let most : ((is_process y.sort && no_parameters y.parameters && no_routines y.routines && integers_fit y.variables) ≡ true) × (statements_fit y.body.list ≡ true) =
-        and_parts (is_process y.sort && no_parameters y.parameters && no_routines y.routines && integers_fit y.variables) _ h in
+    and_parts (is_process y.sort && no_parameters y.parameters && no_routines y.routines && integers_fit y.variables) _ h in
     let some : ((is_process y.sort && no_parameters y.parameters && no_routines y.routines) ≡ true) × (integers_fit y.variables ≡ true) =
-        and_parts (is_process y.sort && no_parameters y.parameters && no_routines y.routines) _ most.0 in
+    and_parts (is_process y.sort && no_parameters y.parameters && no_routines y.routines) _ most.0 in
     let two : ((is_process y.sort && no_parameters y.parameters) ≡ true) × (no_routines y.routines ≡ true) =
-        and_parts (is_process y.sort && no_parameters y.parameters) _ some.0 in
+    and_parts (is_process y.sort && no_parameters y.parameters) _ some.0 in
     let one : (is_process y.sort ≡ true) × (no_parameters y.parameters ≡ true) = and_parts (is_process y.sort) _ two.0 in
     let sort : y.sort ≡ sort.Process = sort_is y.sort one.0 in
     let parameters : y.parameters ≡ [] = parameters_are y.parameters one.1 in
@@ -263,11 +268,11 @@ system_step ss env g x y scope fits h =
     let plain : (define_system env x (process_of y.variables y.body)).violations ≡ [] = subst (λ z. (define_system env x z).violations ≡ []) parts.is h in
     let after : Environment = (define_system env x y).env in
     let d : SystemDefined env x after =
-        subst (λ z. SystemDefined env x (define_system env x z).env) (sym parts.is) (system_defined ss env x y.variables y.body scope.defines parts.integers plain) in
+    subst (λ z. SystemDefined env x (define_system env x z).env) (sym parts.is) (system_defined ss env x y.variables y.body scope.defines parts.integers plain) in
     let none : lookup x.name env.names ≡ None = declared_new env x (new_name ss env x y.variables y.body plain) in
     let type : ComponentOf (erase.system y) (reported_members g (erase.system y)) ≡ process_type y =
-        subst (λ z. ComponentOf (erase.system z) (reported_members g (erase.system z)) ≡ process_type z) (sym parts.is)
-        (process_defined ss g y.variables y.body scope.means parts.integers) in
+    subst (λ z. ComponentOf (erase.system z) (reported_members g (erase.system z)) ≡ process_type z) (sym parts.is)
+    (process_defined ss g y.variables y.body scope.means parts.integers) in
     record {
       defines = defines_too ss env g x y after scope none d;
       within = subst (λ n. 0 < n) (sym (ap length d.types_are ∙ length-append env.types (d.row ∷ []))) (omega arith);
@@ -275,9 +280,10 @@ system_step ss env g x y scope fits h =
       seen = λ z e. seen_too ss env g x y after scope none d z (sym (ap (lookup z) d.names_are) ∙ e);
       processes = d.processes ∙ scope.processes;
       means = means_too ss env g x y scope none type;
-      sound = sound_append ss ((x.name, y) ∷ []) scope.sound
-          ( record { is = parts.is; integers = parts.integers; body = body_sound ss env x y.variables y.body scope.defines parts.integers parts.statements plain }
-          , tt);
+      sound = sound_append ss ((x.name, y) ∷ []) scope.sound (
+        record { is = parts.is; integers = parts.integers; body = body_sound ss env x y.variables y.body scope.defines parts.integers parts.statements plain },
+        tt,
+      );
     }
 
 defined_step : (ss : Systems) (env : Environment) (g : GlobalScope) (x : Identifier) (t : s.Defined) → Scope ss env g → defined_fits t ≡ true
@@ -297,7 +303,7 @@ types_step ss env g (d ∷ ds) scope fits h =
     let parts : ((name_fits d.name && defined_fits d.defined) ≡ true) × (types_fit ds ≡ true) = and_parts (name_fits d.name && defined_fits d.defined) _ fits in
     let one : Declared = define_type env d in
     let next : Scope (ss ++ system_in d.name.name d.defined) one.env (define g (erase.type_definition d)) =
-        defined_step ss env g d.name d.defined scope (and_parts (name_fits d.name) _ parts.0).1 (first_empty one.violations _ h) in
+    defined_step ss env g d.name d.defined scope (and_parts (name_fits d.name) _ parts.0).1 (first_empty one.violations _ h) in
     subst (λ l. Scope l (define_each define_type one.env ds).env (define_all (define g (erase.type_definition d)) (map erase.type_definition ds)))
     (append_assoc ss (system_in d.name.name d.defined) (systems_in ds))
     (types_step (ss ++ system_in d.name.name d.defined) one.env (define g (erase.type_definition d)) ds next parts.1 (rest_empty one.violations _ h))

@@ -1,7 +1,6 @@
 -- What is sound where nothing is told: the parts of what was judged.
-use Rattle.std.proofs.Common.{◌≡◌, ℕ, Bool, true, false, List, [], ◌∷◌, ◌++◌, refl, ap, sym, ◌∙◌}
+use Rattle.std.proofs.Common.{◌≡◌, ℕ, Bool, true, false, [], ◌∷◌, ◌++◌, refl, ap, sym, ◌∙◌}
 use Rattle.cp_model.specs.declared.rules.Rule.{Rule}
-use Rattle.cp_model.specs.declared.rules.Violation.{Violation}
 use Rattle.cp_model.specs.RulesJudged.{Judged, Sound, Broken, Violations, violations_of, unless, also, both, then_judge, provided}
 
 pub first_empty : (vs ws : Violations) → vs ++ ws ≡ [] → vs ≡ []

@@ -1,20 +1,17 @@
 -- The names behind sound variables are known, each with the slot of its kind.
-use Rattle.std.proofs.Common.{◌≡◌, inl, inr, ℕ, Bool, true, false, List, [], ◌∷◌, ◌++◌, Option, Some, None, if◌then◌else◌, get_or, refl, ap, sym, subst, ◌∙◌, codes, bytes_eq}
+use Rattle.std.proofs.Common.{◌≡◌, inl, inr, Bool, true, false, List, [], ◌∷◌, ◌++◌, Option, Some, None, if◌then◌else◌, refl, ap, sym, subst, ◌∙◌, codes, bytes_eq}
 use Rattle.std.specs.Option.{option_or}
-use Rattle.std.proofs.lemmas.Bool.{true≢false}
-use Rattle.cp_model.specs.declared.tree.Identifier.{Identifier}
 use Rattle.cp_model.specs.declared.rules.Entity.{Entity}
 use Rattle.cp_model.specs.declared.rules.Entity.TheVariants as entity
 use Rattle.cp_model.specs.declared.rules.Standard.TheVariants as standard
 use Rattle.cp_model.specs.declared.rules.TypeRow.{TypeRow}
 use Rattle.cp_model.specs.declared.rules.SystemRow.{SystemRow}
-use Rattle.cp_model.specs.RulesEnvironment.{Environment, Names, Text, is_component, is_some, lookup, row_of, system_in}
-use Rattle.cp_fragment.specs.Fragment.{name_fits}
+use Rattle.cp_model.specs.RulesEnvironment.{Environment, Names, Text, is_component, is_some, lookup, system_in}
 use Rattle.cp_fragment.specs.Slots.{IsProcess, IsWord, Slots}
-use Rattle.cp_fragment.proofs.Names.{bytes_same, lookup-append, lookup_first}
+use Rattle.cp_fragment.proofs.Names.{lookup-append, lookup_first}
 use Rattle.cp_fragment.proofs.Bodies.{Known, KnownAs}
 use Rattle.cp_fragment.proofs.VariableKinds.{Integer, Kind, Kinds, OfType, Systems, process_slot, slots_of, word_slot}
-use Rattle.cp_fragment.proofs.DeclaredVariables.{Base, BaseAs, EntityAs, IntegerRow, IsProcessType, Matches}
+use Rattle.cp_fragment.proofs.DeclaredVariables.{Base, BaseAs, EntityAs, IntegerRow, Matches}
 
 abbrev LookupAs : List TypeRow → List SystemRow → Option Entity → Option Kind → Type 0
 LookupAs types systems None None = Unit {0}

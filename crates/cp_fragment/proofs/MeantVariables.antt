@@ -1,5 +1,5 @@
 -- What the variables of the fragment mean: integers, and components of process types.
-use Rattle.std.proofs.Common.{◌≡◌, ℕ, Bool, true, false, ◌&&◌, List, [], ◌∷◌, ◌++◌, Option, Some, None, length, map, refl, ap, ap₂, sym, subst, ◌∙◌, codes, bytes_eq}
+use Rattle.std.proofs.Common.{◌≡◌, Bool, true, false, ◌&&◌, List, [], ◌∷◌, ◌++◌, Some, map, refl, ap, ap₂, sym, ◌∙◌, codes}
 use Rattle.std.proofs.lemmas.Bool.{true≢false, and_parts}
 use Rattle.cp_model.specs.Syntax as s
 use Rattle.cp_model.specs.Abstract as a
@@ -69,7 +69,7 @@ variables_meant ss g (d ∷ gs) fits means found =
     let type : is_type_that_fits d.of ≡ true = (and_parts (names_fit d.names) _ parts.0).1 in
     let k : Kind = kind_of ss d.of in
     ap (declared_group false (resolved_type g (erase.type_expression d.of)) (map erase.name d.names))
-        (variables_meant ss g gs parts.1 means (rest_found ss k d.names (kinds ss gs) found))
+    (variables_meant ss g gs parts.1 means (rest_found ss k d.names (kinds ss gs) found))
     ∙ group_meant ss (resolved_type g (erase.type_expression d.of)) k d.names (kinds ss gs) (written_meant ss g d.of type means) found
 
 pub integers_are_members : (ks : Kinds) → AllIntegers ks → members_from (meant_variables ks) NoMembers ≡ integer_members (words_of ks)

@@ -1,5 +1,5 @@
 -- What a process owns: its words, its body, and where they start.
-use Rattle.std.proofs.Common.{◌≡◌, ◌≤◌, ℕ, zero, suc, ◌+◌, ◌-◌, pos, Bool, true, false, List, [], ◌∷◌, ◌++◌, Option, Some, None, if◌then◌else◌, nat_eq, length, map, flat_map, option_map, slice_get, refl, ap, ap₂, sym, subst, ◌∙◌, arith, codes}
+use Rattle.std.proofs.Common.{◌≡◌, ℕ, pos, false, List, [], ◌++◌, Some, map, option_map, slice_get, ap, sym, subst, ◌∙◌, arith, codes}
 use Rattle.cp_model.specs.Syntax as s
 use Rattle.cp_model.specs.Abstract as a
 use Rattle.cp_model.specs.Erase as erase
@@ -7,8 +7,7 @@ use Rattle.cp_model.specs.Names as meant
 use Rattle.cp_model.specs.Names.{same_name}
 use Rattle.cp_model.specs.RulesEnvironment.{Text, lookup}
 use Rattle.cp_model.specs.RulesTypes.{has_name}
-use Rattle.cp_model.specs.Types.{GlobalScope}
-use Rattle.cp_model.specs.Declarations.{Variable, declarations, globals}
+use Rattle.cp_model.specs.Declarations.{declarations, globals}
 use Rattle.cp_model.specs.Environments.{permanent_variables}
 use Rattle.cp_model.specs.Stores.{Ordinal}
 use Rattle.cp_model.specs.Leaves.{leaves_of_members}
@@ -16,10 +15,10 @@ use Rattle.cp_model.specs.States.{Setup}
 use Rattle.cp_model.specs.Start.{start}
 use Rattle.cp_fragment.specs.Slots.{ResolvedStatements, slots, word_names}
 use Rattle.cp_fragment.specs.Processes.{environment_of, members_of, system_of, variable_location}
-use Rattle.cp_fragment.specs.Meanings.{AreWords, IsInteger, integer_leaf, integer_variable}
+use Rattle.cp_fragment.specs.Meanings.{AreWords, IsInteger, integer_leaf}
 use Rattle.cp_fragment.specs.Laws.{OwnerResolves}
 use Rattle.cp_fragment.proofs.Names.{Distinct, keys}
-use Rattle.cp_fragment.proofs.VariableKinds.{Integer, Kinds, Systems, kinds, slots_from-is, slots_of, word_names-is, words_of}
+use Rattle.cp_fragment.proofs.VariableKinds.{Kinds, Systems, kinds, slots_from-is, slots_of, word_names-is, words_of}
 use Rattle.cp_fragment.proofs.MeantVariables.{meant_variable, meant_variables}
 use Rattle.cp_fragment.proofs.Words.{WordNamed, lookup_meant, word_found, word_is_not, word_named, words_distinct}
 

@@ -1,10 +1,9 @@
 -- The processes among variables: their numbers, their names and their system types.
-use Rattle.std.proofs.Common.{◌≡◌, ◌≤◌, ◌<◌, ◌⊎◌, inl, inr, ℕ, zero, suc, ◌+◌, ◌-◌, Bool, true, false, ◌||◌, cond, List, [], ◌∷◌, ◌++◌, Option, Some, None, if◌then◌else◌, length, map, option_map, slice_get, filter, refl, ap, ap₂, sym, subst, ◌∙◌, arith, bytes_eq}
+use Rattle.std.proofs.Common.{◌≡◌, ◌<◌, ◌⊎◌, inl, inr, ℕ, zero, suc, ◌+◌, Bool, true, false, ◌||◌, cond, List, [], ◌∷◌, Some, if◌then◌else◌, length, slice_get, filter, refl, ap, sym, subst, ◌∙◌, arith, bytes_eq}
 use Rattle.std.proofs.lemmas.Bool.{true≢false, or_right}
 use Rattle.cp_model.specs.Syntax as s
 use Rattle.cp_model.specs.Abstract as a
 use Rattle.cp_model.specs.Erase as erase
-use Rattle.cp_model.specs.Names as meant
 use Rattle.cp_model.specs.Names.{same_name}
 use Rattle.cp_model.specs.RulesEnvironment.{Text, lookup}
 use Rattle.cp_model.specs.RulesTypes.{has_name}
@@ -16,9 +15,9 @@ use Rattle.cp_fragment.specs.declared.slot.Slot.TheVariants as slot
 use Rattle.cp_fragment.specs.Slots.{word_names}
 use Rattle.cp_fragment.specs.Processes.{members_at, system_at}
 use Rattle.cp_fragment.proofs.Names.{Distinct, bytes_eq-refl, bytes_same, keys, same_name-bytes_eq}
-use Rattle.cp_fragment.proofs.VariableKinds.{Integer, Kind, Kinds, OfType, Systems, processes_of, slots_of, words_of}
+use Rattle.cp_fragment.proofs.VariableKinds.{Integer, Kind, Kinds, OfType, Systems, processes_of, slots_of}
 use Rattle.cp_fragment.proofs.DeclaredVariables.{AllFound, FoundAs}
-use Rattle.cp_fragment.proofs.MeantVariables.{integer_members, meant_kind, meant_variable, meant_variables, process_type}
+use Rattle.cp_fragment.proofs.MeantVariables.{integer_members, meant_variable, meant_variables, process_type}
 use Rattle.cp_fragment.proofs.Definitions.{AllSound, SystemSound, some_is}
 
 -- ---- sound kinds

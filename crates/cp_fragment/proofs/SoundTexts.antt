@@ -1,48 +1,26 @@
 -- What nothing told of a text of the fragment says of its parts.
-use Rattle.std.proofs.Common.{◌≡◌, ◌≤◌, ◌<◌, ℕ, zero, suc, ◌+◌, ◌-◌, pos, Bool, true, false, ◌&&◌, List, [], ◌∷◌, ◌++◌, Option, Some, None, if◌then◌else◌, nat_eq, length, map, filter, flat_map, slice_get, refl, ap, ap₂, sym, subst, ◌∙◌, arith, append-nil, codes, bytes_eq}
-use Rattle.std.proofs.lemmas.Bool.{true≢false, and_parts}
+use Rattle.std.proofs.Common.{◌≡◌, ℕ, ◌+◌, true, ◌&&◌, List, [], ◌++◌, length, refl, ap, sym, subst, ◌∙◌, append-nil}
+use Rattle.std.proofs.lemmas.Bool.{and_parts}
 use Rattle.cp_model.specs.Syntax as s
-use Rattle.cp_model.specs.Abstract as a
 use Rattle.cp_model.specs.Erase as erase
-use Rattle.cp_model.specs.Names as meant
 use Rattle.cp_model.specs.declared.tree.Sort.TheVariants as sort
 use Rattle.cp_model.specs.declared.rules.Position.TheVariants as position
 use Rattle.cp_model.specs.RulesJudged.{Violations}
-use Rattle.cp_model.specs.RulesEnvironment.{Environment, Text, lookup, standard_environment}
-use Rattle.cp_model.specs.RulesTypes.{has_name}
+use Rattle.cp_model.specs.RulesEnvironment.{Environment, standard_environment}
 use Rattle.cp_model.specs.RulesNeeds.{need_statements}
 use Rattle.cp_model.specs.RulesStatements.{statements}
 use Rattle.cp_model.specs.RulesDeclarations.{Declared, Variables, routines, variables}
 use Rattle.cp_model.specs.Rules.{Accepted, c13_initial, define_each, define_section}
-use Rattle.cp_model.specs.Types.{GlobalScope, NoMembers, standard_scope}
-use Rattle.cp_model.specs.Declarations.{Variable, declarations, globals, members_from}
-use Rattle.cp_model.specs.Environments.{Environment as Place}
-use Rattle.cp_model.specs.Locations.{Location}
-use Rattle.cp_model.specs.Stores.{Absent, Ordinal, Writes, put_all}
-use Rattle.cp_model.specs.Leaves.{leaves_of_members}
-use Rattle.cp_model.specs.Assignments.{starting_writes}
-use Rattle.cp_model.specs.Components.{Component, as_component, component_named, count_before, is_component_of, process_location, process_number}
-use Rattle.cp_model.specs.Report.{components_of, name_at}
-use Rattle.cp_model.specs.States.{Setup, count_components, initial_variables, process_count}
-use Rattle.cp_model.specs.Start.{initial_environment, initial_writes, start, variable_writes}
-use Rattle.cp_fragment.specs.declared.slot.Slot.TheVariants as slot
+use Rattle.cp_model.specs.Types.{GlobalScope, standard_scope}
+use Rattle.cp_model.specs.Declarations.{globals}
 use Rattle.cp_fragment.specs.Fragment.{is_in_fragment, no_routines, sections_fit, statements_fit, variables_fit}
-use Rattle.cp_fragment.specs.Slots.{ResolvedStatements, process_list, slots, systems_of, word_names}
-use Rattle.cp_fragment.specs.Processes.{environment_of, members_at, members_of, name_of, system_at, system_of, variable_location}
-use Rattle.cp_fragment.specs.Meanings.{MeansProcess, integer_leaf}
-use Rattle.cp_fragment.specs.Laws.{AcceptedTextResolves, OwnerResolves, ProcessResolves, TextResolves}
-use Rattle.cp_fragment.proofs.Names.{Distinct, keys, lookup_first, new_is_distinct, there_is_not_new}
+use Rattle.cp_fragment.specs.Slots.{ResolvedStatements, slots, systems_of}
 use Rattle.cp_fragment.proofs.Judging.{first_empty, rest_empty}
 use Rattle.cp_fragment.proofs.Bodies.{Known, statements_resolved}
-use Rattle.cp_fragment.proofs.VariableKinds.{AllIntegers, Integer, Kind, Kinds, OfType, Systems, all_integers, integers_fit_too, kinds, kinds_of_integers, process_list-is, processes_of, slots_from-is, slots_of, word_names-is, words_of}
+use Rattle.cp_fragment.proofs.VariableKinds.{Systems, kinds, processes_of, slots_from-is}
 use Rattle.cp_fragment.proofs.VariableGroups.{Grows, Visible, grown, variables_grow}
 use Rattle.cp_fragment.proofs.KnownNames.{known_names}
-use Rattle.cp_fragment.proofs.MeantVariables.{integer_members, integers_found, meant_kind, meant_variable, meant_variables, process_type, variables_meant}
-use Rattle.cp_fragment.proofs.Definitions.{AllSound, Scope, SystemSound, routines_are, sections_step, standard_scope_known}
-use Rattle.cp_fragment.proofs.ProcessKinds.{AllKindsSound, IsIn, ProcessAt, ProcessNamed, before_is, count_is, filter_is, is_a_process, kinds_sound, meant_processes, process_at, process_named, sound_at}
-use Rattle.cp_fragment.proofs.Words.{integer_leaves, lookup_meant, variable_leaves, word_in}
-use Rattle.cp_fragment.proofs.StartValues.{AllZero, WrittenAt, each_written, each_zero, kind_zero, number, own_writes, own_zero, process_written, variable_location-same, written_first, written_later, zero_append, zero_written}
-use Rattle.cp_fragment.proofs.Owners.{OwnerFacts, owner_resolves}
+use Rattle.cp_fragment.proofs.Definitions.{Scope, routines_are, sections_step, standard_scope_known}
 
 -- ---- what nothing told says of the parts of a text
 
@@ -55,9 +33,9 @@ pub record PartsSound (t : s.Tree) : Type 0 where
 pub parts_fit : (t : s.Tree) → is_in_fragment t ≡ true → PartsSound t
 parts_fit t h =
     let three : ((sections_fit t.sections && variables_fit t.variables && no_routines t.routines) ≡ true) × (statements_fit t.body.list ≡ true) =
-        and_parts (sections_fit t.sections && variables_fit t.variables && no_routines t.routines) _ h in
+    and_parts (sections_fit t.sections && variables_fit t.variables && no_routines t.routines) _ h in
     let two : ((sections_fit t.sections && variables_fit t.variables) ≡ true) × (no_routines t.routines ≡ true) =
-        and_parts (sections_fit t.sections && variables_fit t.variables) _ three.0 in
+    and_parts (sections_fit t.sections && variables_fit t.variables) _ three.0 in
     let one : (sections_fit t.sections ≡ true) × (variables_fit t.variables ≡ true) = and_parts (sections_fit t.sections) _ two.0 in
     record { sections = one.0; variables = one.1; routines = routines_are t.routines two.1; statements = three.1 }
 
@@ -100,16 +78,16 @@ text_sound t accepted parts =
     let body : Violations = statements (all t).env t.body.list in
     let words : ℕ = 1 + (own t).words + need_statements (all t).env t.body.list in
     let four : (defined t).violations ++ (own t).violations ++ (all t).violations ++ body ≡ [] =
-        first_empty _ (c13_initial t.body.at words body) accepted in
+    first_empty _ (c13_initial t.body.at words body) accepted in
     let three : (defined t).violations ++ (own t).violations ++ (all t).violations ≡ [] = first_empty _ body four in
     let two : (defined t).violations ++ (own t).violations ≡ [] = first_empty _ (all t).violations three in
     let scope : Scope ss (defined t).env (globals (erase.abstract t)) =
-        sections_step [] standard_environment standard_scope t.sections standard_scope_known parts.sections (first_empty (defined t).violations _ two) in
+    sections_step [] standard_environment standard_scope t.sections standard_scope_known parts.sections (first_empty (defined t).violations _ two) in
     let grows : Grows ss (defined t).env position.InitialVariable (own t).env (kinds ss t.variables) =
-        variables_grow ss (defined t).env position.InitialVariable t.variables (visible ss (defined t).env (globals (erase.abstract t)) scope) parts.variables (rest_empty (defined t).violations _ two) in
+    variables_grow ss (defined t).env position.InitialVariable t.variables (visible ss (defined t).env (globals (erase.abstract t)) scope) parts.variables (rest_empty (defined t).violations _ two) in
     let no_more : (all t).env ≡ (own t).env = ap (λ rs. (routines (own t).env sort.Process rs).env) parts.routines in
     let sound : statements (own t).env t.body.list ≡ [] =
-        sym (ap (λ e. statements e t.body.list) no_more) ∙ rest_empty ((defined t).violations ++ (own t).violations ++ (all t).violations) body four in
+    sym (ap (λ e. statements e t.body.list) no_more) ∙ rest_empty ((defined t).violations ++ (own t).violations ++ (all t).violations) body four in
     record {
       scope = scope;
       grows = grows;

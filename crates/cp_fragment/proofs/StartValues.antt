@@ -1,19 +1,17 @@
 -- All variables of the fragment start at 0.
-use Rattle.std.proofs.Common.{◌≡◌, ◌⊎◌, inl, inr, ℕ, zero, suc, ◌+◌, pos, Bool, true, false, ◌&&◌, List, [], ◌∷◌, ◌++◌, Option, Some, None, if◌then◌else◌, nat_eq, map, flat_map, slice_get, refl, ap, ap₂, sym, subst, ◌∙◌, bytes_eq}
+use Rattle.std.proofs.Common.{◌≡◌, ◌⊎◌, inl, inr, ℕ, zero, suc, pos, Bool, true, false, List, [], ◌∷◌, ◌++◌, Some, if◌then◌else◌, nat_eq, map, flat_map, slice_get, refl, ap, sym, subst, ◌∙◌}
 use Rattle.std.proofs.lemmas.Bool.{and_from, eq-eqb}
 use Rattle.cp_model.specs.Syntax as s
-use Rattle.cp_model.specs.Abstract as a
 use Rattle.cp_model.specs.Erase as erase
 use Rattle.cp_model.specs.Names.{same_name}
 use Rattle.cp_model.specs.RulesEnvironment.{Text}
 use Rattle.cp_model.specs.Declarations.{Variable}
 use Rattle.cp_model.specs.Environments.{Environment}
 use Rattle.cp_model.specs.Locations.{ByName, Location, same_location, under}
-use Rattle.cp_model.specs.Stores.{Absent, Ordinal, Store, Value, Writes, put, put_all}
-use Rattle.cp_model.specs.Leaves.{Leaf, leaves, leaves_of_members}
-use Rattle.cp_model.specs.Assignments.{starting_writes}
+use Rattle.cp_model.specs.Stores.{Ordinal, Store, Writes, put, put_all}
+use Rattle.cp_model.specs.Leaves.{Leaf, leaves}
 use Rattle.cp_model.specs.Components.{process_location, process_number}
-use Rattle.cp_model.specs.Start.{component_writes, member_writes, variable_writes}
+use Rattle.cp_model.specs.Start.{component_writes, variable_writes}
 use Rattle.cp_fragment.specs.Slots.{word_names}
 use Rattle.cp_fragment.specs.Meanings.{integer_leaf}
 use Rattle.cp_fragment.specs.Processes.{variable_location}
@@ -111,7 +109,7 @@ module _ (env : Environment) (z t : Text) (y : s.System) (sound : SystemSound y)
   unfolding leaf_writes
   process_writes =
       ap (λ sort. component_writes env (record { name = z; system = erase.system y; is_parameter = false }) sort (integer_members (word_names y.variables)))
-          (is_a_process y sound)
+      (is_a_process y sound)
       ∙ ap (λ l. map (λ leaf. (under (process_location number) leaf.0, leaf.1)) l) (integer_leaves (word_names y.variables))
 
   pub process_zero : AllZero (variable_writes env z (process_type y))

@@ -1,19 +1,16 @@
 -- Groups of variables: what the rules know behind them, where nothing is broken in them.
-use Rattle.std.proofs.Common.{◌≡◌, ◌≤◌, ℕ, ◌+◌, Bool, true, false, ◌&&◌, List, [], ◌∷◌, ◌++◌, Option, Some, None, get_or, length, map, refl, ap, ap₂, sym, subst, ◌∙◌, arith, append_assoc, append-nil, add-zero, add_assoc, length-append}
+use Rattle.std.proofs.Common.{◌≡◌, ◌≤◌, ℕ, ◌+◌, Bool, true, false, ◌&&◌, List, [], ◌∷◌, ◌++◌, length, map, refl, ap, sym, subst, ◌∙◌, arith, append_assoc, append-nil, add-zero, add_assoc, length-append}
 use Rattle.std.specs.Option.{option_or}
 use Rattle.std.proofs.lemmas.Bool.{true≢false, and_parts}
 use Rattle.cp_model.specs.Syntax as s
 use Rattle.cp_model.specs.declared.tree.Identifier.{Identifier}
 use Rattle.cp_model.specs.declared.rules.Rule.{Rule}
 use Rattle.cp_model.specs.declared.rules.Rule.TheVariants.{C8}
-use Rattle.cp_model.specs.declared.rules.Entity.{Entity}
 use Rattle.cp_model.specs.declared.rules.Structure.TheVariants as structure
-use Rattle.cp_model.specs.declared.rules.TypeRow.{TypeRow}
-use Rattle.cp_model.specs.declared.rules.SystemRow.{SystemRow}
 use Rattle.cp_model.specs.declared.rules.Position.{Position}
 use Rattle.cp_model.specs.declared.rules.Position.TheVariants as position
-use Rattle.cp_model.specs.RulesJudged.{Judged, Sound, Broken, violations_of, also, then_judge, provided}
-use Rattle.cp_model.specs.RulesEnvironment.{Environment, Names, Text, entity_of, integer, lookup, no_system as no_row, queue_row, resolve, row_of, system_row, with_names}
+use Rattle.cp_model.specs.RulesJudged.{Judged, Sound, Broken, violations_of, then_judge, provided}
+use Rattle.cp_model.specs.RulesEnvironment.{Environment, Names, entity_of, integer, lookup, resolve, row_of, system_row, with_names}
 use Rattle.cp_model.specs.RulesTypes.{c2_type, c6_c8_placed, named_type}
 use Rattle.cp_model.specs.RulesDeclarations.{Declared, declare_all, own_variable, owners, owners_in, unfinished_variable, variable_group, variables}
 use Rattle.cp_fragment.specs.Fragment.{is_type_that_fits, name_fits, names_fit, variables_fit}
@@ -21,7 +18,7 @@ use Rattle.cp_fragment.specs.Slots.{text_of}
 use Rattle.cp_fragment.proofs.Names.{NewNames, keys, keys-append, lookup-append, new_append}
 use Rattle.cp_fragment.proofs.Judging.{also_sound, first_empty, rest_empty, sound_has}
 use Rattle.cp_fragment.proofs.VariableKinds.{Integer, Kind, Kinds, OfType, Systems, kind_of, kinds, processes_of, with_kind}
-use Rattle.cp_fragment.proofs.DeclaredVariables.{AllFound, AllVariables, Base, BaseAs, Counted, EntityAs, FoundAs, IntegerRow, IsProcessType, Matches, TypeAs, VariableOrNone, all_declared, all_new, count_at, counted_none, entries, entries_found, entries_match, entries_variables, found_append, keys_match, kind_matches, matches_append, owners_counted, processes_count, type_found, variables_append, variables_only, with_processes, words_count}
+use Rattle.cp_fragment.proofs.DeclaredVariables.{AllFound, AllVariables, Base, Counted, EntityAs, FoundAs, IntegerRow, Matches, TypeAs, all_declared, all_new, count_at, counted_none, entries, entries_found, entries_match, entries_variables, found_append, keys_match, kind_matches, matches_append, owners_counted, processes_count, type_found, variables_append, variables_only, words_count}
 
 -- ---- owners in a group
 
@@ -93,9 +90,9 @@ module _ (ss : Systems) (env : Environment) (p : Position) (tx : Identifier) (xs
   group_type seen fits t h =
       let more : Names = seen.variables ++ entries unfinished_variable xs in
       let names : env.names ++ entries unfinished_variable xs ≡ seen.base ++ more =
-          ap (λ ns. ns ++ entries unfinished_variable xs) seen.names_are ∙ append_assoc seen.base seen.variables _ in
+      ap (λ ns. ns ++ entries unfinished_variable xs) seen.names_are ∙ append_assoc seen.base seen.variables _ in
       let found : lookup tx.name (env.names ++ entries unfinished_variable xs) ≡ option_or (lookup tx.name seen.base) (lookup tx.name more) =
-          ap (lookup tx.name) names ∙ lookup-append tx.name seen.base more in
+      ap (lookup tx.name) names ∙ lookup-append tx.name seen.base more in
       let type : named_type hidden tx ≡ Sound t = placed_is hidden p tx.at t (named_type hidden tx) h in
       type_found env.types env.systems ss tx (lookup tx.name seen.base) (lookup tx.name more) t (seen.base_known tx fits)
       (variables_only tx.name more (variables_append seen.variables _ seen.all_variables (entries_variables integer xs)))
@@ -116,10 +113,10 @@ module _ (ss : Systems) (env : Environment) (p : Position) (tx : Identifier) (xs
       let is : EntityAs env.types env.systems (own_variable t) kind × FoundAs ss kind = kind_matches env.types env.systems ss tx t known in
       let shown : Environment = with_names (env.names ++ entries (own_variable t) xs) env in
       let counted_is : counted_in defined.env (placed defined.env) ≡ owners shown p (Sound t) xs =
-          ap (counted_in defined.env) type.1 ∙ ap (λ e. counted_in e (Sound t)) is_hidden
-          ∙ ap (λ e. owners e p (Sound t) xs) (all_declared env (own_variable t) xs new) in
+      ap (counted_in defined.env) type.1 ∙ ap (λ e. counted_in e (Sound t)) is_hidden
+      ∙ ap (λ e. owners e p (Sound t) xs) (all_declared env (own_variable t) xs new) in
       let counted : Counted shown (owners shown p (Sound t) xs).env (group_count p kind xs) =
-          group_counted shown p t kind xs seen.integer_row is.0 (sym (ap (λ d. d.violations) counted_is) ∙ rest_empty (defined.violations ++ violations_of (placed defined.env)) _ h) in
+      group_counted shown p t kind xs seen.integer_row is.0 (sym (ap (λ d. d.violations) counted_is) ∙ rest_empty (defined.violations ++ violations_of (placed defined.env)) _ h) in
       record {
         entries = entries (own_variable t) xs;
         after_is = ap (λ d. d.env) counted_is ∙ counted.0;
@@ -187,9 +184,9 @@ grows_behind : (ss : Systems) (env : Environment) (p : Position) (mid after : En
     → Grows ss (grown env first.entries (count_at p ks)) p after ls → Grows ss env p after (ks ++ ls)
 grows_behind ss env p mid after ks ls first rest =
     let count : env.processes + count_at p ks + count_at p ls ≡ env.processes + count_at p (ks ++ ls) =
-        add_assoc env.processes (count_at p ks) (count_at p ls) ∙ ap (λ n. env.processes + n) (sym (count_append p ks ls)) in
+    add_assoc env.processes (count_at p ks) (count_at p ls) ∙ ap (λ n. env.processes + n) (sym (count_append p ks ls)) in
     let names : keys (env.names ++ first.entries) ≡ keys env.names ++ keys ks =
-        keys-append env.names first.entries ∙ ap (λ l. keys env.names ++ l) (keys_match env.types env.systems ss first.entries ks first.matches) in
+    keys-append env.names first.entries ∙ ap (λ l. keys env.names ++ l) (keys_match env.types env.systems ss first.entries ks first.matches) in
     record {
       entries = first.entries ++ rest.entries;
       after_is = rest.after_is ∙ (λ i. record env { names = append_assoc env.names first.entries rest.entries i; processes = count i });
@@ -212,6 +209,6 @@ variables_grow ss env p (g ∷ gs) seen fits h =
     let first : Grows ss env p mid ks = written_group ss env p g.names g.of seen type (first_empty (variable_group env p g).violations _ h) in
     let again : Visible ss mid = subst (Visible ss) (sym first.after_is) (visible_grown ss env first.entries (count_at p ks) seen first.variables) in
     let rest : Grows ss mid p (variables mid p gs).env (kinds ss gs) =
-        variables_grow ss mid p gs again parts.1 (rest_empty (variable_group env p g).violations _ h) in
+    variables_grow ss mid p gs again parts.1 (rest_empty (variable_group env p g).violations _ h) in
     grows_behind ss env p mid (variables mid p gs).env ks (kinds ss gs) first
     (subst (λ e. Grows ss e p (variables mid p gs).env (kinds ss gs)) first.after_is rest)

@@ -1,5 +1,5 @@
 -- Variables one by one with their kinds, from which slots, names of words and processes come.
-use Rattle.std.proofs.Common.{◌≡◌, ℕ, zero, suc, ◌+◌, Bool, true, false, not, ◌&&◌, ◌||◌, List, [], ◌∷◌, ◌++◌, Option, Some, None, if◌then◌else◌, length, map, slice_get, refl, ap, sym, subst, ◌∙◌, arith, codes, bytes_eq}
+use Rattle.std.proofs.Common.{◌≡◌, ℕ, suc, ◌+◌, Bool, true, false, not, ◌&&◌, ◌||◌, List, [], ◌∷◌, ◌++◌, Option, Some, if◌then◌else◌, length, map, refl, ap, sym, ◌∙◌, arith, bytes_eq}
 use Rattle.std.specs.Option.{unwrap_or}
 use Rattle.std.proofs.lemmas.Bool.{true≢false, and_from, and_parts, or_left, or_right}
 use Rattle.cp_model.specs.Syntax as s
@@ -74,9 +74,9 @@ slots_from-is ss (g ∷ gs) w r = go (is_integer_type g.of)
     go : (b : Bool)
         → words_from w g.names ++ slots_from (w + length g.names) r gs ≡ slots_of w r (with_kind Integer g.names ++ kinds ss gs)
         → processes_from r g.names ++ slots_from w (r + length g.names) gs
-            ≡ slots_of w r (with_kind (OfType (type_name g.of) (unwrap_or (lookup (type_name g.of) ss) no_system)) g.names ++ kinds ss gs)
+        ≡ slots_of w r (with_kind (OfType (type_name g.of) (unwrap_or (lookup (type_name g.of) ss) no_system)) g.names ++ kinds ss gs)
         → (if b then words_from w g.names ++ slots_from (w + length g.names) r gs else processes_from r g.names ++ slots_from w (r + length g.names) gs)
-            ≡ slots_of w r (with_kind (if b then Integer else OfType (type_name g.of) (unwrap_or (lookup (type_name g.of) ss) no_system)) g.names ++ kinds ss gs)
+        ≡ slots_of w r (with_kind (if b then Integer else OfType (type_name g.of) (unwrap_or (lookup (type_name g.of) ss) no_system)) g.names ++ kinds ss gs)
     go true h k = h
     go false h k = k
 
@@ -94,7 +94,7 @@ word_names-is ss (g ∷ gs) = go (is_integer_type g.of) (word_names-is ss gs)
   where
     go : (b : Bool) → word_names gs ≡ words_of (kinds ss gs)
         → (if b then map text_of g.names ++ word_names gs else word_names gs)
-            ≡ words_of (with_kind (if b then Integer else OfType (type_name g.of) (unwrap_or (lookup (type_name g.of) ss) no_system)) g.names ++ kinds ss gs)
+        ≡ words_of (with_kind (if b then Integer else OfType (type_name g.of) (unwrap_or (lookup (type_name g.of) ss) no_system)) g.names ++ kinds ss gs)
     go true h = ap (λ l. map text_of g.names ++ l) h ∙ sym (words_of_words g.names (kinds ss gs))
     go false h = h ∙ sym (words_of_processes g.names (type_name g.of) (unwrap_or (lookup (type_name g.of) ss) no_system) (kinds ss gs))
 
@@ -113,7 +113,7 @@ process_list-is ss (g ∷ gs) = go (is_integer_type g.of) (process_list-is ss gs
   where
     go : (b : Bool) → process_list gs ≡ processes_of (kinds ss gs)
         → (if b then process_list gs else with_type (type_name g.of) g.names ++ process_list gs)
-            ≡ processes_of (with_kind (if b then Integer else OfType (type_name g.of) (unwrap_or (lookup (type_name g.of) ss) no_system)) g.names ++ kinds ss gs)
+        ≡ processes_of (with_kind (if b then Integer else OfType (type_name g.of) (unwrap_or (lookup (type_name g.of) ss) no_system)) g.names ++ kinds ss gs)
     go true h = h ∙ sym (processes_of_words g.names (kinds ss gs))
     go false h = ap (λ l. with_type (type_name g.of) g.names ++ l) h
         ∙ sym (processes_of_processes g.names (type_name g.of) (unwrap_or (lookup (type_name g.of) ss) no_system) (kinds ss gs))

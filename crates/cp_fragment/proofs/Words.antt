@@ -1,23 +1,21 @@
 -- The words among variables: their slots, what they mean, and their leaves.
-use Rattle.std.proofs.Common.{◌≡◌, inl, inr, ℕ, zero, suc, ◌+◌, pos, Bool, true, false, ◌||◌, List, [], ◌∷◌, ◌++◌, Option, Some, None, if◌then◌else◌, map, option_map, slice_get, refl, ap, sym, subst, ◌∙◌, arith, codes, bytes_eq}
-use Rattle.std.proofs.lemmas.Bool.{true≢false, or_right}
-use Rattle.cp_model.specs.Abstract as a
-use Rattle.cp_model.specs.Erase as erase
+use Rattle.std.proofs.Common.{◌≡◌, inl, inr, ℕ, zero, suc, ◌+◌, Bool, true, false, List, [], ◌∷◌, ◌++◌, Some, None, if◌then◌else◌, map, option_map, slice_get, refl, ap, sym, ◌∙◌, arith, bytes_eq}
+use Rattle.std.proofs.lemmas.Bool.{true≢false}
 use Rattle.cp_model.specs.Syntax as s
 use Rattle.cp_model.specs.Names as meant
 use Rattle.cp_model.specs.Names.{same_name}
 use Rattle.cp_model.specs.RulesEnvironment.{Text, lookup}
 use Rattle.cp_model.specs.RulesTypes.{has_name}
-use Rattle.cp_model.specs.Types.{NoMembers, full_range}
-use Rattle.cp_model.specs.Declarations.{Variable, members_from}
-use Rattle.cp_model.specs.Leaves.{Leaf, below_step, component_leaves, leaves, leaves_of_members}
+use Rattle.cp_model.specs.Types.{NoMembers}
+use Rattle.cp_model.specs.Declarations.{members_from}
+use Rattle.cp_model.specs.Leaves.{below_step, component_leaves, leaves, leaves_of_members}
 use Rattle.cp_model.specs.Locations.{ByName}
 use Rattle.cp_fragment.specs.declared.slot.Slot.TheVariants as slot
 use Rattle.cp_fragment.specs.Slots.{word_names}
 use Rattle.cp_fragment.specs.Meanings.{integer_leaf}
-use Rattle.cp_fragment.proofs.Names.{Distinct, bytes_eq-refl, bytes_same, keys, lookup_has, lookup_none, meant_lookup, same_name-bytes_eq}
-use Rattle.cp_fragment.proofs.VariableKinds.{Integer, Kind, Kinds, OfType, Systems, slots_of, words_of}
-use Rattle.cp_fragment.proofs.MeantVariables.{integer_members, meant_kind, meant_variable, meant_variables, process_type}
+use Rattle.cp_fragment.proofs.Names.{Distinct, bytes_eq-refl, bytes_same, keys, lookup_has, lookup_none, same_name-bytes_eq}
+use Rattle.cp_fragment.proofs.VariableKinds.{Integer, Kinds, OfType, Systems, slots_of, words_of}
+use Rattle.cp_fragment.proofs.MeantVariables.{integer_members, meant_variable, meant_variables, process_type}
 use Rattle.cp_fragment.proofs.Definitions.{SystemSound}
 use Rattle.cp_fragment.proofs.ProcessKinds.{AllKindsSound, IsIn, is_a_process}
 
