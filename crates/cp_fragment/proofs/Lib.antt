@@ -14,3 +14,4 @@ pub mod StartValues
 pub mod Owners
 pub mod SoundTexts
 pub mod Resolves
+pub mod TreeViews

@@ -4,5 +4,6 @@
 //! another; the law of `specs/Laws.antt` says that they agree on accepted texts of the fragment.
 #![tactic(auto)]
 
+pub mod fits;
 pub mod law;
 pub mod slot;
