@@ -1,4 +1,4 @@
-use Rattle.std.proofs.Common.{◌≡◌, map, drop}
+use Rattle.std.proofs.Common.{◌≡◌, drop}
 use Rattle.cp_fragment.specs.Fragment as fragment
 use Rattle.cp_fragment.proofs.fits.names.names_fit.Given as goal
 
