@@ -55,8 +55,8 @@ kinds_sound ss (k ∷ ks) h f = (kind_sound ss k.1 h f.0, kinds_sound ss ks h f.
 pub is_a_process : (y : s.System) → SystemSound y → (erase.system y).sort ≡ a.Process
 is_a_process y h = ap (λ z. erase.sort_of z.sort) h.is
 
-pub is_process_kind : (x : Text) (y : s.System) → SystemSound y → is_component_of a.Process (process_type y) ≡ true
-is_process_kind x y h = ap (same_sort a.Process) (is_a_process y h)
+pub is_process_kind : (y : s.System) → SystemSound y → is_component_of a.Process (process_type y) ≡ true
+is_process_kind y h = ap (same_sort a.Process) (is_a_process y h)
 
 -- ---- the component variables
 
@@ -70,7 +70,7 @@ module _ (ss : Systems) where
   count_is [] h = refl
   count_is ((x, Integer) ∷ ks) h = count_is ks h.1
   count_is ((x, OfType t y) ∷ ks) h =
-      ap (λ b. if b then suc (count_components a.Process (meant_variables ks)) else count_components a.Process (meant_variables ks)) (is_process_kind x y h.0.1)
+      ap (λ b. if b then suc (count_components a.Process (meant_variables ks)) else count_components a.Process (meant_variables ks)) (is_process_kind y h.0.1)
       ∙ ap suc (count_is ks h.1)
 
   abbrev passes : Text × Variable → Bool
@@ -81,7 +81,7 @@ module _ (ss : Systems) where
   filter_is ((x, Integer) ∷ ks) h = filter_is ks h.1
   filter_is ((x, OfType t y) ∷ ks) h =
       let v : Text × Variable = (x, meant_variable (OfType t y)) in
-      ap (λ b. cond b (v ∷ filter passes (meant_variables ks)) (filter passes (meant_variables ks))) (is_process_kind x y h.0.1)
+      ap (λ b. cond b (v ∷ filter passes (meant_variables ks)) (filter passes (meant_variables ks))) (is_process_kind y h.0.1)
       ∙ ap (λ l. v ∷ l) (filter_is ks h.1)
 
   abbrev pub IsIn : Text × Kind → Kinds → Type 0
@@ -164,7 +164,7 @@ module _ (ss : Systems) where
   before_is ((z, OfType u y) ∷ ks) (suc k) x t h d e =
       let n : ℕ = count_before a.Process x (meant_variables ks) in
       ap (λ b. if b then 0 else if is_component_of a.Process (process_type y) then suc n else n) (other_name x z (keys ks) d.0 (process_has ks k x t e))
-      ∙ ap (λ b. if b then suc n else n) (is_process_kind z y h.0.1)
+      ∙ ap (λ b. if b then suc n else n) (is_process_kind y h.0.1)
       ∙ ap suc (before_is ks k x t h.1 d.1 e)
 
   -- what a slot of a process tells
@@ -231,6 +231,6 @@ module _ (ss : Systems) where
             found = ap (λ b. if b then Some (OfType u y) else lookup x ks) is ∙ p.found;
             sound = p.sound;
             before = ap (λ b. if b then 0 else if is_component_of a.Process (process_type y) then suc n else n) (same_name-bytes_eq x z ∙ is)
-                ∙ ap (λ b. if b then suc n else n) (is_process_kind z y h.0.1) ∙ ap suc p.before;
+                ∙ ap (λ b. if b then suc n else n) (is_process_kind y h.0.1) ∙ ap suc p.before;
             system_is = p.system_is;
           }

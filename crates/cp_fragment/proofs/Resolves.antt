@@ -31,7 +31,7 @@ use Rattle.cp_fragment.proofs.ProcessKinds.{AllKindsSound, ProcessAt, ProcessNam
 use Rattle.cp_fragment.proofs.Words.{integer_leaves, lookup_meant, variable_leaves, word_in}
 use Rattle.cp_fragment.proofs.StartValues.{AllZero, WrittenAt, each_written, each_zero, kind_zero, number, own_writes, own_zero, process_written, variable_location-same, written_first, written_later, zero_append, zero_written}
 use Rattle.cp_fragment.proofs.Owners.{OwnerFacts, owner_resolves}
-use Rattle.cp_fragment.proofs.SoundTexts.{PartsSound, TextSound, defined, own, parts_fit, text_sound}
+use Rattle.cp_fragment.proofs.SoundTexts.{PartsFit, TextSound, defined, own, parts_fit, text_sound}
 
 no_process_slot : (ks : Kinds) (w first r : ℕ) (x : Text) → AllIntegers ks → lookup x (slots_of w first ks) ≡ Some (slot.Process r) → ⊥
 no_process_slot [] w first r x h e = cc
@@ -43,7 +43,7 @@ no_process_slot ((z, Integer) ∷ ks) w first r x h e = go (bytes_eq x z) e (no_
     go false e rest = rest e
 no_process_slot ((z, OfType t y) ∷ ks) w first r x h e = h
 
-module _ (t : s.Tree) (parts : PartsSound t) (sound : TextSound t (defined t).env (own t).env) (setup : Setup) (of : setup.tree ≡ erase.abstract t) where
+module _ (t : s.Tree) (parts : PartsFit t) (sound : TextSound t (defined t).env (own t).env) (setup : Setup) (of : setup.tree ≡ erase.abstract t) where
   abbrev ss : Systems
   ss = systems_of t.sections
 
@@ -107,11 +107,11 @@ module _ (t : s.Tree) (parts : PartsSound t) (sound : TextSound t (defined t).en
   process_starts : (k : ℕ) (z u : Text) (q : ProcessAt ss ks k z u) → slice_get (processes_of ks) k ≡ Some (z, u)
       → (i : ℕ) (x : Text) → slice_get (word_names q.system.variables) i ≡ Some x → (start setup).store (variable_location (2 + k) x) ≡ Ordinal (pos 0)
   process_starts k z u q at i x e =
-      let n : number place z u q.system q.sound ≡ 2 + k =
+      let n : number place z q.system q.sound ≡ 2 + k =
       ap (λ l. 2 + count_before a.Process z l) variables_are ∙ ap (λ m. 2 + m) (before_is ss ks k z u kinds_are distinct at) in
       zero_at (2 + k) x (written_later (variable_location (2 + k) x) (starting_writes place.component (meant_variables ks)) _
       (each_written ss (λ v. variable_writes place v.0 v.1.type) ks z (OfType u q.system) (variable_location (2 + k) x)
-      (subst (λ m. WrittenAt (variable_location m x) (variable_writes place z (process_type q.system))) n (process_written place z u q.system q.sound i x e)) q.is_in))
+      (subst (λ m. WrittenAt (variable_location m x) (variable_writes place z (process_type q.system))) n (process_written place z q.system q.sound i x e)) q.is_in))
 
   -- ---- the initial process
 
@@ -164,9 +164,6 @@ module _ (t : s.Tree) (parts : PartsSound t) (sound : TextSound t (defined t).en
   members_at_place k =
       ap (λ b. if b then reported_members (globals setup.tree) setup.tree.initial else members_at (components_of setup a.Process) ((2 + k) - 2)) (is_later k)
       ∙ ap (members_at (components_of setup a.Process)) (is_place k) ∙ ap (λ l. members_at l k) components_are
-
-  own_kinds : s.System → Kinds
-  own_kinds y = kinds [] y.variables
 
   own_variables : (y : s.System) → SystemSound y → declarations (globals setup.tree) (erase.system y).variables ≡ meant_variables (kinds [] y.variables)
   own_variables y h = ap (λ z. declarations z (erase.system y).variables) scope_is
@@ -242,5 +239,5 @@ module _ (t : s.Tree) (parts : PartsSound t) (sound : TextSound t (defined t).en
 
 pub accepted_text_resolves : AcceptedTextResolves
 accepted_text_resolves t setup accepted fits of =
-    let parts : PartsSound t = parts_fit t fits in
+    let parts : PartsFit t = parts_fit t fits in
     resolves t parts (text_sound t accepted parts) setup of

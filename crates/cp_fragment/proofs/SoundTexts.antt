@@ -22,15 +22,15 @@ use Rattle.cp_fragment.proofs.VariableGroups.{Grows, Visible, grown, variables_g
 use Rattle.cp_fragment.proofs.KnownNames.{known_names}
 use Rattle.cp_fragment.proofs.Definitions.{Scope, routines_are, sections_step, standard_scope_known}
 
--- ---- what nothing told says of the parts of a text
+-- ---- the parts of a text of the fragment
 
-pub record PartsSound (t : s.Tree) : Type 0 where
+pub record PartsFit (t : s.Tree) : Type 0 where
   pub sections : sections_fit t.sections ≡ true
   pub variables : variables_fit t.variables ≡ true
   pub routines : t.routines ≡ []
   pub statements : statements_fit t.body.list ≡ true
 
-pub parts_fit : (t : s.Tree) → is_in_fragment t ≡ true → PartsSound t
+pub parts_fit : (t : s.Tree) → is_in_fragment t ≡ true → PartsFit t
 parts_fit t h =
     let three : ((sections_fit t.sections && variables_fit t.variables && no_routines t.routines) ≡ true) × (statements_fit t.body.list ≡ true) =
     and_parts (sections_fit t.sections && variables_fit t.variables && no_routines t.routines) _ h in
@@ -39,7 +39,7 @@ parts_fit t h =
     let one : (sections_fit t.sections ≡ true) × (variables_fit t.variables ≡ true) = and_parts (sections_fit t.sections) _ two.0 in
     record { sections = one.0; variables = one.1; routines = routines_are t.routines two.1; statements = three.1 }
 
--- behind the definitions, behind the variables, and in the body
+-- what is known behind the definitions, behind the variables, and in the body
 pub record TextSound (t : s.Tree) (env own : Environment) : Type 0 where
   pub scope : Scope (systems_of t.sections) env (globals (erase.abstract t))
   pub grows : Grows (systems_of t.sections) env position.InitialVariable own (kinds (systems_of t.sections) t.variables)
@@ -72,7 +72,7 @@ own t = variables (defined t).env position.InitialVariable t.variables
 abbrev all : s.Tree → Declared
 all t = routines (own t).env sort.Process t.routines
 
-pub text_sound : (t : s.Tree) → Accepted t → PartsSound t → TextSound t (defined t).env (own t).env
+pub text_sound : (t : s.Tree) → Accepted t → PartsFit t → TextSound t (defined t).env (own t).env
 text_sound t accepted parts =
     let ss : Systems = systems_of t.sections in
     let body : Violations = statements (all t).env t.body.list in

@@ -101,7 +101,7 @@ leaf_written p [] i x e = absurd (cc)
 leaf_written p (y ∷ xs) zero x e = inl (ap (variable_location p) (some_is e))
 leaf_written p (y ∷ xs) (suc i) x e = inr (leaf_written p xs i x e)
 
-module _ (env : Environment) (z t : Text) (y : s.System) (sound : SystemSound y) where
+module _ (env : Environment) (z : Text) (y : s.System) (sound : SystemSound y) where
   abbrev pub number : ℕ
   number = process_number env (record { name = z; system = erase.system y; is_parameter = false })
 
@@ -121,4 +121,4 @@ module _ (env : Environment) (z t : Text) (y : s.System) (sound : SystemSound y)
 
 pub kind_zero : (ss : Systems) (env : Environment) (x : Text) (k : Kind) → KindSound ss k → AllZero (variable_writes env x (meant_kind k))
 kind_zero ss env x Integer h = tt
-kind_zero ss env x (OfType t y) h = process_zero env x t y h.1
+kind_zero ss env x (OfType t y) h = process_zero env x y h.1
