@@ -59,6 +59,7 @@ fn operations_fit(rest: &[Operation]) -> bool
 }
 
 /// Whether it is one argument, an expression of the fragment.
+#[tactic(auto, using(crate::proofs::TreeViews::more_than_one))]
 pub fn is_one_that_fits(arguments: &[Expression]) -> bool
     ensures { result ≡ fragment.is_one_that_fits (expressions_of (map expression arguments.now)) }
 {
