@@ -1,2 +1,4 @@
 pub mod Numbered
 pub mod StandsFor
+pub mod Tables
+pub mod Emitted

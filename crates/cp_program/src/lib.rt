@@ -5,4 +5,7 @@
 #![tactic(auto)]
 
 pub mod code;
+pub mod expressions;
 pub mod program;
+pub mod statements;
+pub mod table;

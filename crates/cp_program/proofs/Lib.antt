@@ -1,0 +1,5 @@
+pub mod Names
+pub mod Chains
+pub mod Keeping
+pub mod EmittedKept
+pub mod Views
