@@ -6,6 +6,8 @@
 
 pub mod code;
 pub mod expressions;
+pub mod numbering;
 pub mod program;
 pub mod statements;
 pub mod table;
+pub mod variables;

@@ -15,8 +15,8 @@ use cp_fragment::slot::Slot;
 use cp_model::tree::{Expression, Identifier, InitItem, Statement};
 use std::alloc::{AllocError, Global};
 
-// Appends an operation, and answers its place.
-fn append(ops: &mut Vec<Op>, op: Op) -> Result<usize, AllocError>
+/// Appends an operation, and answers its place. It fails only for want of memory.
+pub fn append(ops: &mut Vec<Op>, op: Op) -> Result<usize, AllocError>
     ensures { IfOk result (λ place. Emits ops.old.items ops.new.items (λ all low. StandsAt all low place op)) }
 {
     let place = ops.len();
