@@ -1,14 +1,14 @@
 -- Components that are numbered one after another.
-use Rattle.std.proofs.Common.{◌≡◌, ◌≤◌, ◌+◌, ℕ, zero, suc, cond, Bool, true, false, ◌⊎◌, inl, inr, List, [], ◌∷◌, ◌++◌, Option, None, Some, length, map, slice_get, refl, ap, sym, ◌∙◌, subst, append_assoc, append-nil, arith, length-append}
+use Rattle.std.proofs.Common.{◌≡◌, ◌+◌, ℕ, zero, suc, cond, Bool, true, false, ◌⊎◌, inl, inr, List, [], ◌∷◌, ◌++◌, Some, length, map, slice_get, refl, ap, sym, ◌∙◌, subst, append_assoc, append-nil, arith, length-append}
 use Rattle.std.specs.Str.{bytes_eq}
 use Rattle.cp_model.specs.Syntax as s
 use Rattle.cp_model.specs.RulesEnvironment.{Text, lookup}
-use Rattle.cp_fragment.specs.Slots.{Slots, process_list, slots, systems_of, word_names}
+use Rattle.cp_fragment.specs.Slots.{Slots, slots, word_names}
 use Rattle.cp_program.specs.declared.code.Op.{Op}
 use Rattle.cp_program.specs.declared.code.Op.TheVariants as op
 use Rattle.cp_program.specs.declared.program.Component.{Component}
 use Rattle.cp_program.specs.declared.numbering.Numbering.{Numbering}
-use Rattle.cp_program.specs.Components.{ComponentStands, ComponentsStand, Left, Numbered, StandsIn, initial_process, number_in, numbers_from, process_in, processes_of}
+use Rattle.cp_program.specs.Components.{ComponentStands, Left, Numbered, StandsIn, initial_process, number_in, numbers_from, process_in, processes_of}
 use Rattle.cp_program.specs.Emitted.{Emits, Keeps, ListEmitted, StandsAt}
 use Rattle.cp_program.specs.Tables.{SameNames}
 use Rattle.cp_program.proofs.EmittedKept.{list_kept}
@@ -59,15 +59,15 @@ numbered_more n m t systems q c keeps grown stands types h =
     let In : ℕ → Text × s.System → List Component → Type 0 = λ i p ds. StandsIn m.ops.items ds (suc i) p.1.variables p.1.body.list in
     let Initial : List Component → Type 0 = λ ds. StandsIn m.ops.items ds 0 t.variables t.body.list in
     let last : (i : ℕ) (p : Text × s.System) → i ≡ length systems → q ≡ p → In i p (cs ++ c ∷ []) = λ i p at is.
-        let place : length cs ≡ suc i = h.count ∙ ap suc (sym at) in
-        subst (λ (r : Text × s.System). In i r (cs ++ c ∷ [])) is (c, subst (λ (k : ℕ). slice_get (cs ++ c ∷ []) k ≡ Some c) place (get_last cs c), stands) in
+    let place : length cs ≡ suc i = h.count ∙ ap suc (sym at) in
+    subst (λ (r : Text × s.System). In i r (cs ++ c ∷ [])) is (c, subst (λ (k : ℕ). slice_get (cs ++ c ∷ []) k ≡ Some c) place (get_last cs c), stands) in
     record {
       components = record {
         initial = subst Initial (sym grown) (stands_kept n.ops.items m.ops.items cs (c ∷ []) 0 t.variables t.body.list keeps h.components.initial);
         others = λ i p g. subst (In i p) (sym grown)
             (elim (get_more systems q i p g) [
-              inl old ↦ stands_kept n.ops.items m.ops.items cs (c ∷ []) (suc i) p.1.variables p.1.body.list keeps (h.components.others i p old)
-            | inr new ↦ last i p new.0 new.1
+              | inl old ↦ stands_kept n.ops.items m.ops.items cs (c ∷ []) (suc i) p.1.variables p.1.body.list keeps (h.components.others i p old)
+              | inr new ↦ last i p new.0 new.1
             ]);
       };
       count = ap length grown ∙ omega (arith, length-append cs (c ∷ []), length-append systems (q ∷ []), h.count);

@@ -72,12 +72,12 @@ left_word v u x xs t gs all e words processes slots h = record {
   words = moved v.words.items u.words.items x.name _ _ words (ap (λ ns. v.words.items ++ ns) (sym (words_step x xs t gs e)) ∙ h.words);
   processes = ap (λ ps. map seen_process ps ++ process_list (group xs t ∷ gs)) processes ∙ ap (λ ps. map seen_process v.processes.items ++ ps) (sym (processes_stay x xs t gs e)) ∙ h.processes;
   slots =
-    let w = length v.words.items in
-    let r = 2 + length v.processes.items in
-    let next : suc w ≡ length u.words.items = length_more v.words.items u.words.items x.name words in
-    let step = word_slots_step x xs t gs w (length u.words.items) r next e in
-    λ y. ap (λ n. lookup y (u.slots ++ slots_from (length u.words.items) (2 + n) (group xs t ∷ gs))) (ap length processes)
-        ∙ moved_slot v.slots u.slots _ _ _ slots (λ z. ap (λ ss. lookup z (v.slots ++ ss)) (sym step) ∙ h.slots z) y;
+      let w = length v.words.items in
+      let r = 2 + length v.processes.items in
+      let next : suc w ≡ length u.words.items = length_more v.words.items u.words.items x.name words in
+      let step = word_slots_step x xs t gs w (length u.words.items) r next e in
+      λ y. ap (λ n. lookup y (u.slots ++ slots_from (length u.words.items) (2 + n) (group xs t ∷ gs))) (ap length processes)
+      ∙ moved_slot v.slots u.slots _ _ _ slots (λ z. ap (λ ss. lookup z (v.slots ++ ss)) (sym step) ∙ h.slots z) y;
 }
 
 pub left_process : (v u : Variables) (x : Identifier) (xs : List Identifier) (t : s.TypeExpression) (gs all : List s.Variables) → is_integer_type t ≡ false
@@ -89,12 +89,12 @@ left_process v u x xs t gs all e words processes slots h = record {
   processes = moved (map seen_process v.processes.items) (map seen_process u.processes.items) (x.name, type_name t) _ _ processes
       (ap (λ ps. map seen_process v.processes.items ++ ps) (sym (processes_step x xs t gs e)) ∙ h.processes);
   slots =
-    let r = 2 + length v.processes.items in
-    let more = length_more (map seen_process v.processes.items) (map seen_process u.processes.items) (x.name, type_name t) processes in
-    let next : suc r ≡ 2 + length u.processes.items = omega (arith, more, length-map v.processes.items seen_process, length-map u.processes.items seen_process) in
-    let step = process_slots_step x xs t gs (length v.words.items) r (2 + length u.processes.items) next e in
-    λ y. ap (λ n. lookup y (u.slots ++ slots_from n (2 + length u.processes.items) (group xs t ∷ gs))) (ap length words)
-        ∙ moved_slot v.slots u.slots _ _ _ slots (λ z. ap (λ ss. lookup z (v.slots ++ ss)) (sym step) ∙ h.slots z) y;
+      let r = 2 + length v.processes.items in
+      let more = length_more (map seen_process v.processes.items) (map seen_process u.processes.items) (x.name, type_name t) processes in
+      let next : suc r ≡ 2 + length u.processes.items = omega (arith, more, length-map v.processes.items seen_process, length-map u.processes.items seen_process) in
+      let step = process_slots_step x xs t gs (length v.words.items) r (2 + length u.processes.items) next e in
+      λ y. ap (λ n. lookup y (u.slots ++ slots_from n (2 + length u.processes.items) (group xs t ∷ gs))) (ap length words)
+      ∙ moved_slot v.slots u.slots _ _ _ slots (λ z. ap (λ ss. lookup z (v.slots ++ ss)) (sym step) ∙ h.slots z) y;
 }
 
 -- ---- groups

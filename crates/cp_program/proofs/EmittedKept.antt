@@ -1,5 +1,5 @@
 -- Emitted code stays the code of its statement: when operations are kept, and by any table that gives each name the same slot.
-use Rattle.std.proofs.Common.{◌≡◌, ◌≢◌, ◌<◌, ◌≤◌, ℕ, List, [], ◌∷◌, Option, None, Some, length, slice_get, refl, ap, sym, ◌∙◌, subst, arith}
+use Rattle.std.proofs.Common.{◌≡◌, ◌≢◌, ◌<◌, ◌≤◌, ℕ, List, [], ◌∷◌, Option, None, Some, length, slice_get, refl, ap, ◌∙◌, subst, arith}
 use Rattle.std.proofs.Math.ListN.{set}
 use Rattle.std.proofs.lemmas.Option.{slice_get_within}
 use Rattle.cp_model.specs.Syntax as s
@@ -11,7 +11,7 @@ use Rattle.cp_program.specs.declared.code.Op.{Op}
 use Rattle.cp_program.specs.declared.code.Op.TheVariants as op
 use Rattle.cp_program.specs.Numbered.{Numbered, Binary}
 use Rattle.cp_program.specs.Tables.{SameNames}
-use Rattle.cp_program.specs.Emitted.{DisplayEmitted, Emitted, Emits, ItemsEmitted, Keeps, ListEmitted, SetEmitted, StandsAt, StartEmitted, arithmetic_of, number_of, signed, word_number}
+use Rattle.cp_program.specs.Emitted.{DisplayEmitted, Emitted, Emits, ItemsEmitted, ListEmitted, SetEmitted, StandsAt, StartEmitted, arithmetic_of, number_of, signed, word_number}
 use Rattle.cp_program.proofs.Keeping.{get_set_other, get_set_same, keeps_then, keeps_written}
 
 pub number_same : (ss ts : Slots) → SameNames ss ts → (e : s.Expression) → number_of ss e ≡ number_of ts e

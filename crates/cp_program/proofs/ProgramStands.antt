@@ -1,27 +1,25 @@
 -- The program of a text stands for the text, where its names have their slots.
-use Rattle.std.proofs.Common.{◌≡◌, ◌≤◌, ◌<◌, ◌+◌, ◌-◌, ℕ, zero, suc, List, [], ◌∷◌, Option, None, Some, length, map, slice_get, Result, Ok, Err, IfOk, codes, refl, ap, sym, ◌∙◌, subst, arith, pos}
+use Rattle.std.proofs.Common.{◌≡◌, ◌≤◌, ◌<◌, ◌+◌, ◌-◌, ℕ, zero, suc, List, [], Some, length, map, slice_get, Result, Ok, Err, IfOk, refl, ap, sym, ◌∙◌, subst, arith, pos}
 use Rattle.std.specs.Option.{option_map}
 use Rattle.std.proofs.lemmas.List.{length-map}
-use Rattle.std.proofs.lemmas.Option.{slice_get-map, slice_get-get_or, slice_get_within}
+use Rattle.std.proofs.lemmas.Option.{slice_get-map, slice_get-get_or}
 use Rattle.cp_model.specs.Syntax as s
 use Rattle.cp_model.specs.Erase as erase
 use Rattle.cp_model.specs.RulesEnvironment.{Text, lookup}
 use Rattle.cp_model.specs.Abstract.{Name, Statement}
 use Rattle.cp_model.specs.Stores.{Ordinal}
-use Rattle.cp_model.specs.Leaves.{leaves_of_members}
 use Rattle.cp_model.specs.Start.{start}
 use Rattle.cp_model.specs.States.{Setup, process_count}
 use Rattle.cp_fragment.specs.declared.slot.Slot.TheVariants as slot
-use Rattle.cp_fragment.specs.Laws.{OwnerResolves, ProcessResolves, TextResolves}
+use Rattle.cp_fragment.specs.Laws.{OwnerResolves, TextResolves}
 use Rattle.cp_fragment.specs.Meanings.{AreWords, MeansProcess, integer_leaf}
-use Rattle.cp_fragment.specs.Processes.{environment_of, members_of, name_of, system_of, variable_location}
+use Rattle.cp_fragment.specs.Processes.{environment_of, name_of, system_of, variable_location}
 use Rattle.cp_fragment.specs.Slots.{process_list, slots, systems_of, word_names}
-use Rattle.cp_program.specs.declared.code.Op.TheVariants as op
 use Rattle.cp_program.specs.declared.program.Program.{Program}
 use Rattle.cp_program.specs.declared.program.Component.{Component}
 use Rattle.cp_program.specs.declared.program.Process.{Process}
-use Rattle.cp_program.specs.Components.{ComponentStands, Numbers, StandsIn, initial_process, number_in, numbers_from, process_in, processes_of}
-use Rattle.cp_program.specs.StandsFor.{CodeFor, ProcessStands, StandsFor, name_in, names_in, names_of, op_at, shape_in, shape_of, start_in, start_of}
+use Rattle.cp_program.specs.Components.{ComponentStands, Numbers, initial_process, number_in, numbers_from, process_in, processes_of}
+use Rattle.cp_program.specs.StandsFor.{CodeFor, ProcessStands, StandsFor, name_in, names_in, names_of, shape_in, shape_of, start_in, start_of}
 use Rattle.cp_program.proofs.Components.{found_at}
 use Rattle.cp_program.proofs.Standing.{statements_stand}
 
@@ -72,7 +70,7 @@ module _ (program : Program) (t : s.Tree) (setup : Setup) (numbers : Numbers pro
       let behind : 2 + k - 1 ≡ suc k = omega arith in
       let after : 1 + found.place ≡ suc found.place = omega arith in
       let process = ap (λ qs. slice_get qs (2 + k - 1)) numbers.processes ∙ ap (slice_get (processes_of types (process_list t.variables))) behind
-          ∙ slice_get-map (process_in types) (process_list t.variables) k ∙ ap (option_map (process_in types)) there in
+      ∙ slice_get-map (process_in types) (process_list t.variables) k ∙ ap (option_map (process_in types)) there in
       let component = ap (λ o. slice_get program.components.items (number_in o)) found.number ∙ ap (slice_get program.components.items) after ∙ own.1 in
       process_stands program setup (2 + k) resolved.system.variables resolved.system.body.list own.0 (process_in types v) resolved.owner
       (λ x n h. absurd (resolves.words_only found.place (found.entry, resolved.system) found.there x n h)) process component own.2 (sym resolved.name)

@@ -1,11 +1,10 @@
 -- Code that is emitted by the slots of names stands for what the names mean.
-use Rattle.std.proofs.Common.{◌≡◌, ◌≤◌, ℕ, Bool, true, false, List, [], ◌∷◌, Option, None, Some, slice_get, codes, refl, ap, sym, ◌∙◌, subst}
+use Rattle.std.proofs.Common.{◌≡◌, ℕ, true, List, [], ◌∷◌, Option, Some, slice_get, refl, ap, sym, subst}
 use Rattle.cp_model.specs.Syntax as s
 use Rattle.cp_model.specs.Erase as erase
 use Rattle.cp_model.specs.RulesEnvironment.{Text, lookup}
 use Rattle.cp_model.specs.declared.tree.Operator.{Operator}
 use Rattle.cp_model.specs.declared.tree.Operator.TheVariants as operator
-use Rattle.cp_model.specs.declared.tree.Identifier.{Identifier}
 use Rattle.cp_model.specs.declared.tree.Sign.{Sign}
 use Rattle.cp_model.specs.declared.tree.Sign.TheVariants as sign
 use Rattle.cp_model.specs.Abstract as a
@@ -18,8 +17,8 @@ use Rattle.cp_fragment.specs.Fragment.{operator_fits}
 use Rattle.cp_fragment.specs.Meanings.{MeansProcess}
 use Rattle.cp_fragment.specs.Slots.{ResolvedExpression, ResolvedItems, ResolvedStatement, ResolvedStatements, Slots}
 use Rattle.cp_program.specs.declared.program.Program.{Program}
-use Rattle.cp_program.specs.Numbered.{Numbered, Stands, Word, numbered, operator_of}
-use Rattle.cp_program.specs.Emitted.{DisplayEmitted, Emitted, ItemsEmitted, ListEmitted, SetEmitted, StartEmitted, arithmetic_of, number_of, signed, word_number}
+use Rattle.cp_program.specs.Numbered.{Numbered, Stands, numbered, operator_of}
+use Rattle.cp_program.specs.Emitted.{Emitted, ItemsEmitted, ListEmitted, SetEmitted, StartEmitted, arithmetic_of, number_of, signed, word_number}
 use Rattle.cp_program.specs.StandsFor.{CodeFor}
 
 operator_stands : (o : Operator) → operator_fits o ≡ true → operator_of (arithmetic_of o) ≡ erase.operator_of o

@@ -1,7 +1,7 @@
 -- The code that is emitted for expressions and statements, by the slots of their names.
 --
 -- It is defined for each text. A name without a slot, and what isn't in the fragment, is numbered as something harmless.
-use Rattle.std.specs.Prelude.{◌≡◌, ◌≤◌, ℕ, Option, Some, None, List, [], ◌∷◌, ◌++◌, slice_get, length}
+use Rattle.std.specs.Prelude.{◌≡◌, ◌≤◌, ℕ, Option, Some, List, [], ◌∷◌, slice_get, length}
 use Rattle.cp_model.specs.Syntax as s
 use Rattle.cp_model.specs.RulesEnvironment.{lookup}
 use Rattle.cp_model.specs.declared.tree.Operator.{Operator}

@@ -1,5 +1,5 @@
 -- The variables of a body as they are declared, one after another.
-use Rattle.std.specs.Prelude.{◌≡◌, ◌+◌, List, [], ◌∷◌, ◌++◌, length, map}
+use Rattle.std.specs.Prelude.{◌≡◌, ◌+◌, List, ◌++◌, length, map}
 use Rattle.cp_model.specs.Syntax as s
 use Rattle.cp_model.specs.RulesEnvironment.{Text}
 use Rattle.cp_model.specs.declared.tree.Identifier.{Identifier}

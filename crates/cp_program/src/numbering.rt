@@ -17,9 +17,7 @@ use crate::table::Table;
 use crate::variables::{ProcessVariable, Variables, declared};
 use cp_fragment::slot::Slot;
 use cp_model::token::Name;
-use cp_model::tree::{
-    Body, Defined, Identifier, Section, Statement, System, Tree, TypeDefinition,
-};
+use cp_model::tree::{Body, Defined, Identifier, Section, Statement, System, Tree, TypeDefinition};
 use std::alloc::{AllocError, Global};
 
 /// The operations and components so far, and the numbers of the components by the names of their types.
@@ -79,7 +77,11 @@ impl<'t> Numbering<'t> {
     {
         let number = self.components.len();
         self.types.add(x.name.as_bytes(), number)?;
-        let Variables { slots, words, processes: _ } = declared(alloc, &system.variables)?;
+        let Variables {
+            slots,
+            words,
+            processes: _,
+        } = declared(alloc, &system.variables)?;
         let component = component(alloc, &mut self.ops, &slots, words, &system.body)?;
         self.components.push(component)?;
         Ok(())
@@ -116,11 +118,7 @@ impl<'t> Numbering<'t> {
 }
 
 // The process of a process variable. A type that isn't there is numbered as that of the initial process.
-fn process(
-    alloc: Global,
-    types: &Table<usize>,
-    x: &ProcessVariable,
-) -> Result<Process, AllocError>
+fn process(alloc: Global, types: &Table<usize>, x: &ProcessVariable) -> Result<Process, AllocError>
     ensures { IfOk result (λ q. q ≡ components.process_in types.now (seen_process x.now)) }
 {
     Ok(Process {
@@ -161,7 +159,9 @@ pub fn numbered(alloc: Global, tree: &Tree) -> Result<Program, AllocError>
     numbering.add_sections(alloc, &tree.sections)?;
     let processes = processes(alloc, &numbering.types, &variables)?;
     let Numbering {
-        ops, components, ..
+        ops,
+        components,
+        ..
     } = numbering;
     Ok(Program {
         ops,

@@ -57,11 +57,14 @@ fn display(
 ) -> Result<usize, AllocError>
     ensures { IfOk result (λ place. Emits ops.old.items ops.new.items (λ all low. emitted.DisplayEmitted all low slots.now (view.expressions_of (map view.expression list.now)) place next)) }
 {
-    let [e] = list else {
-        return Ok(next);
-    };
-    let value = coded(alloc, slots, e)?;
-    append(ops, Op::Display { value, next })
+    match list {
+        [] => Ok(next),
+        [e] => {
+            let value = coded(alloc, slots, e)?;
+            append(ops, Op::Display { value, next })
+        }
+        _ => Ok(next),
+    }
 }
 
 fn start(

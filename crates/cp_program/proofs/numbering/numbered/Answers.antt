@@ -1,9 +1,8 @@
-use Rattle.std.proofs.Common.{◌≡◌, ◌++◌, [], map, refl, ap, sym, ◌∙◌, subst}
-use Rattle.cp_model.specs.RulesEnvironment.{lookup}
+use Rattle.std.proofs.Common.{[], refl, ap, ◌∙◌}
 use Rattle.cp_model.specs.View as view
 use Rattle.cp_fragment.specs.Slots.{process_list, systems_of}
-use Rattle.cp_program.specs.Components.{Left, Numbered, numbers_from, processes_of}
-use Rattle.cp_program.specs.Variables.{Declares, seen_process}
+use Rattle.cp_program.specs.Components.{Numbered, numbers_from, processes_of}
+use Rattle.cp_program.specs.Variables.{Declares}
 use Rattle.cp_program.proofs.Components.{left_all, left_none, processes_same}
 use Rattle.cp_program.proofs.numbering.numbered.Goals as goal
 

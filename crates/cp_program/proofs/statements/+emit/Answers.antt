@@ -1,5 +1,4 @@
-use Rattle.std.proofs.Common.{◌≡◌, ◌≤◌, ◌-◌, ◌+◌, ◌∷◌, ℕ, List, map, drop, length, ap, sym, subst, arith}
-use Rattle.cp_model.specs.Syntax as s
+use Rattle.std.proofs.Common.{◌≡◌, ◌-◌, ◌∷◌, List, map, drop, sym, subst, arith}
 use Rattle.cp_model.specs.View as view
 use Rattle.cp_program.specs.declared.code.Op.TheVariants as op
 use Rattle.cp_program.specs.Emitted.{Emits, ListEmitted}
@@ -16,10 +15,10 @@ emit_all-loop-i-preserved t c =
     let split : drop (i - 1) list ≡ o ∷ drop i list = drop_at list (i - 1) i o (omega arith) (omega arith) c.index-list-i.is in
     let Done : List _ → Type 0 = λ xs. Emits c.args.ops.now.items c.emit.new.ops.items (λ all low. ListEmitted all low ss (view.statements_of (map view.statement xs)) c.in_ok-entry.entry c.args.next) in
     subst Done (sym split)
-        (statement_before _ c.loop-i.ops.items _ ss (view.statement o) (view.statements_of (map view.statement (drop i list))) c.in_ok-entry.entry c.loop-i.entry c.args.next c.loop-i.invariant c.in_ok-entry.ensures)
+    (statement_before _ c.loop-i.ops.items _ ss (view.statement o) (view.statements_of (map view.statement (drop i list))) c.in_ok-entry.entry c.loop-i.entry c.args.next c.loop-i.invariant c.in_ok-entry.ensures)
 
 pub cycle-returns : goal.cycle-returns
 cycle-returns t c =
     rw c.write.ensures
-        (cycle_emitted c.args.ops.now.items c.append.new.ops.items c.emit_all.new.ops.items c.args.slots.now (view.statements_of (map view.statement c.args.list.now)) (op.Cycle 0) c.in_ok-place.place
-        c.in_ok-body.body c.in_ok-place.ensures c.in_ok-body.ensures)
+    (cycle_emitted c.args.ops.now.items c.append.new.ops.items c.emit_all.new.ops.items c.args.slots.now (view.statements_of (map view.statement c.args.list.now)) (op.Cycle 0) c.in_ok-place.place
+    c.in_ok-body.body c.in_ok-place.ensures c.in_ok-body.ensures)

@@ -1,4 +1,4 @@
-use Rattle.std.proofs.Common.{◌≡◌, ◌+◌, List, [], ◌∷◌, drop, refl, subst}
+use Rattle.std.proofs.Common.{◌+◌, List, ◌∷◌, drop, refl, subst}
 use Rattle.std.proofs.lemmas.List.{at_drop_all}
 use Rattle.cp_model.specs.View as view
 use Rattle.cp_model.specs.declared.tree.Identifier.{Identifier}
