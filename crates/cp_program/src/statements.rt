@@ -24,6 +24,7 @@ pub fn append(ops: &mut Vec<Op>, op: Op) -> Result<usize, AllocError>
     Ok(place)
 }
 
+// Writes an operation in place of the one there.
 fn write(ops: &mut Vec<Op>, place: usize, op: Op)
     requires { place < length ops.old.items }
     ensures { ops.new.items ≡ slice_set ops.old.items place op }
@@ -31,6 +32,7 @@ fn write(ops: &mut Vec<Op>, place: usize, op: Op)
     ops[place] = op;
 }
 
+// An assignment. A name without a word has no operation.
 fn set(
     alloc: Global,
     ops: &mut Vec<Op>,
@@ -48,6 +50,7 @@ fn set(
     append(ops, Op::Set { word, value, next })
 }
 
+// A call with one argument, which is displayed. With another number of them it has no operation.
 fn display(
     alloc: Global,
     ops: &mut Vec<Op>,
@@ -67,6 +70,7 @@ fn display(
     }
 }
 
+// An item of an `init`. A name without a process has no operation.
 fn start(
     ops: &mut Vec<Op>,
     slots: &Table<Slot>,
@@ -81,22 +85,23 @@ fn start(
     append(ops, Op::Start { process, next })
 }
 
-fn items(
+// The items of an `init`, one after another.
+fn start_all(
     ops: &mut Vec<Op>,
     slots: &Table<Slot>,
-    list: &[InitItem],
+    items: &[InitItem],
     next: usize,
 ) -> Result<usize, AllocError>
-    ensures { IfOk result (λ place. Emits ops.old.items ops.new.items (λ all low. emitted.ItemsEmitted all low slots.now (map view.init_item list.now) place next)) }
+    ensures { IfOk result (λ place. Emits ops.old.items ops.new.items (λ all low. emitted.ItemsEmitted all low slots.now (map view.init_item items.now) place next)) }
 {
     let mut entry = next;
-    for i in (0..list.len()).rev() {
-        entry = start(ops, slots, &list[i].component, entry)?;
+    for i in (0..items.len()).rev() {
+        entry = start(ops, slots, &items[i].component, entry)?;
     }
     Ok(entry)
 }
 
-// Statements that lead from the last to the first. The last one leads back to this operation.
+// The operation of a `cycle`, and its statements, of which the last leads back to it.
 #[cycle(emit)]
 fn cycle(
     alloc: Global,
@@ -130,7 +135,7 @@ pub fn emit(
         Statement::Call(_, list) => display(alloc, ops, slots, list, next),
         Statement::Compound(list) => emit_all(alloc, ops, slots, list, next),
         Statement::Cycle(list) => cycle(alloc, ops, slots, list),
-        Statement::Init { items: list, .. } => items(ops, slots, list, next),
+        Statement::Init { items, .. } => start_all(ops, slots, items, next),
         _ => Ok(next),
     }
 }
