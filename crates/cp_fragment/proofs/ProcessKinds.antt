@@ -58,6 +58,9 @@ is_a_process y h = ap (λ z. erase.sort_of z.sort) h.is
 pub is_process_kind : (y : s.System) → SystemSound y → is_component_of a.Process (process_type y) ≡ true
 is_process_kind y h = ap (same_sort a.Process) (is_a_process y h)
 
+is_no_monitor_kind : (y : s.System) → SystemSound y → is_component_of a.Monitor (process_type y) ≡ false
+is_no_monitor_kind y h = ap (same_sort a.Monitor) (is_a_process y h)
+
 -- ---- the component variables
 
 abbrev pub meant_processes : Kinds → List (Text × Variable)
@@ -83,6 +86,18 @@ module _ (ss : Systems) where
       let v : Text × Variable = (x, meant_variable (OfType t y)) in
       ap (λ b. cond b (v ∷ filter passes (meant_variables ks)) (filter passes (meant_variables ks))) (is_process_kind y h.0.1)
       ∙ ap (λ l. v ∷ l) (filter_is ks h.1)
+
+  abbrev is_monitor : Text × Variable → Bool
+  is_monitor v = is_component_of a.Monitor v.1.type
+
+  -- no component variable is a monitor
+  pub no_monitors_are : (ks : Kinds) → AllKindsSound ss ks → filter is_monitor (meant_variables ks) ≡ []
+  no_monitors_are [] h = refl
+  no_monitors_are ((x, Integer) ∷ ks) h = no_monitors_are ks h.1
+  no_monitors_are ((x, OfType t y) ∷ ks) h =
+      let v : Text × Variable = (x, meant_variable (OfType t y)) in
+      let rest : List (Text × Variable) = filter is_monitor (meant_variables ks) in
+      ap (λ b. cond b (v ∷ rest) rest) (is_no_monitor_kind y h.0.1) ∙ no_monitors_are ks h.1
 
   abbrev pub IsIn : Text × Kind → Kinds → Type 0
   IsIn k [] = ⊥

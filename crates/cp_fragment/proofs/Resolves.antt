@@ -27,7 +27,7 @@ use Rattle.cp_fragment.proofs.Names.{Distinct, keys, new_is_distinct, there_is_n
 use Rattle.cp_fragment.proofs.VariableKinds.{AllIntegers, Integer, Kinds, OfType, Systems, all_integers, integers_fit_too, kinds, kinds_of_integers, process_list-is, processes_of, slots_from-is, slots_of, word_names-is, words_of}
 use Rattle.cp_fragment.proofs.MeantVariables.{integers_found, meant_variable, meant_variables, process_type, variables_meant}
 use Rattle.cp_fragment.proofs.Definitions.{SystemSound}
-use Rattle.cp_fragment.proofs.ProcessKinds.{AllKindsSound, ProcessAt, ProcessNamed, before_is, count_is, filter_is, is_a_process, kinds_sound, meant_processes, process_at, process_named, sound_at}
+use Rattle.cp_fragment.proofs.ProcessKinds.{AllKindsSound, ProcessAt, ProcessNamed, before_is, count_is, filter_is, is_a_process, kinds_sound, meant_processes, no_monitors_are, process_at, process_named, sound_at}
 use Rattle.cp_fragment.proofs.Words.{integer_leaves, lookup_meant, variable_leaves, word_in}
 use Rattle.cp_fragment.proofs.StartValues.{AllZero, WrittenAt, each_written, each_zero, kind_zero, number, own_writes, own_zero, process_written, variable_location-same, written_first, written_later, zero_append, zero_written}
 use Rattle.cp_fragment.proofs.Owners.{OwnerFacts, owner_resolves}
@@ -71,6 +71,9 @@ module _ (t : s.Tree) (parts : PartsFit t) (sound : TextSound t (defined t).env 
 
   components_are : components_of setup a.Process ≡ meant_processes ks
   components_are = ap (filter (λ v. is_component_of a.Process v.1.type)) variables_are ∙ filter_is ss ks kinds_are
+
+  no_monitors : components_of setup a.Monitor ≡ []
+  no_monitors = ap (filter (λ v. is_component_of a.Monitor v.1.type)) variables_are ∙ no_monitors_are ss ks kinds_are
 
   -- ---- counts
 
@@ -235,6 +238,7 @@ module _ (t : s.Tree) (parts : PartsFit t) (sound : TextSound t (defined t).env 
     processes = process;
     initialised = initialised;
     words_only = words_only;
+    no_monitors = no_monitors;
   }
 
 pub accepted_text_resolves : AcceptedTextResolves

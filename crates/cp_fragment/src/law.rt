@@ -3,7 +3,7 @@
 ghost use Rattle.cp_fragment.specs.Laws.{AcceptedTextResolves};
 
 /// In an accepted text of the fragment each name has its slot, and means what its slot says: a word of its process is an integer
-/// variable of it that starts at 0, and a process variable names the process of its number.
+/// variable of it that starts at 0, and a process variable names the process of its number. There are no monitors.
 pub fn accepted_text_resolves()
     ensures { AcceptedTextResolves }
 {}
