@@ -88,6 +88,7 @@ module _ (program : Program) (t : s.Tree) (setup : Setup) (numbers : Numbers pro
     count = ap length numbers.processes ∙ ap suc (length-map (process_list t.variables) (process_in types)) ∙ sym resolves.count;
     most = resolves.most;
     processes = stands_by_number;
+    no_monitors = resolves.no_monitors;
   }
 
 pub if_ok : {T E : Type 0} (P Q : T → Type 0) (r : Result T E) → ((x : T) → P x → Q x) → IfOk r P → IfOk r Q
