@@ -1,15 +1,18 @@
 //! Programs: the operations of all bodies, and the processes.
 
-ghost use Rattle.std.specs.Prelude.{◌≡◌, ◌-◌, IfOk, length, slice_get};
+ghost use Rattle.std.specs.Prelude.{◌≡◌, ◌-◌, IfOk, length, slice_get, true};
 ghost use Rattle.std.specs.Option.{option_copied};
 ghost use Rattle.cp_model.specs.Erase as erase;
+ghost use Rattle.cp_model.specs.Rules.{Accepted};
 ghost use Rattle.cp_model.specs.States.{Setup};
 ghost use Rattle.cp_model.specs.View as view;
+ghost use Rattle.cp_fragment.specs.Fragment.{is_in_fragment};
 ghost use Rattle.cp_fragment.specs.Laws.{TextResolves};
 ghost use Rattle.cp_program.specs.StandsFor.{StandsFor, name_in, names_of, shape_of, start_of};
 
 use crate::code::Op;
 use crate::numbering::numbered;
+use cp_fragment::law::accepted_text_resolves;
 use cp_model::token::Name;
 use cp_model::tree::Tree;
 use std::alloc::{AllocError, Global};
@@ -38,9 +41,19 @@ pub struct Program {
 }
 
 impl Program {
-    /// The numbered program of an accepted text of the fragment. Of any other text it is some program. It fails only for want of
-    /// memory.
+    /// The numbered program of an accepted text of the fragment. It fails only for want of memory.
     pub fn number(alloc: Global, tree: &Tree) -> Result<Program, AllocError>
+        requires accepted { Accepted (view.tree tree.now) }
+        requires fragment { is_in_fragment (view.tree tree.now) ≡ true }
+        ensures stands { IfOk result (λ p. (setup : Setup) → setup.tree ≡ erase.abstract (view.tree tree.now) → StandsFor p setup) }
+    {
+        accepted_text_resolves();
+        Program::number_resolved(alloc, tree)
+    }
+
+    /// The numbered program of a text whose names have their slots. Of any other text it is some program. It fails only for want
+    /// of memory.
+    pub fn number_resolved(alloc: Global, tree: &Tree) -> Result<Program, AllocError>
         ensures stands { IfOk result (λ p. (setup : Setup) → TextResolves (view.tree tree.now) setup → setup.tree ≡ erase.abstract (view.tree tree.now) → StandsFor p setup) }
     {
         numbered(alloc, tree)
