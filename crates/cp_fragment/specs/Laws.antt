@@ -4,9 +4,10 @@ use Rattle.cp_model.specs.Syntax as s
 use Rattle.cp_model.specs.Rules.{Accepted}
 use Rattle.cp_model.specs.RulesEnvironment.{Text, lookup}
 use Rattle.cp_model.specs.Erase as erase
-use Rattle.cp_model.specs.Abstract.{Name}
+use Rattle.cp_model.specs.Abstract.{Monitor, Name}
 use Rattle.cp_model.specs.Stores.{Ordinal}
 use Rattle.cp_model.specs.Leaves.{leaves_of_members}
+use Rattle.cp_model.specs.Report.{components_of}
 use Rattle.cp_model.specs.States.{Setup, process_count}
 use Rattle.cp_model.specs.Start.{start}
 use Rattle.cp_fragment.specs.declared.slot.Slot.TheVariants as slot
@@ -41,6 +42,8 @@ pub record TextResolves (t : s.Tree) (setup : Setup) : Type 0 where
   -- a process type has no process variables
   pub words_only : (i : ℕ) (q : Text × s.System) → slice_get (systems_of t.sections) i ≡ Some q
       → (x : Text) (r : ℕ) → lookup x (slots q.1.variables) ≡ Some (slot.Process r) → ⊥
+  -- no component variable is a monitor
+  pub no_monitors : components_of setup Monitor ≡ []
 
 abbrev pub AcceptedTextResolves : Type 0
 AcceptedTextResolves =
