@@ -1,30 +1,26 @@
 -- Behind the end of a round the parts are those of the closed state.
-use Rattle.std.specs.Prelude.{◌≡◌, ◌≤◌, ◌<◌, refl, ℕ, ℤ, pos, zero, suc, ◌-◌, Bool, true, false, Option, Some, None, List, [], ◌∷◌, slice_get, length, replicate}
+use Rattle.std.specs.Prelude.{◌≡◌, refl, ℕ, ℤ, pos, zero, suc, false, Some, List, [], ◌∷◌, slice_get, length, replicate}
 use Rattle.std.proofs.Common.{sym, ◌∙◌, ap, subst, arith}
-use Rattle.cp_model.specs.Abstract as a
 use Rattle.cp_model.specs.Abstract.{Name}
-use Rattle.cp_model.specs.Environments.{Environment}
-use Rattle.cp_model.specs.Locations.{Location}
 use Rattle.cp_model.specs.Stores.{Ordinal}
-use Rattle.cp_model.specs.Continuations.{Do, EndProcess, Task, push}
+use Rattle.cp_model.specs.Continuations.{EndProcess, Task, push}
 use Rattle.cp_model.specs.Configurations as c
 use Rattle.cp_model.specs.Configurations.{Status}
-use Rattle.cp_model.specs.States.{Setup, State, process_count}
+use Rattle.cp_model.specs.States.{Setup, State}
 use Rattle.cp_model.specs.Rounds.{after_closing, close_round}
 use Rattle.cp_model.specs.Start.{start}
 use Rattle.cp_model.specs.Parts as parts
 use Rattle.cp_model.specs.Parts.{HasBegun, HasNotBegun, OwnStatus, own_status}
 use Rattle.cp_fragment.specs.Processes.{environment_of, system_of, variable_location}
 use Rattle.cp_program.specs.declared.program.Program.{Program}
-use Rattle.cp_program.specs.StandsFor.{CodeFor, ProcessStands, StandsFor, names_of, start_of}
+use Rattle.cp_program.specs.StandsFor.{CodeFor, ProcessStands, names_of, start_of}
 use Rattle.cp_private.specs.declared.private.Private.{Private}
 use Rattle.cp_private.specs.declared.private.Activity.{Activity}
 use Rattle.cp_private.specs.declared.private.Activity.TheVariants as activity
-use Rattle.cp_private.specs.PartOf.{Continues, PartOf, WordsMean, status_of}
-use Rattle.cp_kernel.specs.declared.kernel.Kernel.{Kernel}
+use Rattle.cp_private.specs.PartOf.{Continues, PartOf, status_of}
 use Rattle.cp_kernel.specs.declared.kernel.Stage.{Stage}
 use Rattle.cp_kernel.specs.declared.kernel.Stage.TheVariants as stage
-use Rattle.cp_kernel.specs.KernelOf.{KernelOf, StagesOf, stage_of}
+use Rattle.cp_kernel.specs.KernelOf.{StagesOf, stage_of}
 use Rattle.cp_kernel.specs.Closing.{begun_if, closed, is_fresh}
 
 -- ---- stages

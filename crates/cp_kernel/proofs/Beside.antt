@@ -1,7 +1,6 @@
 -- What keeps the kernel's part of the state keeps what the kernel stands for.
-use Rattle.std.specs.Prelude.{◌≡◌, refl, ℕ, suc, true}
+use Rattle.std.specs.Prelude.{◌≡◌, refl, ℕ, suc}
 use Rattle.std.proofs.Common.{sym, ◌∙◌, ap, subst, arith}
-use Rattle.cp_model.specs.Locations.{Location}
 use Rattle.cp_model.specs.Configurations as c
 use Rattle.cp_model.specs.Configurations.{Status}
 use Rattle.cp_model.specs.Parts.{HasNotBegun, SameKernelPart, kernel_status}

@@ -4,15 +4,14 @@ use Rattle.std.proofs.Common.{sym, ◌∙◌, subst, arith}
 use Rattle.cp_model.specs.Abstract as a
 use Rattle.cp_model.specs.Abstract.{Name}
 use Rattle.cp_model.specs.Environments.{Environment}
-use Rattle.cp_model.specs.Continuations.{Do, EndBody, EndCall, EndProcess, ForNext, RepeatTest, Task, WhileTest}
+use Rattle.cp_model.specs.Continuations.{Do, EndProcess, Task}
 use Rattle.cp_model.specs.States.{Setup}
 use Rattle.cp_fragment.specs.Meanings.{MeansProcess}
 use Rattle.cp_program.specs.declared.program.Program.{Program}
-use Rattle.cp_program.specs.declared.code.Op.{Op}
 use Rattle.cp_program.specs.declared.code.Op.TheVariants as op
 use Rattle.cp_program.specs.declared.code.Code.{Code}
-use Rattle.cp_program.specs.StandsFor.{CodeFor, op_at}
-use Rattle.cp_private.specs.PartOf.{Continues, IsTask}
+use Rattle.cp_program.specs.StandsFor.{op_at}
+use Rattle.cp_private.specs.PartOf.{Continues}
 
 module _ (program : Program) (setup : Setup) (names : List Name) (env : Environment) (place r next : ℕ) (o : op_at program place ≡ Some (op.Start r next)) where
   -- What is left begins with the `init` of process r.

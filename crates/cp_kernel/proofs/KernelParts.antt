@@ -1,25 +1,22 @@
 -- The parts of the state behind the `init` of a process.
-use Rattle.std.specs.Prelude.{◌≡◌, ◌≢◌, ◌≤◌, refl, ℕ, zero, suc, ◌-◌, Bool, true, false, List, [], ◌∷◌, ◌++◌, Option, Some, None, slice_get, slice_set, length, nat_eq, if◌then◌else◌}
-use Rattle.std.proofs.Common.{sym, ◌∙◌, ap, subst, arith, length-set, ◌⊎◌, inl, inr, ⊎_elim}
-use Rattle.std.proofs.lemmas.Bool.{eqb-false, eqb-true}
-use Rattle.cp_model.specs.Locations.{Location}
-use Rattle.cp_model.specs.Stores.{Store}
+use Rattle.std.specs.Prelude.{◌≡◌, ◌≢◌, ◌≤◌, refl, ℕ, suc, ◌-◌, Bool, true, false, List, [], ◌∷◌, Some, slice_get, slice_set, nat_eq}
+use Rattle.std.proofs.Common.{sym, ◌∙◌, ap, subst, arith, length-set, ⊎_elim}
+use Rattle.std.proofs.lemmas.Bool.{eqb-true}
 use Rattle.cp_model.specs.Continuations.{EndProcess, Task, push}
 use Rattle.cp_model.specs.Configurations as c
 use Rattle.cp_model.specs.Configurations.{Status}
-use Rattle.cp_model.specs.States.{Setup, State, is_started, with_at, set_status, process_count}
+use Rattle.cp_model.specs.States.{Setup, State, with_at}
 use Rattle.cp_model.specs.Parts as parts
 use Rattle.cp_model.specs.Parts.{HasBegun, HasNotBegun, OwnStatus, is_own, own_status}
-use Rattle.cp_model.specs.Start.{start}
 use Rattle.cp_model.specs.declared.state.Fault.TheVariants as fault
 use Rattle.cp_model.proofs.StateMaps.{differ, with_at_here, with_at_there}
 use Rattle.cp_fragment.specs.Processes.{environment_of, system_of}
 use Rattle.cp_program.specs.declared.program.Program.{Program}
-use Rattle.cp_program.specs.StandsFor.{names_of, start_of}
+use Rattle.cp_program.specs.StandsFor.{names_of}
 use Rattle.cp_private.specs.declared.private.Private.{Private}
 use Rattle.cp_private.specs.declared.private.Activity.{Activity}
 use Rattle.cp_private.specs.declared.private.Activity.TheVariants as activity
-use Rattle.cp_private.specs.PartOf.{Continues, PartOf, WordsMean, status_of}
+use Rattle.cp_private.specs.PartOf.{Continues, PartOf, status_of}
 use Rattle.cp_kernel.specs.declared.kernel.Stage.{Stage}
 use Rattle.cp_kernel.specs.declared.kernel.Stage.TheVariants as stage
 use Rattle.cp_kernel.specs.KernelOf.{StagesOf, stage_of}

@@ -1,11 +1,11 @@
 -- A kernel step of the fragment is the `init` of a process.
 use Rattle.std.specs.Prelude.{◌≡◌, refl, ℕ, Bool, true, false, List, [], ◌∷◌, ◌||◌, not, Option, Some, None, if◌then◌else◌}
-use Rattle.std.proofs.Common.{sym, ◌∙◌, ap, arith}
+use Rattle.std.proofs.Common.{◌∙◌, ap, arith}
 use Rattle.cp_model.specs.Abstract as a
 use Rattle.cp_model.specs.Abstract.{Name}
 use Rattle.cp_model.specs.Declarations.{declarations}
 use Rattle.cp_model.specs.Environments.{Environment}
-use Rattle.cp_model.specs.Components.{Component, component_named, process_location, process_number, same_sort}
+use Rattle.cp_model.specs.Components.{Component, process_location, process_number, same_sort}
 use Rattle.cp_model.specs.Continuations.{Do, EndProcess, Task, holds_gate, push}
 use Rattle.cp_model.specs.Actions.{action, is_kernel_action}
 use Rattle.cp_model.specs.Arguments.{bind, init_argument_writes}

@@ -1,15 +1,14 @@
 -- A kernel turn of the code is a kernel turn of the definitions.
-use Rattle.std.specs.Prelude.{◌≡◌, ◌≤◌, ◌++◌, ◌-◌, ℕ, List, length, slice_get, Vec}
+use Rattle.std.specs.Prelude.{◌≡◌, ◌++◌, ◌-◌, ℕ, List, length, slice_get, Vec}
 use Rattle.std.specs.Global.{Global}
 use Rattle.std.proofs.Common.{sym, ◌∙◌, ap, subst}
-use Rattle.cp_model.specs.States.{Setup, State}
 use Rattle.cp_model.specs.Turns as t
 use Rattle.cp_program.specs.declared.program.Program.{Program}
 use Rattle.cp_private.specs.declared.private.Private.{Private}
 use Rattle.cp_private.specs.PartOf.{PartOf}
 use Rattle.cp_kernel.specs.declared.kernel.Kernel.{Kernel}
 use Rattle.cp_kernel.specs.declared.kernel.Stage.{Stage}
-use Rattle.cp_kernel.specs.KernelOf.{Bytes, KernelOf, StagesOf, bytes_in, moved}
+use Rattle.cp_kernel.specs.KernelOf.{Bytes, StagesOf, bytes_in, moved}
 use Rattle.cp_kernel.specs.Stand.{MakesKernelTurn}
 use Rattle.cp_kernel.specs.Starting.{Turning, turned, turning}
 use Rattle.cp_kernel.proofs.Stands.{moved_part}

@@ -1,6 +1,6 @@
 -- What stands in a list that has grown by one, or has another item at one place.
 use Rattle.std.specs.Prelude.{◌≡◌, ◌≢◌, refl, ℕ, zero, suc, ◌<◌, List, [], ◌∷◌, ◌++◌, length, Some, None, slice_get}
-use Rattle.std.proofs.Common.{sym, ◌∙◌, ap, subst, arith, ◌⊎◌, inl, inr, ⊎_elim, set, get_or}
+use Rattle.std.proofs.Common.{sym, ap, subst, arith, ◌⊎◌, inl, inr, ⊎_elim, set, get_or}
 
 module _ {X : Type 0} where
   pub none_some : (y : X) → None ≡ Some y → ⊥

@@ -1,11 +1,8 @@
 -- The parts of a state stand together behind a kernel turn and behind the end of a round.
-use Rattle.std.specs.Prelude.{◌≡◌, ◌≤◌, ◌<◌, refl, ℕ, zero, suc, ◌-◌, ◌++◌, Option, Some, None, List, [], ◌∷◌, slice_get, length, Vec}
+use Rattle.std.specs.Prelude.{◌≡◌, ◌<◌, refl, ℕ, suc, ◌++◌, Some, List, slice_get, length, Vec}
 use Rattle.std.specs.Global.{Global}
 use Rattle.std.proofs.Common.{sym, ◌∙◌, ap, subst, arith}
 use Rattle.std.proofs.lemmas.Bool.{eq-eqb}
-use Rattle.cp_model.specs.Abstract.{Name}
-use Rattle.cp_model.specs.Continuations.{Task}
-use Rattle.cp_model.specs.Locations.{ByName}
 use Rattle.cp_model.specs.States.{Setup, State, process_count}
 use Rattle.cp_model.specs.Rounds.{close_round}
 use Rattle.cp_fragment.specs.Processes.{environment_of, system_of, variable_location}
@@ -16,7 +13,7 @@ use Rattle.cp_private.specs.PartOf.{PartOf}
 use Rattle.cp_kernel.specs.declared.kernel.Kernel.{Kernel}
 use Rattle.cp_kernel.specs.declared.kernel.Stage.{Stage}
 use Rattle.cp_kernel.specs.KernelOf.{Bytes, KernelOf, bytes_in, moved}
-use Rattle.cp_kernel.specs.Closing.{begun_below, begun_if, closed_below, is_fresh}
+use Rattle.cp_kernel.specs.Closing.{begun_below, closed_below}
 use Rattle.cp_kernel.specs.Stand.{Stand}
 use Rattle.cp_kernel.proofs.Lists.{got_at, got_below}
 use Rattle.cp_kernel.proofs.ClosedLists.{got_begun_below, got_closed_below, length_begun, length_closed}

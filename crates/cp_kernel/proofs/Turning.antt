@@ -1,5 +1,5 @@
 -- Kernel steps and turns of the code are those of the definitions.
-use Rattle.std.specs.Prelude.{◌≡◌, ◌≢◌, ◌≤◌, ◌<◌, refl, ℕ, zero, suc, ◌+◌, ◌-◌, Bool, true, false, List, Option, Some, None, slice_get}
+use Rattle.std.specs.Prelude.{◌≡◌, ◌≤◌, ◌<◌, refl, ℕ, zero, suc, ◌+◌, ◌-◌, Bool, true, false, List, Option, Some, None, slice_get}
 use Rattle.std.proofs.Common.{sym, ◌∙◌, ap, subst, arith}
 use Rattle.cp_model.specs.Continuations.{Task}
 use Rattle.cp_model.specs.Configurations as c
@@ -13,7 +13,6 @@ use Rattle.cp_program.specs.declared.program.Program.{Program}
 use Rattle.cp_program.specs.declared.code.Op.{Op}
 use Rattle.cp_program.specs.declared.code.Op.TheVariants as op
 use Rattle.cp_program.specs.StandsFor.{StandsFor, names_of, op_at}
-use Rattle.cp_private.specs.declared.private.Private.{Private}
 use Rattle.cp_private.specs.declared.private.Activity.{Activity}
 use Rattle.cp_private.specs.declared.private.Activity.TheVariants as activity
 use Rattle.cp_private.specs.PartOf.{PartOf}

@@ -1,5 +1,5 @@
 -- What the end of a round does: the fresh processes begin.
-use Rattle.std.specs.Prelude.{ℕ, zero, suc, Bool, true, false, Option, Some, None, List, [], ◌∷◌, slice_set}
+use Rattle.std.specs.Prelude.{ℕ, zero, suc, Bool, true, false, Option, Some, List, [], ◌∷◌, slice_set}
 use Rattle.cp_private.specs.declared.private.Private.{Private}
 use Rattle.cp_private.specs.declared.private.Activity.TheVariants as activity
 use Rattle.cp_kernel.specs.declared.kernel.Stage.{Stage}

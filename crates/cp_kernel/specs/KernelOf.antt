@@ -1,5 +1,5 @@
 -- When a kernel is the kernel's part of a state of the system.
-use Rattle.std.specs.Prelude.{◌≡◌, ◌≤◌, ℕ, suc, zero, ◌+◌, ◌-◌, true, Option, Some, None, List, [], ◌∷◌, slice_get, length, vec_len, vec_capacity, Vec}
+use Rattle.std.specs.Prelude.{◌≡◌, ◌≤◌, ℕ, suc, zero, ◌+◌, true, Option, Some, None, List, [], ◌∷◌, slice_get, length, vec_len, vec_capacity, Vec}
 use Rattle.std.specs.Global.{Global}
 use Rattle.cp_model.specs.Locations.{Location}
 use Rattle.cp_model.specs.Continuations.{EndProcess, push}

@@ -1,5 +1,5 @@
 -- What kernel steps do, on the stages of the processes and the private state of the one whose turn it is.
-use Rattle.std.specs.Prelude.{ℕ, zero, suc, ◌-◌, Bool, true, false, Option, Some, None, List, slice_get, slice_set}
+use Rattle.std.specs.Prelude.{ℕ, zero, suc, ◌-◌, Bool, true, false, Option, Some, List, slice_get, slice_set}
 use Rattle.cp_model.specs.declared.state.Fault.TheVariants as fault
 use Rattle.cp_program.specs.declared.program.Program.{Program}
 use Rattle.cp_program.specs.declared.code.Op.{Op}

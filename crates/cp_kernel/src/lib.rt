@@ -6,4 +6,6 @@
 
 pub mod closing;
 pub mod kernel;
+#[cfg(test)]
+mod tests;
 pub mod turns;

@@ -1,4 +1,4 @@
-use Rattle.std.proofs.Common.{rules, ◌≡◌, Some, length, slice_get, ℕ, suc, ◌+◌, ◌<◌, List, Option, slice_set, sym, ap, ◌∙◌, arith, length-set}
+use Rattle.std.proofs.Common.{◌≡◌, Some, slice_get, ℕ, suc, ◌+◌, List, Option, slice_set, sym, ap, ◌∙◌, arith, length-set}
 use Rattle.cp_private.specs.declared.private.Private.{Private}
 use Rattle.cp_kernel.specs.declared.kernel.Stage.{Stage}
 use Rattle.cp_kernel.specs.Closing.{begun_below, begun_if, closed_below, closed_if, is_fresh}

@@ -1,5 +1,5 @@
-use Rattle.std.proofs.Common.{◌≡◌, ◌-◌, sym, ◌∙◌, arith, Bool, false}
-use Rattle.cp_kernel.specs.Starting.{is_due, turning}
+use Rattle.std.proofs.Common.{◌-◌, sym, ◌∙◌, arith}
+use Rattle.cp_kernel.specs.Starting.{turning}
 use Rattle.cp_kernel.proofs.Turning.{step_rests, turn_next, turn_rests}
 use Rattle.cp_kernel.proofs.turns.kernel_steps.Goals as goal
 
