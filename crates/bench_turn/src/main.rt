@@ -10,8 +10,7 @@ use cp_program::Program;
 use cp_program::code::{Arithmetic, Code, Op, Operation};
 use cp_program::program::{Component, Process};
 use std::alloc::{AllocError, Global};
-use std::env;
-use std::io;
+use std::{env, io};
 
 fn then(operator: Arithmetic, number: u16) -> Operation {
     Operation {

@@ -1,4 +1,4 @@
-use Rattle.std.proofs.Common.{rules, ◌≡◌, ◌≤◌, ◌<◌, ◌+◌, ℕ, suc, List, ◌++◌, ◌∷◌, [], Some, slice_get, length, sym, ap, ◌∙◌, subst, arith}
+use Rattle.std.proofs.Common.{rules, ◌≡◌, ◌≤◌, ◌+◌, ℕ, suc, List, ◌++◌, ◌∷◌, [], Some, slice_get, length, sym, ap, ◌∙◌, subst, arith}
 use Rattle.cp_private.specs.declared.private.Private.{Private}
 use Rattle.cp_rounds.specs.Holds.{Turned}
 use Rattle.cp_rounds.proofs.Places.{each_more}

@@ -1,4 +1,3 @@
-use Rattle.std.proofs.Common.{◌≡◌, ℕ, List}
 use Rattle.cp_model.specs.Rounds.{wake}
 use Rattle.cp_model.proofs.StateInvariant.{wake_keeps}
 use Rattle.cp_private.proofs.Carried.{part_wakes}

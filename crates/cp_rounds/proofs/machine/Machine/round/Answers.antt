@@ -1,9 +1,9 @@
-use Rattle.std.proofs.Common.{rules, ◌≡◌, ◌≤◌, ◌+◌, ℕ, List, length, ◌++◌, take, drop, sym, ap, ◌∙◌, subst, arith}
+use Rattle.std.proofs.Common.{rules, ◌≡◌, ◌+◌, ℕ, List, length, ◌++◌, take, drop, sym, ap, ◌∙◌, subst}
 use Rattle.std.proofs.Math.Seq.{take-append_seam}
 use Rattle.cp_model.specs.Rounds as r
-use Rattle.cp_model.specs.States.{Setup, State, process_count}
+use Rattle.cp_model.specs.States.{process_count}
 use Rattle.cp_private.specs.declared.private.Private.{Private}
-use Rattle.cp_rounds.specs.Holds.{AllTurned, Holds, IsIn}
+use Rattle.cp_rounds.specs.Holds.{AllTurned, Holds}
 use Rattle.cp_rounds.proofs.Places.{if_err, kept_holds, round_holds, sequential_holds}
 use Rattle.cp_rounds.proofs.machine.Machine.round.Goals as goal
 

@@ -1,6 +1,6 @@
-use Rattle.std.proofs.Common.{rules, ◌≡◌, ◌<◌, ◌≤◌, ◌+◌, ◌-◌, ℕ, sym, ap, subst, arith}
+use Rattle.std.proofs.Common.{◌≡◌, ◌+◌, ◌-◌, ℕ, sym, subst, arith}
 use Rattle.cp_model.specs.Rounds as r
-use Rattle.cp_model.specs.States.{Setup, State}
+use Rattle.cp_model.specs.States.{State}
 use Rattle.cp_rounds.specs.Holds.{IsIn}
 use Rattle.cp_rounds.proofs.Places.{from_err, from_ok, run_more}
 use Rattle.cp_rounds.proofs.machine.Machine.run.Goals as goal
