@@ -123,3 +123,23 @@ fn variable_group<'t>(
     owners(env, told, position, of, &group.names);
     Ok(product(group.names.len(), each))
 }
+
+/// Variables of the fragment, and their words. It fails only for want of memory.
+pub fn variables<'t>(
+    env: &mut Environment<'t>,
+    told: &mut Option<Violation>,
+    position: Position,
+    groups: &'t [Fields],
+) -> Result<usize, AllocError>
+    requires fits { variables_fit (map view.variables groups.now) ≡ true }
+    ensures env { OnOk result (environment env.new ≡ (d.variables (environment env.old) position (map view.variables groups.now)).env) }
+    ensures told { OnOk result (told.new ≡ least told.old (d.variables (environment env.old) position (map view.variables groups.now)).violations) }
+    ensures words { IfOk result (λ n. n ≡ capped (d.variables (environment env.old) position (map view.variables groups.now)).words) }
+{
+    let mut words = 0;
+    for group in groups {
+        let more = variable_group(env, told, position, group)?;
+        words = sum(words, more);
+    }
+    Ok(words)
+}
