@@ -1,4 +1,5 @@
 pub mod Fragment
+pub mod FragmentParts
 pub mod Processes
 pub mod Meanings
 pub mod Slots

@@ -1,5 +1,5 @@
 -- The processes of a text by number: their system types, the environments of their bodies, and their reported parts.
-use Rattle.std.specs.Prelude.{ℕ, Bool, List, [], ◌∷◌, None, nat_eq, if◌then◌else◌, zero, suc, ◌-◌, codes, false}
+use Rattle.std.specs.Prelude.{ℕ, List, [], ◌∷◌, None, nat_eq, if◌then◌else◌, zero, suc, ◌-◌, codes}
 use Rattle.cp_model.specs.Abstract.{Name, Nothing, Process, System}
 use Rattle.cp_model.specs.Types.{ComponentOf, Members, NoMembers, ResolvedType}
 use Rattle.cp_model.specs.Declarations.{Variable, globals, reported_members}

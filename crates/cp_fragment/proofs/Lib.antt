@@ -1,0 +1,17 @@
+pub mod Names
+pub mod Judging
+pub mod Bodies
+pub mod VariableKinds
+pub mod DeclaredVariables
+pub mod VariableGroups
+pub mod KnownNames
+pub mod MeantVariables
+pub mod DefinedSystems
+pub mod Definitions
+pub mod ProcessKinds
+pub mod Words
+pub mod StartValues
+pub mod Owners
+pub mod SoundTexts
+pub mod Resolves
+pub mod TreeViews
