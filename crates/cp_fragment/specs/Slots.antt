@@ -1,11 +1,11 @@
 -- The slots of variables, and the bodies whose names have slots.
-use Rattle.std.specs.Prelude.{◌≡◌, ℕ, suc, ◌+◌, List, [], ◌∷◌, ◌++◌, Some, if◌then◌else◌, length, map, codes}
+use Rattle.std.specs.Prelude.{◌≡◌, ℕ, suc, ◌+◌, List, [], ◌∷◌, ◌++◌, Some, true, if◌then◌else◌, length, map, codes}
 use Rattle.cp_model.specs.Syntax as s
 use Rattle.cp_model.specs.RulesEnvironment.{Text, lookup}
 use Rattle.cp_model.specs.declared.tree.Identifier.{Identifier}
 use Rattle.cp_fragment.specs.declared.slot.Slot.{Slot}
 use Rattle.cp_fragment.specs.declared.slot.Slot.TheVariants as slot
-use Rattle.cp_fragment.specs.Fragment.{is_integer_type}
+use Rattle.cp_fragment.specs.Fragment.{is_integer_type, operator_fits}
 
 abbrev pub Slots : Type 0
 Slots = List (Text × Slot)
@@ -77,7 +77,7 @@ ResolvedExpression ss (s.Number at n) = Unit {0}
 ResolvedExpression ss (s.Designated (s.Designate x s.NoSelectors)) = IsWord ss x.name
 ResolvedExpression ss (s.Parenthesized at e) = ResolvedExpression ss e
 ResolvedExpression ss (s.Signed sign at e) = ResolvedExpression ss e
-ResolvedExpression ss (s.Binary l o at r) = ResolvedExpression ss l × ResolvedExpression ss r
+ResolvedExpression ss (s.Binary l o at r) = (operator_fits o ≡ true) × ResolvedExpression ss l × ResolvedExpression ss r
 ResolvedExpression ss _ = ⊥
 
 abbrev pub ResolvedItems : Slots → List s.InitItem → Type 0

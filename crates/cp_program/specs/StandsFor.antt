@@ -2,7 +2,7 @@
 --
 -- It is a relation by cases over the abstract syntax. An operation stands at a place and leads to another; words stand for the
 -- variables of a component, in the order of their names.
-use Rattle.std.specs.Prelude.{◌≡◌, ◌≤◌, ℕ, pos, ◌-◌, Option, Some, None, List, [], ◌∷◌, slice_get, length, map, codes}
+use Rattle.std.specs.Prelude.{◌≡◌, ◌≤◌, ℕ, pos, ◌-◌, Option, Some, None, List, [], slice_get, length, map, codes}
 use Rattle.cp_model.specs.Abstract as a
 use Rattle.cp_model.specs.Abstract.{Name}
 use Rattle.cp_model.specs.Environments.{Environment}

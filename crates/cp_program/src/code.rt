@@ -43,11 +43,19 @@ pub enum Op {
         next: usize,
     },
     /// Appends the decimal digits of a value to the transcript.
-    Display { value: Code, next: usize },
+    Display {
+        value: Code,
+        next: usize,
+    },
     /// Begins the statements of a `cycle` again, whose last one leads back here.
-    Cycle { body: usize },
+    Cycle {
+        body: usize,
+    },
     /// `init` of the process of this number.
-    Start { process: usize, next: usize },
+    Start {
+        process: usize,
+        next: usize,
+    },
     /// The end of a process's body.
     End,
 }
