@@ -1,3 +1,4 @@
 pub mod Views
 pub mod DeclaredNames
 pub mod Groups
+pub mod CappedWords

@@ -96,6 +96,7 @@ module _ (env : Environment) (ss : Slots) where
       let sides : BothSound (judge env mode.Value a) (judge env mode.Value b) (c2_operands env o at) = both_parts _ _ _ h in
       let parts : ((expression_fits a && operator_fits o) ≡ true) × (expression_fits b ≡ true) = and_parts (expression_fits a && operator_fits o) _ fits in
       let left : (expression_fits a ≡ true) × (operator_fits o ≡ true) = and_parts (expression_fits a) _ parts.0 in (
+        left.1,
         expression_resolved known a left.0 (sound_is_empty _ _ sides.left),
         expression_resolved known b parts.1 (sound_is_empty _ _ sides.right),
       )

@@ -1,4 +1,4 @@
-use Rattle.std.proofs.Common.{◌≡◌, ◌+◌, true, drop, map}
+use Rattle.std.proofs.Common.{◌≡◌, ◌≤◌, ◌+◌, true, drop, map}
 use Rattle.cp_model.specs.RulesDeclarations as d
 use Rattle.cp_model.specs.RulesJudged.{least}
 use Rattle.cp_model.specs.RulesTypes.{capped}
@@ -17,5 +17,6 @@ invariant-loop-group l =
       fits : variables_fit left ≡ true;
       env : rest.env ≡ all.env;
       told : least l.told rest.violations ≡ least l.fn.told all.violations;
+      within : l.words ≤ 65537;
       words : capped (l.words + rest.words) ≡ capped all.words;
     }
