@@ -2,3 +2,4 @@ pub mod Views
 pub mod DeclaredNames
 pub mod Groups
 pub mod CappedWords
+pub mod ProcessTypes

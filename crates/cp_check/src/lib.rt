@@ -6,6 +6,8 @@
 
 mod declaring;
 mod owners;
+mod standard;
+mod systems;
 mod types;
 mod variables;
 mod words;
