@@ -4,10 +4,13 @@
 //! earliest place is kept, and there the lowest rule. Only texts of the fragment (cp_fragment) are judged today.
 #![tactic(auto)]
 
+pub mod checking;
 mod declaring;
+mod definitions;
 mod owners;
 mod standard;
 mod systems;
+pub mod text;
 mod types;
 mod variables;
 mod words;
