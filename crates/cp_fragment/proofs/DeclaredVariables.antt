@@ -1,5 +1,5 @@
 -- What the rules know behind the variables of a fragment in which nothing is broken.
-use Rattle.std.proofs.Common.{◌≡◌, ◌⊎◌, inl, inr, ◌≤◌, ◌<◌, ℕ, pos, negsuc, suc, ◌+◌, Bool, true, false, not, ◌≢◌, ◌&&◌, List, [], ◌∷◌, ◌++◌, Option, Some, None, if◌then◌else◌, nat_eq, get_or, length, map, refl, ap, ap₂, sym, subst, ◌∙◌, arith, append_assoc, append-nil, add-zero, bytes_eq}
+use Rattle.std.proofs.Common.{◌≡◌, ◌⊎◌, inl, inr, ◌≤◌, ◌<◌, ℕ, pos, negsuc, zero, suc, ◌+◌, Bool, true, false, not, ◌≢◌, ◌&&◌, List, [], ◌∷◌, ◌++◌, Option, Some, None, if◌then◌else◌, nat_eq, get_or, length, map, refl, ap, ap₂, sym, subst, ◌∙◌, arith, append_assoc, append-nil, bytes_eq}
 use Rattle.std.specs.Option.{option_or}
 use Rattle.std.proofs.lemmas.Bool.{true≢false, and_parts}
 use Rattle.cp_model.specs.Syntax as s
@@ -17,7 +17,7 @@ use Rattle.cp_model.specs.declared.rules.Position.TheVariants as position
 use Rattle.cp_model.specs.RulesJudged.{Sound, then_judge}
 use Rattle.cp_model.specs.RulesEnvironment.{Environment, Names, Text, c1_declared, declare, declare_if_new, integer, is_some, lookup, no_system as no_row, queue_row, resolve, simple_row, with_names}
 use Rattle.cp_model.specs.RulesTypes.{c2_type, is_within}
-use Rattle.cp_model.specs.RulesDeclarations.{c13_owner, declare_all, one_too_many, own_variable, owners_of, with_owner}
+use Rattle.cp_model.specs.RulesDeclarations.{c13_owner, declare_all, one_more, one_too_many, own_variable, owners_of, with_owner}
 use Rattle.cp_fragment.specs.Fragment.{is_integer, name_fits}
 use Rattle.cp_fragment.specs.Slots.{text_of}
 use Rattle.cp_fragment.proofs.Names.{NewNames, keys, keys-append, lookup_none, none_has}
@@ -201,15 +201,33 @@ abbrev pub count_at : Position → Kinds → ℕ
 count_at position.InitialVariable ks = length (processes_of ks)
 count_at p ks = 0
 
+-- so many more, counted to one too many
+abbrev pub more : ℕ → ℕ → ℕ
+more p zero = p
+more p (suc n) = more (one_more p) n
+
+one_more_is : (p : ℕ) → p ≤ 255 → one_more p ≡ suc p
+one_more_is p h = omega (arith, h)
+
+pub more_is : (p n : ℕ) → p + n ≤ 255 → more p n ≡ p + n
+more_is p zero h = omega arith
+more_is p (suc n) h =
+    let one : one_more p ≡ suc p = one_more_is p (omega (arith, h)) in
+    more_is (one_more p) n (omega (arith, h, one)) ∙ omega (arith, one)
+
+pub more_append : (p a b : ℕ) → more (more p a) b ≡ more p (a + b)
+more_append p zero b = let same : b ≡ 0 + b = omega arith in ap (more p) same
+more_append p (suc a) b = let same : suc (a + b) ≡ suc a + b = omega arith in more_append (one_more p) a b ∙ ap (more p) same
+
 abbrev pub with_processes : Environment → ℕ → Environment
-with_processes env n = record env { processes = env.processes + n }
+with_processes env n = record env { processes = more env.processes n }
 
 -- there are so many processes more, and not too many
 abbrev pub Counted : Environment → Environment → ℕ → Type 0
 Counted env after n = (after ≡ with_processes env n) × (env.processes ≤ 255 → env.processes + n ≤ 255)
 
 pub counted_none : (env : Environment) → Counted env env 0
-counted_none env = (ap (λ n. record env { processes = n }) (sym (add-zero env.processes)), λ h. omega (arith, h))
+counted_none env = (refl, λ h. omega (arith, h))
 
 not_too_many : (n : ℕ) (b : Bool) → (not (nat_eq (suc n) one_too_many) && b) ≡ true → n ≢ 255
 not_too_many n b h e = true≢false (sym (and_parts (not (nat_eq (suc n) one_too_many)) b h).0 ∙ ap (λ m. not (nat_eq (suc m) one_too_many)) e)
@@ -218,15 +236,17 @@ pub owners_counted : (env : Environment) (y : SystemRow) (xs : List Identifier) 
     → Counted env (owners_of env y xs).env (length xs)
 owners_counted env y [] is h = counted_none env
 owners_counted env y (x ∷ xs) is h =
-    let next : Environment = record env { processes = suc env.processes } in
+    let next : Environment = record env { processes = one_more env.processes } in
     let one : with_owner env y.sort ≡ next = ap (with_owner env) is in
     let none : (owners_of next y xs).violations ≡ [] =
     sym (ap (λ e. (owners_of e y xs).violations) one) ∙ rest_empty (c13_owner env x y y.sort) _ h in
     let rest : Counted next (owners_of next y xs).env (length xs) = owners_counted next y xs is none in
     let within : env.processes ≢ 255 =
     not_too_many env.processes (is_within y.words) (unless_holds _ C13 x.at (sym (ap (c13_owner env x y) is) ∙ first_empty (c13_owner env x y y.sort) _ h)) in (
-      ap (λ e. (owners_of e y xs).env) one ∙ rest.0 ∙ ap (λ n. record env { processes = n }) (omega arith),
-      λ most. omega (arith, within, most, rest.1 (omega (arith, within, most))),
+      ap (λ e. (owners_of e y xs).env) one ∙ rest.0,
+      λ most.
+        let next_is : one_more env.processes ≡ suc env.processes = one_more_is env.processes most in
+        omega (arith, within, most, next_is, rest.1 (omega (arith, within, most, next_is))),
     )
 
 pub words_count : (xs : List Identifier) → length (processes_of (with_kind Integer xs)) ≡ 0

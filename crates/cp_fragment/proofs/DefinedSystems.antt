@@ -1,5 +1,5 @@
 -- What the rules know behind one system type of the fragment, and what is sound in it.
-use Rattle.std.proofs.Common.{◌≡◌, ℕ, ◌+◌, Bool, true, false, List, [], ◌∷◌, ◌++◌, Option, Some, None, if◌then◌else◌, length, refl, ap, sym, subst, ◌∙◌, append-nil, add-zero, codes, bytes_eq}
+use Rattle.std.proofs.Common.{◌≡◌, ℕ, ◌+◌, Bool, true, false, List, [], ◌∷◌, ◌++◌, Option, Some, None, if◌then◌else◌, length, refl, ap, sym, subst, ◌∙◌, append-nil, codes, bytes_eq}
 use Rattle.std.specs.Option.{option_or}
 use Rattle.cp_model.specs.Syntax as s
 use Rattle.cp_model.specs.declared.tree.Identifier.{Identifier}
@@ -142,7 +142,7 @@ module _ (ss : Systems) (env : Environment) (x : Identifier) (vs : List s.Variab
         systems_are = ap (λ l. l ++ row ∷ []) systems;
         structure = ap (λ l. structure.System (length l)) systems;
         sort = refl;
-        processes = ap (λ e. e.processes) grow.after_is ∙ add-zero env.processes;
+        processes = ap (λ e. e.processes) grow.after_is;
       }
 
   pub body_sound : Defines ss env → integers_fit vs ≡ true → statements_fit b.list ≡ true → (define_system env x (process_of vs b)).violations ≡ []

@@ -237,12 +237,12 @@ pub routines_are : (rs : List s.Routine) → no_routines rs ≡ true → rs ≡ 
 routines_are [] h = refl
 routines_are (r ∷ rs) h = absurd (true≢false (sym h))
 
-record SystemFits (y : s.System) : Type 0 where
+pub record SystemFits (y : s.System) : Type 0 where
   pub is : y ≡ process_of y.variables y.body
   pub integers : integers_fit y.variables ≡ true
   pub statements : statements_fit y.body.list ≡ true
 
-system_parts : (y : s.System) → system_fits y ≡ true → SystemFits y
+pub system_parts : (y : s.System) → system_fits y ≡ true → SystemFits y
 system_parts y h =
     let most : ((is_process y.sort && no_parameters y.parameters && no_routines y.routines && integers_fit y.variables) ≡ true) × (statements_fit y.body.list ≡ true) =
     and_parts (is_process y.sort && no_parameters y.parameters && no_routines y.routines && integers_fit y.variables) _ h in

@@ -1,5 +1,5 @@
 -- Groups of variables: what the rules know behind them, where nothing is broken in them.
-use Rattle.std.proofs.Common.{◌≡◌, ◌≤◌, ℕ, ◌+◌, Bool, true, false, ◌&&◌, List, [], ◌∷◌, ◌++◌, length, map, refl, ap, sym, subst, ◌∙◌, arith, append_assoc, append-nil, add-zero, add_assoc, length-append}
+use Rattle.std.proofs.Common.{◌≡◌, ◌≤◌, ℕ, ◌+◌, Bool, true, false, ◌&&◌, List, [], ◌∷◌, ◌++◌, length, map, refl, ap, sym, subst, ◌∙◌, arith, append_assoc, append-nil, length-append}
 use Rattle.std.specs.Option.{option_or}
 use Rattle.std.proofs.lemmas.Bool.{true≢false, and_parts}
 use Rattle.cp_model.specs.Syntax as s
@@ -18,7 +18,7 @@ use Rattle.cp_fragment.specs.Slots.{text_of}
 use Rattle.cp_fragment.proofs.Names.{NewNames, keys, keys-append, lookup-append, new_append}
 use Rattle.cp_fragment.proofs.Judging.{also_sound, first_empty, rest_empty, sound_has}
 use Rattle.cp_fragment.proofs.VariableKinds.{Integer, Kind, Kinds, OfType, Systems, kind_of, kinds, processes_of, with_kind}
-use Rattle.cp_fragment.proofs.DeclaredVariables.{AllFound, AllVariables, Base, Counted, EntityAs, FoundAs, IntegerRow, Matches, TypeAs, all_declared, all_new, count_at, counted_none, entries, entries_found, entries_match, entries_variables, found_append, keys_match, kind_matches, matches_append, owners_counted, processes_count, type_found, variables_append, variables_only, words_count}
+use Rattle.cp_fragment.proofs.DeclaredVariables.{AllFound, AllVariables, Base, Counted, EntityAs, FoundAs, IntegerRow, Matches, TypeAs, all_declared, all_new, count_at, counted_none, entries, entries_found, entries_match, entries_variables, found_append, keys_match, kind_matches, matches_append, more, more_append, more_is, owners_counted, processes_count, type_found, variables_append, variables_only, words_count}
 
 -- ---- owners in a group
 
@@ -47,7 +47,7 @@ group_counted env p t k xs row h g = counted_none env
 -- ---- groups
 
 abbrev pub grown : Environment → Names → ℕ → Environment
-grown env vs n = record env { names = env.names ++ vs; processes = env.processes + n }
+grown env vs n = record env { names = env.names ++ vs; processes = more env.processes n }
 
 -- an environment behind variables of these kinds
 pub record Grows (ss : Systems) (env : Environment) (p : Position) (after : Environment) (ks : Kinds) : Type 0 where
@@ -159,7 +159,7 @@ count_none p = refl
 
 grows_nothing : (ss : Systems) (env : Environment) (p : Position) → Grows ss env p env []
 grows_nothing ss env p =
-    let same : env.processes + count_at p [] ≡ env.processes = ap (λ n. env.processes + n) (count_none p) ∙ add-zero env.processes in
+    let same : more env.processes (count_at p []) ≡ env.processes = ap (more env.processes) (count_none p) in
     record {
       entries = [];
       after_is = λ i. record env { names = sym (append-nil env.names) i; processes = sym same i };
@@ -167,7 +167,7 @@ grows_nothing ss env p =
       matches = tt;
       found = tt;
       new = tt;
-      most = λ h. subst (λ n. n ≤ 255) (sym same) h;
+      most = λ h. omega (arith, h, count_none p);
     }
 
 visible_grown : (ss : Systems) (env : Environment) (vs : Names) (n : ℕ) → Visible ss env → AllVariables vs → Visible ss (grown env vs n)
@@ -183,8 +183,8 @@ visible_grown ss env vs n seen h = record {
 grows_behind : (ss : Systems) (env : Environment) (p : Position) (mid after : Environment) (ks ls : Kinds) (first : Grows ss env p mid ks)
     → Grows ss (grown env first.entries (count_at p ks)) p after ls → Grows ss env p after (ks ++ ls)
 grows_behind ss env p mid after ks ls first rest =
-    let count : env.processes + count_at p ks + count_at p ls ≡ env.processes + count_at p (ks ++ ls) =
-    add_assoc env.processes (count_at p ks) (count_at p ls) ∙ ap (λ n. env.processes + n) (sym (count_append p ks ls)) in
+    let count : more (more env.processes (count_at p ks)) (count_at p ls) ≡ more env.processes (count_at p (ks ++ ls)) =
+    more_append env.processes (count_at p ks) (count_at p ls) ∙ ap (more env.processes) (sym (count_append p ks ls)) in
     let names : keys (env.names ++ first.entries) ≡ keys env.names ++ keys ks =
     keys-append env.names first.entries ∙ ap (λ l. keys env.names ++ l) (keys_match env.types env.systems ss first.entries ks first.matches) in
     record {
@@ -195,7 +195,10 @@ grows_behind ss env p mid after ks ls first rest =
       found = found_append env.types env.systems ss ks ls first.found rest.found;
       new = subst (NewNames (keys env.names)) (sym (keys-append ks ls))
           (new_append (keys env.names) (keys ks) (keys ls) first.new (subst (λ l. NewNames l (keys ls)) names rest.new));
-      most = λ h. subst (λ n. n ≤ 255) count (rest.most (first.most h));
+      most = λ h.
+          let within : env.processes + count_at p ks ≤ 255 = first.most h in
+          let behind : more env.processes (count_at p ks) ≡ env.processes + count_at p ks = more_is env.processes (count_at p ks) within in
+          omega (arith, rest.most (omega (arith, within, behind)), behind, count_append p ks ls);
     }
 
 pub variables_grow : (ss : Systems) (env : Environment) (p : Position) (gs : List s.Variables) → Visible ss env

@@ -22,7 +22,7 @@ mod procedures;
 mod roots;
 mod scope;
 pub mod statements;
-mod telling;
+pub mod telling;
 #[cfg(test)]
 mod tests;
 mod values;

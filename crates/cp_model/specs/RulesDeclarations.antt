@@ -1,5 +1,5 @@
 -- Declarations: variables, parameters, routines. What they add to the environment, and the rules inside them.
-use Rattle.std.specs.Prelude.{ℕ, suc, ◌+◌, ◌*◌, ℤ, pos, Bool, true, false, ◌&&◌, ◌||◌, not, List, [], ◌∷◌, ◌++◌, Option, None, Some, nat_lt, nat_eq, if◌then◌else◌, length, map, replicate}
+use Rattle.std.specs.Prelude.{ℕ, suc, ◌+◌, ◌*◌, ℤ, pos, Bool, true, false, ◌&&◌, ◌||◌, not, List, [], ◌∷◌, ◌++◌, Option, None, Some, nat_lt, nat_eq, if◌then◌else◌, length, map, min, replicate}
 use Rattle.cp_model.specs.Syntax as s
 use Rattle.cp_model.specs.declared.tree.Identifier.{Identifier}
 use Rattle.cp_model.specs.declared.tree.Sort.{Sort}
@@ -50,10 +50,14 @@ unfinished_variable = entity.Variable integer access.Own
 abbrev pub one_too_many : ℕ
 one_too_many = 256
 
+-- one more, counted to one too many
+abbrev pub one_more : ℕ → ℕ
+one_more n = min (suc n) one_too_many
+
 -- one more process or monitor
 abbrev pub with_owner : Environment → Sort → Environment
-with_owner env sort.Process = record env { processes = suc env.processes }
-with_owner env sort.Monitor = record env { monitors = suc env.monitors }
+with_owner env sort.Process = record env { processes = one_more env.processes }
+with_owner env sort.Monitor = record env { monitors = one_more env.monitors }
 with_owner env sort.Class = env
 
 -- C13: process 256; monitor 256; an owner of more than 65,536 words

@@ -1,0 +1,15 @@
+use Rattle.std.proofs.Common.{◌≡◌, drop}
+use Rattle.cp_model.specs.RulesDeclarations as d
+use Rattle.cp_model.specs.RulesJudged.{least}
+use Rattle.cp_judge.specs.Environments.{environment}
+use Rattle.cp_check.proofs.owners.owners_of.Given as goal
+
+-- what the rest makes and tells, is what all do
+abbrev pub invariant-loop-x : goal.invariant-loop-x
+invariant-loop-x l =
+    let rest = d.owners_of (environment l.env) l.y (drop l.x-index l.names) in
+    let all = d.owners_of (environment l.fn.env) l.fn.y l.fn.names in
+    record {
+      env : rest.env ≡ all.env;
+      told : least l.told rest.violations ≡ least l.fn.told all.violations;
+    }

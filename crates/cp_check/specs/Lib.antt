@@ -1,0 +1,5 @@
+pub mod Judging
+pub mod Systems
+pub mod StandardNames
+pub mod Texts
+pub mod Checked
