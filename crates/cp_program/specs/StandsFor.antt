@@ -4,11 +4,12 @@
 -- variables of a component, in the order of their names.
 use Rattle.std.specs.Prelude.{◌≡◌, ◌≤◌, ℕ, pos, ◌-◌, Option, Some, None, List, [], ◌∷◌, slice_get, length, map, codes}
 use Rattle.cp_model.specs.Abstract as a
-use Rattle.cp_model.specs.Abstract.{Name}
+use Rattle.cp_model.specs.Abstract.{Monitor, Name}
 use Rattle.cp_model.specs.Environments.{Environment}
 use Rattle.cp_model.specs.Stores.{Ordinal}
 use Rattle.cp_model.specs.Leaves.{leaves_of_members}
 use Rattle.cp_model.specs.States.{Setup, process_count}
+use Rattle.cp_model.specs.Report.{components_of}
 use Rattle.cp_model.specs.Start.{start}
 use Rattle.cp_fragment.specs.Processes.{environment_of, members_of, name_of, system_of, variable_location}
 use Rattle.cp_fragment.specs.Meanings.{AreWords, MeansProcess, integer_leaf}
@@ -86,3 +87,4 @@ pub record StandsFor (program : Program) (setup : Setup) : Type 0 where
   pub count : length program.processes.items ≡ process_count setup
   pub most : process_count setup ≤ 255
   pub processes : (p : ℕ) → 1 ≤ p → p ≤ process_count setup → ProcessStands program setup p
+  pub no_monitors : components_of setup Monitor ≡ []
