@@ -4,4 +4,5 @@
 pub mod cutting;
 pub mod reading;
 pub mod refusal;
+pub mod report;
 pub mod writing;
