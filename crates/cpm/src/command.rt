@@ -22,9 +22,9 @@ pub struct Plan {
     pub workers: u32,
     /// How many processes a worker takes at a time, from 1 to 255.
     pub chunk: u32,
-    /// How many processes have a private turn before the kernel's, from 1 to 255.
+    /// How many processes a wave has, from 1 to 255.
     pub wave: u32,
-    /// How many rounds a second of the clock has, from 1 to 1,000,000.
+    /// Every so many rounds those who wait for the clock go on, from 1 to 1,000,000.
     pub tick: u32,
 }
 
@@ -136,12 +136,12 @@ fn run_words<'a>(alloc: Global) -> Result<clap::Command<'a>, AllocError> {
         .arg(option(
             alloc,
             "wave",
-            "processes before a kernel turn, 1 to 255; 255 if not told",
+            "processes of a wave, 1 to 255; 255 if not told",
         ))?
         .arg(option(
             alloc,
             "tick",
-            "rounds of a second, 1 to 1000000; 1 if not told",
+            "rounds until the clock goes on, 1 to 1000000; 1 if not told",
         ))?
         .arg(input)
 }
