@@ -1,0 +1,5 @@
+pub mod Refusals
+pub mod Cutting
+pub mod Lines
+pub mod Numbers
+pub mod Plans

@@ -1,0 +1,12 @@
+//! The commands of cpm: a text and an input are read, the text is checked and run, and a report is written.
+#![tactic(auto)]
+
+pub mod command;
+pub mod cutting;
+pub mod numbers;
+pub mod reading;
+pub mod refusal;
+pub mod report;
+#[cfg(test)]
+mod tests;
+pub mod writing;
