@@ -6,7 +6,7 @@ use Rattle.std.specs.Fmt.{signed_decimal}
 use Rattle.std.proofs.lemmas.Fmt.{decimal_digit, decimal_step, length_signed_le}
 use Rattle.std.proofs.lemmas.List.{append-nil, append_assoc}
 use Rattle.std.proofs.lemmas.Bool.Decides.{nat_tests}
-use Rattle.cp_model.specs.Decimal.{decimal, digits}
+use Rattle.cp_model.specs.Decimal.{decimal, digits, natural}
 use Rattle.cp_private.specs.Values.{IsSmall}
 
 -- A value takes at most 6 bytes.
@@ -28,7 +28,9 @@ digits_are (suc k) n t h w =
         ∙ (sym (append_assoc (text.decimal (n / 10)) ((48 + n % 10) ∷ []) t)
         ∙ ap (λ ds. ds ++ t) (sym (decimal_step n more w)))
 
+pub natural_is : (n : ℕ) → n < 2 ^ 64 → text.decimal n ≡ natural n
+natural_is n w = sym (digits_are (suc n) n [] (omega arith) w ∙ append-nil (text.decimal n))
+
 pub decimal_is : (n : ℤ) → IsSmall n → signed_decimal n ≡ decimal n
-decimal_is (pos n) h = sym (digits_are (suc n) n [] (omega arith) (omega (arith, h)) ∙ append-nil (text.decimal n))
-decimal_is (negsuc n) h =
-    ap (λ ds. 45 ∷ ds) (sym (digits_are (suc (suc n)) (suc n) [] (omega arith) (omega (arith, h)) ∙ append-nil (text.decimal (suc n))))
+decimal_is (pos n) h = natural_is n (omega (arith, h))
+decimal_is (negsuc n) h = ap (λ ds. 45 ∷ ds) (natural_is (suc n) (omega (arith, h)))

@@ -1,0 +1,5 @@
+pub mod Bytes
+pub mod Parts
+pub mod Lists
+pub mod Reports
+pub mod States

@@ -1,0 +1,41 @@
+//! Writing all of a text, by writes that may take a part of it each.
+
+ghost use Rattle.std.specs.Prelude.{◌≡◌, ◌<◌, ◌≤◌, ℕ, IfOk, OnErr, OnOk, length, take};
+ghost use Rattle.std.specs.Io.KnownBytes.{Appends, Keeps};
+
+use std::io::Write;
+
+/// A write failed, or took nothing.
+#[derive(Clone, Copy, Debug, PartialEq, Eq)]
+pub struct WriteFailed;
+
+// One write of what is left, which isn't nothing. It takes at least one byte.
+fn write_part<W: Write>(out: &mut W, part: &[u8]) -> Result<usize, WriteFailed>
+    requires some { 0 < length part.now }
+    ensures count { IfOk result (λ n. (0 < n) × (n ≤ length part.now)) }
+    ensures ok { IfOk result (λ n. Appends (W.contents out.old) (W.contents out.new) (take n part.now)) }
+    ensures err { OnErr result (Keeps (W.contents out.old) (W.contents out.new)) }
+{
+    match out.write(part) {
+        Ok(0) => Err(WriteFailed),
+        Ok(n) => Ok(n),
+        Err(_) => Err(WriteFailed),
+    }
+}
+
+/// Writes all the bytes. No write is asked to take nothing.
+///
+/// # Errors
+///
+/// `WriteFailed` where a write failed, or took no byte of those that were left. What went out is a beginning of the bytes.
+pub fn write_all<W: Write>(out: &mut W, bytes: &[u8]) -> Result<(), WriteFailed>
+    ensures whole { OnOk result (Appends (W.contents out.old) (W.contents out.new) bytes.now) }
+    ensures beginning { OnErr result ((n : ℕ) × (n ≤ length bytes.now)
+        × Appends (W.contents out.old) (W.contents out.new) (take n bytes.now)) }
+{
+    let mut written = 0;
+    while written < bytes.len() {
+        written += write_part(out, &bytes[written..])?;
+    }
+    Ok(())
+}
