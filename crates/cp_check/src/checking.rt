@@ -8,7 +8,6 @@ ghost use Rattle.cp_check.specs.Checked.{Checks};
 
 use crate::text::broken;
 use cp_fragment::fits::fits;
-use cp_fragment::law::accepted_text_resolves;
 use cp_model::rules::Violation;
 use cp_model::tree::Tree;
 use cp_program::program::Program;
@@ -48,7 +47,6 @@ fn number(alloc: Global, tree: &Tree) -> Result<Program, CheckError>
     requires fits { is_in_fragment (view.tree tree.now) ≡ true }
     ensures { Checks (view.tree tree.now) result }
 {
-    accepted_text_resolves();
     match Program::number(alloc, tree) {
         Ok(program) => Ok(program),
         Err(_) => Err(CheckError::Memory),
