@@ -1,14 +1,9 @@
 -- What declarations add to the names of an environment, and that they change nothing else of it.
-use Rattle.std.proofs.Common.{◌≡◌, ◌≤◌, ◌+◌, ℕ, List, [], ◌∷◌, ◌++◌, Option, None, Some, length, take, refl, ap, sym, ◌∙◌, arith}
-use Rattle.cp_model.specs.Syntax as s
+use Rattle.std.proofs.Common.{◌≡◌, List, [], ◌∷◌, ◌++◌, Option, None, Some, length, take, refl, ap, sym, ◌∙◌}
 use Rattle.cp_model.specs.declared.tree.Identifier.{Identifier}
 use Rattle.cp_model.specs.declared.rules.Entity.{Entity}
-use Rattle.cp_model.specs.declared.rules.Position.{Position}
-use Rattle.cp_model.specs.declared.rules.Position.TheVariants as position
 use Rattle.cp_model.specs.RulesEnvironment.{Environment, Names, declare, declare_if_new, lookup, with_names}
 use Rattle.cp_model.specs.RulesDeclarations as d
-use Rattle.cp_model.specs.RulesJudged.{Broken, Judged, Sound}
-use Rattle.cp_check.specs.Judging as j
 
 -- ---- nothing but names
 

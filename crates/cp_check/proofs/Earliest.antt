@@ -1,8 +1,8 @@
 -- The earliest violation of a part, told of the whole.
-use Rattle.std.proofs.Common.{◌≡◌, Bool, true, false, List, [], ◌∷◌, ◌++◌, Option, Some, None, if◌then◌else◌, refl, ap, sym, ◌∙◌, arith}
+use Rattle.std.proofs.Common.{◌≡◌, Bool, true, false, [], ◌∷◌, Option, Some, None, if◌then◌else◌, refl, ap, sym, ◌∙◌, arith}
 use Rattle.std.proofs.lemmas.Bool.Decides.{nat_tests}
 use Rattle.cp_model.specs.declared.rules.Violation.{Violation}
-use Rattle.cp_model.specs.RulesJudged.{Violations, earlier, is_before, least, number_of}
+use Rattle.cp_model.specs.RulesJudged.{Violations, earlier, is_before, least}
 
 -- ---- the order of places and rules
 

@@ -1,13 +1,12 @@
 -- A group of variables: what is told of its type, what its names stand for then, and which owners they are.
-use Rattle.std.proofs.Common.{◌≡◌, ◌*◌, ◌++◌, ℕ, List, length, true, refl, ap, sym, ◌∙◌, arith}
+use Rattle.std.proofs.Common.{◌≡◌, ◌*◌, ◌++◌, ℕ, List, length, true, refl, ap, ◌∙◌, arith}
 use Rattle.cp_model.specs.Syntax as s
 use Rattle.cp_model.specs.declared.tree.Identifier.{Identifier}
 use Rattle.cp_model.specs.declared.rules.Position.{Position}
 use Rattle.cp_model.specs.declared.rules.Position.TheVariants as position
 use Rattle.cp_model.specs.RulesEnvironment.{Environment, entity_of, with_names}
 use Rattle.cp_model.specs.RulesDeclarations as d
-use Rattle.cp_model.specs.RulesJudged.{Broken, Judged, Sound, Violations, violations_of}
-use Rattle.cp_model.specs.RulesTypes.{c6_c8_placed, named_type}
+use Rattle.cp_model.specs.RulesJudged.{Broken, Judged, Sound, Violations}
 use Rattle.cp_fragment.specs.Fragment.{is_type_that_fits}
 use Rattle.cp_check.specs.declared.types.JudgedType.{JudgedType}
 use Rattle.cp_check.specs.Judging.{entity_of_type, first_of, group_made, group_type, group_violations, owners_of_type, words_of_type}

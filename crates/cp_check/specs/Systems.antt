@@ -1,5 +1,5 @@
 -- Process types of the fragment: what their definitions add to an environment.
-use Rattle.std.specs.Prelude.{ℕ, ◌+◌, false, List, [], ◌∷◌, ◌++◌, length, take}
+use Rattle.std.specs.Prelude.{◌+◌, false, List, [], ◌∷◌, ◌++◌, length, take}
 use Rattle.cp_model.specs.Syntax as s
 use Rattle.cp_model.specs.declared.tree.Identifier.{Identifier}
 use Rattle.cp_model.specs.declared.tree.Sort.TheVariants as sort

@@ -10,6 +10,8 @@ mod definitions;
 mod owners;
 mod standard;
 mod systems;
+#[cfg(test)]
+mod tests;
 pub mod text;
 mod types;
 mod variables;

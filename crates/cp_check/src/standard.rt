@@ -5,8 +5,8 @@ ghost use Rattle.cp_model.specs.RulesEnvironment as r;
 ghost use Rattle.cp_judge.specs.Environments.{environment};
 ghost use Rattle.cp_check.specs.StandardNames as standard_names;
 
-use cp_judge::environment::{BOOLEAN, CHAR, Environment, INTEGER, QUEUE};
 use cp_judge::Scope;
+use cp_judge::environment::{BOOLEAN, CHAR, Environment, INTEGER, QUEUE};
 use cp_model::rules::{Entity, Part, Region, Standard, Structure, TypeRow};
 use cp_model::tree::Sort;
 use std::alloc::{AllocError, Global};
@@ -45,17 +45,41 @@ fn add_functions(names: &mut Scope) -> Result<(), AllocError>
     add(names, b"pred".as_slice(), Entity::Standard(Standard::Pred))?;
     add(names, b"ord".as_slice(), Entity::Standard(Standard::Ord))?;
     add(names, b"chr".as_slice(), Entity::Standard(Standard::Chr))?;
-    add(names, b"empty".as_slice(), Entity::Standard(Standard::Empty))
+    add(
+        names,
+        b"empty".as_slice(),
+        Entity::Standard(Standard::Empty),
+    )
 }
 
 fn add_procedures(names: &mut Scope) -> Result<(), AllocError>
     ensures { OnOk result (names.new ≡ standard_names.with_procedures names.old) }
 {
-    add(names, b"delay".as_slice(), Entity::Standard(Standard::Delay))?;
-    add(names, b"continue".as_slice(), Entity::Standard(Standard::Continue))?;
-    add(names, b"display".as_slice(), Entity::Standard(Standard::Display))?;
-    add(names, b"accept".as_slice(), Entity::Standard(Standard::Accept))?;
-    add(names, b"realtime".as_slice(), Entity::Standard(Standard::Realtime))?;
+    add(
+        names,
+        b"delay".as_slice(),
+        Entity::Standard(Standard::Delay),
+    )?;
+    add(
+        names,
+        b"continue".as_slice(),
+        Entity::Standard(Standard::Continue),
+    )?;
+    add(
+        names,
+        b"display".as_slice(),
+        Entity::Standard(Standard::Display),
+    )?;
+    add(
+        names,
+        b"accept".as_slice(),
+        Entity::Standard(Standard::Accept),
+    )?;
+    add(
+        names,
+        b"realtime".as_slice(),
+        Entity::Standard(Standard::Realtime),
+    )?;
     add(names, b"wait".as_slice(), Entity::Standard(Standard::Wait))
 }
 

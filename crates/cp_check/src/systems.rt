@@ -18,9 +18,7 @@ use crate::words::sum;
 use cp_judge::Environment;
 use cp_judge::needs::need_of_statements;
 use cp_judge::statements::statements;
-use cp_model::rules::{
-    Entity, Part, Position, Region, Structure, SystemRow, TypeRow, Violation,
-};
+use cp_model::rules::{Entity, Part, Position, Region, Structure, SystemRow, TypeRow, Violation};
 use cp_model::tree::{Identifier, Sort, Statement, System};
 use indexmap::IndexMap;
 use std::alloc::{AllocError, Global};

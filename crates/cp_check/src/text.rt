@@ -51,7 +51,12 @@ pub fn broken(alloc: Global, tree: &Tree) -> Result<Option<Violation>, AllocErro
     let mut env = standard_environment(alloc)?;
     let mut told = None;
     define_sections(&mut env, alloc, &mut told, &tree.sections)?;
-    let words = variables(&mut env, &mut told, Position::InitialVariable, &tree.variables)?;
+    let words = variables(
+        &mut env,
+        &mut told,
+        Position::InitialVariable,
+        &tree.variables,
+    )?;
     initial_body(&env, alloc, &mut told, words, &tree.body)?;
     Ok(told)
 }

@@ -54,7 +54,11 @@ fn words_in(env: &Environment, words: usize, structure: Structure) -> usize
     ensures { result ≡ d.words_in (environment env.now) words structure }
 {
     match structure {
-        Structure::System(y) => if is_owner(system_row(env, y).sort) { 0 } else { words },
+        Structure::System(y) => if is_owner(system_row(env, y).sort) {
+            0
+        } else {
+            words
+        },
         _ => words,
     }
 }

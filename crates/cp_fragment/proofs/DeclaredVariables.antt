@@ -245,8 +245,8 @@ owners_counted env y (x ∷ xs) is h =
     not_too_many env.processes (is_within y.words) (unless_holds _ C13 x.at (sym (ap (c13_owner env x y) is) ∙ first_empty (c13_owner env x y y.sort) _ h)) in (
       ap (λ e. (owners_of e y xs).env) one ∙ rest.0,
       λ most.
-        let next_is : one_more env.processes ≡ suc env.processes = one_more_is env.processes most in
-        omega (arith, within, most, next_is, rest.1 (omega (arith, within, most, next_is))),
+          let next_is : one_more env.processes ≡ suc env.processes = one_more_is env.processes most in
+          omega (arith, within, most, next_is, rest.1 (omega (arith, within, most, next_is))),
     )
 
 pub words_count : (xs : List Identifier) → length (processes_of (with_kind Integer xs)) ≡ 0

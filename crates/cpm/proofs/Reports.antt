@@ -24,7 +24,6 @@ use Rattle.cpm.specs.Lines.{status_words, variable_line, variable_lines}
 
 -- ---- the status
 
-
 pub status_is : (setup : Setup) (a : Activity) (y : Status) → own_status y ≡ status_of a → (a ≡ activity.Running → y ≡ c.Ready)
     → status_words a (Some (stage_of y)) ≡ status_text setup y
 status_is setup activity.NotBegun c.Unstarted e h = refl
@@ -45,11 +44,10 @@ one_line : (store : Store) (p : ℕ) (x : Name) (n : ℤ) → store (variable_lo
 one_line store p x n e =
     ap (λ l. line (codes "var " ++ (l ++ (codes " = " ++ decimal n)))) (sym (append-nil x)) ∙ ap (leaf_line (ByName x ∷ [])) (sym e)
 
-
 pub variables_are : (store : Store) (p : ℕ) (words : List ℤ) (at : ℕ) (names : List Name)
     → ((j : ℕ) (x : Name) → slice_get names j ≡ Some x → store (variable_location p x) ≡ Ordinal (word words (at + j)))
     → variable_lines words at names
-        ≡ flat_map (λ (leaf : Leaf). leaf_line leaf.0 (store (under (process_location p) leaf.0))) (map integer_leaf names)
+    ≡ flat_map (λ (leaf : Leaf). leaf_line leaf.0 (store (under (process_location p) leaf.0))) (map integer_leaf names)
 variables_are store p words at [] h = refl
 variables_are store p words at (x ∷ xs) h =
     let first : store (variable_location p x) ≡ Ordinal (word words at) =

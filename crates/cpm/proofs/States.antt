@@ -49,7 +49,7 @@ counted (v ∷ vs) = by (is_component_of Process v.1.type) (counted vs)
   where
     by : (b : Bool) → count_components Process vs ≡ length (filter (λ w. is_component_of Process w.1.type) vs)
         → (if b then suc (count_components Process vs) else count_components Process vs)
-            ≡ length (if b then v ∷ filter (λ w. is_component_of Process w.1.type) vs else filter (λ w. is_component_of Process w.1.type) vs)
+        ≡ length (if b then v ∷ filter (λ w. is_component_of Process w.1.type) vs else filter (λ w. is_component_of Process w.1.type) vs)
     by true e = ap suc e
     by false e = e
 
@@ -107,12 +107,12 @@ module _ (program : Program) (xs : List Private) (k : Kernel) (rounds : ℕ) (se
       let status = status_at i x few P in
       let lines = λ (leaf : Leaf). leaf_line leaf.0 (s.store (under (process_location p) leaf.0)) in
       let variables = ap (variable_lines x.words.items 0) names
-          ∙ (variables_are s.store p x.words.items 0 (names_of program p) (value_is i x P Q) ∙ ap (flat_map lines) (sym Q.leaves)) in
+      ∙ (variables_are s.store p x.words.items 0 (names_of program p) (value_is i x P Q) ∙ ap (flat_map lines) (sym Q.leaves)) in
       λ t. head_line p (name t) (status t) ++ (transcript_line (sym P.transcript t) ++ variables t)
 
   rest_is : (p : ℕ) (vs : List (Name × Variable)) (ys : List Private) → length ys ≡ length vs
       → ((j q : ℕ) (y : Private) → q ≡ p + j → slice_get ys j ≡ Some y
-          → process_lines program k q y ≡ process_text setup s (suc q) (r.name_at vs j) (members_at vs j))
+      → process_lines program k q y ≡ process_text setup s (suc q) (r.name_at vs j) (members_at vs j))
       → processes_lines program k p ys ≡ processes_text setup s (suc p) vs
   rest_is p [] [] same h = refl
   rest_is p [] (y ∷ ys) same h = absurd (omega (arith, same))
@@ -150,13 +150,13 @@ module _ (program : Program) (xs : List Private) (k : Kernel) (rounds : ℕ) (se
 
   all_are : (ys : List Private) → xs ≡ ys
       → processes_lines program k 0 ys
-          ≡ process_text setup s 1 (name_of setup 1) (members_of setup 1) ++ processes_text setup s 2 (components_of setup Process)
+      ≡ process_text setup s 1 (name_of setup 1) (members_of setup 1) ++ processes_text setup s 2 (components_of setup Process)
   all_are [] e = absurd (omega (arith, ap length e, H.all))
   all_are (x ∷ ys) e =
       let first = process_is 0 x (ap (λ zs. slice_get zs 0) e) in
       let count : length ys ≡ length (components_of setup Process) = omega (arith, ap length e, H.all, counted (initial_variables setup)) in
       let rest = rest_is 1 (components_of setup Process) ys count
-          (λ j q y at f. later_is j q y at (ap (λ zs. slice_get zs (suc j)) e ∙ f)) in
+      (λ j q y at f. later_is j q y at (ap (λ zs. slice_get zs (suc j)) e ∙ f)) in
       λ t. first t ++ rest t
 
   pub report_is : report_lines program xs k rounds ≡ r.report setup false s

@@ -2,3 +2,5 @@ pub mod Refusals
 pub mod Cutting
 pub mod Lines
 pub mod Texts
+pub mod Numbers
+pub mod Plans

@@ -2,8 +2,12 @@
 #![tactic(auto)]
 
 pub mod checking;
+pub mod command;
 pub mod cutting;
+pub mod numbers;
 pub mod reading;
 pub mod refusal;
 pub mod report;
+#[cfg(test)]
+mod tests;
 pub mod writing;

@@ -1,4 +1,4 @@
-use Rattle.std.proofs.Common.{◌≡◌, ap, sym, ◌∙◌, map}
+use Rattle.std.proofs.Common.{ap, ◌∙◌, map}
 use Rattle.cp_model.specs.RulesEnvironment as r
 use Rattle.cp_model.specs.RulesJudged.{least}
 use Rattle.cp_model.specs.RulesStatements as st
@@ -13,6 +13,6 @@ returns-clause-told c =
     let own = systems.own (environment c.args.env.now) (map view.variables c.args.y.now.variables.items) in
     let list = view.statements_of (map view.statement c.args.y.now.body.statements.items) in
     more_told c.args.told.now c.variables.new.told c.statements.new.told own.violations (st.statements own.env list)
-      (rw c.deref.ensures.value at c.in_ok-words.ensures.told)
-      (rw c.deref-2.ensures.value at c.in_ok-statements.ensures
-      ∙ ap (λ (e : r.Environment). least c.variables.new.told (st.statements e list)) (rw c.deref.ensures.value at c.in_ok-words.ensures.env))
+    (rw c.deref.ensures.value at c.in_ok-words.ensures.told)
+    (rw c.deref-2.ensures.value at c.in_ok-statements.ensures
+    ∙ ap (λ (e : r.Environment). least c.variables.new.told (st.statements e list)) (rw c.deref.ensures.value at c.in_ok-words.ensures.env))

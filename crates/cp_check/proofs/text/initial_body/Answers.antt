@@ -1,6 +1,6 @@
-use Rattle.std.proofs.Common.{◌≡◌, Bool, ap, sym, ◌∙◌}
+use Rattle.std.proofs.Common.{Bool, ap, sym, ◌∙◌}
 use Rattle.cp_model.specs.declared.rules.Rule.TheVariants.{C13}
-use Rattle.cp_model.specs.RulesJudged.{Violations, least, unless}
+use Rattle.cp_model.specs.RulesJudged.{least, unless}
 use Rattle.cp_model.specs.View as view
 use Rattle.cp_judge.specs.Environments.{environment}
 use Rattle.cp_check.proofs.WholeTexts.{broken_body, sound_body}
@@ -10,7 +10,7 @@ pub returns-in-Some : goal.returns-in-Some
 returns-in-Some c n words =
     c.tell.ensures
     ∙ broken_body c.args.told.now (environment c.args.env.now) n (view.body c.args.body.now) c.in-Some.violation
-      (sym (rw c.deref.ensures.value at c.in_ok-statements.ensures) ∙ c.in-Some.is)
+    (sym (rw c.deref.ensures.value at c.in_ok-statements.ensures) ∙ c.in-Some.is)
 
 pub returns-in-None : goal.returns-in-None
 returns-in-None c n words =
@@ -18,5 +18,5 @@ returns-in-None c n words =
     c.unless_holds.ensures.0
     ∙ ap (λ (within : Bool). least c.args.told.now (unless within C13 c.args.body.now.at)) c.is_within-fits.ensures
     ∙ ap (least c.args.told.now)
-      (sound_body (environment c.args.env.now) n c.args.words c.process_words.result (view.body c.args.body.now)
-        (sym (rw c.deref.ensures.value at c.in_ok-statements.ensures) ∙ c.in-None.is) words counted)
+    (sound_body (environment c.args.env.now) n c.args.words c.process_words.result (view.body c.args.body.now)
+    (sym (rw c.deref.ensures.value at c.in_ok-statements.ensures) ∙ c.in-None.is) words counted)

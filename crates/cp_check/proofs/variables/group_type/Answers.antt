@@ -1,5 +1,4 @@
-use Rattle.std.proofs.Common.{◌≡◌, ◌++◌, ℕ, List, length, take, ap, sym, ◌∙◌, rules}
-use Rattle.cp_model.specs.declared.tree.Identifier.{Identifier}
+use Rattle.std.proofs.Common.{◌≡◌, ℕ, length, take, ap, ◌∙◌}
 use Rattle.cp_model.specs.RulesEnvironment as r
 use Rattle.cp_model.specs.RulesEnvironment.{Names, with_names}
 use Rattle.cp_model.specs.RulesDeclarations as d
@@ -8,7 +7,7 @@ use Rattle.cp_model.specs.Syntax as s
 use Rattle.cp_model.specs.View as view
 use Rattle.cp_judge.specs.Environments.{environment}
 use Rattle.cp_judge.proofs.Tells.{more_told}
-use Rattle.cp_check.specs.Judging.{TellsType, first_of, group_made, group_type}
+use Rattle.cp_check.specs.Judging.{TellsType, group_made}
 use Rattle.cp_check.proofs.Views.{view_fields}
 use Rattle.cp_check.proofs.DeclaredNames.{left}
 use Rattle.cp_check.proofs.variables.group_type.Goals as goal
@@ -31,4 +30,4 @@ returns-clause-told c =
     rw (rw c.deref.ensures.value at c.in_ok-declare_all.ensures.env) at c.written_type-of.ensures in
     rw (view_fields c.args.group.now)
     (more_told c.args.told.now c.declare_all.new.told c.written_type-of.new.told defined.violations (violations_of (group_made env c.args.position g).of)
-      (rw c.deref.ensures.value at c.in_ok-declare_all.ensures.told) inside.0)
+    (rw c.deref.ensures.value at c.in_ok-declare_all.ensures.told) inside.0)

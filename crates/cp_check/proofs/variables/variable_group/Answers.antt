@@ -1,10 +1,9 @@
-use Rattle.std.proofs.Common.{◌≡◌, ◌++◌, ◌*◌, ℕ, List, length, true, ap, sym, ◌∙◌, rules}
+use Rattle.std.proofs.Common.{◌≡◌, ◌*◌, ℕ, length, ap, sym, ◌∙◌, rules}
 use Rattle.cp_model.specs.Syntax as s
 use Rattle.cp_model.specs.declared.rules.Entity.{Entity}
-use Rattle.cp_model.specs.declared.rules.Violation.{Violation}
 use Rattle.cp_model.specs.RulesEnvironment as r
 use Rattle.cp_model.specs.RulesDeclarations as d
-use Rattle.cp_model.specs.RulesJudged.{Violations, least}
+use Rattle.cp_model.specs.RulesJudged.{least}
 use Rattle.cp_model.specs.RulesTypes.{capped}
 use Rattle.cp_model.specs.View as view
 use Rattle.cp_judge.specs.Environments.{environment}
@@ -18,7 +17,7 @@ use Rattle.cp_check.proofs.variables.variable_group.Goals as goal
 -- the group in the words of the code, and in those of the definitions
 same : (c : goal.After-product) → d.variable_group (environment c.args.env.now) c.args.position (view.variables c.args.group.now)
     ≡ group_of (environment c.args.env.now) c.args.position c.args.group.now.names.items c.in_ok-of.of
-      (group_violations (environment c.args.env.now) c.args.position (view.variables c.args.group.now))
+    (group_violations (environment c.args.env.now) c.args.position (view.variables c.args.group.now))
 same c =
     let env = environment c.args.env.now in
     let p = c.args.position in
@@ -48,8 +47,8 @@ returns-clause-told c =
     let counted = owners_of_type (d.declare_all (environment c.args.env.now) (entity_of_type c.in_ok-of.of) c.args.group.now.names.items).env c.args.position c.in_ok-of.of c.args.group.now.names.items in
     let inside = group_violations (environment c.args.env.now) c.args.position (view.variables c.args.group.now) in
     more_told c.args.told.now c.group_type.new.told c.owners.new.told inside counted.violations c.in_ok-of.ensures.told
-      (rw c.deref-2.ensures.value at c.owners.ensures.told
-      ∙ ap (λ (e : r.Environment). least c.group_type.new.told (owners_of_type e c.args.position c.in_ok-of.of c.args.group.now.names.items).violations) (declared c))
+    (rw c.deref-2.ensures.value at c.owners.ensures.told
+    ∙ ap (λ (e : r.Environment). least c.group_type.new.told (owners_of_type e c.args.position c.in_ok-of.of c.args.group.now.names.items).violations) (declared c))
     ∙ sym (ap (λ (v : d.Variables). least c.args.told.now v.violations) (same c))
 
 pub returns-clause-words : goal.returns-clause-words

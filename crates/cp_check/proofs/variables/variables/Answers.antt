@@ -1,7 +1,6 @@
-use Rattle.std.proofs.Common.{◌≡◌, ◌+◌, ◌++◌, ◌∷◌, ◌&&◌, ℕ, List, true, drop, map, length, ap, sym, ◌∙◌}
+use Rattle.std.proofs.Common.{◌≡◌, ◌+◌, ◌++◌, ◌∷◌, ◌&&◌, List, true, drop, map, ap, sym, ◌∙◌}
 use Rattle.std.proofs.lemmas.Bool.{and_parts}
 use Rattle.std.proofs.lemmas.List.{at_drop_more, drop_all}
-use Rattle.cp_model.specs.Syntax as s
 use Rattle.cp_model.specs.RulesEnvironment as r
 use Rattle.cp_model.specs.RulesDeclarations as d
 use Rattle.cp_model.specs.RulesTypes.{capped}
@@ -26,10 +25,10 @@ loop-group-preserved c =
     at_drop_more (map view.variables) all i c.group-item.result c.loop-group-test.true
     ∙ ap (λ f. map view.variables (f ∷ drop (i + 1) all)) (sym c.group-item.is) in
     let whole : d.variables before p (map view.variables (drop i all))
-        ≡ record { env = rest.env; violations = one.violations ++ rest.violations; words = one.words + rest.words } =
+    ≡ record { env = rest.env; violations = one.violations ++ rest.violations; words = one.words + rest.words } =
     ap (d.variables before p) step
     ∙ ap (λ (e : r.Environment). let others = d.variables e p gs in record { env = others.env; violations = one.violations ++ others.violations; words = one.words + others.words })
-      (sym c.in_ok-more.ensures.env) in
+    (sym c.in_ok-more.ensures.env) in
     let fits : variables_fit (g ∷ gs) ≡ true = sym (ap variables_fit step) ∙ c.loop-group.invariant.fits in
     record {
       fits = (and_parts (names_fit g.names && is_type_that_fits g.of) (variables_fit gs) fits).1;

@@ -1,6 +1,5 @@
 use Rattle.std.proofs.Common.{◌≡◌, ◌++◌, ◌∙◌, OnOk, subst, rules}
 use Rattle.std.specs.Fmt as text
-
 use Rattle.cp_private.proofs.Digits.{decimal_is}
 use Rattle.cpm.proofs.report.push_integer.Goals as goal
 

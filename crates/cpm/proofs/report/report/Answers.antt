@@ -13,7 +13,7 @@ returns c = record { report = by c.lines.result c.lines.ensures }
   where
     by : (x : Result Bytes AllocError) → IfOk x (λ b. b.items ≡ report_lines c.args.program.now c.args.privates.now c.args.kernel.now c.args.rounds)
         → IfOk x (λ b. (setup : Setup) (s : State) → Holds c.args.program.now c.args.privates.now c.args.kernel.now c.args.rounds setup s
-            → b.items ≡ r.report setup false s)
+        → b.items ≡ r.report setup false s)
     by (Ok b) h =
         λ setup s H. h ∙ report_is c.args.program.now c.args.privates.now c.args.kernel.now c.args.rounds setup s H
     by (Err e) h = tt
