@@ -4,3 +4,4 @@ pub mod Lines
 pub mod Texts
 pub mod Numbers
 pub mod Plans
+pub mod Executed

@@ -10,6 +10,8 @@ use Rattle.cp_syntax.specs.declared.refusal.SyntaxError.{SyntaxError}
 use Rattle.cp_syntax.specs.declared.refusal.SyntaxError.TheVariants as syntax
 use Rattle.cp_check.specs.declared.checking.CheckError.{CheckError}
 use Rattle.cp_check.specs.declared.checking.CheckError.TheVariants as check
+use Rattle.cpm.specs.declared.reading.ReadError.{ReadError}
+use Rattle.cpm.specs.declared.reading.ReadError.TheVariants as read
 use Rattle.cpm.specs.declared.refusal.Refusal.{Refusal}
 use Rattle.cpm.specs.declared.refusal.Refusal.TheVariants as refusal
 
@@ -57,3 +59,7 @@ abbrev pub of_check : CheckError → Refusal
 of_check (check.Broken v) = refusal.Check v.rule v.at
 of_check check.Outside = refusal.Fragment
 of_check check.Memory = refusal.Memory
+
+abbrev pub of_read : ReadError → Refusal
+of_read read.Read = refusal.Read
+of_read read.Memory = refusal.Memory

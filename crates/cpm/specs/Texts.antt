@@ -26,8 +26,8 @@ pub record IsTextOf (text : List ℕ) (t : s.Tree) : Type 0 where
   pub reads : Reads tokens t
 
 -- The text is accepted, and of the fragment.
-pub record IsAccepted (text : List ℕ) (t : s.Tree) : Type 0 where
-  pub text : IsTextOf text t
+pub record IsAccepted (bytes : List ℕ) (t : s.Tree) : Type 0 where
+  pub text : IsTextOf bytes t
   pub accepted : Accepted t
   pub fragment : is_in_fragment t ≡ true
 

@@ -4,10 +4,12 @@
 pub mod checking;
 pub mod command;
 pub mod cutting;
+pub mod execute;
 pub mod numbers;
 pub mod reading;
 pub mod refusal;
 pub mod report;
+pub mod running;
 #[cfg(test)]
 mod tests;
 pub mod writing;
