@@ -11,6 +11,8 @@ use Rattle.cp_model.specs.States.{Setup}
 use Rattle.cpm.specs.declared.refusal.Refusal.{Refusal}
 use Rattle.cpm.specs.declared.refusal.Refusal.TheVariants as refusal
 use Rattle.cpm.specs.declared.running.Run.{Run}
+use Rattle.cpm.specs.declared.execute.Job.{Job}
+use Rattle.cpm.specs.declared.execute.Job.TheVariants as job
 use Rattle.cpm.specs.Cutting.{judged}
 use Rattle.cpm.specs.Texts.{IsAccepted, Refuses}
 
@@ -59,3 +61,8 @@ RefusesInput ys e = judged (front ys) ≡ Err e
 -- A run is refused for the text, or else, where the text is accepted, for the input. Want of memory says nothing.
 abbrev pub RefusesRun : List ℕ → List ℕ → Refusal → Type 0
 RefusesRun xs ys e = RefusesText xs e ⊎ (((t : s.Tree) × IsAccepted xs t) × RefusesInput ys e)
+
+-- What was written is what is due.
+abbrev pub Does : Job → Option (List ℕ) → Option (List ℕ) → Option (List ℕ) → Option (List ℕ) → Type 0
+Does job.Check text input old new = Accepts text old new
+Does (job.Run run) text input old new = Reports run text input old new

@@ -2,7 +2,7 @@
 
 ghost use Rattle.std.specs.Prelude.{◌≡◌, ◌≤◌, ℕ, IfErr, IfOk, IfSome, List, Some, OnErr, OnOk, length, take};
 ghost use Rattle.std.specs.Io.KnownBytes.{Appends, Keeps};
-ghost use Rattle.cpm.specs.Executed.{Accepts, RefusesInput, RefusesRun, RefusesText, Reports, acceptance};
+ghost use Rattle.cpm.specs.Executed.{Accepts, Does, RefusesInput, RefusesRun, RefusesText, Reports, acceptance};
 ghost use Rattle.cpm.specs.Refusals.{of_read};
 ghost use Rattle.cpm.specs.Texts.{HasProgram};
 ghost use Rattle.cpm.specs.declared.refusal.Refusal.TheVariants as refusal;
@@ -120,4 +120,27 @@ pub fn run_text<H: Threads + Wait + Sync, R: Read, S: Read, W: Write, G: TurnGat
     let bytes = input_of(alloc, input)?;
     let report = report_of(rt, alloc, program, &bytes, run, gate)?;
     finish(out, &report)
+}
+
+/// Does a job with the text of a reader, and writes what is due: `accepted` and a line feed, or the report.
+///
+/// # Errors
+///
+/// Those of [`check_text`] and [`run_text`].
+pub fn execute<H: Threads + Wait + Sync, R: Read, S: Read, W: Write, G: TurnGate>(
+    rt: &H,
+    alloc: Global,
+    text: &mut R,
+    input: &mut S,
+    job: &Job,
+    gate: &G,
+    out: &mut W,
+) -> Result<(), Refusal>
+    ensures done { OnOk result (Does job.now (R.remaining text.old) (S.remaining input.old) (W.contents out.old) (W.contents out.new)) }
+    ensures unwritten { IfErr result (λ e. (e ≡ refusal.Write → ⊥) → Keeps (W.contents out.old) (W.contents out.new)) }
+{
+    match job {
+        Job::Check => check_text(alloc, text, out),
+        Job::Run(run) => run_text(rt, alloc, text, input, run, gate, out),
+    }
 }
