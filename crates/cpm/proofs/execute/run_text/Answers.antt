@@ -13,11 +13,11 @@ returns-clause-reports g c =
     let new = g.W.Write.contents c.finish.new.out in
     let run = c.args.run.now in
     on_ok c.finish.result
-      (λ written xs ys text input.
-        let known : HasProgram xs c.in_ok-program.program = of_known (λ zs. HasProgram zs c.in_ok-program.program) (g.R.Read.remaining c.args.text.now) xs c.in_ok-program.ensures.program text in
-        let bytes : c.in_ok-bytes.bytes.items ≡ ys = of_known (λ zs. c.in_ok-bytes.bytes.items ≡ zs) (g.S.Read.remaining c.args.input.now) ys c.in_ok-bytes.ensures.input input in
-        let setup = setup_of known.tree ys run.tick.rounds in
-        let same : c.in_ok-report.report.items ≡ due run known.tree ys =
-        c.in_ok-report.ensures.report setup (known.stands setup refl) (λ p. ap (λ (b : List ℕ). cut b p) (sym (rw c.deref.ensures.value bytes))) refl in
-        (known.tree, known.is, subst (λ (b : List ℕ). Appends old new b) same written))
-      (rw c.deref-2.ensures.value at c.finish.ensures.whole)
+    (λ written xs ys text input.
+    let known : HasProgram xs c.in_ok-program.program = of_known (λ zs. HasProgram zs c.in_ok-program.program) (g.R.Read.remaining c.args.text.now) xs c.in_ok-program.ensures.program text in
+    let bytes : c.in_ok-bytes.bytes.items ≡ ys = of_known (λ zs. c.in_ok-bytes.bytes.items ≡ zs) (g.S.Read.remaining c.args.input.now) ys c.in_ok-bytes.ensures.input input in
+    let setup = setup_of known.tree ys run.tick.rounds in
+    let same : c.in_ok-report.report.items ≡ due run known.tree ys =
+    c.in_ok-report.ensures.report setup (known.stands setup refl) (λ p. ap (λ (b : List ℕ). cut b p) (sym (rw c.deref.ensures.value bytes))) refl in
+    (known.tree, known.is, subst (λ (b : List ℕ). Appends old new b) same written))
+    (rw c.deref-2.ensures.value at c.finish.ensures.whole)

@@ -14,4 +14,4 @@ returns-clause-report g c = λ setup stands has tick.
     let machine = c.run.new.self in
     let lent : c.deref.result.now ≡ machine.privates.items = search rules in
     c.in_ok-bytes.ensures.report setup after
-      (subst (λ (xs : List Private). Holds machine.program xs machine.kernel machine.rounds setup after) (sym lent) ended.holds)
+    (subst (λ (xs : List Private). Holds machine.program xs machine.kernel machine.rounds setup after) (sym lent) ended.holds)
