@@ -3,3 +3,4 @@ pub mod Parts
 pub mod Lists
 pub mod Reports
 pub mod States
+pub mod TextRefusals

@@ -1,5 +1,7 @@
 pub mod Refusals
 pub mod Cutting
 pub mod Lines
+pub mod Texts
 pub mod Numbers
 pub mod Plans
+pub mod Executed

@@ -6,6 +6,12 @@ use Rattle.cp_scan.specs.declared.refusal.Cause.{Cause}
 use Rattle.cp_scan.specs.declared.refusal.Cause.TheVariants as cause
 use Rattle.cp_scan.specs.declared.refusal.ScanError.{ScanError}
 use Rattle.cp_scan.specs.declared.refusal.ScanError.TheVariants as scan
+use Rattle.cp_syntax.specs.declared.refusal.SyntaxError.{SyntaxError}
+use Rattle.cp_syntax.specs.declared.refusal.SyntaxError.TheVariants as syntax
+use Rattle.cp_check.specs.declared.checking.CheckError.{CheckError}
+use Rattle.cp_check.specs.declared.checking.CheckError.TheVariants as check
+use Rattle.cpm.specs.declared.reading.ReadError.{ReadError}
+use Rattle.cpm.specs.declared.reading.ReadError.TheVariants as read
 use Rattle.cpm.specs.declared.refusal.Refusal.{Refusal}
 use Rattle.cpm.specs.declared.refusal.Refusal.TheVariants as refusal
 
@@ -42,3 +48,18 @@ exit_status _ = 1
 abbrev pub of_scan : ScanError → Refusal
 of_scan (scan.Refused c at) = refusal.Scan c at
 of_scan scan.Memory = refusal.Memory
+
+abbrev pub of_syntax : SyntaxError → Refusal
+of_syntax (syntax.Unexpected at) = refusal.Unexpected at
+of_syntax (syntax.Unfinished at) = refusal.Unfinished at
+of_syntax (syntax.TooDeep at) = refusal.TooDeep at
+of_syntax syntax.Memory = refusal.Memory
+
+abbrev pub of_check : CheckError → Refusal
+of_check (check.Broken v) = refusal.Check v.rule v.at
+of_check check.Outside = refusal.Fragment
+of_check check.Memory = refusal.Memory
+
+abbrev pub of_read : ReadError → Refusal
+of_read read.Read = refusal.Read
+of_read read.Memory = refusal.Memory

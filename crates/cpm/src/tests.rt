@@ -4,3 +4,4 @@ mod commands;
 mod refusals;
 mod reports;
 mod streams;
+mod texts;
