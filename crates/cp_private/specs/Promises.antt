@@ -1,5 +1,5 @@
 -- What the functions of this crate promise, for each state of which a private state is the part.
-use Rattle.std.specs.Prelude.{◌≡◌, ◌≤◌, ℕ, ℤ, pos, List, [], Some, if◌then◌else◌, length, nat_eq, replicate, slice_get}
+use Rattle.std.specs.Prelude.{◌≡◌, ◌≤◌, ℕ, ℤ, pos, List, [], ◌++◌, Some, if◌then◌else◌, length, nat_eq, replicate, slice_get}
 use Rattle.cp_model.specs.Abstract.{Name}
 use Rattle.cp_model.specs.Invariant.{Invariant}
 use Rattle.cp_model.specs.Parts.{HasBegun, own_status}
@@ -53,6 +53,12 @@ TellsWord x word n =
     (program : Program) (setup : Setup) (s : State) (p : ℕ) (before : List ℕ) (name : Name)
     → PartOf program setup s p before x → HasBegun (own_status (s.status p)) → slice_get (names_of program p) word ≡ Some name
     → s.store (variable_location p name) ≡ Ordinal n
+
+-- These bytes end the transcript, behind what was moved of it to the kernel.
+abbrev pub TellsOutput : Private → List ℕ → Type 0
+TellsOutput x bytes =
+    (program : Program) (setup : Setup) (s : State) (p : ℕ) (before : List ℕ)
+    → PartOf program setup s p before x → s.transcript p ≡ before ++ bytes
 
 -- What the part of process p holds at the start.
 abbrev pub start_part : Program → ℕ → List ℕ → Own

@@ -2,7 +2,7 @@
 
 ghost use Rattle.std.specs.Prelude.{◌≡◌, IfOk, MatchOption, None, OnOk, Some, length};
 ghost use Rattle.cp_program.specs.StandsFor.{names_of, shape_of, start_of};
-ghost use Rattle.cp_private.specs.Promises.{IsStart, KeepsPart, TellsWord, start_part};
+ghost use Rattle.cp_private.specs.Promises.{IsStart, KeepsPart, TellsOutput, TellsWord, start_part};
 ghost use Rattle.cp_private.specs.Steps.{HasRoom, own_of};
 ghost use Rattle.cp_private.specs.Values as plain;
 
@@ -142,8 +142,17 @@ impl Private {
 
     /// The value of a word. A missing word reads as 0.
     pub fn value(&self, word: usize) -> i16
+        ensures word { result ≡ plain.word self.now.words.items word }
         ensures value { TellsWord self.now word result }
     {
         values::word(&self.words, word)
+    }
+
+    /// Its output that isn't yet in its transcript.
+    pub fn output(&self) -> &[u8]
+        ensures output { result.now ≡ self.now.output.items }
+        ensures transcript { TellsOutput self.now result.now }
+    {
+        &self.output
     }
 }
