@@ -8,3 +8,4 @@ pub mod Begins
 pub mod Stands
 pub mod Beside
 pub mod KernelTurns
+pub mod Told

@@ -2,3 +2,4 @@ pub mod KernelOf
 pub mod Starting
 pub mod Closing
 pub mod Stand
+pub mod Telling

@@ -5,8 +5,11 @@ ghost use Rattle.cp_model.specs.Start.{start};
 ghost use Rattle.cp_model.specs.States.{Setup, State};
 ghost use Rattle.cp_program.specs.StandsFor.{StandsFor};
 ghost use Rattle.cp_kernel.specs.KernelOf.{AreEmpty, AreFirst, HasRoom, KernelOf, moved};
+ghost use Rattle.cp_kernel.specs.Telling as plain;
+ghost use Rattle.cp_kernel.specs.Telling.{TellsState};
 
-use cp_private::private::Private;
+use cp_model::state::ProcState;
+use cp_private::private::{Activity, Private};
 use cp_program::program::Program;
 use std::alloc::{AllocError, Global};
 
@@ -51,6 +54,21 @@ fn no_transcripts(alloc: Global, processes: usize) -> Result<Vec<Vec<u8>>, Alloc
     Ok(all)
 }
 
+// The state of the process at an index, whose activity this is.
+fn state_at(kernel: &Kernel, activity: Activity, i: usize) -> ProcState
+    ensures { result ≡ plain.state_of activity (slice_get kernel.now.stages.items i) }
+{
+    match activity {
+        Activity::NotBegun => match kernel.stages.get(i) {
+            Some(Stage::Fresh) => ProcState::Fresh,
+            _ => ProcState::Unstarted,
+        },
+        Activity::Running => ProcState::Ready,
+        Activity::Ended => ProcState::Ended,
+        Activity::Faulted(fault) => ProcState::Fault(fault),
+    }
+}
+
 impl Kernel {
     /// The kernel's part at the start. It fails only for want of memory.
     pub fn new(alloc: Global, program: &Program) -> Result<Kernel, AllocError>
@@ -75,6 +93,23 @@ impl Kernel {
         match self.transcripts.get_mut(p.saturating_sub(1)) {
             Some(transcript) => transcript.reserve(private.output.len()),
             None => Ok(()),
+        }
+    }
+
+    /// The state of process p, whose private state is handed in. A process that the kernel doesn't have is told as unstarted.
+    pub fn state(&self, private: &Private, p: usize) -> ProcState
+        ensures state { TellsState self.now private.now p result }
+    {
+        state_at(self, private.activity, p.saturating_sub(1))
+    }
+
+    /// The transcript of process p as far as the kernel has it, without the output that its private state still holds.
+    pub fn transcript(&self, p: usize) -> &[u8]
+        ensures transcript { result.now ≡ moved self.now (p - 1) }
+    {
+        match self.transcripts.get(p.saturating_sub(1)) {
+            Some(transcript) => transcript.as_slice(),
+            None => &[],
         }
     }
 }

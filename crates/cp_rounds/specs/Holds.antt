@@ -1,5 +1,5 @@
 -- When a machine is in a state of the system.
-use Rattle.std.specs.Prelude.{◌≡◌, ◌≤◌, ℕ, suc, List, Some, slice_get, length, Vec}
+use Rattle.std.specs.Prelude.{◌≡◌, ◌≤◌, ℕ, ℤ, suc, ◌-◌, List, [], Option, None, Some, slice_get, length, Vec}
 use Rattle.std.specs.Global.{Global}
 use Rattle.cp_model.specs.States.{Setup, State, process_count}
 use Rattle.cp_model.specs.Turns.{private_turn}
@@ -52,3 +52,15 @@ pub record AreStarts (program : Program) (inputs : List (Vec ℕ Global)) (xs : 
 -- These are the inputs of all processes by number.
 abbrev pub AreInputs : List (Vec ℕ Global) → Setup → Type 0
 AreInputs inputs setup = (i : ℕ) (input : Vec ℕ Global) → slice_get inputs i ≡ Some input → input.items ≡ setup.inputs (suc i)
+
+-- p is the number of a process of the machine.
+abbrev pub IsProcess : Machine → ℕ → Type 0
+IsProcess machine p = (1 ≤ p) × (p ≤ length machine.privates.items)
+
+abbrev pub words_in : Option Private → List ℤ
+words_in None = []
+words_in (Some x) = x.words.items
+
+-- The words of process p.
+abbrev pub words_of : Machine → ℕ → List ℤ
+words_of machine p = words_in (slice_get machine.privates.items (p - 1))

@@ -6,6 +6,7 @@
 pub mod gate;
 pub mod machine;
 pub mod plan;
+pub mod reading;
 #[cfg(test)]
 mod tests;
 pub mod tick;

@@ -1,4 +1,4 @@
-//! Two processes that display 7, started by the initial process: worked by hand.
+//! Programs whose initial process starts others, worked by hand.
 
 ghost use Rattle.std.specs.Prelude.{◌≡◌, IfOk};
 
@@ -6,8 +6,11 @@ use crate::gate::{Open, TurnGate};
 use crate::machine::Machine;
 use crate::plan::{OutOfRange, Plan};
 use crate::tick::{NoTick, Tick};
+use cp_model::state::ProcState;
 use cp_model::token::Name;
 use cp_private::private::Activity;
+use cp_private::steps::private_turn;
+use cp_private::turn::Turn;
 use cp_program::code::{Code, Op};
 use cp_program::program::{Component, Process, Program};
 use std::alloc::{AllocError, Global};
@@ -26,6 +29,50 @@ fn component(alloc: Global, start: usize) -> Component {
         start,
         variables: Vec::new(alloc),
     }
+}
+
+// `type p = process; var x: integer; begin x := 5; display(x); x := -x; display(x) end; var a: p; begin init a end.`
+fn fives(alloc: Global) -> Result<Program, AllocError> {
+    let mut ops = Vec::new(alloc);
+    ops.push(Op::Set {
+        word: 0,
+        value: Code::Number(5),
+        next: 1,
+    })?;
+    ops.push(Op::Display {
+        value: Code::Word(0),
+        next: 2,
+    })?;
+    ops.push(Op::Set {
+        word: 0,
+        value: Code::Negative(Box::new(alloc, Code::Word(0))?),
+        next: 3,
+    })?;
+    ops.push(Op::Display {
+        value: Code::Word(0),
+        next: 4,
+    })?;
+    ops.push(Op::End)?;
+    ops.push(Op::Start {
+        process: 2,
+        next: 4,
+    })?;
+    let mut variables = Vec::new(alloc);
+    variables.push(Name::new(Vec::from_slice(alloc, b"x")?))?;
+    let mut components = Vec::new(alloc);
+    components.push(component(alloc, 5))?;
+    components.push(Component {
+        start: 0,
+        variables,
+    })?;
+    let mut processes = Vec::new(alloc);
+    processes.push(process(alloc, b"initial", 0)?)?;
+    processes.push(process(alloc, b"a", 1)?)?;
+    Ok(Program {
+        ops,
+        components,
+        processes,
+    })
 }
 
 // `type p = process; begin display(7) end; var a, b: p; begin init a, b end.`
@@ -58,14 +105,14 @@ fn sevens(alloc: Global) -> Result<Program, AllocError> {
     })
 }
 
-fn machine(alloc: Global) -> Result<Machine, AllocError>
+// The machine of a program, with no input.
+fn machine(alloc: Global, program: Program) -> Result<Machine, AllocError>
     ensures { IfOk result (λ machine. machine.rounds ≡ 0) }
 {
-    let program = sevens(alloc)?;
     let mut inputs = Vec::new(alloc);
-    inputs.push(Vec::new(alloc))?;
-    inputs.push(Vec::new(alloc))?;
-    inputs.push(Vec::new(alloc))?;
+    for _i in 0..program.processes.len() {
+        inputs.push(Vec::new(alloc))?;
+    }
     if inputs.len() != program.processes.len() {
         return Err(AllocError);
     }
@@ -74,6 +121,35 @@ fn machine(alloc: Global) -> Result<Machine, AllocError>
         Err(_) => return Err(AllocError),
     };
     Machine::new(alloc, program, inputs, tick)
+}
+
+fn state(machine: &Machine, p: usize) -> Option<ProcState> {
+    if 1 <= p && p <= machine.privates.len() {
+        Some(machine.state(p))
+    } else {
+        None
+    }
+}
+
+fn value(machine: &Machine, p: usize, word: usize) -> Option<i16> {
+    if p == 0 {
+        return None;
+    }
+    let private = machine.privates.get(p - 1)?;
+    if word < private.words.len() {
+        Some(machine.value(p, word))
+    } else {
+        None
+    }
+}
+
+// Whether the kernel has the first of these texts of the transcript of process p, and its private state the second.
+fn transcript_is(machine: &Machine, p: usize, first: &[u8], second: &[u8]) -> bool {
+    if p == 0 || p > machine.privates.len() {
+        return false;
+    }
+    let (moved, held) = machine.transcript(p);
+    moved == first && held == second
 }
 
 fn activity(machine: &Machine, i: usize) -> Option<Activity> {
@@ -113,7 +189,7 @@ fn started_processes_run_a_round_later(rt: HostRuntime) -> Result<(), Fail> {
     let plan = Plan::new(10, 2, 1, 255);
     assert!(rt; plan.is_ok());
     if let Ok(plan) = plan {
-        let mut machine = machine(rt.alloc())?;
+        let mut machine = machine(rt.alloc(), sevens(rt.alloc())?)?;
         assert!(rt; machine.round(&rt, &plan, &Open).is_ok());
         assert!(rt; activity(&machine, 0) == Some(Activity::Running));
         assert!(rt; activity(&machine, 1) == Some(Activity::Running));
@@ -128,12 +204,45 @@ fn started_processes_run_a_round_later(rt: HostRuntime) -> Result<(), Fail> {
     Ok(())
 }
 
+// The private turn of the process of an index alone, so that its output is not moved.
+fn turn_alone(machine: &mut Machine, i: usize, turn: Turn) -> Result<(), AllocError> {
+    if let Some(private) = machine.privates.get_mut(i) {
+        private.reserve(turn)?;
+        private_turn(&machine.program, private, turn);
+    }
+    Ok(())
+}
+
+// In a round of two steps a turn the initial process starts the other, which displays 5 in the next.
+#[test]
+fn a_machine_tells_what_it_is_in(rt: HostRuntime) -> Result<(), Fail> {
+    let plan = Plan::new(2, 1, 1, 1);
+    assert!(rt; plan.is_ok());
+    if let Ok(plan) = plan {
+        let mut machine = machine(rt.alloc(), fives(rt.alloc())?)?;
+        assert!(rt; machine.program().ops.len() == 6);
+        assert!(rt; machine.rounds() == 0);
+        assert!(rt; state(&machine, 1) == Some(ProcState::Ready));
+        assert!(rt; state(&machine, 2) == Some(ProcState::Unstarted));
+        assert!(rt; machine.run(&rt, 2, &plan, &Open).is_ok());
+        assert!(rt; machine.rounds() == 2);
+        assert!(rt; state(&machine, 1) == Some(ProcState::Ended));
+        assert!(rt; state(&machine, 2) == Some(ProcState::Ready));
+        assert!(rt; value(&machine, 2, 0) == Some(5));
+        assert!(rt; transcript_is(&machine, 2, b"5", b""));
+        turn_alone(&mut machine, 1, plan.turn)?;
+        assert!(rt; value(&machine, 2, 0) == Some(-5));
+        assert!(rt; transcript_is(&machine, 2, b"5", b"-5"));
+    }
+    Ok(())
+}
+
 #[test]
 fn each_turn_is_told_once(rt: HostRuntime) -> Result<(), Fail> {
     let plan = Plan::new(1, 64, 255, 1);
     assert!(rt; plan.is_ok());
     if let Ok(plan) = plan {
-        let mut machine = machine(rt.alloc())?;
+        let mut machine = machine(rt.alloc(), sevens(rt.alloc())?)?;
         let gate = Counting {
             calls: [
                 AtomicU64::new(0),
