@@ -1,7 +1,6 @@
 //! The private state of a process.
 
-ghost use Rattle.std.specs.Prelude.{◌≡◌, IfOk, MatchOption, None, OnOk, Some, length};
-ghost use Rattle.cp_program.specs.StandsFor.{names_of, shape_of, start_of};
+ghost use Rattle.std.specs.Prelude.{◌≡◌, IfOk, OnOk};
 ghost use Rattle.cp_private.specs.Promises.{IsStart, KeepsPart, TellsOutput, TellsWord, start_part};
 ghost use Rattle.cp_private.specs.Steps.{HasRoom, own_of};
 ghost use Rattle.cp_private.specs.Values as plain;
@@ -9,7 +8,7 @@ ghost use Rattle.cp_private.specs.Values as plain;
 use crate::turn::Turn;
 use crate::values;
 use cp_model::state::Fault;
-use cp_program::program::{Component, Program};
+use cp_program::program::Program;
 use std::alloc::{AllocError, Global};
 
 /// Whether a process runs.
@@ -39,38 +38,11 @@ pub struct Private {
     pub consumed: usize,
 }
 
-// The component of process p.
-fn component(program: &Program, p: usize) -> Option<&Component>
-    ensures { MatchOption result (shape_of program.now p ≡ None) (λ c. shape_of program.now p ≡ Some c.now) }
-{
-    let process = program.processes.get(p.saturating_sub(1))?;
-    program.components.get(process.component)
-}
-
-// The place where the body of process p begins.
-fn start(program: &Program, p: usize) -> usize
-    ensures { result ≡ start_of program.now p }
-{
-    match component(program, p) {
-        Some(component) => component.start,
-        None => 0,
-    }
-}
-
-// How many variables process p has.
-fn word_count(program: &Program, p: usize) -> usize
-    ensures { result ≡ length (names_of program.now p) }
-{
-    match component(program, p) {
-        Some(component) => component.variables.len(),
-        None => 0,
-    }
-}
-
+// The private state of process p at the start.
 fn begin(alloc: Global, program: &Program, p: usize, input: Vec<u8>) -> Result<Private, AllocError>
     ensures { IfOk result (λ x. own_of x ≡ start_part program.now p input.items) }
 {
-    let words = Vec::from_elem(alloc, 0, word_count(program, p))?;
+    let words = Vec::from_elem(alloc, 0, program.variables(p).len())?;
     Ok(Private {
         number: p,
         activity: if p == 1 {
@@ -78,7 +50,7 @@ fn begin(alloc: Global, program: &Program, p: usize, input: Vec<u8>) -> Result<P
         } else {
             Activity::NotBegun
         },
-        place: start(program, p),
+        place: program.start(p),
         words,
         output: Vec::new(alloc),
         input,
@@ -109,13 +81,8 @@ impl Private {
     ///
     /// `AllocError` where memory runs out.
     pub fn copy(&self, alloc: Global) -> Result<Private, AllocError>
+        ensures content { IfOk result (λ x. own_of x ≡ own_of self.now) }
         ensures same { IfOk result (KeepsPart self.now) }
-    {
-        self.duplicate(alloc)
-    }
-
-    fn duplicate(&self, alloc: Global) -> Result<Private, AllocError>
-        ensures { IfOk result (λ x. own_of x ≡ own_of self.now) }
     {
         Ok(Private {
             number: self.number,
@@ -135,6 +102,7 @@ impl Private {
     /// `AllocError` where memory runs out.
     pub fn reserve(&mut self, turn: Turn) -> Result<(), AllocError>
         ensures room { OnOk result (HasRoom self.new turn) }
+        ensures content { own_of self.new ≡ own_of self.old }
         ensures same { KeepsPart self.old self.new }
     {
         self.output.reserve(6 * turn.steps() as usize)
