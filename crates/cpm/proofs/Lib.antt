@@ -4,3 +4,4 @@ pub mod Lists
 pub mod Reports
 pub mod States
 pub mod TextRefusals
+pub mod Faults

@@ -1,5 +1,5 @@
 -- What the commands promise of the bytes that they read and write.
-use Rattle.std.specs.Prelude.{◌≡◌, ◌≤◌, ◌⊎◌, ℕ, List, [], ◌∷◌, ◌++◌, Option, Some, Err, codes, false, length, take}
+use Rattle.std.specs.Prelude.{◌≡◌, ◌≤◌, ◌⊎◌, ℕ, List, [], ◌∷◌, ◌++◌, Option, Some, Err, IfSome, codes, false, length, take}
 use Rattle.std.specs.Io.KnownBytes.{Appends}
 use Rattle.cp_model.specs.Syntax as s
 use Rattle.cp_model.specs.Erase as erase
@@ -14,7 +14,8 @@ use Rattle.cpm.specs.declared.running.Run.{Run}
 use Rattle.cpm.specs.declared.execute.Job.{Job}
 use Rattle.cpm.specs.declared.execute.Job.TheVariants as job
 use Rattle.cpm.specs.Cutting.{judged}
-use Rattle.cpm.specs.Texts.{IsAccepted, Refuses}
+use Rattle.cpm.specs.Texts.{IsAccepted}
+use Rattle.cpm.specs.Texts as texts
 
 -- The inputs of the processes are the parts of the input.
 abbrev pub HasInputs : List ℕ → Setup → Type 0
@@ -46,12 +47,23 @@ abbrev pub Reports : Run → Option (List ℕ) → Option (List ℕ) → Option 
 Reports run text input old new =
     (xs ys : List ℕ) → text ≡ Some xs → input ≡ Some ys → (t : s.Tree) × IsAccepted xs t × Appends old new (due run t ys)
 
+-- Of a known text, after a write that failed: the text is accepted, and a beginning of the line was written.
+abbrev pub BeginsAcceptance : Option (List ℕ) → Option (List ℕ) → Option (List ℕ) → Type 0
+BeginsAcceptance text old new =
+    (xs : List ℕ) → text ≡ Some xs → (t : s.Tree) × IsAccepted xs t × (n : ℕ) × (n ≤ length acceptance) × Appends old new (take n acceptance)
+
+-- Of a known text and a known input, after a write that failed: the text is accepted, and a beginning of the report that is due was written.
+abbrev pub BeginsReport : Run → Option (List ℕ) → Option (List ℕ) → Option (List ℕ) → Option (List ℕ) → Type 0
+BeginsReport run text input old new =
+    (xs ys : List ℕ) → text ≡ Some xs → input ≡ Some ys
+    → (t : s.Tree) × IsAccepted xs t × (n : ℕ) × (n ≤ length (due run t ys)) × Appends old new (take n (due run t ys))
+
 -- ---- refusals
 
 -- Want of memory and a read that failed say nothing of the text.
 abbrev pub RefusesText : List ℕ → Refusal → Type 0
 RefusesText xs refusal.Read = Unit {0}
-RefusesText xs e = Refuses (front xs) e
+RefusesText xs e = texts.Refuses (front xs) e
 
 abbrev pub RefusesInput : List ℕ → Refusal → Type 0
 RefusesInput ys refusal.Read = Unit {0}
@@ -62,7 +74,40 @@ RefusesInput ys e = judged (front ys) ≡ Err e
 abbrev pub RefusesRun : List ℕ → List ℕ → Refusal → Type 0
 RefusesRun xs ys e = RefusesText xs e ⊎ (((t : s.Tree) × IsAccepted xs t) × RefusesInput ys e)
 
+-- Want of memory, a read or a write that failed: they say nothing of the text.
+abbrev pub IsFault : Refusal → Type 0
+IsFault refusal.Memory = Unit {0}
+IsFault refusal.Read = Unit {0}
+IsFault refusal.Write = Unit {0}
+IsFault e = ⊥
+
+-- A known text that is accepted has no other refusal.
+abbrev pub IsFaultOfAccepted : Option (List ℕ) → Refusal → Type 0
+IsFaultOfAccepted text e = (xs : List ℕ) (t : s.Tree) → text ≡ Some xs → IsAccepted xs t → IsFault e
+
+-- The run of a known text that is accepted has no other refusal but that of its input.
+abbrev pub IsFaultOrOfInput : Option (List ℕ) → Option (List ℕ) → Refusal → Type 0
+IsFaultOrOfInput text input e =
+    (xs ys : List ℕ) (t : s.Tree) → text ≡ Some xs → input ≡ Some ys → IsAccepted xs t → IsFault e ⊎ (judged (front ys) ≡ Err e)
+
+-- ---- jobs
+
 -- What was written is what is due.
 abbrev pub Does : Job → Option (List ℕ) → Option (List ℕ) → Option (List ℕ) → Option (List ℕ) → Type 0
 Does job.Check text input old new = Accepts text old new
 Does (job.Run run) text input old new = Reports run text input old new
+
+-- What was written is a beginning of what is due.
+abbrev pub Begins : Job → Option (List ℕ) → Option (List ℕ) → Option (List ℕ) → Option (List ℕ) → Type 0
+Begins job.Check text input old new = BeginsAcceptance text old new
+Begins (job.Run run) text input old new = BeginsReport run text input old new
+
+-- Why nothing was written: of a known text, and of a known input where there is a run.
+abbrev pub Refuses : Job → Option (List ℕ) → Option (List ℕ) → Refusal → Type 0
+Refuses job.Check text input e = IfSome text (λ xs. RefusesText xs e)
+Refuses (job.Run run) text input e = (xs ys : List ℕ) → text ≡ Some xs → input ≡ Some ys → RefusesRun xs ys e
+
+-- An accepted text is refused for a fault alone, or its run for the input.
+abbrev pub RefusesAccepted : Job → Option (List ℕ) → Option (List ℕ) → Refusal → Type 0
+RefusesAccepted job.Check text input e = IsFaultOfAccepted text e
+RefusesAccepted (job.Run run) text input e = IsFaultOrOfInput text input e

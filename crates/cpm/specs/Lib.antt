@@ -3,5 +3,5 @@ pub mod Cutting
 pub mod Lines
 pub mod Texts
 pub mod Numbers
-pub mod Plans
+pub mod Commands
 pub mod Executed

@@ -1,32 +1,19 @@
 //! The command line: which command is given, and with which numbers.
 
-ghost use Rattle.std.specs.Prelude.{◌≡◌, ◌≤◌, IfOk, Ok, length};
-ghost use Rattle.cpm.specs.Plans.{ComesFrom, HasPlan, IsWithin, without_words};
+ghost use Rattle.std.specs.Prelude.{◌≡◌, ◌≤◌, IfOk, IsOk, length};
+ghost use Rattle.cp_rounds.specs.Plans.{AreInRange};
+ghost use Rattle.cpm.specs.Commands.{ComesFrom, Has, HasRounds, IsWithoutWords};
 ghost use Rattle.cpm.specs.declared.command.CommandError.TheVariants as error;
 
 use crate::numbers::number;
+use crate::running::Run;
 use clap::error::ErrorKind;
 use clap::{Arg, ArgMatches};
+use cp_rounds::plan::Plan;
+use cp_rounds::tick::Tick;
 use std::alloc::{AllocError, Global};
 use std::convert::AsStr;
 use thiserror::Error;
-
-/// The numbers of a run.
-#[derive(Clone, Copy, Debug, PartialEq, Eq)]
-pub struct Plan {
-    /// How many rounds are run, at most 1,000,000.
-    pub rounds: u32,
-    /// How many steps a turn has, from 1 to 10,000.
-    pub turn: u32,
-    /// How many threads run private turns, from 1 to 64.
-    pub workers: u32,
-    /// How many processes a worker takes at a time, from 1 to 255.
-    pub chunk: u32,
-    /// How many processes a wave has, from 1 to 255.
-    pub wave: u32,
-    /// Every so many rounds those who wait for the clock go on, from 1 to 1,000,000.
-    pub tick: u32,
-}
 
 /// What cpm is asked to do.
 #[derive(Clone, Copy, Debug)]
@@ -38,7 +25,7 @@ pub enum Command<'a> {
     /// `run FILE`: to run the text of a file, or of standard input where there is no file. The input is that of a file, or empty.
     Run {
         file: Option<&'a str>,
-        plan: Plan,
+        run: Run,
         input: Option<&'a str>,
     },
 }
@@ -82,19 +69,15 @@ struct OutOfRange {
     most: u32,
 }
 
-impl Plan {
-    /// The numbers that hold where the words tell no others.
-    pub fn standard() -> Plan
-        ensures { result ≡ Rattle.cpm.specs.Plans.standard }
-    {
-        Plan {
-            rounds: 2,
-            turn: 100,
-            workers: 2,
-            chunk: 1,
-            wave: 255,
-            tick: 1,
-        }
+// The run of these numbers.
+fn run_of(rounds: u32, turn: u32, workers: u32, chunk: u32, wave: u32, tick: u32) -> Run
+    requires plan { AreInRange turn workers chunk wave }
+    requires tick { (1 ≤ tick) × (tick ≤ 1000000) }
+    ensures { Has rounds turn workers chunk wave tick result }
+{
+    match (Plan::new(turn, workers, chunk, wave), Tick::new(tick)) {
+        (Ok(plan), Ok(tick)) => Run { rounds, plan, tick },
+        _ => unreachable!(),
     }
 }
 
@@ -175,18 +158,16 @@ fn count(
     }
 }
 
-fn read_plan(matches: &ArgMatches<'_>) -> Result<Plan, OutOfRange>
-    ensures { IfOk result IsWithin }
+fn read_run(matches: &ArgMatches<'_>) -> Result<Run, OutOfRange>
+    ensures { IfOk result (λ run. run.rounds ≤ 1000000) }
 {
-    let otherwise = Plan::standard();
-    Ok(Plan {
-        rounds: count(matches, "rounds", 0, 1_000_000, otherwise.rounds)?,
-        turn: count(matches, "turn", 1, 10_000, otherwise.turn)?,
-        workers: count(matches, "workers", 1, 64, otherwise.workers)?,
-        chunk: count(matches, "chunk", 1, 255, otherwise.chunk)?,
-        wave: count(matches, "wave", 1, 255, otherwise.wave)?,
-        tick: count(matches, "tick", 1, 1_000_000, otherwise.tick)?,
-    })
+    let rounds = count(matches, "rounds", 0, 1_000_000, 2)?;
+    let turn = count(matches, "turn", 1, 10_000, 100)?;
+    let workers = count(matches, "workers", 1, 64, 2)?;
+    let chunk = count(matches, "chunk", 1, 255, 1)?;
+    let wave = count(matches, "wave", 1, 255, 255)?;
+    let tick = count(matches, "tick", 1, 1_000_000, 1)?;
+    Ok(run_of(rounds, turn, workers, chunk, wave, tick))
 }
 
 fn misused(grammar: &mut clap::Command<'_>, kind: ErrorKind, text: &str) -> CommandError {
@@ -213,13 +194,14 @@ pub fn read_command<'a, S: AsStr>(
     alloc: Global,
     words: &'a [S],
 ) -> Result<Command<'a>, CommandError>
-    ensures plan { IfOk result HasPlan }
-    ensures none { length words.entry.now ≤ 1 → result ≡ Ok without_words }
+    ensures rounds { IfOk result HasRounds }
+    ensures none { length words.entry.now ≤ 1 → IfOk result IsWithoutWords }
+    ensures some { length words.entry.now ≤ 1 → IsOk result }
 {
     if words.len() <= 1 {
         return Ok(Command::Run {
             file: None,
-            plan: Plan::standard(),
+            run: run_of(2, 100, 2, 1, 255, 1),
             input: None,
         });
     }
@@ -234,7 +216,7 @@ fn read_matches<'a>(
     grammar: &mut clap::Command<'a>,
     matches: &ArgMatches<'a>,
 ) -> Result<Command<'a>, CommandError>
-    ensures { IfOk result HasPlan }
+    ensures { IfOk result HasRounds }
 {
     let Some((name, matches)) = matches.subcommand() else {
         return Err(misused(grammar, ErrorKind::MissingSubcommand, "no command"));
@@ -245,10 +227,10 @@ fn read_matches<'a>(
     if name == "check" {
         return Ok(Command::Check { file });
     }
-    match read_plan(matches) {
-        Ok(plan) => Ok(Command::Run {
+    match read_run(matches) {
+        Ok(run) => Ok(Command::Run {
             file: Some(file),
-            plan,
+            run,
             input: matches.get_str("input"),
         }),
         Err(range) => Err(out_of_range(alloc, grammar, range)),

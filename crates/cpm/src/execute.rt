@@ -2,7 +2,7 @@
 
 ghost use Rattle.std.specs.Prelude.{◌≡◌, ◌≤◌, ℕ, IfErr, IfOk, IfSome, List, Some, OnErr, OnOk, length, take};
 ghost use Rattle.std.specs.Io.KnownBytes.{Appends, Keeps};
-ghost use Rattle.cpm.specs.Executed.{Accepts, Does, RefusesInput, RefusesRun, RefusesText, Reports, acceptance};
+ghost use Rattle.cpm.specs.Executed.{Accepts, Begins, BeginsAcceptance, BeginsReport, Does, IsFaultOfAccepted, IsFaultOrOfInput, Refuses, RefusesAccepted, RefusesInput, RefusesRun, RefusesText, Reports};
 ghost use Rattle.cpm.specs.Refusals.{of_read};
 ghost use Rattle.cpm.specs.Texts.{HasProgram};
 ghost use Rattle.cpm.specs.declared.refusal.Refusal.TheVariants as refusal;
@@ -82,7 +82,8 @@ fn finish<W: Write>(out: &mut W, bytes: &[u8]) -> Result<(), Refusal>
 ///
 /// # Errors
 ///
-/// I1, S, Y, C, F1 and M of the text, and I2 where a write failed. But after I2 nothing was written.
+/// I1, S, Y, C, F1 and M of the text, and I2 where a write failed. After I2 a beginning of the line was written, and else nothing. An
+/// accepted text is refused for M, I1 or I2 alone.
 pub fn check_text<R: Read, W: Write>(
     alloc: Global,
     text: &mut R,
@@ -91,7 +92,8 @@ pub fn check_text<R: Read, W: Write>(
     ensures accepts { OnOk result (Accepts (R.remaining text.old) (W.contents out.old) (W.contents out.new)) }
     ensures unwritten { IfErr result (λ e. (e ≡ refusal.Write → ⊥) → Keeps (W.contents out.old) (W.contents out.new)) }
     ensures refused { IfErr result (λ e. (e ≡ refusal.Write → ⊥) → IfSome (R.remaining text.old) (λ xs. RefusesText xs e)) }
-    ensures beginning { IfErr result (λ e. e ≡ refusal.Write → (n : ℕ) × (n ≤ length acceptance) × Appends (W.contents out.old) (W.contents out.new) (take n acceptance)) }
+    ensures beginning { IfErr result (λ e. e ≡ refusal.Write → BeginsAcceptance (R.remaining text.old) (W.contents out.old) (W.contents out.new)) }
+    ensures faults { IfErr result (IsFaultOfAccepted (R.remaining text.old)) }
 {
     accepted(alloc, text)?;
     finish(out, b"accepted\n")
@@ -101,8 +103,8 @@ pub fn check_text<R: Read, W: Write>(
 ///
 /// # Errors
 ///
-/// First of the text: I1, S, Y, C, F1; then of the input: I1, I4, I3; and M, and I2 where a write failed. But after I2 nothing was
-/// written.
+/// First of the text: I1, S, Y, C, F1; then of the input: I1, I4, I3; and M, and I2 where a write failed. After I2 a beginning of the
+/// report was written, and else nothing. An accepted text with an input that is none of I4 and I3 is refused for M, I1 or I2 alone.
 pub fn run_text<H: Threads + Wait + Sync, R: Read, S: Read, W: Write, G: TurnGate>(
     rt: &H,
     alloc: Global,
@@ -115,6 +117,8 @@ pub fn run_text<H: Threads + Wait + Sync, R: Read, S: Read, W: Write, G: TurnGat
     ensures reports { OnOk result (Reports run.now (R.remaining text.old) (S.remaining input.old) (W.contents out.old) (W.contents out.new)) }
     ensures unwritten { IfErr result (λ e. (e ≡ refusal.Write → ⊥) → Keeps (W.contents out.old) (W.contents out.new)) }
     ensures refused { IfErr result (λ e. (e ≡ refusal.Write → ⊥) → (xs ys : List ℕ) → R.remaining text.old ≡ Some xs → S.remaining input.old ≡ Some ys → RefusesRun xs ys e) }
+    ensures beginning { IfErr result (λ e. e ≡ refusal.Write → BeginsReport run.now (R.remaining text.old) (S.remaining input.old) (W.contents out.old) (W.contents out.new)) }
+    ensures faults { IfErr result (IsFaultOrOfInput (R.remaining text.old) (S.remaining input.old)) }
 {
     let program = accepted(alloc, text)?;
     let bytes = input_of(alloc, input)?;
@@ -138,6 +142,9 @@ pub fn execute<H: Threads + Wait + Sync, R: Read, S: Read, W: Write, G: TurnGate
 ) -> Result<(), Refusal>
     ensures done { OnOk result (Does job.now (R.remaining text.old) (S.remaining input.old) (W.contents out.old) (W.contents out.new)) }
     ensures unwritten { IfErr result (λ e. (e ≡ refusal.Write → ⊥) → Keeps (W.contents out.old) (W.contents out.new)) }
+    ensures refused { IfErr result (λ e. (e ≡ refusal.Write → ⊥) → Refuses job.now (R.remaining text.old) (S.remaining input.old) e) }
+    ensures beginning { IfErr result (λ e. e ≡ refusal.Write → Begins job.now (R.remaining text.old) (S.remaining input.old) (W.contents out.old) (W.contents out.new)) }
+    ensures faults { IfErr result (RefusesAccepted job.now (R.remaining text.old) (S.remaining input.old)) }
 {
     match job {
         Job::Check => check_text(alloc, text, out),

@@ -1,8 +1,23 @@
 //! Command lines.
 
-use crate::command::{Command, CommandError, Plan, read_command};
+use crate::command::{Command, CommandError, read_command};
+use crate::files::perform;
 use crate::numbers::number;
+use crate::refusal::Refusal;
+use crate::running::Run;
 use std::test::*;
+
+// The numbers of a run in the order rounds, turn, workers, chunk, wave, tick.
+fn numbers(run: Run) -> [u32; 6] {
+    [
+        run.rounds,
+        run.plan.turn.steps,
+        run.plan.workers,
+        run.plan.chunk,
+        run.plan.wave,
+        run.tick.rounds,
+    ]
+}
 
 #[test]
 fn numbers_are_digits_alone(rt: HostRuntime) {
@@ -19,11 +34,9 @@ fn numbers_are_digits_alone(rt: HostRuntime) {
 #[test]
 fn no_words_run_standard_input(rt: HostRuntime) {
     match read_command(rt.alloc(), &["cpm"]) {
-        Ok(Command::Run { file, plan, input }) => {
+        Ok(Command::Run { file, run, input }) => {
             assert!(rt; file == None && input == None);
-            assert!(rt; plan == Plan::standard());
-            assert!(rt; plan.rounds == 2 && plan.turn == 100 && plan.workers == 2);
-            assert!(rt; plan.chunk == 1 && plan.wave == 255 && plan.tick == 1);
+            assert!(rt; numbers(run) == [2, 100, 2, 1, 255, 1]);
         }
         _ => panic!(rt; "a run"),
     }
@@ -33,8 +46,7 @@ fn no_words_run_standard_input(rt: HostRuntime) {
 fn check_takes_a_file(rt: HostRuntime) {
     match read_command(rt.alloc(), &["cpm", "check", "a.cp"]) {
         Ok(Command::Check { file }) => assert!(rt; file == "a.cp"),
-        Ok(_) => panic!(rt; "a check"),
-        Err(e) => assert!(rt; matches!(e, CommandError::Memory)),
+        _ => panic!(rt; "a check"),
     }
 }
 
@@ -59,31 +71,21 @@ fn run_takes_numbers(rt: HostRuntime) {
         "in.txt",
     ];
     match read_command(rt.alloc(), words.as_slice()) {
-        Ok(Command::Run { file, plan, input }) => {
+        Ok(Command::Run { file, run, input }) => {
             assert!(rt; file == Some("a.cp") && input == Some("in.txt"));
-            let wanted = Plan {
-                rounds: 1_000_000,
-                turn: 7,
-                workers: 64,
-                chunk: 3,
-                wave: 4,
-                tick: 5,
-            };
-            assert!(rt; plan == wanted);
+            assert!(rt; numbers(run) == [1_000_000, 7, 64, 3, 4, 5]);
         }
-        Ok(_) => panic!(rt; "a run"),
-        Err(e) => assert!(rt; matches!(e, CommandError::Memory)),
+        _ => panic!(rt; "a run"),
     }
 }
 
 #[test]
 fn run_has_defaults(rt: HostRuntime) {
-    match read_command(rt.alloc(), &["cpm", "run", "a.cp", "--rounds", "2"]) {
-        Ok(Command::Run { plan, input, .. }) => {
-            assert!(rt; plan == Plan::standard() && input == None);
+    match read_command(rt.alloc(), &["cpm", "run", "a.cp", "--rounds", "9"]) {
+        Ok(Command::Run { run, input, .. }) => {
+            assert!(rt; numbers(run) == [9, 100, 2, 1, 255, 1] && input == None);
         }
-        Ok(_) => panic!(rt; "a run"),
-        Err(e) => assert!(rt; matches!(e, CommandError::Memory)),
+        _ => panic!(rt; "a run"),
     }
 }
 
@@ -101,14 +103,54 @@ fn other_words_are_refused(rt: HostRuntime) {
         &["cpm", "run", "a.cp", "--rounds", "-1"],
         &["cpm", "run", "a.cp", "--rounds", "+1"],
         &["cpm", "run", "a.cp", "--rounds", "x"],
+        &["cpm", "run", "a.cp", "--rounds", "0x1"],
         &["cpm", "run", "a.cp", "--rounds", "1", "--rounds", "1"],
         &["cpm", "run", "a.cp", "--rounds", "1", "--turn", "0"],
         &["cpm", "run", "a.cp", "--rounds", "1", "--turn", "10001"],
+        &["cpm", "run", "a.cp", "--rounds", "1", "--workers", "0"],
         &["cpm", "run", "a.cp", "--rounds", "1", "--workers", "65"],
+        &["cpm", "run", "a.cp", "--rounds", "1", "--chunk", "0"],
         &["cpm", "run", "a.cp", "--rounds", "1", "--chunk", "256"],
+        &["cpm", "run", "a.cp", "--rounds", "1", "--wave", "0"],
         &["cpm", "run", "a.cp", "--rounds", "1", "--wave", "256"],
+        &["cpm", "run", "a.cp", "--rounds", "1", "--tick", "0"],
         &["cpm", "run", "a.cp", "--rounds", "1", "--tick", "1000001"],
     ] {
-        assert!(rt; read_command(rt.alloc(), words).is_err());
+        match read_command(rt.alloc(), words) {
+            Err(CommandError::Usage(_)) => {}
+            _ => panic!(rt; "no command"),
+        }
+    }
+}
+
+#[test]
+fn files_are_opened_before_they_are_read(rt: HostRuntime) {
+    for (words, refusal) in [
+        (["cpm", "check", "nowhere.cp"].as_slice(), Refusal::Read),
+        (
+            &["cpm", "run", "nowhere.cp", "--rounds", "1"],
+            Refusal::Read,
+        ),
+        (
+            &[
+                "cpm",
+                "run",
+                "/dev/null",
+                "--rounds",
+                "1",
+                "--input",
+                "nowhere.txt",
+            ],
+            Refusal::Read,
+        ),
+        (
+            &["cpm", "check", "/dev/null"],
+            Refusal::Unfinished { at: 0 },
+        ),
+    ] {
+        match read_command(rt.alloc(), words) {
+            Ok(command) => assert!(rt; perform(&rt, rt.alloc(), &command) == Err(refusal)),
+            Err(_) => panic!(rt; "a command"),
+        }
     }
 }

@@ -3,10 +3,10 @@
 use crate::refusal::{Refusal, exit_of};
 use cp_model::rules::{Rule, Violation};
 use cp_scan::{Cause, ScanError};
-use std::test::*;
+use std::test::Fail;
 
 #[test]
-fn each_refusal_has_its_line(rt: HostRuntime) {
+fn each_refusal_has_its_line(rt: HostRuntime) -> Result<(), Fail> {
     let violation = Violation {
         rule: Rule::C13,
         at: 19,
@@ -29,8 +29,8 @@ fn each_refusal_has_its_line(rt: HostRuntime) {
         (Refusal::Write, "fault I2", 4),
     ] {
         assert!(rt; exit_of(&refusal) == exit);
-        if let Ok(text) = format!(in rt.alloc(); "{refusal}") {
-            assert!(rt; text.as_str() == line);
-        }
+        let text = format!(in rt.alloc(); "{refusal}")?;
+        assert!(rt; text.as_str() == line);
     }
+    Ok(())
 }

@@ -11,10 +11,10 @@ use std::test::*;
 
 // Gives a byte at a time, and fails at one place.
 #[derive(Drop)]
-struct Slow<'a> {
-    text: &'a [u8],
-    at: usize,
-    fails_at: usize,
+pub(crate) struct Slow<'a> {
+    pub(crate) text: &'a [u8],
+    pub(crate) at: usize,
+    pub(crate) fails_at: usize,
 }
 
 impl<'a> Read for Slow<'a> {
@@ -35,10 +35,10 @@ impl<'a> Read for Slow<'a> {
 
 // Takes a byte at a time, and from one place on fails or takes nothing.
 #[derive(Drop)]
-struct Narrow {
-    taken: Vec<u8>,
-    fails_at: usize,
-    full_at: usize,
+pub(crate) struct Narrow {
+    pub(crate) taken: Vec<u8>,
+    pub(crate) fails_at: usize,
+    pub(crate) full_at: usize,
 }
 
 impl Write for Narrow {
@@ -76,7 +76,7 @@ fn a_reader_gives_a_byte_at_a_time(rt: HostRuntime) {
     }
     match read_slowly(rt.alloc(), b"abc", 4) {
         Ok(text) => assert!(rt; text.as_slice() == b"abc".as_slice()),
-        Err(e) => assert!(rt; e == ReadError::Memory),
+        Err(_) => panic!(rt; "a text"),
     }
 }
 
@@ -97,7 +97,7 @@ fn no_byte_beyond_the_limit_is_read(rt: HostRuntime) {
     ] {
         match read_of(rt.alloc(), length) {
             Ok(n) => assert!(rt; n == read),
-            Err(e) => assert!(rt; e == ReadError::Memory),
+            Err(_) => panic!(rt; "a text"),
         }
     }
 }
@@ -115,13 +115,13 @@ fn write_narrowly(alloc: Global, fails_at: usize, full_at: usize) -> (Vec<u8>, b
 #[test]
 fn a_writer_takes_a_byte_at_a_time(rt: HostRuntime) {
     let (taken, failed) = write_narrowly(rt.alloc(), 9, 9);
-    assert!(rt; failed || taken.as_slice() == b"abc".as_slice());
+    assert!(rt; !failed && taken.as_slice() == b"abc".as_slice());
     let (taken, failed) = write_narrowly(rt.alloc(), 0, 9);
     assert!(rt; failed && taken.is_empty());
     let (taken, failed) = write_narrowly(rt.alloc(), 2, 9);
-    assert!(rt; failed && taken.len() <= 2);
+    assert!(rt; failed && taken.as_slice() == b"ab".as_slice());
     let (taken, failed) = write_narrowly(rt.alloc(), 9, 1);
-    assert!(rt; failed && taken.len() <= 1);
+    assert!(rt; failed && taken.as_slice() == b"a".as_slice());
 }
 
 #[test]
@@ -137,15 +137,13 @@ fn too_long(alloc: Global) -> Result<Result<(), Refusal>, AllocError> {
 
 #[test]
 fn the_length_is_told_before_a_byte(rt: HostRuntime) {
-    if let Ok(judged) = too_long(rt.alloc()) {
-        assert!(rt; judged == Err(Refusal::InputSize));
-    }
+    assert!(rt; too_long(rt.alloc()) == Ok(Err(Refusal::InputSize)));
 }
 
 #[test]
 fn an_input_is_cut_at_each_byte_28(rt: HostRuntime) {
     let Ok(parts) = cut_input(rt.alloc(), b"ab\x1c\x1cc", 5) else {
-        return;
+        panic!(rt; "no parts");
     };
     let wanted: [&[u8]; 5] = [b"ab", b"", b"c", b"", b""];
     assert!(rt; parts.len() == 5);

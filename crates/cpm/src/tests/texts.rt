@@ -1,25 +1,18 @@
 //! Whole texts, from their bytes to their reports. The reports are worked by hand.
 
-use crate::execute::{Job, execute};
+use super::jobs::{done, job, nested, repeated};
+use crate::execute::Job;
 use crate::refusal::Refusal;
-use crate::running::Run;
-use cp_model::rules::Rule;
-use cp_rounds::gate::Open;
-use cp_rounds::plan::Plan;
-use cp_rounds::tick::Tick;
-use std::alloc::{AllocError, Global};
-use std::sync::Wait;
 use std::test::Fail;
-use std::thread::Threads;
 
-const COUNTERS: &[u8] = b"type p = process; var x: integer;
+pub(crate) const COUNTERS: &[u8] = b"type p = process; var x: integer;
   begin x := 2; cycle display(x); x := x * x end end;
 var a, b: p; y: integer;
 begin init a, b; y := 7 - 10;
   display(y div 2); display(y mod 2); init a end.
 ";
 
-const AFTER_THREE_ROUNDS: &[u8] = b"rounds 3
+pub(crate) const AFTER_THREE_ROUNDS: &[u8] = b"rounds 3
 process 1 initial fault 7
 out '-1-1'
 var y = -3
@@ -43,66 +36,113 @@ out '2416256'
 var x = 256
 ";
 
-// A run of so many rounds with turns of so many steps.
-fn job(rounds: u32, turn: u32) -> Result<Job, AllocError> {
-    match (Plan::new(turn, 2, 1, 255), Tick::new(1)) {
-        (Ok(plan), Ok(tick)) => Ok(Job::Run(Run { rounds, plan, tick })),
-        _ => Err(AllocError),
-    }
-}
+const SEVEN: &[u8] = b"type p = process; begin display(7) end;
+var a: p;
+begin init a end.
+";
 
-// What is answered and written for a text.
-fn done<H: Threads + Wait + Sync>(
-    rt: &H,
-    alloc: Global,
-    text: &[u8],
-    job: &Job,
-) -> (Result<(), Refusal>, Vec<u8>) {
-    let mut text = text;
-    let mut input = b"".as_slice();
-    let mut out = Vec::new(alloc);
-    let answer = execute(rt, alloc, &mut text, &mut input, job, &Open, &mut out);
-    (answer, out)
-}
+const UNSTARTED: &[u8] = b"rounds 0\nprocess 1 initial ready\nout ''\n";
 
 #[test]
-fn two_counters_run_by_turns(rt: HostRuntime) -> Result<(), Fail> {
-    let (answer, out) = done(&rt, rt.alloc(), COUNTERS, &job(3, 4)?);
-    assert!(rt; answer == Ok(()));
-    assert!(rt; out.as_slice() == AFTER_THREE_ROUNDS);
-    let (answer, out) = done(&rt, rt.alloc(), COUNTERS, &job(5, 4)?);
-    assert!(rt; answer == Ok(()));
-    assert!(rt; out.as_slice() == AFTER_FIVE_ROUNDS);
+fn texts_have_their_reports(rt: HostRuntime) -> Result<(), Fail> {
+    let cases: [(&[u8], u32, u32, &[u8]); 8] = [
+        (b"begin end.", 0, 10, UNSTARTED),
+        (
+            b"begin end.",
+            1,
+            10,
+            b"rounds 1\nprocess 1 initial ended\nout ''\n",
+        ),
+        (
+            b"begin cycle end end.",
+            5,
+            1,
+            b"rounds 5\nprocess 1 initial ready\nout ''\n",
+        ),
+        (
+            b"begin cycle end end.",
+            5,
+            10_000,
+            b"rounds 5\nprocess 1 initial ready\nout ''\n",
+        ),
+        (
+            SEVEN,
+            1,
+            10,
+            b"rounds 1\nprocess 1 initial ready\nout ''\nprocess 2 a ready\nout ''\n",
+        ),
+        (
+            SEVEN,
+            2,
+            10,
+            b"rounds 2\nprocess 1 initial ended\nout ''\nprocess 2 a ended\nout '7'\n",
+        ),
+        (COUNTERS, 3, 4, AFTER_THREE_ROUNDS),
+        (COUNTERS, 5, 4, AFTER_FIVE_ROUNDS),
+    ];
+    for (text, rounds, turn, report) in cases {
+        let (answer, out) = done(&rt, rt.alloc(), text, b"", &job(rounds, turn)?);
+        assert!(rt; answer == Ok(()));
+        assert!(rt; out.as_slice() == report);
+    }
     Ok(())
 }
 
 #[test]
-fn small_texts_have_their_answers(rt: HostRuntime) -> Result<(), Fail> {
-    let (answer, out) = done(&rt, rt.alloc(), b"begin end.", &job(1, 10)?);
+fn a_check_writes_a_line(rt: HostRuntime) {
+    let (answer, out) = done(&rt, rt.alloc(), COUNTERS, b"\xff", &Job::Check);
     assert!(rt; answer == Ok(()));
-    assert!(rt; out.as_slice() == b"rounds 1\nprocess 1 initial ended\nout ''\n".as_slice());
-    let (answer, out) = done(&rt, rt.alloc(), b"begin end.", &Job::Check);
+    assert!(rt; out.as_slice() == b"accepted\n".as_slice());
+}
+
+#[test]
+fn the_longest_text_runs(rt: HostRuntime) -> Result<(), Fail> {
+    let text = repeated(rt.alloc(), b"begin end.", b" ", 1_048_566, b"")?;
+    let (answer, out) = done(&rt, rt.alloc(), &text, b"", &job(0, 10)?);
+    assert!(rt; answer == Ok(()));
+    assert!(rt; out.as_slice() == UNSTARTED);
+    Ok(())
+}
+
+#[test]
+fn the_longest_name_is_accepted(rt: HostRuntime) -> Result<(), Fail> {
+    let text = repeated(rt.alloc(), b"var ", b"a", 64, b": integer; begin end.")?;
+    let (answer, out) = done(&rt, rt.alloc(), &text, b"", &Job::Check);
     assert!(rt; answer == Ok(()));
     assert!(rt; out.as_slice() == b"accepted\n".as_slice());
     Ok(())
 }
 
 #[test]
-fn refused_texts_write_nothing(rt: HostRuntime) -> Result<(), Fail> {
-    let (answer, out) = done(&rt, rt.alloc(), b"begin a := 1; b := 2 end.", &Job::Check);
-    assert!(rt;
-        answer
-            == Err(Refusal::Check {
-                rule: Rule::C1,
-                at: 6
-            })
-    );
+fn two_hundred_levels_are_accepted(rt: HostRuntime) -> Result<(), Fail> {
+    let text = nested(rt.alloc(), [b"", b"begin ", b"", b"end ", b"."], 200)?;
+    let (answer, out) = done(&rt, rt.alloc(), &text, b"", &job(0, 10)?);
+    assert!(rt; answer == Ok(()));
+    assert!(rt; out.as_slice() == UNSTARTED);
+    let text = nested(
+        rt.alloc(),
+        [b"begin display(", b"(", b"1", b")", b") end."],
+        198,
+    )?;
+    let (answer, _) = done(&rt, rt.alloc(), &text, b"", &Job::Check);
+    assert!(rt; answer == Ok(()));
+    Ok(())
+}
+
+#[test]
+fn a_level_more_is_refused(rt: HostRuntime) -> Result<(), Fail> {
+    let text = nested(rt.alloc(), [b"", b"begin ", b"", b"end ", b"."], 201)?;
+    let (answer, _) = done(&rt, rt.alloc(), &text, b"", &Job::Check);
+    assert!(rt; answer == Err(Refusal::TooDeep { at: 1200 }));
+    let (answer, out) = done(&rt, rt.alloc(), &text, b"", &job(0, 10)?);
+    assert!(rt; answer == Err(Refusal::TooDeep { at: 1200 }));
     assert!(rt; out.is_empty());
-    let (answer, out) = done(&rt, rt.alloc(), b"begin end", &Job::Check);
-    assert!(rt; answer == Err(Refusal::Unfinished { at: 9 }));
-    assert!(rt; out.is_empty());
-    let (answer, out) = done(&rt, rt.alloc(), b"begin while true do end.", &Job::Check);
-    assert!(rt; answer == Err(Refusal::Fragment));
-    assert!(rt; out.is_empty());
+    let text = nested(
+        rt.alloc(),
+        [b"begin display(", b"(", b"1", b")", b") end."],
+        199,
+    )?;
+    let (answer, _) = done(&rt, rt.alloc(), &text, b"", &Job::Check);
+    assert!(rt; answer == Err(Refusal::TooDeep { at: 212 }));
     Ok(())
 }

@@ -1,23 +1,70 @@
-use Rattle.std.proofs.Common.{◌≡◌, refl, ℕ, List, ap, sym, ◌∙◌, subst}
+use Rattle.std.proofs.Common.{◌≡◌, ◌≤◌, refl, ℕ, List, length, take, Option, Some, ap, sym, ◌∙◌, subst, inl}
+use Rattle.std.proofs.lemmas.Result.{err_from_is_err_and}
 use Rattle.std.specs.Io.KnownBytes.{Appends}
+use Rattle.cp_model.specs.Syntax as s
 use Rattle.cp_model.specs.Input.{cut}
 use Rattle.cp_judge.proofs.Tells.{on_ok}
 use Rattle.cpm.specs.Executed.{due, setup_of}
-use Rattle.cpm.specs.Texts.{HasProgram}
+use Rattle.cpm.specs.Texts.{HasProgram, IsAccepted}
+use Rattle.cpm.proofs.Faults.{known_input_fault, known_text_fault, memory_fault, of_err, on_err, write_fault}
 use Rattle.cpm.proofs.TextRefusals.{of_known}
+use Rattle.cpm.proofs.execute.run_text.Given.{Over}
 use Rattle.cpm.proofs.execute.run_text.Goals as goal
+
+-- The report that was made is the one that is due.
+abbrev IsDue : (g : Over) → goal.After-drop-bytes-2 g → List ℕ → List ℕ → Type 0
+IsDue g c xs ys = (t : s.Tree) × IsAccepted xs t × (c.in_ok-report.report.items ≡ due c.args.run.now t ys)
+
+is_due : (g : Over) (c : goal.After-drop-bytes-2 g) (xs ys : List ℕ) → g.R.Read.remaining c.args.text.now ≡ Some xs → g.S.Read.remaining c.args.input.now ≡ Some ys
+    → IsDue g c xs ys
+is_due g c xs ys text input =
+    let known : HasProgram xs c.in_ok-program.program = of_known (λ zs. HasProgram zs c.in_ok-program.program) (g.R.Read.remaining c.args.text.now) xs c.in_ok-program.ensures.program text in
+    let bytes : c.in_ok-bytes.bytes.items ≡ ys = of_known (λ zs. c.in_ok-bytes.bytes.items ≡ zs) (g.S.Read.remaining c.args.input.now) ys c.in_ok-bytes.ensures.input input in
+    let setup = setup_of known.tree ys c.args.run.now.tick.rounds in
+    let same : c.in_ok-report.report.items ≡ due c.args.run.now known.tree ys =
+    c.in_ok-report.ensures.report setup (known.stands setup refl) (λ p. ap (λ (b : List ℕ). cut b p) (sym (rw c.deref.ensures.value bytes))) refl in
+    (known.tree, known.is, same)
+
+pub returns-in_err-program-clause-faults : goal.returns-in_err-program-clause-faults
+returns-in_err-program-clause-faults g c =
+    let p = err_from_is_err_and c.from_residual.result c.from_residual.ensures.1 in
+    rw (p.1, p.2) (known_text_fault (g.R.Read.remaining c.args.text.now) (g.S.Read.remaining c.args.input.now) c.in_err-program.field-0.0 c.in_err-program.ensures.refused)
+
+pub returns-in_err-bytes-clause-beginning : goal.returns-in_err-bytes-clause-beginning
+returns-in_err-bytes-clause-beginning g c =
+    let p = err_from_is_err_and c.from_residual-in_err-bytes.result c.from_residual-in_err-bytes.ensures.1 in
+    rw (p.1, p.2) (λ write. absurd (c.in_err-bytes.ensures.reads write))
+
+pub returns-in_err-bytes-clause-faults : goal.returns-in_err-bytes-clause-faults
+returns-in_err-bytes-clause-faults g c =
+    let p = err_from_is_err_and c.from_residual-in_err-bytes.result c.from_residual-in_err-bytes.ensures.1 in
+    rw (p.1, p.2) (known_input_fault (g.R.Read.remaining c.args.text.now) (g.S.Read.remaining c.args.input.now) c.in_err-bytes.field-0.0 c.in_err-bytes.ensures.refused)
+
+pub returns-in_err-report-clause-faults : goal.returns-in_err-report-clause-faults
+returns-in_err-report-clause-faults g c =
+    let p = err_from_is_err_and c.from_residual-in_err-report.result c.from_residual-in_err-report.ensures.1 in
+    rw (p.1, p.2) (λ xs ys t text input is. inl (memory_fault c.in_err-report.field-0.0 c.in_err-report.ensures.memory))
 
 pub returns-clause-reports : goal.returns-clause-reports
 returns-clause-reports g c =
     let old = g.W.Write.contents c.args.out.now in
     let new = g.W.Write.contents c.finish.new.out in
-    let run = c.args.run.now in
     on_ok c.finish.result
     (λ written xs ys text input.
-    let known : HasProgram xs c.in_ok-program.program = of_known (λ zs. HasProgram zs c.in_ok-program.program) (g.R.Read.remaining c.args.text.now) xs c.in_ok-program.ensures.program text in
-    let bytes : c.in_ok-bytes.bytes.items ≡ ys = of_known (λ zs. c.in_ok-bytes.bytes.items ≡ zs) (g.S.Read.remaining c.args.input.now) ys c.in_ok-bytes.ensures.input input in
-    let setup = setup_of known.tree ys run.tick.rounds in
-    let same : c.in_ok-report.report.items ≡ due run known.tree ys =
-    c.in_ok-report.ensures.report setup (known.stands setup refl) (λ p. ap (λ (b : List ℕ). cut b p) (sym (rw c.deref.ensures.value bytes))) refl in
-    (known.tree, known.is, subst (λ (b : List ℕ). Appends old new b) same written))
+    let d = is_due g c xs ys text input in
+    (d.0, d.1, subst (λ (b : List ℕ). Appends old new b) d.2 written))
     (rw c.deref-2.ensures.value at c.finish.ensures.whole)
+
+pub returns-clause-beginning : goal.returns-clause-beginning
+returns-clause-beginning g c =
+    let old = g.W.Write.contents c.args.out.now in
+    let new = g.W.Write.contents c.finish.new.out in
+    on_err c.finish.result
+    (λ e b write xs ys text input.
+    let d = is_due g c xs ys text input in
+    let begun = subst (λ (bs : List ℕ). (n : ℕ) × (n ≤ length bs) × Appends old new (take n bs)) d.2 b in
+    (d.0, d.1, begun.0, begun.1, begun.2))
+    (rw c.deref-2.ensures.value at c.finish.ensures.beginning)
+
+pub returns-clause-faults : goal.returns-clause-faults
+returns-clause-faults g c = of_err c.finish.result (λ e write xs ys t text input is. inl (write_fault e write)) c.finish.ensures.write
