@@ -38,6 +38,10 @@ pub struct Machine {
     pub tick: Tick,
 }
 
+/// Memory was wanting in this round of a run, counted from 1. The rounds before it were made, and nothing of it.
+#[derive(Clone, Copy, Debug, PartialEq, Eq)]
+pub struct MemoryAt(pub u32);
+
 // The private turn of process p, on a copy.
 fn turned<G: TurnGate>(
     alloc: Global,
@@ -97,10 +101,6 @@ fn all_kernel_turns(program: &Program, kernel: &mut Kernel, privates: &mut [Priv
         kernel_turn(program, kernel, &mut privates[i], i + 1, turn);
     }
 }
-
-/// Memory was wanting in this round of a run, counted from 1. The rounds before it were made, and nothing of it.
-#[derive(Clone, Copy, Debug, PartialEq, Eq)]
-pub struct MemoryAt(pub u32);
 
 // The private states at the start, one for each input.
 fn first_privates(
