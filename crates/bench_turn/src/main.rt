@@ -1,5 +1,5 @@
 //! Makes private turns of a process that counts, as often as the first argument says, once by default, and prints how far it
-//! counted. `bench/turn.py` measures the steps of a process by it.
+//! counted. `time out/bench_turn 10000` measures the steps of a process by it (docs/PERFORMANCE.md).
 #![tactic(auto)]
 
 use cp_model::token::Name;

@@ -9,3 +9,4 @@ pub mod Stands
 pub mod Beside
 pub mod KernelTurns
 pub mod Told
+pub mod Outputs

@@ -43,7 +43,8 @@ fn close(kernel: &mut Kernel, privates: &mut [Private])
     }
 }
 
-/// The end of a round: fresh becomes ready. The private states are those of all processes by number. It takes no memory.
+/// The end of a round: the processes that were started in it begin, so fresh becomes ready. The private states are those of all
+/// processes of this program by number. It takes no memory, and always succeeds.
 pub fn end_round(_program: &Program, kernel: &mut Kernel, privates: &mut [Private])
     ensures ends { (setup : Setup) (s : State) → StandsFor _program.now setup → length privates.old ≡ process_count setup
         → Stand _program.now setup s privates.old kernel.old

@@ -26,6 +26,7 @@ pub enum Stage {
 #[derive(Debug, Drop)]
 pub struct Kernel {
     pub stages: Vec<Stage>,
+    /// Without the output that private states still hold.
     pub transcripts: Vec<Vec<u8>>,
 }
 
@@ -70,7 +71,7 @@ fn state_at(kernel: &Kernel, activity: Activity, i: usize) -> ProcState
 }
 
 impl Kernel {
-    /// The kernel's part at the start. It fails only for want of memory.
+    /// The kernel's part at the start: the initial process is started, and no other. It fails only for want of memory.
     pub fn new(alloc: Global, program: &Program) -> Result<Kernel, AllocError>
         ensures start { IfOk result (λ k. (setup : Setup) → StandsFor program.now setup → KernelOf setup (start setup) k) }
         ensures moved { IfOk result (λ k. (i : ℕ) → moved k i ≡ []) }
@@ -96,7 +97,8 @@ impl Kernel {
         }
     }
 
-    /// The state of process p, whose private state is handed in. A process that the kernel doesn't have is told as unstarted.
+    /// The state of process p, whose private state is handed in. Of one that has not begun the kernel knows whether it was started in
+    /// the running round.
     pub fn state(&self, private: &Private, p: usize) -> ProcState
         ensures state { TellsState self.now private.now p result }
     {

@@ -1,8 +1,8 @@
 //! Kernel turns: the steps that start processes.
 
-ghost use Rattle.std.specs.Prelude.{◌≡◌, ◌≢◌, ◌++◌, ◌-◌, ℕ, length, slice_get};
+ghost use Rattle.std.specs.Prelude.{◌≡◌, ◌≢◌, ◌++◌, ◌-◌, ℕ, [], Some, length, slice_get};
 ghost use Rattle.cp_private.specs.declared.private.Private.{Private};
-ghost use Rattle.cp_kernel.specs.KernelOf.{HasRoom, moved};
+ghost use Rattle.cp_kernel.specs.KernelOf.{Bytes, HasRoom, moved};
 ghost use Rattle.cp_kernel.specs.Stand.{MakesKernelTurn};
 ghost use Rattle.cp_kernel.specs.Starting.{is_due, is_unstarted, started, stepped, turned, turning};
 
@@ -73,6 +73,7 @@ fn move_output(kernel: &mut Kernel, private: &mut Private, p: usize)
     ensures stages { kernel.new.stages ≡ kernel.old.stages }
     ensures count { length kernel.new.transcripts.items ≡ length kernel.old.transcripts.items }
     ensures others { (i : ℕ) → i ≢ p - 1 → slice_get kernel.new.transcripts.items i ≡ slice_get kernel.old.transcripts.items i }
+    ensures emptied { (transcript : Bytes) → slice_get kernel.old.transcripts.items (p - 1) ≡ Some transcript → private.new.output.items ≡ [] }
 {
     if let Some(transcript) = kernel.transcripts.get_mut(p.saturating_sub(1)) {
         let moved = transcript.extend_from_slice(&private.output);
@@ -82,7 +83,8 @@ fn move_output(kernel: &mut Kernel, private: &mut Private, p: usize)
 }
 
 /// Process p's kernel turn: its output goes to its transcript, and then come at most so many steps while the next one is the
-/// kernel's. Its private state is handed in. It takes no memory, and always succeeds.
+/// kernel's. Its private state is handed in. Such a step is `init` of a process: an unstarted one becomes fresh, and for any other the
+/// process that made the step faults. It takes no memory (`Kernel::reserve` makes the room), and always succeeds.
 pub fn kernel_turn(
     program: &Program,
     kernel: &mut Kernel,
@@ -94,6 +96,7 @@ pub fn kernel_turn(
     ensures turn { MakesKernelTurn program.now turn.steps p kernel.old private.old kernel.new private.new }
     ensures moved { (i : ℕ) → i ≢ p - 1 → moved kernel.new i ≡ moved kernel.old i }
     ensures others { (i : ℕ) (x : Private) → i ≢ p - 1 → HasRoom kernel.old i x → HasRoom kernel.new i x }
+    ensures emptied { (transcript : Bytes) → slice_get kernel.old.transcripts.items (p - 1) ≡ Some transcript → private.new.output.items ≡ [] }
 {
     move_output(kernel, private, p);
     kernel_steps(program, kernel, private, turn.steps());

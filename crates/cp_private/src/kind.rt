@@ -30,7 +30,8 @@ fn kind_at(program: &Program, private: &Private) -> Kind
     }
 }
 
-/// Whose the next step is.
+/// Whose the next step is: the kernel's where it starts a process, and no one's where the process has not begun, has ended or has
+/// faulted.
 pub fn next_kind(program: &Program, private: &Private) -> Kind
     ensures kind { TellsKind program.now private.now result }
 {

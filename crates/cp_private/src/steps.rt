@@ -99,7 +99,7 @@ fn take_steps(program: &Program, private: &mut Private, count: u32)
     }
 }
 
-/// One step, where the next one is private; else nothing.
+/// One step, where the next one is private; else nothing. It takes no memory.
 pub fn private_step(program: &Program, private: &mut Private)
     requires room { HasRoomFor private.old 1 }
     ensures step { MakesStep program.now private.old private.new }
@@ -108,7 +108,7 @@ pub fn private_step(program: &Program, private: &mut Private)
     step(program, private);
 }
 
-/// As many steps as the turn has, while the next one is private. It takes no memory.
+/// As many steps as the turn has, while the next one is private. It takes no memory: `Private::reserve` makes the room.
 pub fn private_turn(program: &Program, private: &mut Private, turn: Turn)
     requires room { HasRoom private.old turn }
     ensures turn { MakesTurn program.now turn.steps private.old private.new }

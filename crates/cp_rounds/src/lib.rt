@@ -1,4 +1,4 @@
-//! Rounds: the private turns of all processes, and then their kernel turns by number.
+//! Rounds: the private turns of all processes, and then their kernel turns by number; and what is read of a machine between them.
 //!
 //! `specs/Holds.antt` says when a machine is in a state of the system; each round leaves the state that one processor leaves.
 #![tactic(auto)]

@@ -24,16 +24,23 @@ use std::alloc::{AllocError, Global};
 use std::sync::Wait;
 use std::thread::Threads;
 
-/// A machine. The processes stand in it by number.
+/// A machine. The processes stand in it by number: process 1 comes first. `reading` has the calls that tell of it.
 #[derive(Drop)]
 pub struct Machine {
+    /// Where rounds take their memory.
     pub alloc: Global,
     pub program: Program,
+    /// The private state of each process.
     pub privates: Vec<Private>,
     pub kernel: Kernel,
+    /// How many rounds were made.
     pub rounds: u64,
     pub tick: Tick,
 }
+
+/// Memory was wanting in this round of a run, counted from 1. The rounds before it were made, and nothing of it.
+#[derive(Clone, Copy, Debug, PartialEq, Eq)]
+pub struct MemoryAt(pub u32);
 
 // The private turn of process p, on a copy.
 fn turned<G: TurnGate>(
@@ -95,10 +102,6 @@ fn all_kernel_turns(program: &Program, kernel: &mut Kernel, privates: &mut [Priv
     }
 }
 
-/// Memory was wanting in this round, counted from 1. The rounds before it were made.
-#[derive(Clone, Copy, Debug, PartialEq, Eq)]
-pub struct MemoryAt(pub u32);
-
 // The private states at the start, one for each input.
 fn first_privates(
     alloc: Global,
@@ -116,7 +119,11 @@ fn first_privates(
 }
 
 impl Machine {
-    /// The machine at the start, with an input for each process by number. It fails only for want of memory.
+    /// The machine at the start, with an input for each process by number.
+    ///
+    /// # Errors
+    ///
+    /// `AllocError` where memory runs out.
     pub fn new(
         alloc: Global,
         program: Program,
@@ -125,6 +132,7 @@ impl Machine {
     ) -> Result<Machine, AllocError>
         requires inputs { length inputs.items ≡ length program.processes.items }
         ensures rounds { IfOk result (λ machine. machine.rounds ≡ 0) }
+        ensures processes { IfOk result (λ machine. length machine.privates.items ≡ length inputs.items) }
         ensures start { IfOk result (λ machine. (setup : Setup) → StandsFor program setup → AreInputs inputs.items setup → setup.tick ≡ tick.rounds → IsIn machine setup (start setup)) }
     {
         let privates = first_privates(alloc, &program, inputs)?;
@@ -139,8 +147,12 @@ impl Machine {
         })
     }
 
-    /// One round: the calling thread makes all private turns by number, then all kernel turns by number. Want of memory leaves the
-    /// machine as it was.
+    /// One round: the calling thread makes all private turns by number, then all kernel turns by number, and then those begin that
+    /// were started in it. The gate is told of each private turn.
+    ///
+    /// # Errors
+    ///
+    /// `AllocError` where memory runs out. The machine is then in the state that it was in.
     pub fn round<R: Threads + Wait + Sync, G: TurnGate>(
         &mut self,
         _rt: &R,
@@ -151,6 +163,7 @@ impl Machine {
         ensures phased { IfOk result (λ _. (setup : Setup) (s : State) → IsIn self.old setup s → IsIn self.new setup (r.phased_round setup plan.now.turn.steps s)) }
         ensures one_processor { IfOk result (λ _. (setup : Setup) (s : State) → IsIn self.old setup s → IsIn self.new setup (r.sequential_round setup plan.now.turn.steps s)) }
         ensures count { IfOk result (λ _. self.new.rounds ≡ self.old.rounds + 1) }
+        ensures processes { length self.new.privates.items ≡ length self.old.privates.items }
         ensures kept { IfErr result (λ _. (setup : Setup) (s : State) → IsIn self.old setup s → IsIn self.new setup s) }
     {
         let next = all_turned(self.alloc, &self.program, &self.privates, plan.turn, gate)?;
@@ -168,6 +181,10 @@ impl Machine {
     }
 
     /// So many rounds.
+    ///
+    /// # Errors
+    ///
+    /// `MemoryAt` the first round for which memory was wanting.
     pub fn run<R: Threads + Wait + Sync, G: TurnGate>(
         &mut self,
         rt: &R,
@@ -178,6 +195,7 @@ impl Machine {
         requires count { self.old.rounds + rounds < 2 ^ 64 }
         ensures done { IfOk result (λ _. (setup : Setup) (s : State) → IsIn self.old setup s → IsIn self.new setup (r.run setup plan.now.turn.steps rounds s)) }
         ensures partly { IfErr result (λ e. (1 ≤ e.0) × (e.0 ≤ rounds) × ((setup : Setup) (s : State) → IsIn self.old setup s → IsIn self.new setup (r.run setup plan.now.turn.steps (e.0 - 1) s))) }
+        ensures processes { length self.new.privates.items ≡ length self.old.privates.items }
     {
         for done in 0..rounds {
             if self.round(rt, plan, gate).is_err() {

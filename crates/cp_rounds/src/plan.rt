@@ -15,6 +15,9 @@ pub struct Plan {
     pub chunk: u32,
     /// 1 to 255 processes.
     pub wave: u32,
+    ghost workers_in_range: { (1 ≤ workers) × (workers ≤ 64) },
+    ghost chunk_in_range: { (1 ≤ chunk) × (chunk ≤ 255) },
+    ghost wave_in_range: { (1 ≤ wave) × (wave ≤ 255) },
 }
 
 /// The first field of a plan that is out of range.

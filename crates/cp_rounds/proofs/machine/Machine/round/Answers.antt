@@ -39,6 +39,23 @@ phased_here g c = λ setup s h.
       tick = h.tick;
     }
 
+pub returns-clause-processes : goal.returns-clause-processes
+returns-clause-processes g c =
+    let xs = c.args.self.now.privates.items in
+    let ys = c.in_ok-next.next.items in
+    let n = c.in_ok-next.next.len in
+    let K = c.all_kernel_turns.new.privates in
+    let W = c.end_round.new.privates in
+    let zs = take n (K ++ drop (length K) ys) in
+    let here : c.deref.result.now ≡ xs = search rules in
+    let turned : AllTurned c.args.self.now.program c.args.plan.now.turn.steps xs ys =
+    subst (λ (vs : List Private). AllTurned c.args.self.now.program c.args.plan.now.turn.steps vs ys) here c.in_ok-next.ensures in
+    let nw : n ≡ length W = search rules in
+    let ew : take n (W ++ drop (length W) zs) ≡ W = ap (λ (m : ℕ). take m (W ++ drop (length W) zs)) nw ∙ take-append_seam W (drop (length W) zs) in
+    let lk : length K ≡ length ys = search rules in
+    let lw : length W ≡ length K = search rules in
+    ap length ew ∙ (lw ∙ (lk ∙ turned.count))
+
 pub returns-clause-phased : goal.returns-clause-phased
 returns-clause-phased g c = phased_here g c
 
