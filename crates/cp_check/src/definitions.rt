@@ -62,7 +62,7 @@ fn define_section<'t>(
     }
 }
 
-/// The definitions of a text of the fragment. It fails only for want of memory.
+/// Judges the definitions of a text of the fragment in their order. It fails only for want of memory.
 pub fn define_sections<'t>(
     env: &mut Environment<'t>,
     alloc: Global,

@@ -7,7 +7,6 @@ ghost use Rattle.cp_model.specs.Rules.{Accepted};
 ghost use Rattle.cp_model.specs.States.{Setup};
 ghost use Rattle.cp_model.specs.View as view;
 ghost use Rattle.cp_fragment.specs.Fragment.{is_in_fragment};
-ghost use Rattle.cp_fragment.specs.Laws.{TextResolves};
 ghost use Rattle.cp_program.specs.StandsFor.{StandsFor, name_in, names_of, shape_of, start_of};
 
 use crate::code::Op;
@@ -48,14 +47,6 @@ impl Program {
         ensures stands { IfOk result (λ p. (setup : Setup) → setup.tree ≡ erase.abstract (view.tree tree.now) → StandsFor p setup) }
     {
         accepted_text_resolves();
-        Program::number_resolved(alloc, tree)
-    }
-
-    /// The numbered program of a text whose names have their slots. Of any other text it is some program. It fails only for want
-    /// of memory.
-    pub fn number_resolved(alloc: Global, tree: &Tree) -> Result<Program, AllocError>
-        ensures stands { IfOk result (λ p. (setup : Setup) → TextResolves (view.tree tree.now) setup → setup.tree ≡ erase.abstract (view.tree tree.now) → StandsFor p setup) }
-    {
         numbered(alloc, tree)
     }
 
