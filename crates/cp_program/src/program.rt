@@ -31,7 +31,8 @@ pub struct Process {
     pub component: usize,
 }
 
-/// A numbered program. The first of the processes, which have the numbers from 1, is the initial process.
+/// A numbered program: the operations of all bodies by their places, the components by their numbers, and the processes. The first
+/// of the processes, which have the numbers from 1, is the initial process.
 #[derive(Debug, Drop)]
 pub struct Program {
     pub ops: Vec<Op>,
@@ -40,7 +41,8 @@ pub struct Program {
 }
 
 impl Program {
-    /// The numbered program of an accepted text of the fragment. It fails only for want of memory.
+    /// The numbered program of an accepted text of the fragment, which stands for it in the sense of `specs/StandsFor.antt`. It fails
+    /// only for want of memory.
     pub fn number(alloc: Global, tree: &Tree) -> Result<Program, AllocError>
         requires accepted { Accepted (view.tree tree.now) }
         requires fragment { is_in_fragment (view.tree tree.now) ≡ true }
