@@ -1,4 +1,4 @@
-//! Names that are declared.
+//! Names that are declared: they join the visible ones.
 
 ghost use Rattle.std.specs.Prelude.{◌≡◌, OnOk};
 ghost use Rattle.cp_model.specs.RulesEnvironment as r;
@@ -12,7 +12,7 @@ use cp_model::rules::{Entity, Rule, Violation};
 use cp_model::tree::Identifier;
 use std::alloc::AllocError;
 
-// C1: a name is declared where it is visible. The first declaration stands.
+/// Declares a name. C1: it is declared where it is visible; the first declaration stands. It fails only for want of memory.
 pub fn declare<'t>(
     env: &mut Environment<'t>,
     told: &mut Option<Violation>,
@@ -30,7 +30,7 @@ pub fn declare<'t>(
     Ok(())
 }
 
-/// Each of these names, as the same. It fails only for want of memory.
+/// Declares each of these names as the same entity, in their order. It fails only for want of memory.
 pub fn declare_all<'t>(
     env: &mut Environment<'t>,
     told: &mut Option<Violation>,

@@ -14,6 +14,7 @@ use cp_model::rules::Violation;
 use cp_model::tree::{Defined, Section, TypeDefinition};
 use std::alloc::{AllocError, Global};
 
+// A type definition. In the fragment it is of a process type.
 fn define<'t>(
     env: &mut Environment<'t>,
     alloc: Global,
@@ -46,6 +47,7 @@ fn define_types<'t>(
     Ok(())
 }
 
+// A section. In the fragment it defines types.
 fn define_section<'t>(
     env: &mut Environment<'t>,
     alloc: Global,
@@ -62,7 +64,7 @@ fn define_section<'t>(
     }
 }
 
-/// The definitions of a text of the fragment. It fails only for want of memory.
+/// Judges the definitions of a text of the fragment in their order. It fails only for want of memory.
 pub fn define_sections<'t>(
     env: &mut Environment<'t>,
     alloc: Global,

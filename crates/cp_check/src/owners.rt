@@ -31,7 +31,7 @@ fn one_more(count: usize) -> usize
     if count < MOST { count + 1 } else { MOST + 1 }
 }
 
-// C13: process 256, monitor 256, or an owner of too many words.
+// Counts an owner. C13: it is process 256 or monitor 256, or has too many words.
 fn owner(env: &mut Environment, told: &mut Option<Violation>, x: &Identifier, y: SystemRow)
     ensures env { environment env.new ≡ d.with_owner (environment env.old) y.sort }
     ensures told { told.new ≡ least told.old (d.c13_owner (environment env.old) x.now y y.sort) }
@@ -65,7 +65,8 @@ fn owners_of(
     }
 }
 
-/// The owners that variables of a type are, in the initial process.
+/// Counts the processes or monitors that these variables of a type are, where the initial process declares them. C13: one is too
+/// many, or has too many words.
 pub fn owners(
     env: &mut Environment,
     told: &mut Option<Violation>,

@@ -11,7 +11,7 @@ use cp_model::rules::{Entity, Part, Region, Standard, Structure, TypeRow};
 use cp_model::tree::Sort;
 use std::alloc::{AllocError, Global};
 
-// A standard name.
+// Declares a standard name, unless it is declared already: `Scope::declare` wants a name that isn't visible.
 fn add<'t>(names: &mut Scope<'t>, name: &'t [u8], entity: Entity) -> Result<(), AllocError>
     ensures { OnOk result (names.new ≡ standard_names.with_name name.now entity names.old) }
 {

@@ -4,7 +4,6 @@ ghost use Rattle.std.specs.Prelude.{◌≡◌, ◌+◌, ◌++◌, true, IfOk, On
 ghost use Rattle.cp_model.specs.Rules as rules;
 ghost use Rattle.cp_model.specs.RulesTypes as ty;
 ghost use Rattle.cp_model.specs.RulesStatements as st;
-ghost use Rattle.cp_model.specs.RulesNeeds as needs;
 ghost use Rattle.cp_model.specs.RulesJudged.{least};
 ghost use Rattle.cp_model.specs.RulesDeclarations.{Variables};
 ghost use Rattle.cp_model.specs.View as view;
@@ -29,22 +28,23 @@ const BODY: Region = Region {
 };
 
 /// The words of a process: one, those of its variables, and those that its body needs.
-pub fn process_words(env: &Environment, words: usize, list: &[Statement]) -> usize
-    ensures { result ≡ ty.capped (1 + ty.capped words + needs.need_statements (environment env.now) (view.statements_of (map view.statement list.now))) }
+pub fn process_words(words: usize, need: usize) -> usize
+    ensures { result ≡ ty.capped (1 + ty.capped words + need) }
 {
-    sum(sum(1, words), need_of_statements(env, list))
+    sum(sum(1, words), need)
 }
 
 // The row of a process type whose variables have these words.
 fn row(env: &Environment, words: usize, list: &[Statement]) -> SystemRow
     ensures { (v : Variables) → v.env ≡ environment env.now → words ≡ ty.capped v.words → result ≡ systems.process_row v (view.statements_of (map view.statement list.now)) }
 {
+    let need = need_of_statements(env, list);
     SystemRow {
         sort: Sort::Process,
         first: env.parameters.len(),
         count: 0,
-        words: process_words(env, words, list),
-        body_need: need_of_statements(env, list),
+        words: process_words(words, need),
+        body_need: need,
         members: env.members.len(),
     }
 }
@@ -103,7 +103,7 @@ fn process_type<'t>(
     declare(env, &mut None, x, Entity::Type(t))
 }
 
-/// A process type of the fragment. It fails only for want of memory.
+/// Defines a process type of the fragment, and judges its variables and its body. It fails only for want of memory.
 pub fn define_system<'t>(
     env: &mut Environment<'t>,
     alloc: Global,

@@ -1,8 +1,6 @@
 //! Small texts, and what is broken in them by hand.
 
 use crate::checking::{CheckError, check};
-use crate::text::broken;
-use cp_fragment::fits::fits;
 use cp_model::rules::{Rule, Violation};
 use cp_model::token::Name;
 use cp_model::tree::{
@@ -12,7 +10,7 @@ use cp_model::tree::{
 use std::alloc::{AllocError, Global};
 use std::test::Fail;
 
-fn name(alloc: Global, letters: &[u8], at: usize) -> Result<Identifier, AllocError> {
+pub fn name(alloc: Global, letters: &[u8], at: usize) -> Result<Identifier, AllocError> {
     let name = Name::new(Vec::from_slice(alloc, letters)?);
     Ok(Identifier { name, at })
 }
@@ -28,7 +26,7 @@ fn variable(alloc: Global, x: Identifier, of: &[u8], at: usize) -> Result<Fields
 }
 
 // `NAME := 1`.
-fn assign(alloc: Global, root: Identifier, at: usize) -> Statement {
+pub fn assign(alloc: Global, root: Identifier, at: usize) -> Statement {
     Statement::Assign {
         target: Designator {
             root,
@@ -98,21 +96,21 @@ fn with_process(alloc: Global) -> Result<Tree, AllocError> {
     })
 }
 
-fn processes(alloc: Global, tree: &Tree) -> Option<usize> {
+pub fn processes(alloc: Global, tree: &Tree) -> Option<usize> {
     match check(alloc, tree) {
         Ok(program) => Some(program.processes()),
         Err(_) => None,
     }
 }
 
-fn refused(alloc: Global, tree: &Tree) -> Option<CheckError> {
+pub fn refused(alloc: Global, tree: &Tree) -> Option<CheckError> {
     match check(alloc, tree) {
         Ok(_) => None,
         Err(error) => Some(error),
     }
 }
 
-fn breaks(rule: Rule, at: usize) -> Option<CheckError> {
+pub fn breaks(rule: Rule, at: usize) -> Option<CheckError> {
     Some(CheckError::Broken(Violation { rule, at }))
 }
 
@@ -138,16 +136,7 @@ fn the_earliest_violation_is_told(rt: HostRuntime) -> Result<(), Fail> {
     let mut tree = text(alloc, assign(alloc, name(alloc, b"m", 34)?, 36))?;
     tree.variables
         .push(variable(alloc, name(alloc, b"n", 16)?, b"integer", 19)?)?;
-    let twice = Violation {
-        rule: Rule::C1,
-        at: 16,
-    };
-    let found = if fits(&tree) {
-        broken(alloc, &tree)?
-    } else {
-        None
-    };
-    assert!(rt; found == Some(twice));
+    assert!(rt; refused(alloc, &tree) == breaks(Rule::C1, 16));
     Ok(())
 }
 

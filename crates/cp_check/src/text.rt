@@ -15,6 +15,7 @@ use crate::systems::process_words;
 use crate::variables::variables;
 use crate::words::is_within;
 use cp_judge::Environment;
+use cp_judge::needs::need_of_statements;
 use cp_judge::statements::statements;
 use cp_judge::telling::{tell, unless_holds};
 use cp_model::rules::{Position, Rule, Violation};
@@ -36,7 +37,8 @@ fn initial_body(
     match inside {
         Some(violation) => tell(told, violation),
         None => {
-            let fits = is_within(process_words(env, words, &body.statements));
+            let need = need_of_statements(env, &body.statements);
+            let fits = is_within(process_words(words, need));
             unless_holds(told, fits, Rule::C13, body.at);
         }
     }

@@ -130,7 +130,8 @@ fn placed(
     }
 }
 
-/// A type's name where it stands.
+/// Judges a type's name where it stands. C1: it isn't visible. C2: it is no type's. C4: it stands inside its own definition. C6, C8: such
+/// a type may not stand there.
 pub fn type_placed(
     env: &Environment,
     told: &mut Option<Violation>,

@@ -128,7 +128,8 @@ fn variable_group<'t>(
     Ok(product(group.names.len(), each))
 }
 
-/// Variables of the fragment, and their words. It fails only for want of memory.
+/// Declares variables of the fragment, and answers the words that they take of their owner, counted to one above the limit. It fails
+/// only for want of memory.
 pub fn variables<'t>(
     env: &mut Environment<'t>,
     told: &mut Option<Violation>,

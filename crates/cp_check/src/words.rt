@@ -13,7 +13,7 @@ pub fn is_within(words: usize) -> bool
     words <= LIMIT
 }
 
-/// So many words, or one above the limit.
+/// So many words, or one above the limit where there are more.
 pub fn capped(words: usize) -> usize
     ensures { result ≡ capped words }
 {

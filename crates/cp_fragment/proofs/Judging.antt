@@ -1,5 +1,5 @@
 -- What is sound where nothing is told: the parts of what was judged.
-use Rattle.std.proofs.Common.{◌≡◌, ℕ, Bool, true, false, [], ◌∷◌, ◌++◌, refl, ap, sym, ◌∙◌}
+use Rattle.std.proofs.Common.{◌≡◌, ℕ, Bool, true, false, [], ◌∷◌, ◌++◌, refl, ap}
 use Rattle.cp_model.specs.declared.rules.Rule.{Rule}
 use Rattle.cp_model.specs.RulesJudged.{Judged, Sound, Broken, Violations, violations_of, unless, also, both, then_judge, provided}
 
@@ -25,9 +25,6 @@ sound_is_empty j x h = ap violations_of h
 pub then_first : {A B : Type 0} (j : Judged A) (k : A → Judged B) → violations_of (then_judge j k) ≡ [] → violations_of j ≡ []
 then_first (Sound x) k h = refl
 then_first (Broken v vs) k h = h
-
-pub then_rest : {A B : Type 0} (j : Judged A) (k : A → Judged B) (x : A) → j ≡ Sound x → violations_of (then_judge j k) ≡ [] → violations_of (k x) ≡ []
-then_rest j k x e h = sym (ap (λ i. violations_of (then_judge i k)) e) ∙ h
 
 -- what is sound has a meaning
 pub sound_has : {A : Type 0} (j : Judged A) → violations_of j ≡ [] → (x : A) × (j ≡ Sound x)

@@ -1,5 +1,5 @@
 -- Lists of operations that grow.
-use Rattle.std.proofs.Common.{◌≡◌, ◌≢◌, ◌<◌, ◌≤◌, ℕ, zero, suc, List, [], ◌∷◌, ◌++◌, Some, length, slice_get, refl, ap, ◌∙◌, arith, length-append}
+use Rattle.std.proofs.Common.{◌≡◌, ◌≢◌, ◌<◌, ◌≤◌, ℕ, zero, suc, List, [], ◌∷◌, ◌++◌, Some, length, slice_get, refl, ap, ◌∙◌, arith}
 use Rattle.std.proofs.Math.ListN.{set, length-set}
 use Rattle.std.proofs.lemmas.Option.{slice_get_within}
 use Rattle.cp_program.specs.declared.code.Op.{Op}
@@ -33,9 +33,6 @@ keeps_all xs = record { longer = omega arith; kept = λ i o h. h }
 
 pub keeps_then : (xs ys zs : List Op) → Keeps xs ys → Keeps ys zs → Keeps xs zs
 keeps_then xs ys zs first then = record { longer = omega arith; kept = λ i o h. then.kept i o (first.kept i o h) }
-
-pub keeps_more : (xs : List Op) (o : Op) → Keeps xs (xs ++ o ∷ [])
-keeps_more xs o = record { longer = omega (arith, length-append xs (o ∷ [])); kept = λ i p h. get_before xs (o ∷ []) i p h }
 
 -- what stands before a place is kept when the operation there is written
 pub keeps_written : (xs ys : List Op) (place : ℕ) (o : Op) → Keeps xs ys → length xs ≤ place → Keeps xs (set ys place o)

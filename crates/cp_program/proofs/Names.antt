@@ -31,9 +31,6 @@ lookup_append x (e ∷ es) ys = or_of_cond (bytes_eq x e.0) e.1 _ _ _ (lookup_ap
 pub same_before : {A : Type 0} (xs ys zs : List (Text × A)) → SameNames xs ys → SameNames (xs ++ zs) (ys ++ zs)
 same_before xs ys zs same = λ x. lookup_append x xs zs ∙ ap (λ r. or_else r (lookup x zs)) (same x) ∙ sym (lookup_append x ys zs)
 
-pub same_behind : {A : Type 0} (xs ys zs : List (Text × A)) → SameNames ys zs → SameNames (xs ++ ys) (xs ++ zs)
-same_behind xs ys zs same = λ x. lookup_append x xs ys ∙ ap (or_else (lookup x xs)) (same x) ∙ sym (lookup_append x xs zs)
-
 or_present : {A : Type 0} (a b : Option A) → is_some a ≡ true → a ≡ or_else a b
 or_present None b there = cc
 or_present (Some a) b there = refl

@@ -1,6 +1,6 @@
 //! Operations, and expressions over the words of a process.
 
-/// An arithmetic operator.
+/// An arithmetic operator: `+`, `-`, `*`, `div` or `mod`.
 #[derive(Clone, Copy, Debug, PartialEq, Eq)]
 pub enum Arithmetic {
     Add,
@@ -14,9 +14,11 @@ pub enum Arithmetic {
 #[cycle(code)]
 #[derive(Debug, Drop)]
 pub enum Code {
-    /// At most 32767.
+    /// At most 32767 in the program of a text.
     Number(u16),
+    /// The word of this number, from 0.
     Word(usize),
+    /// With its sign changed.
     Negative(Box<Code>),
     /// Operands with operators between them, which group to the left.
     Chain {
@@ -33,7 +35,7 @@ pub struct Operation {
     pub operand: Code,
 }
 
-/// One step's work, and the place of the operation to which it leads.
+/// One step's work, and the place of the operation to which it leads. The place of an operation is its index in a program's list.
 #[derive(Debug, Drop)]
 pub enum Op {
     /// Stores a value in a word.

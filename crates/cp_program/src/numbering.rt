@@ -146,7 +146,8 @@ fn processes(
     Ok(processes)
 }
 
-/// The program of a text. It fails only for want of memory.
+/// The program of a text, accepted or not: where a name has no slot, its use has no operation, or is 0 in an expression. It fails only
+/// for want of memory.
 pub fn numbered(alloc: Global, tree: &Tree) -> Result<Program, AllocError>
     ensures { IfOk result (λ p. components.Numbers p (view.tree tree.now)) }
 {

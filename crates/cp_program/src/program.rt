@@ -7,7 +7,6 @@ ghost use Rattle.cp_model.specs.Rules.{Accepted};
 ghost use Rattle.cp_model.specs.States.{Setup};
 ghost use Rattle.cp_model.specs.View as view;
 ghost use Rattle.cp_fragment.specs.Fragment.{is_in_fragment};
-ghost use Rattle.cp_fragment.specs.Laws.{TextResolves};
 ghost use Rattle.cp_program.specs.StandsFor.{StandsFor, name_in, names_of, shape_of, start_of};
 
 use crate::code::Op;
@@ -32,7 +31,8 @@ pub struct Process {
     pub component: usize,
 }
 
-/// A numbered program. The first of the processes, which have the numbers from 1, is the initial process.
+/// A numbered program: the operations of all bodies by their places, the components by their numbers, and the processes. The first
+/// of the processes, which have the numbers from 1, is the initial process.
 #[derive(Debug, Drop)]
 pub struct Program {
     pub ops: Vec<Op>,
@@ -41,21 +41,14 @@ pub struct Program {
 }
 
 impl Program {
-    /// The numbered program of an accepted text of the fragment. It fails only for want of memory.
+    /// The numbered program of an accepted text of the fragment, which stands for it in the sense of `specs/StandsFor.antt`. It fails
+    /// only for want of memory.
     pub fn number(alloc: Global, tree: &Tree) -> Result<Program, AllocError>
         requires accepted { Accepted (view.tree tree.now) }
         requires fragment { is_in_fragment (view.tree tree.now) ≡ true }
         ensures stands { IfOk result (λ p. (setup : Setup) → setup.tree ≡ erase.abstract (view.tree tree.now) → StandsFor p setup) }
     {
         accepted_text_resolves();
-        Program::number_resolved(alloc, tree)
-    }
-
-    /// The numbered program of a text whose names have their slots. Of any other text it is some program. It fails only for want
-    /// of memory.
-    pub fn number_resolved(alloc: Global, tree: &Tree) -> Result<Program, AllocError>
-        ensures stands { IfOk result (λ p. (setup : Setup) → TextResolves (view.tree tree.now) setup → setup.tree ≡ erase.abstract (view.tree tree.now) → StandsFor p setup) }
-    {
         numbered(alloc, tree)
     }
 

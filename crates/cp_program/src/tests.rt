@@ -1,6 +1,6 @@
 //! Small trees, numbered, and compared with what was numbered by hand.
 
-use crate::program::Program;
+use crate::numbering::numbered;
 use cp_model::token::Name;
 use cp_model::tree::{
     Body, Defined, Designator, Expression, Fields, Identifier, InitItem, Operation, Operator,
@@ -150,7 +150,7 @@ const OPS: &str = "[End, \
 #[test]
 fn operations_lead_on(rt: HostRuntime) -> Result<(), Fail> {
     let tree = text(rt.alloc())?;
-    let program = Program::number_resolved(rt.alloc(), &tree)?;
+    let program = numbered(rt.alloc(), &tree)?;
     let ops = &program.ops;
     let found = format!(in rt.alloc(); "{ops:?}")?;
     assert_eq!(rt; found.as_str(), OPS);
@@ -160,7 +160,7 @@ fn operations_lead_on(rt: HostRuntime) -> Result<(), Fail> {
 #[test]
 fn processes_have_numbers(rt: HostRuntime) -> Result<(), Fail> {
     let tree = text(rt.alloc())?;
-    let program = Program::number_resolved(rt.alloc(), &tree)?;
+    let program = numbered(rt.alloc(), &tree)?;
     assert_eq!(rt; program.processes(), 3);
     assert_eq!(rt; program.name(1), b"initial".as_slice());
     assert_eq!(rt; program.name(2), b"c".as_slice());
@@ -196,7 +196,7 @@ fn unknown(alloc: Global) -> Result<Tree, AllocError> {
 #[test]
 fn unknown_names_have_no_operation(rt: HostRuntime) -> Result<(), Fail> {
     let tree = unknown(rt.alloc())?;
-    let program = Program::number_resolved(rt.alloc(), &tree)?;
+    let program = numbered(rt.alloc(), &tree)?;
     let ops = &program.ops;
     let found = format!(in rt.alloc(); "{ops:?}")?;
     assert_eq!(rt; found.as_str(), "[End, Cycle { body: 1 }]");

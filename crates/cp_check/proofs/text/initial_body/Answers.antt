@@ -1,6 +1,7 @@
-use Rattle.std.proofs.Common.{Bool, ap, sym, ◌∙◌}
+use Rattle.std.proofs.Common.{Bool, ℕ, ◌+◌, ap, sym, ◌∙◌}
 use Rattle.cp_model.specs.declared.rules.Rule.TheVariants.{C13}
 use Rattle.cp_model.specs.RulesJudged.{least, unless}
+use Rattle.cp_model.specs.RulesTypes.{capped}
 use Rattle.cp_model.specs.View as view
 use Rattle.cp_judge.specs.Environments.{environment}
 use Rattle.cp_check.proofs.WholeTexts.{broken_body, sound_body}
@@ -14,7 +15,8 @@ returns-in-Some c n words =
 
 pub returns-in-None : goal.returns-in-None
 returns-in-None c n words =
-    let counted = rw c.deref-in-None.ensures.value at c.process_words.ensures in
+    let needed = rw c.deref-in-None.ensures.value at c.need_of_statements-need.ensures in
+    let counted = c.process_words.ensures ∙ ap (λ (n : ℕ). capped (1 + capped c.args.words + n)) needed in
     c.unless_holds.ensures.0
     ∙ ap (λ (within : Bool). least c.args.told.now (unless within C13 c.args.body.now.at)) c.is_within-fits.ensures
     ∙ ap (least c.args.told.now)
