@@ -72,7 +72,8 @@ def try_refusals(folder, words):
     _, due, _ = run(words)
     expect('writes of one byte', run(words, {**preloaded, 'CALLS': str(calls)}), (0, due, b''))
     memory, reads, writes = map(int, calls.read_text().split())
-    try_each(preloaded, 'REFUSE_ALLOCATION', memory, words, lambda found: found == (3, b'', b'fault M\n'))
+    # A collection that is refused the room it foresees takes less, and then the answer is right.
+    try_each(preloaded, 'REFUSE_ALLOCATION', memory, words, lambda found: found in [(3, b'', b'fault M\n'), (0, due, b'')])
     try_each(preloaded, 'REFUSE_READ', reads, words, lambda found: found == (4, b'', b'fault I1\n'))
     try_each(preloaded, 'REFUSE_WRITE', writes, words,
              lambda found: found[0] == 4 and len(found[1]) < len(due) and due.startswith(found[1]) and found[2] == b'fault I2\n')

@@ -1,5 +1,5 @@
 -- An accepted text is refused for a fault alone.
-use Rattle.std.proofs.Common.{◌≡◌, ◌≤◌, ◌⊎◌, refl, ℕ, Bool, true, false, List, length, take, Option, None, Some, Result, Ok, Err, IfErr, IfSome, OnErr, ap, sym, ◌∙◌, subst, arith, inl, inr}
+use Rattle.std.proofs.Common.{◌≡◌, ◌≤◌, ◌⊎◌, ℕ, true, false, List, length, Option, None, Some, Result, Ok, Err, IfErr, IfSome, OnErr, ap, sym, ◌∙◌, subst, arith, inl, inr}
 use Rattle.std.proofs.lemmas.List.{take_all}
 use Rattle.cp_model.specs.Syntax as s
 use Rattle.cp_model.specs.Grammar.{Reads, nesting_limit}
@@ -112,7 +112,6 @@ input_fault ys refusal.Fragment h = inr h
 input_fault ys (refusal.InputByte at) h = inr h
 input_fault ys refusal.InputSize h = inr h
 input_fault ys refusal.Write h = inr h
-
 
 -- ---- of known texts and inputs
 

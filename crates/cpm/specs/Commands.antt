@@ -9,13 +9,10 @@ use Rattle.cpm.specs.declared.command.Command.{Command}
 use Rattle.cpm.specs.declared.command.Command.TheVariants as command
 use Rattle.cpm.specs.declared.running.Run.{Run}
 
-pub record Has (rounds turn workers chunk wave tick : ℕ) (run : Run) : Type 0 where
-  pub rounds : run.rounds ≡ rounds
-  pub turn : run.plan.turn.steps ≡ turn
-  pub workers : run.plan.workers ≡ workers
-  pub chunk : run.plan.chunk ≡ chunk
-  pub wave : run.plan.wave ≡ wave
-  pub tick : run.tick.rounds ≡ tick
+-- The run has these numbers: rounds, turn, workers, chunk, wave, tick.
+abbrev pub Has : ℕ → ℕ → ℕ → ℕ → ℕ → ℕ → Run → Type 0
+Has rounds turn workers chunk wave tick run =
+    (run.rounds ≡ rounds) × (run.plan.turn.steps ≡ turn) × (run.plan.workers ≡ workers) × (run.plan.chunk ≡ chunk) × (run.plan.wave ≡ wave) × (run.tick.rounds ≡ tick)
 
 -- No run has more rounds than these.
 abbrev pub HasRounds : Command → Type 0

@@ -30,7 +30,10 @@ struct Watch<'a, C> {
 
 fn nanoseconds<C: Clock>(clock: &C, start: &Instant) -> u64 {
     match start.elapsed(clock) {
-        Ok(time) => time.as_nanos() as u64,
+        Ok(time) => time
+            .as_secs()
+            .saturating_mul(1_000_000_000)
+            .saturating_add(u64::from(time.subsec_nanos())),
         Err(_) => 0,
     }
 }

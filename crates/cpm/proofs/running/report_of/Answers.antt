@@ -1,4 +1,4 @@
-use Rattle.std.proofs.Common.{◌≡◌, ℕ, suc, List, sym, ◌∙◌, subst, rules}
+use Rattle.std.proofs.Common.{◌≡◌, suc, List, sym, ◌∙◌, subst, rules}
 use Rattle.cp_model.specs.Rounds as r
 use Rattle.cp_model.specs.Start.{start}
 use Rattle.cp_private.specs.declared.private.Private.{Private}
