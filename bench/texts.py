@@ -1,0 +1,70 @@
+#!/usr/bin/env python3
+"""Measures whole texts: seconds and memory of `cpm run FILE --rounds 1`, from the start of the program to its report.
+
+Build the program first (`rt run < stdin` in crates/cpm leaves out/cpm), then call this script. The last line has the steps
+a second of 255 counting processes.
+"""
+import itertools
+import os
+import pathlib
+import string
+import subprocess
+import tempfile
+import time
+
+ROOT = pathlib.Path(__file__).resolve().parent.parent
+PROGRAM = ROOT / 'crates' / 'cpm' / 'out' / 'cpm'
+TRIALS = 3
+
+
+def names(count):
+    """Short names with a digit in each, so that none is a reserved or a standard one."""
+    words = (''.join(parts)
+             for length in itertools.count(2)
+             for parts in itertools.product(string.ascii_lowercase, *[string.digits + string.ascii_lowercase] * (length - 1)))
+    return list(itertools.islice((word for word in words if any(c.isdigit() for c in word)), count))
+
+
+NAMES = names(200_000)
+PROCESSES = ','.join(NAMES[:254])
+COUNTING = (f'type p = process; var x: integer; begin cycle x := (x + 1) mod 30000 end end; var {PROCESSES}: p; y: integer; '
+            f'begin init {PROCESSES}; cycle y := (y + 1) mod 30000 end end.')
+
+TEXTS = {
+    '1,048,000 semicolons': 'begin ' + ';' * 1_048_000 + 'end.',
+    'a sum of 500,000 operators': 'var x:integer;begin x:=1' + '+x' * 500_000 + ' end.',
+    '200,000 assignments': 'var x:integer;begin ' + 'x:=1;' * 200_000 + 'end.',
+    'init of 500,000 items': 'type p=process;begin end;var x:p;begin init x' + ',x' * 500_000 + ' end.',
+    '2,600 expressions, 190 deep': 'begin ' + (';display(' + '(' * 190 + '1' + ')' * 190 + ')') * 2600 + ' end.',
+    '45,000 process types': 'type ' + ''.join(f'{name}=process;begin end;' for name in NAMES[:45_000]) + 'begin end.',
+    '60,000 groups of one variable': 'var ' + ''.join(f'{name}:integer;' for name in NAMES[:60_000]) + 'begin end.',
+    '200,000 variables': 'var ' + ','.join(NAMES) + ':integer;begin end.',
+}
+
+
+def measure(words):
+    """The least seconds of a few trials, and kilobytes."""
+    best = None
+    for _ in range(TRIALS):
+        start = time.perf_counter()
+        process = subprocess.Popen([PROGRAM, *words], stdout=subprocess.DEVNULL, stderr=subprocess.DEVNULL)
+        _, _, usage = os.wait4(process.pid, 0)
+        seconds = time.perf_counter() - start
+        best = min(best or (seconds, usage.ru_maxrss), (seconds, usage.ru_maxrss))
+    return best
+
+
+def main():
+    with tempfile.TemporaryDirectory() as folder:
+        file = pathlib.Path(folder) / 'text.cp'
+        for what, text in TEXTS.items():
+            file.write_text(text)
+            seconds, kilobytes = measure(['run', file, '--rounds', '1'])
+            print(f'{what:32} {len(text):>9} bytes {seconds:6.2f} s {kilobytes / 1024:5.0f} MB')
+        file.write_text(COUNTING)
+        seconds, _ = measure(['run', file, '--rounds', '100', '--turn', '10000'])
+        print(f'255 processes: {255 * 10_000 * 100 / seconds / 1e6:.0f} million steps a second')
+
+
+if __name__ == '__main__':
+    main()
