@@ -1,12 +1,11 @@
 -- The lines of a report, as functions of the program, the private states and the kernel.
-use Rattle.std.specs.Prelude.{ℕ, ℤ, suc, Option, Some, List, [], ◌∷◌, ◌++◌, codes, flat_map, slice_get}
+use Rattle.std.specs.Prelude.{◌-◌, ℕ, ℤ, suc, Option, Some, List, [], ◌∷◌, ◌++◌, codes, flat_map, slice_get}
 use Rattle.cp_model.specs.Abstract.{Name}
 use Rattle.cp_model.specs.Decimal.{decimal, natural}
 use Rattle.cp_model.specs.Report.{Text, escaped, line}
 use Rattle.cp_model.specs.StateViews.{fault_number}
 use Rattle.cp_program.specs.declared.program.Program.{Program}
-use Rattle.cp_program.specs.declared.program.Component.{Component}
-use Rattle.cp_program.specs.StandsFor.{name_in, names_in, shape_in}
+use Rattle.cp_program.specs.StandsFor.{name_in, names_of}
 use Rattle.cp_private.specs.declared.private.Activity.{Activity}
 use Rattle.cp_private.specs.declared.private.Activity.TheVariants as activity
 use Rattle.cp_private.specs.declared.private.Private.{Private}
@@ -38,27 +37,18 @@ head_line p x status = line (codes "process " ++ (natural p ++ (codes " " ++ (x 
 abbrev pub transcript_line : Text → Text
 transcript_line transcript = line (codes "out '" ++ (flat_map escaped transcript ++ codes "'"))
 
--- The name and the variables of the process whose number is one more than i.
-abbrev pub name_at : Program → ℕ → Name
-name_at program i = name_in (slice_get program.processes.items i)
-
-abbrev pub shape_at : Program → ℕ → Option Component
-shape_at program i = shape_in program (slice_get program.processes.items i)
-
-abbrev pub names_at : Program → ℕ → List Name
-names_at program i = names_in (shape_at program i)
-
 abbrev pub head_lines : Program → Kernel → ℕ → Private → Text
-head_lines program k i x = head_line (suc i) (name_at program i) (status_words x.activity (slice_get k.stages.items i))
+head_lines program k p x = head_line p (name_in (slice_get program.processes.items (p - 1))) (status_words x.activity (slice_get k.stages.items (p - 1)))
 
 abbrev pub process_lines : Program → Kernel → ℕ → Private → Text
-process_lines program k i x =
-    head_lines program k i x
-    ++ (transcript_line (moved k i ++ x.output.items) ++ variable_lines x.words.items 0 (names_at program i))
+process_lines program k p x =
+    head_lines program k p x
+    ++ (transcript_line (moved k (p - 1) ++ x.output.items) ++ variable_lines x.words.items 0 (names_of program p))
 
+-- The processes from number p on.
 abbrev pub processes_lines : Program → Kernel → ℕ → List Private → Text
-processes_lines program k i [] = []
-processes_lines program k i (x ∷ xs) = process_lines program k i x ++ processes_lines program k (suc i) xs
+processes_lines program k p [] = []
+processes_lines program k p (x ∷ xs) = process_lines program k p x ++ processes_lines program k (suc p) xs
 
 abbrev pub report_lines : Program → List Private → Kernel → ℕ → Text
-report_lines program xs k rounds = line (codes "rounds " ++ natural rounds) ++ processes_lines program k 0 xs
+report_lines program xs k rounds = line (codes "rounds " ++ natural rounds) ++ processes_lines program k 1 xs

@@ -1,21 +1,22 @@
 //! The report: the count of rounds, and of each process its status, its transcript and its variables.
 
-ghost use Rattle.std.specs.Prelude.{◌≡◌, ◌<◌, ◌^◌, ◌++◌, IfOk, MatchOption, None, OnOk, Some, false, flat_map, slice_get};
+ghost use Rattle.std.specs.Prelude.{◌≡◌, ◌<◌, ◌-◌, ◌++◌, IfOk, OnOk, false, flat_map, slice_get};
 ghost use Rattle.cp_model.specs.Decimal.{decimal, natural};
 ghost use Rattle.cp_model.specs.Report.{escaped, hex_digit};
 ghost use Rattle.cp_model.specs.StateViews;
 ghost use Rattle.cp_model.specs.Report;
 ghost use Rattle.cp_model.specs.States.{Setup, State};
-ghost use Rattle.cp_rounds.specs.Holds.{Holds};
+ghost use Rattle.cp_rounds.specs.Holds.{IsIn};
 ghost use Rattle.cp_kernel.specs.KernelOf.{moved};
-ghost use Rattle.cpm.specs.Lines.{head_lines, name_at, names_at, process_lines, processes_lines, report_lines, shape_at, status_words, transcript_line, variable_line, variable_lines};
+ghost use Rattle.cpm.specs.Lines.{head_lines, process_lines, processes_lines, report_lines, status_words, transcript_line, variable_line, variable_lines};
 
 use cp_kernel::kernel::{Kernel, Stage};
 use cp_model::state::Fault;
 use cp_model::token::Name;
 use cp_private::private::{Activity, Private};
 use cp_private::values::word;
-use cp_program::program::{Component, Program};
+use cp_program::program::Program;
+use cp_rounds::machine::Machine;
 use itoa::Buffer;
 use std::alloc::{AllocError, Global};
 
@@ -116,49 +117,10 @@ fn push_variables(out: &mut Vec<u8>, names: &[Name], words: &[i16]) -> Result<()
     Ok(())
 }
 
-// The name of the process of an index, or nothing.
-fn name(program: &Program, i: usize) -> &[u8]
-    ensures { result.now ≡ name_at program.now i }
+fn stage(kernel: &Kernel, p: usize) -> Option<Stage>
+    ensures { result ≡ slice_get kernel.now.stages.items (p - 1) }
 {
-    match program.processes.get(i) {
-        Some(process) => process.name.as_bytes(),
-        None => &[],
-    }
-}
-
-fn component(program: &Program, i: usize) -> Option<&Component>
-    ensures { MatchOption result (shape_at program.now i ≡ None) (λ c. shape_at program.now i ≡ Some c.now) }
-{
-    let process = program.processes.get(i)?;
-    program.components.get(process.component)
-}
-
-fn variables(program: &Program, i: usize) -> &[Name]
-    ensures { result.now ≡ names_at program.now i }
-{
-    match component(program, i) {
-        Some(component) => component.variables.as_slice(),
-        None => &[],
-    }
-}
-
-fn stage(kernel: &Kernel, i: usize) -> Option<Stage>
-    ensures { result ≡ slice_get kernel.now.stages.items i }
-{
-    match kernel.stages.get(i) {
-        Some(stage) => Some(*stage),
-        None => None,
-    }
-}
-
-// What was moved of the transcript of the process of an index.
-fn moved_bytes(kernel: &Kernel, i: usize) -> &[u8]
-    ensures { result.now ≡ moved kernel.now i }
-{
-    match kernel.transcripts.get(i) {
-        Some(bytes) => bytes.as_slice(),
-        None => &[],
-    }
+    kernel.stages.get(p.saturating_sub(1)).copied()
 }
 
 fn push_head(
@@ -166,32 +128,31 @@ fn push_head(
     program: &Program,
     kernel: &Kernel,
     private: &Private,
-    i: usize,
+    p: usize,
 ) -> Result<(), AllocError>
-    requires { i < 2 ^ 63 }
-    ensures { OnOk result (out.new.items ≡ out.old.items ++ head_lines program.now kernel.now i private.now) }
+    ensures { OnOk result (out.new.items ≡ out.old.items ++ head_lines program.now kernel.now p private.now) }
 {
     out.extend_from_slice(b"process ")?;
-    push_natural(out, i as u64 + 1)?;
+    push_natural(out, p as u64)?;
     out.extend_from_slice(b" ")?;
-    out.extend_from_slice(name(program, i))?;
+    out.extend_from_slice(program.name(p))?;
     out.extend_from_slice(b" ")?;
-    push_status(out, private.activity, stage(kernel, i))?;
+    push_status(out, private.activity, stage(kernel, p))?;
     out.extend_from_slice(b"\n")
 }
 
-// What the kernel moved comes first, and then what the private state holds.
+// What the kernel has comes first, and then what the private state holds.
 fn push_transcript(
     out: &mut Vec<u8>,
     kernel: &Kernel,
     private: &Private,
-    i: usize,
+    p: usize,
 ) -> Result<(), AllocError>
-    ensures { OnOk result (out.new.items ≡ out.old.items ++ transcript_line (moved kernel.now i ++ private.now.output.items)) }
+    ensures { OnOk result (out.new.items ≡ out.old.items ++ transcript_line (moved kernel.now (p - 1) ++ private.now.output.items)) }
 {
     out.extend_from_slice(b"out '")?;
-    push_all_escaped(out, moved_bytes(kernel, i))?;
-    push_all_escaped(out, &private.output)?;
+    push_all_escaped(out, kernel.transcript(p))?;
+    push_all_escaped(out, private.output())?;
     out.extend_from_slice(b"'\n")
 }
 
@@ -200,14 +161,13 @@ fn push_process(
     program: &Program,
     kernel: &Kernel,
     private: &Private,
-    i: usize,
+    p: usize,
 ) -> Result<(), AllocError>
-    requires { i < 2 ^ 63 }
-    ensures { OnOk result (out.new.items ≡ out.old.items ++ process_lines program.now kernel.now i private.now) }
+    ensures { OnOk result (out.new.items ≡ out.old.items ++ process_lines program.now kernel.now p private.now) }
 {
-    push_head(out, program, kernel, private, i)?;
-    push_transcript(out, kernel, private, i)?;
-    push_variables(out, variables(program, i), &private.words)
+    push_head(out, program, kernel, private, p)?;
+    push_transcript(out, kernel, private, p)?;
+    push_variables(out, program.variables(p), &private.words)
 }
 
 fn push_processes(
@@ -216,10 +176,10 @@ fn push_processes(
     kernel: &Kernel,
     privates: &[Private],
 ) -> Result<(), AllocError>
-    ensures { OnOk result (out.new.items ≡ out.old.items ++ processes_lines program.now kernel.now 0 privates.now) }
+    ensures { OnOk result (out.new.items ≡ out.old.items ++ processes_lines program.now kernel.now 1 privates.now) }
 {
     for (i, private) in privates.iter().enumerate() {
-        push_process(out, program, kernel, private, i)?;
+        push_process(out, program, kernel, private, i + 1)?;
     }
     Ok(())
 }
@@ -246,16 +206,14 @@ fn lines(
 /// # Errors
 ///
 /// `AllocError` where memory runs out.
-pub fn report(
-    alloc: Global,
-    program: &Program,
-    privates: &[Private],
-    kernel: &Kernel,
-    rounds: u64,
-) -> Result<Vec<u8>, AllocError>
-    ensures report { IfOk result (λ bytes. (setup : Setup) (s : State)
-        → Holds program.now privates.now kernel.now rounds setup s
-        → bytes.items ≡ Report.report setup false s) }
+pub fn report(alloc: Global, machine: &Machine) -> Result<Vec<u8>, AllocError>
+    ensures { IfOk result (λ bytes. (setup : Setup) (s : State) → IsIn machine.now setup s → bytes.items ≡ Report.report setup false s) }
 {
-    lines(alloc, program, privates, kernel, rounds)
+    lines(
+        alloc,
+        &machine.program,
+        &machine.privates,
+        &machine.kernel,
+        machine.rounds,
+    )
 }

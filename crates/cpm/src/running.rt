@@ -51,12 +51,6 @@ pub fn report_of<H: Threads + Wait + Sync, G: TurnGate>(
     if machine.run(rt, run.rounds, &run.plan, gate).is_err() {
         return Err(Refusal::Memory);
     }
-    let bytes = report(
-        alloc,
-        &machine.program,
-        &machine.privates,
-        &machine.kernel,
-        machine.rounds,
-    )?;
+    let bytes = report(alloc, &machine)?;
     Ok(bytes)
 }

@@ -6,8 +6,10 @@ use cp_model::state::Fault;
 use cp_model::token::Name;
 use cp_private::private::{Activity, Private};
 use cp_program::program::{Component, Process, Program};
+use cp_rounds::machine::Machine;
+use cp_rounds::tick::Tick;
 use std::alloc::{AllocError, Global};
-use std::test::*;
+use std::test::Fail;
 
 fn name(alloc: Global, letters: &[u8]) -> Result<Name, AllocError> {
     Ok(Name::new(Vec::from_slice(alloc, letters)?))
@@ -100,20 +102,23 @@ out '910~\\ff'
 var total = 10
 ";
 
-fn written(alloc: Global) -> Result<Vec<u8>, AllocError> {
-    report(
+fn machine(alloc: Global) -> Result<Machine, AllocError> {
+    let Ok(tick) = Tick::new(1) else {
+        return Err(AllocError);
+    };
+    Ok(Machine {
         alloc,
-        &program(alloc)?,
-        &privates(alloc)?,
-        &kernel(alloc)?,
-        12,
-    )
+        program: program(alloc)?,
+        privates: privates(alloc)?,
+        kernel: kernel(alloc)?,
+        rounds: 12,
+        tick,
+    })
 }
 
 #[test]
-fn a_report_has_four_processes(rt: HostRuntime) {
-    let Ok(bytes) = written(rt.alloc()) else {
-        return;
-    };
+fn a_report_has_four_processes(rt: HostRuntime) -> Result<(), Fail> {
+    let bytes = report(rt.alloc(), &machine(rt.alloc())?)?;
     assert!(rt; bytes.as_slice() == WANTED);
+    Ok(())
 }

@@ -1,8 +1,6 @@
-use Rattle.std.proofs.Common.{◌≡◌, suc, List, sym, ◌∙◌, subst, rules}
+use Rattle.std.proofs.Common.{suc, sym, ◌∙◌}
 use Rattle.cp_model.specs.Rounds as r
 use Rattle.cp_model.specs.Start.{start}
-use Rattle.cp_private.specs.declared.private.Private.{Private}
-use Rattle.cp_rounds.specs.Holds.{Holds}
 use Rattle.cp_rounds.proofs.Places.{from_ok}
 use Rattle.cpm.proofs.running.report_of.Goals as goal
 
@@ -11,7 +9,4 @@ returns-clause-report g c = λ setup stands has tick.
     let after = r.run setup c.args.run.now.plan.turn.steps c.args.run.now.rounds (start setup) in
     let begun = c.in_ok-machine.ensures.start setup stands (λ i v e. c.in_ok-inputs.ensures.parts.each i v e ∙ sym (has (suc i))) tick in
     let ended = from_ok c.run.result (sym c.if-is_err.ensures.value) c.run.ensures.done setup (start setup) begun in
-    let machine = c.run.new.self in
-    let lent : c.deref.result.now ≡ machine.privates.items = search rules in
-    c.in_ok-bytes.ensures.report setup after
-    (subst (λ (xs : List Private). Holds machine.program xs machine.kernel machine.rounds setup after) (sym lent) ended.holds)
+    c.in_ok-bytes.ensures setup after ended
