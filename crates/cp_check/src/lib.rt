@@ -10,13 +10,9 @@
 pub mod checking;
 mod declaring;
 mod definitions;
-#[cfg(test)]
-mod lengths;
 mod owners;
 mod standard;
 mod systems;
-#[cfg(test)]
-mod tests;
 mod text;
 mod types;
 mod variables;

@@ -23,8 +23,6 @@ mod roots;
 mod scope;
 pub mod statements;
 pub mod telling;
-#[cfg(test)]
-mod tests;
 mod values;
 
 pub use environment::Environment;

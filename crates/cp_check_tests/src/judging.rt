@@ -1,9 +1,9 @@
 //! Small trees, each judged once.
 
-use crate::environment::{BOOLEAN, CHAR, Environment, INTEGER};
-use crate::expressions::judge;
-use crate::scope::Scope;
-use crate::statements::statements;
+use cp_judge::Scope;
+use cp_judge::environment::{BOOLEAN, CHAR, Environment, INTEGER};
+use cp_judge::expressions::judge;
+use cp_judge::statements::statements;
 use cp_model::rules::{Access, Entity, Mode, Part, Region, Rule, Structure, TypeRow, Violation};
 use cp_model::token::Name;
 use cp_model::tree::{

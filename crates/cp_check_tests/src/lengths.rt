@@ -1,6 +1,6 @@
 //! Long texts, which are checked without deep recursion and in time that grows with their length alone.
 
-use crate::tests::{assign, breaks, name, processes, refused};
+use crate::checking::{assign, breaks, name, processes, refused};
 use cp_model::rules::Rule;
 use cp_model::tree::{
     Body, Defined, Designator, Expression, Fields, Identifier, InitItem, Operation, Operator,

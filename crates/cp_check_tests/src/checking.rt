@@ -1,6 +1,6 @@
 //! Small texts, and what is broken in them by hand.
 
-use crate::checking::{CheckError, check};
+use cp_check::checking::{CheckError, check};
 use cp_model::rules::{Rule, Violation};
 use cp_model::token::Name;
 use cp_model::tree::{
