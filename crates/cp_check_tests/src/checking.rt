@@ -10,7 +10,7 @@ use cp_model::tree::{
 use std::alloc::{AllocError, Global};
 use std::test::Fail;
 
-pub fn name(alloc: Global, letters: &[u8], at: usize) -> Result<Identifier, AllocError> {
+pub(crate) fn name(alloc: Global, letters: &[u8], at: usize) -> Result<Identifier, AllocError> {
     let name = Name::new(Vec::from_slice(alloc, letters)?);
     Ok(Identifier { name, at })
 }
@@ -26,7 +26,7 @@ fn variable(alloc: Global, x: Identifier, of: &[u8], at: usize) -> Result<Fields
 }
 
 // `NAME := 1`.
-pub fn assign(alloc: Global, root: Identifier, at: usize) -> Statement {
+pub(crate) fn assign(alloc: Global, root: Identifier, at: usize) -> Statement {
     Statement::Assign {
         target: Designator {
             root,
@@ -96,21 +96,21 @@ fn with_process(alloc: Global) -> Result<Tree, AllocError> {
     })
 }
 
-pub fn processes(alloc: Global, tree: &Tree) -> Option<usize> {
+pub(crate) fn processes(alloc: Global, tree: &Tree) -> Option<usize> {
     match check(alloc, tree) {
         Ok(program) => Some(program.processes()),
         Err(_) => None,
     }
 }
 
-pub fn refused(alloc: Global, tree: &Tree) -> Option<CheckError> {
+pub(crate) fn refused(alloc: Global, tree: &Tree) -> Option<CheckError> {
     match check(alloc, tree) {
         Ok(_) => None,
         Err(error) => Some(error),
     }
 }
 
-pub fn breaks(rule: Rule, at: usize) -> Option<CheckError> {
+pub(crate) fn breaks(rule: Rule, at: usize) -> Option<CheckError> {
     Some(CheckError::Broken(Violation { rule, at }))
 }
 
