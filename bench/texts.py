@@ -1,5 +1,5 @@
 #!/usr/bin/env python3
-"""Measures whole texts: seconds and memory of `cpm run FILE --rounds 1`, from the start of the program to its report.
+"""Measures whole texts: seconds and memory of `cpm run FILE --rounds 1` or `cpm check FILE`, from the start of the program to its end.
 
 Build the program first (`rt run < stdin` in crates/cpm leaves out/cpm), then call this script. The last line has the steps
 a second of 255 counting processes.
@@ -41,6 +41,19 @@ TEXTS = {
     '200,000 variables': 'var ' + ','.join(NAMES) + ':integer;begin end.',
 }
 
+INDICES = 'v[' * 190 + 'x' + ']' * 190
+DECLARATIONS = {
+    'an enumeration of 200,000 values': 'type e=(' + ','.join(NAMES) + ');begin end.',
+    '60,000 types of one another': 'type ' + ''.join(f'{a}={b};' for a, b in zip(NAMES, ['integer', *NAMES[:59_999]])) + 'begin end.',
+    '40,000 routines': ''.join(f'procedure {name};begin end;' for name in NAMES[:40_000]) + 'begin end.',
+    '9 records of 20,000 fields': 'type ' + ''.join(f'r{k}x=record ' + ','.join(NAMES[:20_000]) + ':char end;' for k in range(9)) + 'begin end.',
+    '8 cases of 20,000 labels': 'var x:integer;begin ' + ';'.join('case x of ' + ','.join(map(str, range(20_000))) + ':end' for _ in range(8)) + ' end.',
+    '1,500 towers of 17 classes': 'type ' + ''.join(
+        ''.join(f't{k}c{n}=class;var a,b:' + (f't{k}c{n - 1}' if n else 'integer') + ';begin end;' for n in range(17)) for k in range(1500)) + 'begin end.',
+    '600 arrays of 199 dimensions': 'type ' + ''.join(f'a{k}x=array[' + ','.join(['boolean'] * 199) + ']of char;' for k in range(600)) + 'begin end.',
+    'indices in indices, 190 deep': 'var v:array[1..9]of 1..9;x:1..9;begin ' + f'x:={INDICES};' * 1700 + 'end.',
+}
+
 
 def measure(words):
     """The least seconds of a few trials, and kilobytes."""
@@ -60,6 +73,10 @@ def main():
         for what, text in TEXTS.items():
             file.write_text(text)
             seconds, kilobytes = measure(['run', file, '--rounds', '1'])
+            print(f'{what:32} {len(text):>9} bytes {seconds:6.2f} s {kilobytes / 1024:5.0f} MB')
+        for what, text in DECLARATIONS.items():
+            file.write_text(text)
+            seconds, kilobytes = measure(['check', file])
             print(f'{what:32} {len(text):>9} bytes {seconds:6.2f} s {kilobytes / 1024:5.0f} MB')
         file.write_text(COUNTING)
         seconds, _ = measure(['run', file, '--rounds', '100', '--turn', '10000'])

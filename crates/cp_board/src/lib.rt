@@ -30,6 +30,3 @@ mod view;
 pub use board::Board;
 pub use seat::Seat;
 pub use view::{FULL_ALLOWANCE, MOST_NUMBERS, MOST_STRIPES, Shape, View};
-
-#[cfg(test)]
-mod tests;

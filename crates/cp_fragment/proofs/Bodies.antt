@@ -14,7 +14,9 @@ use Rattle.cp_model.specs.declared.rules.Standard.TheVariants as standard
 use Rattle.cp_model.specs.declared.rules.Want.TheVariants as want
 use Rattle.cp_model.specs.declared.rules.Mode.TheVariants as mode
 use Rattle.cp_model.specs.RulesJudged.{Judged, Sound, violations_of, also, then_judge}
-use Rattle.cp_model.specs.RulesEnvironment.{Environment, Text, lookup, resolve, c1_named, is_some, is_component, system_of, system_in, base_in, bases_agree, is_structured, row_of, agree}
+use Rattle.cp_model.specs.RulesEnvironment.{Environment, Text, resolve, c1_named, is_component, system_of, system_in, base_in, bases_agree, is_structured, row_of, agree}
+use Rattle.cp_model.specs.Names.{lookup}
+use Rattle.std.specs.Prelude.{is_some}
 use Rattle.cp_model.specs.RulesNames.{Callee, c8_named, c10_designator, c2_indexed, count_of, procedure_of, value_of}
 use Rattle.cp_model.specs.RulesExpressions.{argument, arguments, c2_operands, judge, result_of, wants_in}
 use Rattle.cp_model.specs.RulesStatements.{assigned, c12_component, c12_count, c12_init, c2_sides, init_arguments, init_item, init_items, judged_unless, left, left_by, lone_component, other_left, parameters_in, performed, right, statement, statements, system_initialised}
@@ -166,14 +168,14 @@ module _ (env : Environment) (ss : Slots) where
   abbrev call_of : (o : Option Entity) (x : Identifier) → Judged Callee
   call_of o x = then_judge (then_judge (resolve x o) (λ e. Sound e)) (procedure_of env (s.Designate x s.NoSelectors) 1)
 
-  call_is : (x : Identifier) (c : Callee) → x.name ≡ codes "display"
+  call_is : (x : Identifier) (j : Judged Entity) (c : Callee) → x.name ≡ codes "display"
       → also (c2_indexed env mode.Value (s.Designate x s.NoSelectors)) (call_of (lookup x.name env.names) x) ≡ Sound c
       → lookup (codes "display") env.names ≡ Some (entity.Standard standard.Display)
-      → wants_in (also (c2_indexed env mode.Value (s.Designate x s.NoSelectors)) (call_of (lookup x.name env.names) x)) ≡ want.Simple ∷ []
-  call_is x c same h display =
+      → wants_in env j (also (c2_indexed env mode.Value (s.Designate x s.NoSelectors)) (call_of (lookup x.name env.names) x)) ≡ want.Simple ∷ []
+  call_is x j c same h display =
       let found : lookup x.name env.names ≡ Some (entity.Standard standard.Display) = ap (λ y. lookup y env.names) same ∙ display in
       let sound : call_of (lookup x.name env.names) x ≡ Sound c = also_sound (c2_indexed env mode.Value (s.Designate x s.NoSelectors)) _ c h in
-      ap wants_in (h ∙ sym sound) ∙ ap (λ o. wants_in (call_of o x)) found
+      ap (wants_in env j) (h ∙ sym sound) ∙ ap (λ o. wants_in env j (call_of o x)) found
 
   displayed_resolved : Known env ss → (x : Identifier) (e : s.Expression) → is_display x.name ≡ true → expression_fits e ≡ true
       → performed env (s.Designate x s.NoSelectors) (s.MoreExpressions e s.NoExpressions) ≡ []
@@ -183,8 +185,9 @@ module _ (env : Environment) (ss : Slots) where
       let es : s.Expressions = s.MoreExpressions e s.NoExpressions in
       let callee : Judged Callee = also (c2_indexed env mode.Value d) (call_of (lookup x.name env.names) x) in
       let same : x.name ≡ codes "display" = bytes_same x.name (codes "display") calls in
-      let sides : BothSound callee (arguments env (wants_in callee) es) (result_of env) = both_parts _ _ _ (rest_empty (c8_named env mode.Value x) _ h) in
-      let wants : wants_in callee ≡ want.Simple ∷ [] = call_is x sides.x same sides.left known.display in
+      let named : Judged Entity = then_judge (resolve x (lookup x.name env.names)) (λ e. Sound e) in
+      let sides : BothSound callee (arguments env (wants_in env named callee) es) (result_of env) = both_parts _ _ _ (rest_empty (c8_named env mode.Value x) _ h) in
+      let wants : wants_in env named callee ≡ want.Simple ∷ [] = call_is x named sides.x same sides.left known.display in
       let passed : argument env want.Simple e (judge env mode.Value e) ≡ Sound sides.y = sym (ap (λ ws. arguments env ws es) wants) ∙ sides.right in
       (same, expression_resolved known e fits (then_first (judge env mode.Value e) _ (sound_is_empty _ _ passed)))
 
@@ -220,7 +223,7 @@ module _ (env : Environment) (ss : Slots) where
       let x : Identifier = i.component in
       let component : Judged ℕ = then_judge (c1_named env x) (c12_component env x) in
       let sound : violations_of (then_judge component (c12_count env x (count_of i.arguments))) ≡ [] =
-      rest_empty (c8_named env mode.Value x) _ (first_empty _ (init_arguments env (parameters_in env (then_judge component (c12_count env x (count_of i.arguments)))) i.arguments) h) in
+      rest_empty (c8_named env mode.Value x) _ (first_empty _ (init_arguments env (parameters_in env component) i.arguments) h) in
       initialised_known x (lookup x.name env.names) (known.names x fits) (then_first component _ sound)
 
   items_resolved : Known env ss → (is : List s.InitItem) → items_fit is ≡ true → init_items env is ≡ [] → ResolvedItems ss is

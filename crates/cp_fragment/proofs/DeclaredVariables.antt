@@ -15,7 +15,9 @@ use Rattle.cp_model.specs.declared.rules.SystemRow.{SystemRow}
 use Rattle.cp_model.specs.declared.rules.Position.{Position}
 use Rattle.cp_model.specs.declared.rules.Position.TheVariants as position
 use Rattle.cp_model.specs.RulesJudged.{Sound, then_judge}
-use Rattle.cp_model.specs.RulesEnvironment.{Environment, Names, Text, c1_declared, declare, declare_if_new, integer, is_some, lookup, no_system as no_row, queue_row, resolve, simple_row, with_names}
+use Rattle.cp_model.specs.RulesEnvironment.{Environment, Names, Text, c1_declared, declare, declare_if_new, integer, no_system as no_row, queue_row, resolve, simple_row, with_names}
+use Rattle.cp_model.specs.Names.{lookup}
+use Rattle.std.specs.Prelude.{is_some}
 use Rattle.cp_model.specs.RulesTypes.{c2_type, is_within}
 use Rattle.cp_model.specs.RulesDeclarations.{c13_owner, declare_all, one_more, one_too_many, own_variable, owners_of, with_owner}
 use Rattle.cp_fragment.specs.Fragment.{is_integer, name_fits}

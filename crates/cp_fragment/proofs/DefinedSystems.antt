@@ -12,7 +12,8 @@ use Rattle.cp_model.specs.declared.rules.TypeRow.{TypeRow}
 use Rattle.cp_model.specs.declared.rules.SystemRow.{SystemRow}
 use Rattle.cp_model.specs.declared.rules.Part.TheVariants as part
 use Rattle.cp_model.specs.declared.rules.Position.TheVariants as position
-use Rattle.cp_model.specs.RulesEnvironment.{Environment, Names, c1_declared, declare, declare_if_new, lookup}
+use Rattle.cp_model.specs.RulesEnvironment.{Environment, Names, c1_declared, declare, declare_if_new}
+use Rattle.cp_model.specs.Names.{lookup}
 use Rattle.cp_model.specs.RulesTypes.{capped, has_name}
 use Rattle.cp_model.specs.RulesNeeds.{need_statements}
 use Rattle.cp_model.specs.RulesStatements.{statements}

@@ -15,9 +15,10 @@ use Rattle.cp_model.specs.declared.rules.Entity.TheVariants as entity
 use Rattle.cp_model.specs.declared.rules.Structure.TheVariants as structure
 use Rattle.cp_model.specs.declared.rules.TypeRow.{TypeRow}
 use Rattle.cp_model.specs.declared.rules.SystemRow.{SystemRow}
-use Rattle.cp_model.specs.Names as meant
-use Rattle.cp_model.specs.Names.{same_name}
-use Rattle.cp_model.specs.RulesEnvironment.{Environment, Text, is_some, lookup, standard_environment, standard_names, queue_row}
+use Rattle.cp_model.specs.Names.{lookup}
+use Rattle.std.specs.Str.{bytes_eq}
+use Rattle.cp_model.specs.RulesEnvironment.{Environment, Text, standard_environment, standard_names, queue_row}
+use Rattle.std.specs.Prelude.{is_some}
 use Rattle.cp_model.specs.RulesTypes.{has_name}
 use Rattle.cp_model.specs.RulesDeclarations.{Declared}
 use Rattle.cp_model.specs.Rules.{define_as, define_each, define_section, define_system}
@@ -25,7 +26,7 @@ use Rattle.cp_model.specs.Types.{ComponentOf, GlobalScope, NoMembers, ResolvedTy
 use Rattle.cp_model.specs.Declarations.{define, define_all, members_from, reported_members}
 use Rattle.cp_fragment.specs.Fragment.{defined_fits, integers_fit, is_display, is_integer, is_process, is_standard, name_fits, no_parameters, no_routines, sections_fit, statements_fit, system_fits, types_fit}
 use Rattle.cp_fragment.specs.Slots.{system_in, systems_in, systems_of}
-use Rattle.cp_fragment.proofs.Names.{bytes_same, has_first, keys, keys-append, lookup-append, lookup_first, lookup_later, none_has, same_name-bytes_eq}
+use Rattle.cp_fragment.proofs.Names.{bytes_same, has_first, keys, keys-append, lookup-append, lookup_first, lookup_later, none_has}
 use Rattle.cp_fragment.proofs.Judging.{first_empty, rest_empty}
 use Rattle.cp_fragment.proofs.VariableKinds.{Systems, all_integers, integers_fit_too, kinds, word_names-is}
 use Rattle.cp_fragment.proofs.DeclaredVariables.{Base, BaseAs, FoundProcess, IsProcessType, TypeAs, declared_new}
@@ -192,10 +193,9 @@ module _ (ss : Systems) (env : Environment) (g : GlobalScope) (x : Identifier) (
 
   means_too : Scope ss env g → lookup x.name env.names ≡ None → written ≡ process_type y → MeansTypes (ss ++ (x.name, y) ∷ []) behind
   means_too scope none type = record {
-    integer = ap (λ b. if b then Some written else meant.lookup (codes "integer") g.types) (same_name-bytes_eq (codes "integer") x.name ∙ other)
+    integer = ap (λ b. if b then Some written else lookup (codes "integer") g.types) (other)
         ∙ scope.means.integer;
-    processes = λ z w h. ap (λ b. if b then Some written else meant.lookup z g.types) (same_name-bytes_eq z x.name)
-        ∙ either z w (lookup z ss) refl (sym (lookup-append z ss ((x.name, y) ∷ [])) ∙ h);
+    processes = λ z w h. either z w (lookup z ss) refl (sym (lookup-append z ss ((x.name, y) ∷ [])) ∙ h);
   }
     where
       other : bytes_eq (codes "integer") x.name ≡ false
@@ -207,10 +207,10 @@ module _ (ss : Systems) (env : Environment) (g : GlobalScope) (x : Identifier) (
 
       either : (z : Text) (w : s.System) (o : Option s.System) → lookup z ss ≡ o
           → option_or o (if bytes_eq z x.name then Some y else None) ≡ Some w
-          → (if bytes_eq z x.name then Some written else meant.lookup z g.types) ≡ Some (process_type w)
+          → (if bytes_eq z x.name then Some written else lookup z g.types) ≡ Some (process_type w)
       either z w (Some v) found h = go (bytes_eq z x.name) refl
         where
-          go : (b : Bool) → bytes_eq z x.name ≡ b → (if b then Some written else meant.lookup z g.types) ≡ Some (process_type w)
+          go : (b : Bool) → bytes_eq z x.name ≡ b → (if b then Some written else lookup z g.types) ≡ Some (process_type w)
           go true e =
               let fresh : lookup z env.names ≡ None = ap (λ k. lookup k env.names) (bytes_same z x.name e) ∙ none in
               let unseen : lookup z ss ≡ None = scope.seen z fresh in
@@ -218,7 +218,7 @@ module _ (ss : Systems) (env : Environment) (g : GlobalScope) (x : Identifier) (
           go false e = scope.means.processes z w (found ∙ h)
       either z w None found h = go (bytes_eq z x.name) h
         where
-          go : (b : Bool) → (if b then Some y else None) ≡ Some w → (if b then Some written else meant.lookup z g.types) ≡ Some (process_type w)
+          go : (b : Bool) → (if b then Some y else None) ≡ Some w → (if b then Some written else lookup z g.types) ≡ Some (process_type w)
           go true h = ap (λ k. Some k) (type ∙ ap process_type (some_is h))
           go false h = absurd (cc)
 

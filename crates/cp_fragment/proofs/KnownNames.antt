@@ -6,7 +6,9 @@ use Rattle.cp_model.specs.declared.rules.Entity.TheVariants as entity
 use Rattle.cp_model.specs.declared.rules.Standard.TheVariants as standard
 use Rattle.cp_model.specs.declared.rules.TypeRow.{TypeRow}
 use Rattle.cp_model.specs.declared.rules.SystemRow.{SystemRow}
-use Rattle.cp_model.specs.RulesEnvironment.{Environment, Names, Text, is_component, is_some, lookup, system_in}
+use Rattle.cp_model.specs.RulesEnvironment.{Environment, Names, Text, is_component, system_in}
+use Rattle.cp_model.specs.Names.{lookup}
+use Rattle.std.specs.Prelude.{is_some}
 use Rattle.cp_fragment.specs.Slots.{IsProcess, IsWord, Slots}
 use Rattle.cp_fragment.proofs.Names.{lookup-append, lookup_first}
 use Rattle.cp_fragment.proofs.Bodies.{Known, KnownAs}

@@ -5,8 +5,8 @@ use Rattle.cp_model.specs.Syntax as s
 use Rattle.cp_model.specs.Abstract as a
 use Rattle.cp_model.specs.Erase as erase
 use Rattle.cp_model.specs.declared.tree.Identifier.{Identifier}
-use Rattle.cp_model.specs.Names as meant
-use Rattle.cp_model.specs.RulesEnvironment.{Text, lookup}
+use Rattle.cp_model.specs.RulesEnvironment.{Text}
+use Rattle.cp_model.specs.Names.{lookup}
 use Rattle.cp_model.specs.Types.{ComponentOf, GlobalScope, Members, MoreMembers, NoMembers, ResolvedType, full_range, or_no_type, resolved_type}
 use Rattle.cp_model.specs.Declarations.{Variable, declarations, declared_group, members_from}
 use Rattle.cp_fragment.specs.Fragment.{is_integer, is_type_that_fits, names_fit, variables_fit}
@@ -36,12 +36,12 @@ meant_variables (k ∷ ks) = (k.0, meant_variable k.1) ∷ meant_variables ks
 
 -- the types of a scope mean these system types
 pub record MeansTypes (ss : Systems) (g : GlobalScope) : Type 0 where
-  pub integer : meant.lookup (codes "integer") g.types ≡ Some (full_range a.Integer)
-  pub processes : (x : Text) (y : s.System) → lookup x ss ≡ Some y → meant.lookup x g.types ≡ Some (process_type y)
+  pub integer : lookup (codes "integer") g.types ≡ Some (full_range a.Integer)
+  pub processes : (x : Text) (y : s.System) → lookup x ss ≡ Some y → lookup x g.types ≡ Some (process_type y)
 
 type_meant : (ss : Systems) (g : GlobalScope) (x : Text) (b : Bool) → is_integer x ≡ b → MeansTypes ss g
-    → FoundAs ss (kind_if b x (lookup x ss)) → or_no_type (meant.lookup x g.types) ≡ meant_kind (kind_if b x (lookup x ss))
-type_meant ss g x true e means h = ap or_no_type (ap (λ y. meant.lookup y g.types) (bytes_same x (codes "integer") e) ∙ means.integer)
+    → FoundAs ss (kind_if b x (lookup x ss)) → or_no_type (lookup x g.types) ≡ meant_kind (kind_if b x (lookup x ss))
+type_meant ss g x true e means h = ap or_no_type (ap (λ y. lookup y g.types) (bytes_same x (codes "integer") e) ∙ means.integer)
 type_meant ss g x false e means h = ap or_no_type (means.processes x _ h)
 
 group_meant : (ss : Systems) (t : ResolvedType) (k : Kind) (xs : List Identifier) (ks : Kinds) → (FoundAs ss k → t ≡ meant_kind k)

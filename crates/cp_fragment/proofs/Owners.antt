@@ -3,9 +3,9 @@ use Rattle.std.proofs.Common.{◌≡◌, ℕ, pos, false, List, [], ◌++◌, So
 use Rattle.cp_model.specs.Syntax as s
 use Rattle.cp_model.specs.Abstract as a
 use Rattle.cp_model.specs.Erase as erase
-use Rattle.cp_model.specs.Names as meant
-use Rattle.cp_model.specs.Names.{same_name}
-use Rattle.cp_model.specs.RulesEnvironment.{Text, lookup}
+use Rattle.cp_model.specs.Names.{lookup}
+use Rattle.std.specs.Str.{bytes_eq}
+use Rattle.cp_model.specs.RulesEnvironment.{Text}
 use Rattle.cp_model.specs.RulesTypes.{has_name}
 use Rattle.cp_model.specs.Declarations.{declarations, globals}
 use Rattle.cp_model.specs.Environments.{permanent_variables}
@@ -43,7 +43,7 @@ module _ (setup : Setup) (p : ℕ) (ks : Kinds) (body : s.Statements) (facts : O
 
   are_integers : (i : ℕ) (x : Text) → slice_get (words_of ks) i ≡ Some x → IsInteger (environment_of setup p) x
   are_integers i x e = record {
-    is_variable = ap (meant.lookup x) permanent ∙ lookup_meant x ks ∙ ap (option_map meant_variable) (word_found ks i x facts.distinct e);
+    is_variable = ap (lookup x) permanent ∙ lookup_meant x ks ∙ ap (option_map meant_variable) (word_found ks i x facts.distinct e);
     is_no_clock = word_is_not ks i x (codes "realtime") facts.distinct facts.no_clock e;
   }
 

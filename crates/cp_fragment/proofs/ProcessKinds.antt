@@ -4,8 +4,9 @@ use Rattle.std.proofs.lemmas.Bool.{true≢false, or_right}
 use Rattle.cp_model.specs.Syntax as s
 use Rattle.cp_model.specs.Abstract as a
 use Rattle.cp_model.specs.Erase as erase
-use Rattle.cp_model.specs.Names.{same_name}
-use Rattle.cp_model.specs.RulesEnvironment.{Text, lookup}
+use Rattle.cp_model.specs.Names.{lookup}
+use Rattle.std.specs.Str.{bytes_eq}
+use Rattle.cp_model.specs.RulesEnvironment.{Text}
 use Rattle.cp_model.specs.RulesTypes.{has_name}
 use Rattle.cp_model.specs.Declarations.{Variable}
 use Rattle.cp_model.specs.Components.{count_before, is_component_of, same_sort}
@@ -14,7 +15,7 @@ use Rattle.cp_model.specs.States.{count_components}
 use Rattle.cp_fragment.specs.declared.slot.Slot.TheVariants as slot
 use Rattle.cp_fragment.specs.Slots.{word_names}
 use Rattle.cp_fragment.specs.Processes.{members_at, system_at}
-use Rattle.cp_fragment.proofs.Names.{Distinct, bytes_eq-refl, bytes_same, keys, same_name-bytes_eq}
+use Rattle.cp_fragment.proofs.Names.{Distinct, bytes_eq-refl, bytes_same, keys}
 use Rattle.cp_fragment.proofs.VariableKinds.{Integer, Kind, Kinds, OfType, Systems, processes_of, slots_of}
 use Rattle.cp_fragment.proofs.DeclaredVariables.{AllFound, FoundAs}
 use Rattle.cp_fragment.proofs.MeantVariables.{integer_members, meant_variable, meant_variables, process_type}
@@ -159,11 +160,11 @@ module _ (ss : Systems) where
       ap (λ b. b || has_name x (keys ks)) (ap (bytes_eq x) (sym same) ∙ bytes_eq-refl x)
   process_has ((z, OfType u y) ∷ ks) (suc k) x t e = or_right (bytes_eq x z) _ (process_has ks k x t e)
 
-  other_name : (x z : Text) (ks : List Text) → has_name z ks ≡ false → has_name x ks ≡ true → same_name x z ≡ false
-  other_name x z ks h g = go (same_name x z) refl
+  other_name : (x z : Text) (ks : List Text) → has_name z ks ≡ false → has_name x ks ≡ true → bytes_eq x z ≡ false
+  other_name x z ks h g = go (bytes_eq x z) refl
     where
-      go : (b : Bool) → same_name x z ≡ b → b ≡ false
-      go true e = absurd (true≢false (sym g ∙ ap (λ n. has_name n ks) (bytes_same x z (sym (same_name-bytes_eq x z) ∙ e)) ∙ h))
+      go : (b : Bool) → bytes_eq x z ≡ b → b ≡ false
+      go true e = absurd (true≢false (sym g ∙ ap (λ n. has_name n ks) (bytes_same x z e) ∙ h))
       go false e = refl
 
   -- so many processes stand before the one at a place
@@ -175,7 +176,7 @@ module _ (ss : Systems) where
       ∙ before_is ks k x t h.1 d.1 e
   before_is ((z, OfType u y) ∷ ks) zero x t h d e =
       let same : x ≡ z = sym (ap (λ q. q.0) (some_is e)) in
-      ap (λ b. if b then 0 else if is_component_of a.Process (process_type y) then suc (count_before a.Process x (meant_variables ks)) else count_before a.Process x (meant_variables ks)) (same_name-bytes_eq x z ∙ ap (bytes_eq x) (sym same) ∙ bytes_eq-refl x)
+      ap (λ b. if b then 0 else if is_component_of a.Process (process_type y) then suc (count_before a.Process x (meant_variables ks)) else count_before a.Process x (meant_variables ks)) (ap (bytes_eq x) (sym same) ∙ bytes_eq-refl x)
   before_is ((z, OfType u y) ∷ ks) (suc k) x t h d e =
       let n : ℕ = count_before a.Process x (meant_variables ks) in
       ap (λ b. if b then 0 else if is_component_of a.Process (process_type y) then suc n else n) (other_name x z (keys ks) d.0 (process_has ks k x t e))
@@ -213,7 +214,7 @@ module _ (ss : Systems) where
             within = p.within;
             found = ap (λ b. if b then Some Integer else lookup x ks) is ∙ p.found;
             sound = p.sound;
-            before = ap (λ b. if b then 0 else count_before a.Process x (meant_variables ks)) (same_name-bytes_eq x z ∙ is) ∙ p.before;
+            before = ap (λ b. if b then 0 else count_before a.Process x (meant_variables ks)) (is) ∙ p.before;
             system_is = p.system_is;
           }
   process_named ((z, OfType u y) ∷ ks) w first r x h e = go (bytes_eq x z) refl e (process_named ks w (suc first) r x h.1)
@@ -231,7 +232,7 @@ module _ (ss : Systems) where
             within = omega arith;
             found = ap (λ b. if b then Some (OfType u y) else lookup x ks) is;
             sound = h.0.1;
-            before = ap (λ b. if b then 0 else if is_component_of a.Process (process_type y) then suc (count_before a.Process x (meant_variables ks)) else count_before a.Process x (meant_variables ks)) (same_name-bytes_eq x z ∙ is);
+            before = ap (λ b. if b then 0 else if is_component_of a.Process (process_type y) then suc (count_before a.Process x (meant_variables ks)) else count_before a.Process x (meant_variables ks)) (is);
             system_is = refl;
           }
       go false is e rest =
@@ -245,7 +246,7 @@ module _ (ss : Systems) where
             within = omega (arith, p.within);
             found = ap (λ b. if b then Some (OfType u y) else lookup x ks) is ∙ p.found;
             sound = p.sound;
-            before = ap (λ b. if b then 0 else if is_component_of a.Process (process_type y) then suc n else n) (same_name-bytes_eq x z ∙ is)
+            before = ap (λ b. if b then 0 else if is_component_of a.Process (process_type y) then suc n else n) (is)
                 ∙ ap (λ b. if b then suc n else n) (is_process_kind y h.0.1) ∙ ap suc p.before;
             system_is = p.system_is;
           }

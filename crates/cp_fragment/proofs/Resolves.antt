@@ -5,8 +5,8 @@ use Rattle.std.proofs.lemmas.Bool.{eqb-true}
 use Rattle.cp_model.specs.Syntax as s
 use Rattle.cp_model.specs.Abstract as a
 use Rattle.cp_model.specs.Erase as erase
-use Rattle.cp_model.specs.Names as meant
-use Rattle.cp_model.specs.RulesEnvironment.{Text, lookup}
+use Rattle.cp_model.specs.RulesEnvironment.{Text}
+use Rattle.cp_model.specs.Names.{lookup}
 use Rattle.cp_model.specs.RulesTypes.{has_name}
 use Rattle.cp_model.specs.Types.{GlobalScope, NoMembers}
 use Rattle.cp_model.specs.Declarations.{Variable, declarations, globals, members_from, reported_members}
@@ -208,11 +208,11 @@ module _ (t : s.Tree) (parts : PartsFit t) (sound : TextSound t (defined t).env 
   initialised x r e =
       let n : ProcessNamed ss ks x 2 r = process_named ss ks 0 2 r x kinds_are (sym (ap (lookup x) (slots_from-is ss t.variables 0 2)) ∙ e) in
       let component : Component = record { name = x; system = erase.system n.system; is_parameter = false } in
-      let found : meant.lookup x (initial_variables setup) ≡ Some (meant_variable (OfType n.type n.system)) =
-      ap (meant.lookup x) variables_are ∙ lookup_meant x ks ∙ ap (option_map meant_variable) n.found in
+      let found : lookup x (initial_variables setup) ≡ Some (meant_variable (OfType n.type n.system)) =
+      ap (lookup x) variables_are ∙ lookup_meant x ks ∙ ap (option_map meant_variable) n.found in
       record {
         of = component;
-        named = ap (λ l. option_or (as_component x true (meant.lookup x (declarations (globals setup.tree) l))) (as_component x false (meant.lookup x (initial_variables setup))))
+        named = ap (λ l. option_or (as_component x true (lookup x (declarations (globals setup.tree) l))) (as_component x false (lookup x (initial_variables setup))))
             (ap (λ z. z.initial.parameters) of)
             ∙ ap (as_component x false) found;
         sort = is_a_process n.system n.sound;

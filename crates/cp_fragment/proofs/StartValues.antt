@@ -3,7 +3,7 @@ use Rattle.std.proofs.Common.{◌≡◌, ◌⊎◌, inl, inr, ℕ, zero, suc, po
 use Rattle.std.proofs.lemmas.Bool.{and_from, eq-eqb}
 use Rattle.cp_model.specs.Syntax as s
 use Rattle.cp_model.specs.Erase as erase
-use Rattle.cp_model.specs.Names.{same_name}
+use Rattle.std.specs.Str.{bytes_eq}
 use Rattle.cp_model.specs.RulesEnvironment.{Text}
 use Rattle.cp_model.specs.Declarations.{Variable}
 use Rattle.cp_model.specs.Environments.{Environment}
@@ -15,7 +15,7 @@ use Rattle.cp_model.specs.Start.{component_writes, variable_writes}
 use Rattle.cp_fragment.specs.Slots.{word_names}
 use Rattle.cp_fragment.specs.Meanings.{integer_leaf}
 use Rattle.cp_fragment.specs.Processes.{variable_location}
-use Rattle.cp_fragment.proofs.Names.{bytes_eq-refl, same_name-bytes_eq}
+use Rattle.cp_fragment.proofs.Names.{bytes_eq-refl}
 use Rattle.cp_fragment.proofs.VariableKinds.{Integer, Kind, Kinds, OfType, Systems}
 use Rattle.cp_fragment.proofs.MeantVariables.{integer_members, meant_kind, meant_variable, meant_variables, process_type}
 use Rattle.cp_fragment.proofs.Definitions.{SystemSound, some_is}
@@ -47,7 +47,7 @@ zero_written (w ∷ ws) st l same h (inl e) = stays ws (put w.0 w.1 st) l h.1
 zero_written (w ∷ ws) st l same h (inr there) = zero_written ws (put w.0 w.1 st) l same h.1 there
 
 pub variable_location-same : (p : ℕ) (x : Text) → same_location (variable_location p x) (variable_location p x) ≡ true
-variable_location-same p x = and_from (nat_eq p p) _ (eq-eqb p p refl) (and_from (same_name x x) true (same_name-bytes_eq x x ∙ bytes_eq-refl x) refl)
+variable_location-same p x = and_from (nat_eq p p) _ (eq-eqb p p refl) (and_from (bytes_eq x x) true (bytes_eq-refl x) refl)
 
 pub zero_append : (ws vs : Writes) → AllZero ws → AllZero vs → AllZero (ws ++ vs)
 zero_append [] vs h g = g

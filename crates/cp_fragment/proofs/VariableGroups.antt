@@ -10,7 +10,8 @@ use Rattle.cp_model.specs.declared.rules.Structure.TheVariants as structure
 use Rattle.cp_model.specs.declared.rules.Position.{Position}
 use Rattle.cp_model.specs.declared.rules.Position.TheVariants as position
 use Rattle.cp_model.specs.RulesJudged.{Judged, Sound, Broken, violations_of, then_judge, provided}
-use Rattle.cp_model.specs.RulesEnvironment.{Environment, Names, entity_of, integer, lookup, resolve, row_of, system_row, with_names}
+use Rattle.cp_model.specs.RulesEnvironment.{Environment, Names, entity_of, integer, resolve, row_of, system_row, with_names}
+use Rattle.cp_model.specs.Names.{lookup}
 use Rattle.cp_model.specs.RulesTypes.{c2_type, c6_c8_placed, named_type}
 use Rattle.cp_model.specs.RulesDeclarations.{Declared, declare_all, own_variable, owners, owners_in, unfinished_variable, variable_group, variables}
 use Rattle.cp_fragment.specs.Fragment.{is_type_that_fits, name_fits, names_fit, variables_fit}

@@ -5,7 +5,8 @@ use Rattle.std.proofs.lemmas.Bool.{true≢false, and_from, and_parts, or_left, o
 use Rattle.cp_model.specs.Syntax as s
 use Rattle.cp_model.specs.declared.tree.Identifier.{Identifier}
 use Rattle.cp_model.specs.declared.tree.Sort.TheVariants as sort
-use Rattle.cp_model.specs.RulesEnvironment.{Text, lookup}
+use Rattle.cp_model.specs.RulesEnvironment.{Text}
+use Rattle.cp_model.specs.Names.{lookup}
 use Rattle.cp_fragment.specs.declared.slot.Slot.TheVariants as slot
 use Rattle.cp_fragment.specs.Fragment.{integers_fit, is_integer, is_display, is_integer_type, is_standard, is_type_that_fits, names_fit, variables_fit}
 use Rattle.cp_fragment.specs.Slots.{IsProcess, IsWord, Slots, process_list, processes_from, slots_from, text_of, type_name, with_type, word_names, words_from}

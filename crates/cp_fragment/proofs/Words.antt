@@ -2,9 +2,9 @@
 use Rattle.std.proofs.Common.{◌≡◌, inl, inr, ℕ, zero, suc, ◌+◌, Bool, true, false, List, [], ◌∷◌, ◌++◌, Some, None, if◌then◌else◌, map, option_map, slice_get, refl, ap, sym, ◌∙◌, arith, bytes_eq}
 use Rattle.std.proofs.lemmas.Bool.{true≢false}
 use Rattle.cp_model.specs.Syntax as s
-use Rattle.cp_model.specs.Names as meant
-use Rattle.cp_model.specs.Names.{same_name}
-use Rattle.cp_model.specs.RulesEnvironment.{Text, lookup}
+use Rattle.cp_model.specs.Names.{lookup}
+use Rattle.std.specs.Str.{bytes_eq}
+use Rattle.cp_model.specs.RulesEnvironment.{Text}
 use Rattle.cp_model.specs.RulesTypes.{has_name}
 use Rattle.cp_model.specs.Types.{NoMembers}
 use Rattle.cp_model.specs.Declarations.{members_from}
@@ -13,7 +13,7 @@ use Rattle.cp_model.specs.Locations.{ByName}
 use Rattle.cp_fragment.specs.declared.slot.Slot.TheVariants as slot
 use Rattle.cp_fragment.specs.Slots.{word_names}
 use Rattle.cp_fragment.specs.Meanings.{integer_leaf}
-use Rattle.cp_fragment.proofs.Names.{Distinct, bytes_eq-refl, bytes_same, keys, lookup_has, lookup_none, same_name-bytes_eq}
+use Rattle.cp_fragment.proofs.Names.{Distinct, bytes_eq-refl, bytes_same, keys, lookup_has, lookup_none}
 use Rattle.cp_fragment.proofs.VariableKinds.{Integer, Kinds, OfType, Systems, slots_of, words_of}
 use Rattle.cp_fragment.proofs.MeantVariables.{integer_members, meant_variable, meant_variables, process_type}
 use Rattle.cp_fragment.proofs.Definitions.{SystemSound}
@@ -86,25 +86,24 @@ words_distinct ((z, Integer) ∷ ks) (suc i) zero x d e f =
 words_distinct ((z, Integer) ∷ ks) (suc i) (suc j) x d e f = ap suc (words_distinct ks i j x d.1 e f)
 words_distinct ((z, OfType u y) ∷ ks) i j x d e f = words_distinct ks i j x d.1 e f
 
-pub lookup_meant : (x : Text) (ks : Kinds) → meant.lookup x (meant_variables ks) ≡ option_map meant_variable (lookup x ks)
+pub lookup_meant : (x : Text) (ks : Kinds) → lookup x (meant_variables ks) ≡ option_map meant_variable (lookup x ks)
 lookup_meant x [] = refl
 lookup_meant x (k ∷ ks) =
-    ap (λ b. if b then Some (meant_variable k.1) else meant.lookup x (meant_variables ks)) (same_name-bytes_eq x k.0)
-    ∙ go (bytes_eq x k.0) (lookup_meant x ks)
+    go (bytes_eq x k.0) (lookup_meant x ks)
   where
-    go : (b : Bool) → meant.lookup x (meant_variables ks) ≡ option_map meant_variable (lookup x ks)
-        → (if b then Some (meant_variable k.1) else meant.lookup x (meant_variables ks)) ≡ option_map meant_variable (if b then Some k.1 else lookup x ks)
+    go : (b : Bool) → lookup x (meant_variables ks) ≡ option_map meant_variable (lookup x ks)
+        → (if b then Some (meant_variable k.1) else lookup x (meant_variables ks)) ≡ option_map meant_variable (if b then Some k.1 else lookup x ks)
     go true h = refl
     go false h = h
 
 -- a word isn't named as what is no name of the variables
 pub word_is_not : (ks : Kinds) (i : ℕ) (x z : Text) → Distinct (keys ks) → has_name z (keys ks) ≡ false → slice_get (words_of ks) i ≡ Some x
-    → same_name x z ≡ false
-word_is_not ks i x z d h e = go (same_name x z) refl
+    → bytes_eq x z ≡ false
+word_is_not ks i x z d h e = go (bytes_eq x z) refl
   where
-    go : (b : Bool) → same_name x z ≡ b → b ≡ false
+    go : (b : Bool) → bytes_eq x z ≡ b → b ≡ false
     go true is = absurd (true≢false (sym (lookup_has x ks Integer (word_found ks i x d e))
-        ∙ ap (λ n. has_name n (keys ks)) (bytes_same x z (sym (same_name-bytes_eq x z) ∙ is)) ∙ h))
+        ∙ ap (λ n. has_name n (keys ks)) (bytes_same x z is) ∙ h))
     go false is = refl
 
 pub word_in : (ss : Systems) (ks : Kinds) (i : ℕ) (x : Text) → slice_get (words_of ks) i ≡ Some x → IsIn ss (x, Integer) ks

@@ -3,10 +3,11 @@
 -- It is a property of the tree alone: process types without parameters and routines; variables of type `integer`, in the initial
 -- process also of process types; the empty statement, `NAME := expression`, `display(expression)`, `begin`, `cycle` and `init` without
 -- arguments; expressions of numbers, names, parentheses, signs and `+ - * div mod`; and no standard name but `integer` and `display`.
-use Rattle.std.specs.Prelude.{Bool, true, false, ◌&&◌, ◌||◌, not, List, [], ◌∷◌, codes}
+use Rattle.std.specs.Prelude.{Bool, List, [], codes, false, is_some, not, true, ◌&&◌, ◌||◌, ◌∷◌}
 use Rattle.std.specs.Str.{bytes_eq}
 use Rattle.cp_model.specs.Syntax as s
-use Rattle.cp_model.specs.RulesEnvironment.{Text, is_some, lookup, standard_names}
+use Rattle.cp_model.specs.RulesEnvironment.{Text, standard_names}
+use Rattle.cp_model.specs.Names.{lookup}
 use Rattle.cp_model.specs.declared.tree.Identifier.{Identifier}
 use Rattle.cp_model.specs.declared.tree.Operator.{Operator}
 use Rattle.cp_model.specs.declared.tree.Operator.TheVariants as operator

@@ -2,7 +2,8 @@
 use Rattle.std.specs.Prelude.{◌≡◌, ◌≤◌, ℕ, suc, ◌+◌, pos, true, Some, List, [], slice_get, length, map}
 use Rattle.cp_model.specs.Syntax as s
 use Rattle.cp_model.specs.Rules.{Accepted}
-use Rattle.cp_model.specs.RulesEnvironment.{Text, lookup}
+use Rattle.cp_model.specs.RulesEnvironment.{Text}
+use Rattle.cp_model.specs.Names.{lookup}
 use Rattle.cp_model.specs.Erase as erase
 use Rattle.cp_model.specs.Abstract.{Monitor, Name}
 use Rattle.cp_model.specs.Stores.{Ordinal}

@@ -1,7 +1,8 @@
 -- What the names of a text of the fragment mean.
 use Rattle.std.specs.Prelude.{◌≡◌, ◌≤◌, ℕ, pos, Some, List, [], ◌∷◌, slice_get, codes, false}
 use Rattle.cp_model.specs.Abstract.{Integer, Name, Process}
-use Rattle.cp_model.specs.Names.{lookup, same_name}
+use Rattle.cp_model.specs.Names.{lookup}
+use Rattle.std.specs.Str.{bytes_eq}
 use Rattle.cp_model.specs.Types.{full_range}
 use Rattle.cp_model.specs.Declarations.{Variable}
 use Rattle.cp_model.specs.Environments.{Environment, permanent_variables}
@@ -18,7 +19,7 @@ integer_variable = record { by_reference = false; type = full_range Integer }
 -- A name means an integer variable of the component itself.
 pub record IsInteger (env : Environment) (x : Name) : Type 0 where
   pub is_variable : lookup x (permanent_variables env.globals env.system) ≡ Some integer_variable
-  pub is_no_clock : same_name x (codes "realtime") ≡ false
+  pub is_no_clock : bytes_eq x (codes "realtime") ≡ false
 
 -- The names of words are integer variables, each of another name.
 pub record AreWords (names : List Name) (env : Environment) : Type 0 where

@@ -1,7 +1,8 @@
 -- The slots of variables, and the bodies whose names have slots.
 use Rattle.std.specs.Prelude.{◌≡◌, ℕ, suc, ◌+◌, List, [], ◌∷◌, ◌++◌, Some, true, if◌then◌else◌, length, map, codes}
 use Rattle.cp_model.specs.Syntax as s
-use Rattle.cp_model.specs.RulesEnvironment.{Text, lookup}
+use Rattle.cp_model.specs.RulesEnvironment.{Text}
+use Rattle.cp_model.specs.Names.{lookup}
 use Rattle.cp_model.specs.declared.tree.Identifier.{Identifier}
 use Rattle.cp_fragment.specs.declared.slot.Slot.{Slot}
 use Rattle.cp_fragment.specs.declared.slot.Slot.TheVariants as slot

@@ -7,5 +7,3 @@
 pub mod fits;
 pub mod law;
 pub mod slot;
-#[cfg(test)]
-mod tests;

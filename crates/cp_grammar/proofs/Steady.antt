@@ -1,6 +1,7 @@
 -- Two readers on two texts that agree up to a token and with it. Up to that token they answer the same, since no reader looks
 -- further; and each answer stands for as many tokens as its tree has levels. The second may have more levels to open: where the
--- first stops for want of a level at that token, the second opens there the level that is one too many for the first.
+-- first stops at that token, since it lacks a level, the second goes past it and opens there the level that is one too many for
+-- the first.
 use Rattle.std.proofs.Common.{◌≡◌, ℕ, suc, ◌+◌, ◌≤◌, ◌⊎◌, inl, inr, Bool, true, false, cond, List, [], ◌∷◌, ◌++◌, length, Option, Some, None, Ok, Err, refl, sym, ap, subst, ◌∙◌, append_assoc, arith, length-append}
 use Rattle.std.proofs.lemmas.List.{append-nil}
 use Rattle.cp_model.specs.Levels.{optional_levels}
@@ -12,7 +13,6 @@ use Rattle.cp_grammar.specs.declared.stop.Stop.TheVariants.{Memory, Wrong, Deep}
 use Rattle.cp_grammar.specs.Kinds.{is_symbol}
 use Rattle.cp_grammar.specs.Reading.{Outcome, Reader, and_then, ◌>>=◌, pure, refuse, too_deep, take_token, by_kind, expect, optional_symbol, if_some, inside}
 use Rattle.cp_grammar.proofs.Tokens.{no_symbol}
-use Rattle.cp_grammar.proofs.Ensures.{Ensures, ensures_weaker}
 
 -- a token, what stands behind it in the one text and in the other, and the level that is one too many
 pub record Cut : Type 0 where
@@ -21,7 +21,7 @@ pub record Cut : Type 0 where
   pub there : List Token
   pub top : ℕ
 
--- as many levels for both readers, or more for the second
+-- as many levels for both readers, or some more for the second
 pub data Mode : Type 0 where
   Equal : Mode
   Wider : Mode
@@ -46,7 +46,7 @@ abbrev pub Took : {A : Type 0} → (A → List ℕ → Type 0) → A → List To
 Took T x ts rest = (front : List Token) × (ts ≡ front ++ rest) × (levels : List ℕ) × T x levels × (length levels ≡ length front)
 
 abbrev pub TameStop : Stop → List Token → Type 0
-TameStop Memory ts = Unit {0}
+TameStop Memory ts = ⊥
 TameStop (Wrong n) ts = n ≤ length ts
 TameStop (Deep n) ts = n ≤ length ts
 
@@ -55,9 +55,14 @@ Tame T (Ok x) ts = Took T x.0 ts x.1
 Tame T (Err s) ts = TameStop s ts
 
 stop_weaken : (s : Stop) (front mid ts : List Token) → ts ≡ front ++ mid → TameStop s mid → TameStop s ts
-stop_weaken Memory front mid ts e h = tt
+stop_weaken Memory front mid ts e h = h
 stop_weaken (Wrong n) front mid ts e h = rw e (omega (arith, length-append front mid))
 stop_weaken (Deep n) front mid ts e h = rw e (omega (arith, length-append front mid))
+
+stop_shorter : (s : Stop) (ts us : List Token) → length ts ≤ length us → TameStop s ts → TameStop s us
+stop_shorter Memory ts us le h = h
+stop_shorter (Wrong n) ts us le h = omega arith
+stop_shorter (Deep n) ts us le h = omega arith
 
 pub tame_imply : {A : Type 0} (T U : A → List ℕ → Type 0) (o : Outcome A) (ts : List Token) → ((x : A) (l : List ℕ) → T x l → U x l) → Tame T o ts
     → Tame U o ts
@@ -105,12 +110,17 @@ module _ (c : Cut) where
   Opened T x rest = (levels : List ℕ) × T x levels × (before : List ℕ) × (behind : List ℕ) × (levels ≡ before ++ c.top ∷ behind)
       × (length behind + length rest ≡ length c.there)
 
+  -- the second reader went past the token of the cut
+  abbrev pub Passed : {A : Type 0} → (A → List ℕ → Type 0) → Outcome A → Type 0
+  Passed T (Ok x) = Opened T x.0 x.1
+  Passed T (Err s) = TameStop s c.there
+
   -- what a stop at the token of the cut says of the second reader
   abbrev pub LikeStop : Mode → {A : Type 0} → (A → List ℕ → Type 0) → Stop → Outcome A → Type 0
   LikeStop m T Memory o = Unit {0}
   LikeStop m T (Wrong n) o = n ≡ suc (length c.here) → o ≡ Err (Wrong (suc (length c.there)))
   LikeStop Equal T (Deep n) o = n ≡ suc (length c.here) → o ≡ Err (Deep (suc (length c.there)))
-  LikeStop Wider T (Deep n) o = n ≡ suc (length c.here) → Ensures o (Opened T)
+  LikeStop Wider T (Deep n) o = n ≡ suc (length c.here) → Passed T o
 
   abbrev pub Like : Mode → {A : Type 0} → (A → List ℕ → Type 0) → Outcome A → Outcome A → Type 0
   Like m T (Ok x) o = (g : List Token) → x.1 ≡ g ++ c.token ∷ c.here → o ≡ Ok (x.0, g ++ c.token ∷ c.there)
@@ -126,11 +136,12 @@ module _ (c : Cut) where
   like_short Equal T U (Err (Deep n)) o' mid h le = λ e. absurd (omega arith)
   like_short Wider T U (Err (Deep n)) o' mid h le = λ e. absurd (omega arith)
 
-  opened_imply : {A : Type 0} (T U : A → List ℕ → Type 0) (l : List ℕ) (o : Outcome A) → ((x : A) (m : List ℕ) → T x m → U x (l ++ m))
-      → Ensures o (Opened T) → Ensures o (Opened U)
-  opened_imply T U l o h g = ensures_weaker o (Opened T) (Opened U) g (λ x rest p.
+  passed_imply : {A : Type 0} (T U : A → List ℕ → Type 0) (l : List ℕ) (o : Outcome A) → ((x : A) (m : List ℕ) → T x m → U x (l ++ m))
+      → Passed T o → Passed U o
+  passed_imply T U l (Ok x) h p =
       let e : l ++ p.0 ≡ (l ++ p.2) ++ c.top ∷ p.3 = ap (λ (m : List ℕ). l ++ m) p.4 ∙ sym (append_assoc l p.2 (c.top ∷ p.3)) in
-      (l ++ p.0, h x p.0 p.1, l ++ p.2, p.3, e, p.5))
+      (l ++ p.0, h x.0 p.0 p.1, l ++ p.2, p.3, e, p.5)
+  passed_imply T U l (Err s) h p = p
 
   pub like_imply : {A : Type 0} (m : Mode) (T U : A → List ℕ → Type 0) (l : List ℕ) (o o' : Outcome A) → ((x : A) (k : List ℕ) → T x k → U x (l ++ k))
       → Like m T o o' → Like m U o o'
@@ -138,18 +149,18 @@ module _ (c : Cut) where
   like_imply m T U l (Err Memory) o' h g = tt
   like_imply m T U l (Err (Wrong n)) o' h g = g
   like_imply Equal T U l (Err (Deep n)) o' h g = g
-  like_imply Wider T U l (Err (Deep n)) o' h g = λ e. opened_imply T U l o' h (g e)
+  like_imply Wider T U l (Err (Deep n)) o' h g = λ e. passed_imply T U l o' h (g e)
 
   -- ---- one reader behind another
 
   module _ {A B : Type 0} (T : A → List ℕ → Type 0) (U : B → List ℕ → Type 0) where
-    opened_then : (o : Outcome A) (k : A → Reader B) → Ensures o (Opened T)
-        → ((x : A) (l : List ℕ) → T x l → (mid : List Token) → Tame (λ y m. U y (l ++ m)) (k x mid) mid) → Ensures (and_then o k) (Opened U)
-    opened_then (Err s) k h g = tt
-    opened_then (Ok x) k h g = go (k x.0 x.1) (g x.0 h.0 h.1 x.1)
+    passed_then : (o : Outcome A) (k : A → Reader B) → Passed T o
+        → ((x : A) (l : List ℕ) → T x l → (mid : List Token) → Tame (λ y m. U y (l ++ m)) (k x mid) mid) → Passed U (and_then o k)
+    passed_then (Err s) k h g = h
+    passed_then (Ok x) k h g = go (k x.0 x.1) (g x.0 h.0 h.1 x.1)
       where
-        go : (o : Outcome B) → Tame (λ y m. U y (h.0 ++ m)) o x.1 → Ensures o (Opened U)
-        go (Err s) p = tt
+        go : (o : Outcome B) → Tame (λ y m. U y (h.0 ++ m)) o x.1 → Passed U o
+        go (Err s) p = stop_shorter s x.1 c.there (omega (arith, h.5)) p
         go (Ok y) p =
             let e : h.0 ++ p.2 ≡ h.2 ++ c.top ∷ (h.3 ++ p.2) = ap (λ (l : List ℕ). l ++ p.2) h.4 ∙ append_assoc h.2 (c.top ∷ h.3) p.2 in
             let n : length x.1 ≡ length (p.0 ++ y.1) = ap length p.1 in
@@ -160,7 +171,7 @@ module _ (c : Cut) where
     stop_then m Memory o' k' h g = tt
     stop_then m (Wrong n) o' k' h g = λ e. ap (λ o. and_then o k') (h e)
     stop_then Equal (Deep n) o' k' h g = λ e. ap (λ o. and_then o k') (h e)
-    stop_then Wider (Deep n) o' k' h g = λ e. opened_then o' k' (h e) g
+    stop_then Wider (Deep n) o' k' h g = λ e. passed_then o' k' (h e) g
 
     pub like_then : (m : Mode) (o o' : Outcome A) (k k' : A → Reader B) (f : List Token) → Tame T o (f ++ c.token ∷ c.here) → Like m T o o'
         → ((x : A) (l : List ℕ) → T x l → (mid : List Token) → Tame (λ y m. U y (l ++ m)) (k x mid) mid)
@@ -330,44 +341,46 @@ optional_steady x = symbol_steady x (λ b. cond b (take_token >>= λ at. pure (S
 
 -- the readers of one level deeper, by what relates them. Where the first has none, that level is the one that is too many.
 abbrev pub SteadyInner : Cut → {B : Type 0} → (Mode → ℕ → B → B → Type 0) → Mode → ℕ → Option B → Option B → Type 0
-SteadyInner c R m depth None None = Unit {0}
+SteadyInner c R Equal depth None None = Unit {0}
+SteadyInner c R Wider depth None None = ⊥
 SteadyInner c R Equal depth None (Some f) = ⊥
 SteadyInner c R Wider depth None (Some f) = (suc depth ≡ c.top) × R Equal (suc depth) f f
 SteadyInner c R m depth (Some f) None = ⊥
 SteadyInner c R m depth (Some f) (Some f') = R m (suc depth) f f'
 
-too_deep_steady : {c : Cut} {m : Mode} {A : Type 0} {T : A → List ℕ → Type 0} → Steady c m Before T (too_deep {A = A}) too_deep
-too_deep_steady {c} {m} {A} {T} = record { tame = λ ts k. omega arith; tame' = λ ts k. omega arith; like = λ f. like m f }
-  where
-    like : (m : Mode) (f : List Token) → Like c m T (too_deep (f ++ c.token ∷ c.here)) (too_deep (f ++ c.token ∷ c.there))
-    like Equal f = λ e. (let n : length f ≡ 0 = omega (arith, length-append f (c.token ∷ c.here)) in
-        let k : length (f ++ c.token ∷ c.there) ≡ suc (length c.there) = omega (arith, length-append f (c.token ∷ c.there)) in
-        ap (λ n. Err (Deep n)) k)
-    like Wider f = λ e. tt
+too_deep_steady : {c : Cut} {A : Type 0} {T : A → List ℕ → Type 0} → Steady c Equal Before T (too_deep {A = A}) too_deep
+too_deep_steady {c} {A} {T} = record {
+  tame = λ ts k. omega arith;
+  tame' = λ ts k. omega arith;
+  like = λ f e. (let n : length f ≡ 0 = omega (arith, length-append f (c.token ∷ c.here)) in
+      let k : length (f ++ c.token ∷ c.there) ≡ suc (length c.there) = omega (arith, length-append f (c.token ∷ c.there)) in
+      ap (λ n. Err (Deep n)) k);
+}
 
 module _ {c : Cut} {A B : Type 0} (T : A → List ℕ → Type 0) (R : Mode → ℕ → B → B → Type 0) (depth : ℕ) (h : B → ℕ → Reader A)
     (next : (m : Mode) (f f' : B) → R m (suc depth) f f' → (at : ℕ) → Steady c m Anywhere (λ y l. T y (suc depth ∷ l)) (h f at) (h f' at)) where
   within : (m : Mode) (f f' : B) → R m (suc depth) f f' → Steady c m Before T (take_token >>= h f) (take_token >>= h f')
   within m f f' r = then (take_steady (suc depth)) (λ at. next m f f' r at)
 
-  opened_here : (f : B) → suc depth ≡ c.top → R Equal (suc depth) f f → Ensures ((take_token >>= h f) (c.token ∷ c.there)) (Opened c T)
+  opened_here : (f : B) → suc depth ≡ c.top → R Equal (suc depth) f f → Passed c T ((take_token >>= h f) (c.token ∷ c.there))
   opened_here f top r = go (h f c.token.span.from c.there) ((next Equal f f r c.token.span.from).tame c.there tt)
     where
-      go : (o : Outcome A) → Tame (λ y l. T y (suc depth ∷ l)) o c.there → Ensures o (Opened c T)
-      go (Err s) p = tt
+      go : (o : Outcome A) → Tame (λ y l. T y (suc depth ∷ l)) o c.there → Passed c T o
+      go (Err s) p = p
       go (Ok y) p =
           let n : length c.there ≡ length (p.0 ++ y.1) = ap length p.1 in
           (suc depth ∷ p.2, p.3, [], p.2, ap (λ (n : ℕ). n ∷ p.2) top, omega (arith, length-append p.0 y.1, n, p.4))
 
   too_many : (f : B) → suc depth ≡ c.top → R Equal (suc depth) f f → (g : List Token) → length (g ++ c.token ∷ c.here) ≡ suc (length c.here)
-      → Ensures ((take_token >>= h f) (g ++ c.token ∷ c.there)) (Opened c T)
+      → Passed c T ((take_token >>= h f) (g ++ c.token ∷ c.there))
   too_many f top r [] e = opened_here f top r
   too_many f top r (x ∷ g) e = absurd (omega (arith, length-append g (c.token ∷ c.here)))
 
   -- what opens a level begins with the token that opens it
   pub opening_steady : (m : Mode) (i i' : Option B) → SteadyInner c R m depth i i'
       → Steady c m Before T (inside i (λ f. take_token >>= h f)) (inside i' (λ f. take_token >>= h f))
-  opening_steady m None None s = too_deep_steady
+  opening_steady Equal None None s = too_deep_steady
+  opening_steady Wider None None s = absurd s
   opening_steady Equal None (Some f) s = absurd s
   opening_steady Wider None (Some f) s = record {
     tame = λ ts k. omega arith;

@@ -1,5 +1,5 @@
 -- A whole text is read steadily, with as many levels or with more.
-use Rattle.std.proofs.Common.{◌≡◌, ℕ, zero, suc, ◌+◌, ◌≤◌, ◌++◌, Option, Some, None, refl, arith}
+use Rattle.std.proofs.Common.{◌≡◌, ℕ, zero, suc, ◌+◌, ◌<◌, ◌++◌, Option, Some, None, refl, arith}
 use Rattle.std.proofs.lemmas.List.{append-nil}
 use Rattle.cp_model.specs.Syntax as s
 use Rattle.cp_model.specs.Levels.{text_levels}
@@ -60,10 +60,10 @@ module _ (c : Cut) where
 
   -- ---- more levels
 
-  inner_wider : (room wide depth : ℕ) → room ≤ wide → suc (depth + room) ≡ c.top
+  inner_wider : (room wide depth : ℕ) → room < wide → suc (depth + room) ≡ c.top
       → SteadyInner c (Related c) Wider depth (inner_at room) (inner_at wide)
   unfolding inner_at
-  inner_wider zero zero depth le top = tt
+  inner_wider zero zero depth le top = absurd (omega arith)
   inner_wider zero (suc wide) depth le top = (
     omega arith,
     factor_of_steady Equal (suc depth) (inner_at wide) (inner_at wide) (inner_steady wide (suc depth)),
@@ -72,10 +72,10 @@ module _ (c : Cut) where
   inner_wider (suc room) (suc wide) depth le top =
       factor_of_steady Wider (suc depth) (inner_at room) (inner_at wide) (inner_wider room wide (suc depth) (omega arith) (omega arith))
 
-  inner_type_wider : (room wide depth : ℕ) → room ≤ wide → suc (depth + room) ≡ c.top
+  inner_type_wider : (room wide depth : ℕ) → room < wide → suc (depth + room) ≡ c.top
       → SteadyInner c (TypesRelated c) Wider depth (inner_type_at room) (inner_type_at wide)
   unfolding inner_type_at
-  inner_type_wider zero zero depth le top = tt
+  inner_type_wider zero zero depth le top = absurd (omega arith)
   inner_type_wider zero (suc wide) depth le top = (
     omega arith,
     type_of_steady Equal (suc depth) (inner_type_at wide) (inner_type_at wide) (inner_type_steady wide (suc depth)),
@@ -84,10 +84,10 @@ module _ (c : Cut) where
   inner_type_wider (suc room) (suc wide) depth le top =
       type_of_steady Wider (suc depth) (inner_type_at room) (inner_type_at wide) (inner_type_wider room wide (suc depth) (omega arith) (omega arith))
 
-  deeper_wider : (room wide depth : ℕ) → room ≤ wide → suc (depth + room) ≡ c.top
+  deeper_wider : (room wide depth : ℕ) → room < wide → suc (depth + room) ≡ c.top
       → SteadyInner c (DeeperRelated c) Wider depth (deeper_at room) (deeper_at wide)
   unfolding deeper_at
-  deeper_wider zero zero depth le top = tt
+  deeper_wider zero zero depth le top = absurd (omega arith)
   deeper_wider zero (suc wide) depth le top = (
     omega arith,
     (
@@ -104,7 +104,7 @@ module _ (c : Cut) where
             (deeper_wider room wide (suc depth) (omega arith) (omega arith)),
       )
 
-  pub text_wider : (room wide : ℕ) → room ≤ wide → suc room ≡ c.top → Steady c Wider Anywhere (Has text_levels) (text_at room) (text_at wide)
+  pub text_wider : (room wide : ℕ) → room < wide → suc room ≡ c.top → Steady c Wider Anywhere (Has text_levels) (text_at room) (text_at wide)
   text_wider room wide le top =
       text_of_steady Wider (deeper_at room) (deeper_at wide) (deeper_wider room wide 0 le (omega arith))
       (type_of_steady Wider 0 (inner_type_at room) (inner_type_at wide) (inner_type_wider room wide 0 le (omega arith)))

@@ -77,6 +77,12 @@ DeepOpensTheNext = (room : ℕ) (front : List Token) (t : Token) (behind : List 
     → (limit : ℕ) (more : List Token) (tree : s.Tree) → text limit tree ((front ++ t ∷ []) ++ more) []
     → get_or (text_levels tree) (length front) 0 ≡ suc room
 
+-- with some levels more, a text begins with the tokens up to the one that is too deep and with it
+abbrev pub DeepBeginsADeeperText : Type 0
+DeepBeginsADeeperText = (room : ℕ) (front : List Token) (t : Token) (behind : List Token)
+    → text_at room (front ++ t ∷ behind) ≡ Err (Deep (suc (length behind)))
+    → Begins (front ++ t ∷ [])
+
 -- a tree has a level for each of its tokens
 abbrev pub LevelsAreOfTokens : Type 0
 LevelsAreOfTokens = (room : ℕ) (ts : List Token) (tree : s.Tree) → text room tree ts [] → length (text_levels tree) ≡ length ts

@@ -1,6 +1,6 @@
 //! The laws of the reading functions, each family on a function of its own with nothing to do.
 
-ghost use Rattle.cp_grammar.specs.Laws.{DeepIsFirst, DeepOpensTheNext, ExpressionsAreComplete, ExpressionsAreSound, FrontBeginsAText, LevelsAreOfTokens, StatementsAreComplete, StatementsAreSound, StopsInside, TextIsComplete, TextIsSound, TreeIsUnique, TypesAreComplete, TypesAreSound, WrongIsFirst};
+ghost use Rattle.cp_grammar.specs.Laws.{DeepBeginsADeeperText, DeepIsFirst, DeepOpensTheNext, ExpressionsAreComplete, ExpressionsAreSound, FrontBeginsAText, LevelsAreOfTokens, StatementsAreComplete, StatementsAreSound, StopsInside, TextIsComplete, TextIsSound, TreeIsUnique, TypesAreComplete, TypesAreSound, WrongIsFirst};
 
 /// An expression is read exactly where the grammar has one.
 pub fn expression_laws()
@@ -34,5 +34,6 @@ pub fn refusal_laws()
     ensures wrong { WrongIsFirst }
     ensures deep { DeepIsFirst }
     ensures opens { DeepOpensTheNext }
+    ensures deeper { DeepBeginsADeeperText }
     ensures levels { LevelsAreOfTokens }
 {}

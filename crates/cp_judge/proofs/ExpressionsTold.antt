@@ -4,6 +4,7 @@ use Rattle.std.specs.Option.{option_and}
 use Rattle.cp_model.specs.Syntax as s
 use Rattle.cp_model.specs.Syntax.{chain_of}
 use Rattle.cp_model.specs.declared.rules.Violation.{Violation}
+use Rattle.cp_model.specs.declared.rules.Entity.{Entity}
 use Rattle.cp_model.specs.declared.rules.Mode.{Mode}
 use Rattle.cp_model.specs.declared.rules.Mode.TheVariants as mode
 use Rattle.cp_model.specs.declared.rules.Want.{Want}
@@ -16,7 +17,7 @@ use Rattle.cp_model.specs.RulesNames as n
 use Rattle.cp_model.specs.RulesExpressions.{argument, judge, first_operand, c2_operands, wants_in, result_of, first_type, more_arguments}
 use Rattle.cp_model.specs.View.{expression, operation, expressions_of}
 use Rattle.cp_judge.specs.Arguments.{form_rules, type_rule}
-use Rattle.cp_judge.specs.Callees.{wants_of, wants_if, callee, callee_if, result_if, TellsCallee}
+use Rattle.cp_judge.specs.Callees.{wants_if, wants_known, callee, callee_if, result_if, TellsCallee}
 use Rattle.cp_judge.specs.ExpressionParts.{argument_for}
 use Rattle.cp_judge.specs.Tells.{Tells}
 use Rattle.cp_judge.specs.declared.callees.Callee.{Callee}
@@ -27,6 +28,7 @@ use Rattle.cp_judge.proofs.Tells.{both_some, both_left, both_right}
 pub first_operand_again : (m : Mode) → first_operand (first_operand m) ≡ first_operand m
 first_operand_again mode.Value = refl
 first_operand_again mode.Variable = refl
+first_operand_again mode.FirstOperand = refl
 first_operand_again mode.Queue = refl
 
 judge_binary : (env : Environment) (m : Mode) (e : s.Expression) (o : s.Operation) (os : List s.Operation)
@@ -46,11 +48,16 @@ pub count_expressions : (xs : List Expression) → n.count_of (expressions_of (m
 count_expressions [] = refl
 count_expressions (x ∷ xs) = ap suc (count_expressions xs)
 
-pub wants_told : (env : Environment) (c : Option Callee) (j : Judged n.Callee) → callee_if env c ≡ meaning_of j → wants_of env (wants_if c) ≡ wants_in j
-wants_told env None (Sound y) h = absurd (cc)
-wants_told env None (Broken v vs) h = refl
-wants_told env (Some c) (Sound y) h = let e : callee env c ≡ y = cc in ap (λ z. z.wants) e
-wants_told env (Some c) (Broken v vs) h = absurd (cc)
+wants_known_told : (env : Environment) (e : Option Entity) (j : Judged Entity) → e ≡ meaning_of j → wants_known env e ≡ n.wants_named env j
+wants_known_told env e (Sound y) h = ap (wants_known env) h
+wants_known_told env e (Broken v vs) h = ap (wants_known env) h
+
+pub wants_told : (env : Environment) (e : Option Entity) (k : Judged Entity) (c : Option Callee) (j : Judged n.Callee) → e ≡ meaning_of k → callee_if env c ≡ meaning_of j
+    → wants_if env e c ≡ wants_in env k j
+wants_told env e k None (Sound y) g h = absurd (cc)
+wants_told env e k None (Broken v vs) g h = wants_known_told env e k g
+wants_told env e k (Some c) (Sound y) g h = let same : callee env c ≡ y = cc in ap (λ z. z.wants) same
+wants_told env e k (Some c) (Broken v vs) g h = absurd (cc)
 
 pub result_told : (env : Environment) (t0 t1 t2 : Option Violation) (c : Option Callee) (t : Option ℕ) (jc : Judged n.Callee) (ja : Judged ℕ)
     → TellsCallee env t0 t1 c jc → Tells t1 t2 t ja → Tells t0 t2 (result_if env c t) (both jc ja (result_of env))
@@ -68,7 +75,7 @@ argument_parts env want.Integer e j = refl
 argument_parts env want.CharVariable e j = refl
 argument_parts env want.QueueVariable e j = refl
 
--- the argument of number k, and those behind it
+-- the argument of number k, and those after it
 pub more_step : (env : Environment) (j : Judged ℕ) (ws : List Want) (k m : ℕ) (e : s.Expression) (es : s.Expressions) → k + 1 ≡ m
     → more_arguments env j (drop k ws) (s.MoreExpressions e es) ≡ more_arguments env (both j (argument_for env (slice_get ws k) e) first_type) (drop m ws) es
 more_step env j ws k zero e es next = absurd (omega (arith, next))

@@ -5,7 +5,8 @@ use Rattle.std.specs.Ordering.{int_eq}
 use Rattle.std.proofs.lemmas.Bool.Decides.{nat_tests}
 use Rattle.cp_model.specs.RulesJudged.{Judged, Sound, Broken, meaning_of}
 use Rattle.cp_model.specs.RulesEnvironment.{Environment}
-use Rattle.cp_model.specs.RulesStatements.{Label, is_among, same_integer, selector_base}
+use Rattle.cp_model.specs.RulesStatements.{Label, is_among, selector_base}
+use Rattle.cp_model.specs.Integers.{same_integer}
 use Rattle.cp_judge.specs.Labels.{base_if}
 
 same_int : (a b : ℤ) → int_eq a b ≡ same_integer a b

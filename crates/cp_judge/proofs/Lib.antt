@@ -9,3 +9,4 @@ pub mod InitTold
 pub mod LabelsTold
 pub mod StatementViews
 pub mod NeedsOfChains
+pub mod Distinct

@@ -1,9 +1,10 @@
 -- What is called, in the code and in the definitions.
 use Rattle.std.specs.Prelude.{◌≡◌, ℕ, List, [], ◌∷◌, map, Option, None, Some}
 use Rattle.cp_model.specs.declared.rules.Violation.{Violation}
-use Rattle.cp_model.specs.RulesJudged.{Judged, least, violations_of, meaning_of}
+use Rattle.cp_model.specs.RulesJudged.{Judged, Sound, least, violations_of, meaning_of}
 use Rattle.cp_model.specs.RulesEnvironment as r
 use Rattle.cp_model.specs.RulesNames as n
+use Rattle.cp_model.specs.declared.rules.Entity.{Entity}
 use Rattle.cp_model.specs.declared.rules.Want.{Want}
 use Rattle.cp_model.specs.declared.rules.Want.TheVariants as want
 use Rattle.cp_judge.specs.declared.callees.Wants.{Wants}
@@ -22,23 +23,18 @@ abbrev pub callee_if : r.Environment → Option Callee → Option n.Callee
 callee_if env None = None
 callee_if env (Some c) = Some (callee env c)
 
-abbrev pub AreStandard : Wants → Type 0
-AreStandard (wants.Parameters first count) = ⊥
-AreStandard w = Unit {0}
-
 -- the answer is what is called, and of what is broken the earliest is kept
 abbrev pub TellsCallee : r.Environment → Option Violation → Option Violation → Option Callee → Judged n.Callee → Type 0
 TellsCallee env old new answer j = (new ≡ least old (violations_of j)) × (callee_if env answer ≡ meaning_of j)
 
--- what a standard routine wants is no parameter of a text
-abbrev pub IsStandard : Option Callee → Type 0
-IsStandard None = Unit {0}
-IsStandard (Some c) = AreStandard c.wants
+-- what the arguments have to meet, where what stands before them is known
+abbrev pub wants_known : r.Environment → Option Entity → List Want
+wants_known env None = []
+wants_known env (Some e) = n.wants_named env (Sound e)
 
--- what the arguments have to meet; nothing, where the name is broken
-abbrev pub wants_if : Option Callee → Wants
-wants_if None = wants.Nothing
-wants_if (Some c) = c.wants
+abbrev pub wants_if : r.Environment → Option Entity → Option Callee → List Want
+wants_if env e None = wants_known env e
+wants_if env e (Some c) = wants_of env c.wants
 
 -- the type of what a call gives, where what is called and the type of the first argument are known
 abbrev pub result_if : r.Environment → Option Callee → Option ℕ → Option ℕ

@@ -10,7 +10,7 @@ use Rattle.cp_model.specs.declared.rules.Want.{Want}
 use Rattle.cp_model.specs.declared.rules.ArrayPart.{ArrayPart}
 use Rattle.cp_model.specs.RulesJudged.{Judged, also, then_judge}
 use Rattle.cp_model.specs.RulesEnvironment.{Environment}
-use Rattle.cp_model.specs.RulesNames.{Callee, first_name, value_of, c8_named, c2_indexed, function_of, c2_array}
+use Rattle.cp_model.specs.RulesNames.{Callee, value_of, c2_c5_c8_named, c2_indexed, function_of, c2_array}
 use Rattle.cp_judge.specs.Arguments.{type_rule}
 use Rattle.cp_judge.specs.Tells.{Tells}
 use Rattle.cp_model.specs.RulesExpressions.{judge, designated, argument, mode_of, first_operand}
@@ -20,16 +20,16 @@ abbrev pub typed : Environment → Mode → s.Designator → Judged ℕ
 typed env m d = then_judge (designated env d) (value_of env m d)
 
 abbrev pub used : Environment → Mode → s.Designator → Judged ℕ
-used env m d = also (c8_named env m (first_name d)) (typed env m d)
+used env m d = also (c2_c5_c8_named env m d) (typed env m d)
 
 -- what is called
-abbrev pub named_callee : Environment → Mode → s.Designator → ℕ → Judged Callee
-named_callee env m d n = then_judge (designated env d) (function_of env m d n)
+abbrev pub function_if : Environment → Mode → s.Designator → ℕ → Judged Entity → Judged Callee
+function_if env m d n j = then_judge j (function_of env m d n)
 
 abbrev pub callee_of : Environment → Mode → s.Designator → ℕ → Judged Callee
-callee_of env m d n = also (c2_indexed env m d) (named_callee env m d n)
+callee_of env m d n = also (c2_indexed env m d) (function_if env m d n (designated env d))
 
--- behind an operand that was judged: the operators, and their right operands
+-- after an operand that was judged: the operators, and their right operands
 abbrev pub TellsChain : Environment → Option Violation → Option Violation → Option ℕ → Option ℕ → List s.Operation → Type 0
 TellsChain env old new left answer os =
     (t : Option Violation) (m : Mode) (e : s.Expression) → Tells t old left (judge env (first_operand m) e) → Tells t new answer (judge env (first_operand m) (chain_of e os))

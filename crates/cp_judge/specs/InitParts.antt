@@ -10,13 +10,19 @@ use Rattle.cp_model.specs.declared.rules.Mode.TheVariants as mode
 use Rattle.cp_model.specs.declared.rules.ParameterRow.{ParameterRow}
 use Rattle.cp_model.specs.declared.rules.SystemRow.{SystemRow}
 use Rattle.cp_model.specs.RulesJudged.{Judged, Violations, also, then_judge, provided}
-use Rattle.cp_model.specs.RulesEnvironment.{Environment, agree, c1_named, parameters_from}
-use Rattle.cp_model.specs.RulesNames.{first_token, c8_named}
-use Rattle.cp_model.specs.RulesExpressions.{judge}
+use Rattle.cp_model.specs.RulesEnvironment.{Environment, agree, c1_named, parameters_from, system_row}
+use Rattle.cp_model.specs.RulesNames.{first_token, c2_c5_c8_named, c8_named}
+use Rattle.cp_model.specs.RulesExpressions.{judge, designated}
 use Rattle.cp_model.specs.RulesStatements as st
 
+abbrev pub system : Environment → Identifier → Judged ℕ
+system env x = then_judge (c1_named env x) (st.c12_component env x)
+
 abbrev pub component : Environment → Identifier → ℕ → Judged SystemRow
-component env x count = then_judge (then_judge (c1_named env x) (st.c12_component env x)) (st.c12_count env x count)
+component env x count = then_judge (system env x) (st.c12_count env x count)
+
+abbrev pub unwanted_designator : Environment → s.Designator → Judged ℕ
+unwanted_designator env d = also (c2_c5_c8_named env mode.Value d) (then_judge (designated env d) (st.unused env d))
 
 abbrev pub passed_alone : Environment → ℕ → Identifier → Judged ℕ
 passed_alone env u x = also (c8_named env mode.Value x) (then_judge (c1_named env x) (st.c12_passed env u x))
@@ -46,8 +52,8 @@ name_alone e = None
 
 -- ---- lists
 
-abbrev pub parameters_if : Environment → Option SystemRow → List ParameterRow
-parameters_if env (Some y) = parameters_from env y.first y.count
+abbrev pub parameters_if : Environment → Option ℕ → List ParameterRow
+parameters_if env (Some y) = parameters_from env (system_row env y).first (system_row env y).count
 parameters_if env None = []
 
 abbrev pub type_if : Option ParameterRow → Option ℕ

@@ -4,7 +4,6 @@ pub mod Environments
 pub mod Callees
 pub mod Designated
 pub mod Arguments
-pub mod Roots
 pub mod ExpressionParts
 pub mod StatementParts
 pub mod Labels

@@ -1,5 +1,5 @@
 -- The parts of a need that functions of the code answer.
-use Rattle.std.specs.Prelude.{ℕ, max, List, [], ◌∷◌, Option, Some, None}
+use Rattle.std.specs.Prelude.{ℕ, max, List, [], ◌∷◌, Option, Some}
 use Rattle.cp_model.specs.Syntax as s
 use Rattle.cp_model.specs.declared.rules.Entity.{Entity}
 use Rattle.cp_model.specs.declared.rules.Entity.TheVariants as entity

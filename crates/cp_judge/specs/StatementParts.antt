@@ -2,6 +2,7 @@
 use Rattle.std.specs.Prelude.{ℕ, Bool, false, [], ◌∷◌, ◌++◌, Option, Some, None}
 use Rattle.cp_model.specs.Syntax as s
 use Rattle.cp_model.specs.declared.tree.Identifier.{Identifier}
+use Rattle.cp_model.specs.declared.rules.Entity.{Entity}
 use Rattle.cp_model.specs.declared.rules.Rule.TheVariants.{C2, C4, C10}
 use Rattle.cp_model.specs.declared.rules.Mode.TheVariants as mode
 use Rattle.cp_model.specs.declared.rules.Returns.{Returns}
@@ -29,11 +30,11 @@ is_component_if env (Some t) = is_component env t
 is_component_if env None = false
 
 -- the procedure that is called
-abbrev pub procedure_named : Environment → s.Designator → ℕ → Judged n.Callee
-procedure_named env d count = then_judge (designated env d) (n.procedure_of env d count)
+abbrev pub procedure_if : Environment → s.Designator → ℕ → Judged Entity → Judged n.Callee
+procedure_if env d count j = then_judge j (n.procedure_of env d count)
 
 abbrev pub procedure_called : Environment → s.Designator → ℕ → Judged n.Callee
-procedure_called env d count = also (n.c2_indexed env mode.Value d) (procedure_named env d count)
+procedure_called env d count = also (n.c2_indexed env mode.Value d) (procedure_if env d count (designated env d))
 
 -- ---- `for`
 

@@ -3,16 +3,18 @@
 ghost use Rattle.std.specs.Prelude.{◌≡◌, ◌++◌, [], ◌∷◌, map, Option, None, Some};
 ghost use Rattle.cp_model.specs.RulesEnvironment as r;
 ghost use Rattle.cp_model.specs.RulesJudged.{least};
+ghost use Rattle.cp_model.specs.RulesNames as n;
+ghost use Rattle.cp_model.specs.declared.rules.Mode.TheVariants as mode;
 ghost use Rattle.cp_model.specs.RulesStatements as st;
 ghost use Rattle.cp_model.specs.View.{designator, expression, selector, selectors_of};
 ghost use Rattle.cp_judge.specs.Environments.{environment};
 ghost use Rattle.cp_judge.specs.StatementParts as parts;
 ghost use Rattle.cp_judge.specs.Tells.{Tells, TellsOf, TellsBoth};
 
+use crate::designators::names_fit;
 use crate::environment::{Environment, agree, is_component};
 use crate::expressions::{judge, typed};
-use crate::names::{known, queue_named};
-use crate::places::first_name;
+use crate::names::known;
 use crate::telling::{answer_if, broken, tell};
 use crate::values::{designated, variable_designated};
 use cp_model::rules::{Entity, Mode, Returns, Rule, Violation};
@@ -71,13 +73,21 @@ fn own_result(
     }
 }
 
+// What is judged of the names of a left side that is no function's own name. C10: it is no variable.
+fn names_changeable(env: &Environment, told: &mut Option<Violation>, d: &Designator) -> bool
+    ensures { TellsOf told.old told.new result (n.c2_c5_c8_named (environment env.now) mode.Variable (designator d.now) ++ n.c10_designator (environment env.now) (designator d.now)) }
+{
+    let fits = names_fit(env, told, Mode::Variable, d);
+    let is_variable = variable_designated(env, told, d);
+    fits && is_variable
+}
+
 fn other_left(env: &Environment, told: &mut Option<Violation>, d: &Designator) -> Option<usize>
     ensures { Tells told.old told.new result (st.other_left (environment env.now) (designator d.now)) }
 {
-    let no_queue = queue_named(env, told, Mode::Value, first_name(d));
-    let is_variable = variable_designated(env, told, d);
+    let fits = names_changeable(env, told, d);
     let t = typed(env, told, Mode::Variable, d);
-    answer_if(no_queue && is_variable, t)
+    answer_if(fits, t)
 }
 
 // The type of a left side.

@@ -3,20 +3,21 @@
 ghost use Rattle.std.specs.Prelude.{◌≡◌, ◌∷◌, [], map, Option, None, Some, slice_get, length, nat_eq};
 ghost use Rattle.cp_model.specs.RulesEnvironment as r;
 ghost use Rattle.cp_model.specs.RulesNames as n;
-ghost use Rattle.cp_model.specs.RulesJudged.{meaning_of};
-ghost use Rattle.cp_model.specs.View.{designator, selector, selectors_of};
+ghost use Rattle.cp_model.specs.RulesJudged.{meaning_of, Sound};
+ghost use Rattle.cp_model.specs.View.{designator};
 ghost use Rattle.cp_judge.specs.Environments.{environment};
-ghost use Rattle.cp_judge.specs.Callees.{wants_of, callee_if, TellsCallee, IsStandard};
+ghost use Rattle.cp_judge.specs.Callees.{wants_of, wants_if, TellsCallee};
 ghost use Rattle.cp_judge.specs.Tells.{Tells, TellsOf};
 
-use crate::environment::{BOOLEAN, CHAR, Environment, INTEGER, routine};
-use crate::names::{in_place, known, sort_rule, unfinished};
-use crate::places::{first_name, has_field, last_name};
+use crate::environment::{Environment, routine};
+use crate::names::{in_place, sort_rule, unfinished};
+use crate::places::last_name;
+use crate::standard::{standard_function_called, standard_procedure_called, standard_wants};
 use crate::telling::{answer_if, broken, tell, unless_holds};
 use cp_model::rules::{
-    Entity, Gives, Mode, ParameterRow, Returns, RoutineRow, Rule, Standard, Violation, Want,
+    Entity, Gives, Mode, ParameterRow, Returns, RoutineRow, Rule, Violation, Want,
 };
-use cp_model::tree::{Designator, Identifier, Selector};
+use cp_model::tree::{Designator, Identifier};
 
 /// What the arguments of a call have to meet.
 #[derive(Clone, Copy, Debug)]
@@ -32,6 +33,13 @@ pub enum Wants {
 pub struct Callee {
     pub wants: Wants,
     pub gives: Gives,
+}
+
+/// A call's name: what its arguments have to meet, also where something is broken in it, and what is called.
+#[derive(Clone, Copy, Debug)]
+pub struct Called {
+    pub wants: Wants,
+    pub callee: Option<Callee>,
 }
 
 /// What a routine's call gives as a function: a wrong number of arguments is C2, a procedure of another sort.
@@ -106,101 +114,29 @@ fn procedure_called(
     broken(told, Rule::C2, x.at)
 }
 
+// A routine without `entry` after a `.`, which is not called. C2: a wrong number of arguments; else C5.
+fn counted(
+    env: &Environment,
+    told: &mut Option<Violation>,
+    x: &Identifier,
+    count: usize,
+    row: RoutineRow,
+) -> Option<Callee>
+    ensures { TellsCallee (environment env.now) told.old told.new result (n.counted (environment env.now) x.now count row) }
+{
+    let rule = if row.count == count {
+        Rule::C5
+    } else {
+        Rule::C2
+    };
+    broken(told, rule, x.at)
+}
+
 /// C5: an entry routine is called by its name alone.
 fn by_name(told: &mut Option<Violation>, x: &Identifier, row: RoutineRow) -> bool
     ensures { TellsOf told.old told.new result (n.c5_by_name x.now row) }
 {
     unless_holds(told, !row.entry, Rule::C5, x.at)
-}
-
-// What a standard function wants and gives.
-fn standard_function(env: &Environment, standard: Standard) -> Option<Callee>
-    ensures callee { callee_if (environment env.now) result ≡ n.standard_function standard }
-    ensures standard { IsStandard result }
-{
-    let (wants, gives) = match standard {
-        Standard::Abs => (Wants::One(Want::Integer), Gives::Value(INTEGER)),
-        Standard::Succ => (Wants::One(Want::Simple), Gives::ArgumentBase),
-        Standard::Pred => (Wants::One(Want::Simple), Gives::ArgumentBase),
-        Standard::Ord => (Wants::One(Want::Simple), Gives::Value(INTEGER)),
-        Standard::Chr => (Wants::One(Want::Integer), Gives::Value(CHAR)),
-        Standard::Empty => (Wants::One(Want::QueueVariable), Gives::Value(BOOLEAN)),
-        Standard::Realtime => (Wants::Nothing, Gives::Value(INTEGER)),
-        _ => return None,
-    };
-    Some(Callee { wants, gives })
-}
-
-// What a standard procedure wants.
-fn standard_procedure(env: &Environment, standard: Standard) -> Option<Callee>
-    ensures callee { callee_if (environment env.now) result ≡ n.standard_procedure standard }
-    ensures standard { IsStandard result }
-{
-    let wants = match standard {
-        Standard::Delay => Wants::One(Want::QueueVariable),
-        Standard::Continue => Wants::One(Want::QueueVariable),
-        Standard::Display => Wants::One(Want::Simple),
-        Standard::Accept => Wants::One(Want::CharVariable),
-        Standard::Wait => Wants::Nothing,
-        _ => return None,
-    };
-    Some(Callee {
-        wants,
-        gives: Gives::Nothing,
-    })
-}
-
-/// A standard routine with so many arguments. C2: a wrong number of them.
-fn standard_called(
-    env: &Environment,
-    told: &mut Option<Violation>,
-    rule: Rule,
-    x: &Identifier,
-    given: usize,
-    callee: Option<Callee>,
-) -> Option<Callee>
-    requires { IsStandard callee }
-    ensures { TellsCallee (environment env.now) told.old told.new result (n.standard_called rule x.now given (callee_if (environment env.now) callee)) }
-{
-    let Some(callee) = callee else {
-        return broken(told, rule, x.at);
-    };
-    let wanted = match callee.wants {
-        Wants::Nothing => 0,
-        Wants::One(_) => 1,
-        Wants::Parameters(_, _) => unreachable!(),
-    };
-    if wanted == given {
-        return Some(callee);
-    }
-    broken(told, Rule::C2, x.at)
-}
-
-fn standard_function_called(
-    env: &Environment,
-    told: &mut Option<Violation>,
-    rule: Rule,
-    x: &Identifier,
-    count: usize,
-    standard: Standard,
-) -> Option<Callee>
-    ensures { TellsCallee (environment env.now) told.old told.new result (n.standard_called rule x.now count (n.standard_function standard)) }
-{
-    let callee = standard_function(env, standard);
-    standard_called(env, told, rule, x, count, callee)
-}
-
-fn standard_procedure_called(
-    env: &Environment,
-    told: &mut Option<Violation>,
-    x: &Identifier,
-    count: usize,
-    standard: Standard,
-) -> Option<Callee>
-    ensures { TellsCallee (environment env.now) told.old told.new result (n.standard_called Rule.C2 x.now count (n.standard_procedure standard)) }
-{
-    let callee = standard_procedure(env, standard);
-    standard_called(env, told, Rule::C2, x, count, callee)
 }
 
 /// A function that is called with so many arguments.
@@ -223,7 +159,13 @@ pub fn function(
             let by_name = by_name(told, x, row);
             answer_if(by_name, function_called(env, told, rule, x, count, row))
         }
-        Entity::Entry(number) => function_called(env, told, rule, x, count, routine(env, number)),
+        Entity::Entry(number) => {
+            let row = routine(env, number);
+            if row.entry {
+                return function_called(env, told, rule, x, count, row);
+            }
+            counted(env, told, x, count, row)
+        }
         Entity::UnfinishedRoutine(row) => {
             let finished = unfinished(told, x, entity);
             answer_if(finished, function_called(env, told, rule, x, count, row))
@@ -260,7 +202,13 @@ pub fn procedure(
             let by_name = by_name(told, x, row);
             answer_if(by_name, procedure_called(env, told, x, count, row))
         }
-        Entity::Entry(number) => procedure_called(env, told, x, count, routine(env, number)),
+        Entity::Entry(number) => {
+            let row = routine(env, number);
+            if row.entry {
+                return procedure_called(env, told, x, count, row);
+            }
+            counted(env, told, x, count, row)
+        }
         Entity::UnfinishedRoutine(row) => {
             let finished = unfinished(told, x, entity);
             answer_if(finished, procedure_called(env, told, x, count, row))
@@ -279,37 +227,34 @@ pub fn procedure(
     }
 }
 
-fn is_indexed_alone(selectors: &[Selector]) -> bool
-    ensures { result ≡ n.is_indexed_alone (selectors_of (map selector selectors.now)) }
+fn parameters(env: &Environment, row: RoutineRow) -> Wants
+    ensures { wants_of (environment env.now) result ≡ n.wants_of (environment env.now) row }
 {
-    match selectors {
-        [] => false,
-        _ => !has_field(selectors),
+    Wants::Parameters(row.first, row.count)
+}
+
+// What the arguments have to meet of what is called, whatever is broken in the call.
+fn wants_named(env: &Environment, entity: Entity) -> Wants
+    ensures { wants_of (environment env.now) result ≡ n.wants_named (environment env.now) (Sound entity) }
+{
+    match entity {
+        Entity::Routine(number) => parameters(env, routine(env, number)),
+        Entity::Entry(number) => parameters(env, routine(env, number)),
+        Entity::UnfinishedRoutine(row) => parameters(env, row),
+        Entity::Standard(standard) => standard_wants(env, standard),
+        _ => Wants::Nothing,
     }
 }
 
-fn is_value(env: &Environment, x: &Identifier) -> bool
-    ensures { result ≡ n.is_value (r.c1_named (environment env.now) x.now) }
+/// What the arguments have to meet: nothing, where it isn't known what is called.
+pub fn wants_of_call(env: &Environment, entity: Option<Entity>, callee: Option<Callee>) -> Wants
+    ensures { wants_of (environment env.now) result ≡ wants_if (environment env.now) entity callee }
 {
-    match known(env, x) {
-        Some(Entity::Constant(_, _)) => true,
-        Some(Entity::Variable(_, _)) => true,
-        _ => false,
+    match (callee, entity) {
+        (Some(callee), _) => callee.wants,
+        (None, Some(entity)) => wants_named(env, entity),
+        (None, None) => Wants::Nothing,
     }
-}
-
-/// C2: a routine is wanted, and what is indexed is a variable, a constant or a component.
-pub fn no_indexed_value(
-    env: &Environment,
-    told: &mut Option<Violation>,
-    mode: Mode,
-    d: &Designator,
-) -> bool
-    ensures { TellsOf told.old told.new result (n.c2_indexed (environment env.now) mode (designator d.now)) }
-{
-    let x = first_name(d);
-    let indexed = is_indexed_alone(&d.selectors) && is_value(env, x);
-    unless_holds(told, !indexed, sort_rule(mode, d), x.at)
 }
 
 /// The parameter of this number, counted from 0, of so many from the first one on.

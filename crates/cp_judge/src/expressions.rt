@@ -11,16 +11,17 @@ ghost use Rattle.cp_model.specs.RulesNames as n;
 ghost use Rattle.cp_model.specs.View.{designator, expression, selector, index, operation, indices_of, expressions_of, selectors_of};
 ghost use Rattle.cp_model.specs.declared.rules.Entity.{Entity as EntityValue};
 ghost use Rattle.cp_judge.specs.Environments.{environment};
-ghost use Rattle.cp_judge.specs.Callees.{wants_of, wants_if, result_if, TellsCallee};
+ghost use Rattle.cp_judge.specs.Callees.{wants_of, result_if, TellsCallee};
 ghost use Rattle.cp_judge.specs.ExpressionParts as parts;
 ghost use Rattle.cp_judge.specs.Tells.{Tells, TellsOf, TellsBoth};
 
-use crate::callees::{Callee, Wants, function, no_indexed_value, want};
+use crate::callees::{Called, Callee, Wants, function, want, wants_of_call};
+use crate::designators::{names_fit, no_indexed_value};
 use crate::environment::{BOOLEAN, CHAR, Environment, INTEGER};
 use crate::members::member;
-use crate::names::{array, element, queue_named};
+use crate::names::{array, element};
 use crate::operands::{first_operand, has_form, has_type, mode as mode_of, operand, operands};
-use crate::places::{first_name, first_token};
+use crate::places::first_token;
 use crate::roots::root;
 use crate::telling::answer_if;
 use crate::values::{given, value};
@@ -42,10 +43,10 @@ pub fn judge(
         Expression::Character { .. } => Some(CHAR),
         Expression::Designated(d) => used(env, told, mode, d),
         Expression::Call(d, list) => {
-            let no_queue = queue_named(env, told, Mode::Value, first_name(d));
-            let callee = callee(env, told, mode, d, list.len());
-            let t = arguments(env, told, wants(callee), list);
-            answer_if(no_queue, result(env, callee, t))
+            let fits = names_fit(env, told, first_operand(mode), d);
+            let called = called(env, told, mode, d, list.len());
+            let t = arguments(env, told, called.wants, list);
+            answer_if(fits, result(env, called.callee, t))
         }
         Expression::Parenthesized { inner, .. } => judge(env, told, Mode::Value, inner),
         Expression::Not { at, operand: e } => {
@@ -66,7 +67,7 @@ pub fn judge(
     }
 }
 
-// The operators behind an operand, and their right operands.
+// The operators after an operand, and their right operands.
 #[cycle(judge)]
 fn chain(
     env: &Environment,
@@ -108,9 +109,9 @@ fn used(
 ) -> Option<usize>
     ensures { Tells told.old told.new result (parts.used (environment env.now) mode (designator d.now)) }
 {
-    let no_queue = queue_named(env, told, mode, first_name(d));
+    let fits = names_fit(env, told, mode, d);
     let t = typed(env, told, mode, d);
-    answer_if(no_queue, t)
+    answer_if(fits, t)
 }
 
 /// The type of a designator that is used as a value, or as what should be a variable.
@@ -212,43 +213,40 @@ fn result(env: &Environment, callee: Option<Callee>, t: Option<usize>) -> Option
     }
 }
 
-/// What the arguments have to meet: nothing, where it isn't known what is called.
-pub fn wants(callee: Option<Callee>) -> Wants
-    ensures { result ≡ wants_if callee }
-{
-    match callee {
-        Some(callee) => callee.wants,
-        None => Wants::Nothing,
-    }
-}
-
-#[cycle(judge)]
-fn callee(
+// The function that is called, where it is known what stands there.
+fn function_if(
     env: &Environment,
     told: &mut Option<Violation>,
     mode: Mode,
     d: &Designator,
     count: usize,
+    entity: Option<Entity>,
 ) -> Option<Callee>
-    ensures { TellsCallee (environment env.now) told.old told.new result (parts.callee_of (environment env.now) mode (designator d.now) count) }
+    ensures { (t : Option Violation) (j : Judged EntityValue) → Tells t told.old entity j → TellsCallee (environment env.now) t told.new result (parts.function_if (environment env.now) mode (designator d.now) count j) }
+{
+    let entity = entity?;
+    function(env, told, mode, d, count, entity)
+}
+
+#[cycle(judge)]
+fn called(
+    env: &Environment,
+    told: &mut Option<Violation>,
+    mode: Mode,
+    d: &Designator,
+    count: usize,
+) -> Called
+    ensures callee { TellsCallee (environment env.now) told.old told.new result.callee (parts.callee_of (environment env.now) mode (designator d.now) count) }
+    ensures wants { wants_of (environment env.now) result.wants ≡ x.wants_in (environment env.now) (x.designated (environment env.now) (designator d.now)) (parts.callee_of (environment env.now) mode (designator d.now) count) }
 {
     let no_value = no_indexed_value(env, told, mode, d);
-    let callee = named_callee(env, told, mode, d, count);
-    answer_if(no_value, callee)
-}
-
-#[cycle(judge)]
-fn named_callee(
-    env: &Environment,
-    told: &mut Option<Violation>,
-    mode: Mode,
-    d: &Designator,
-    count: usize,
-) -> Option<Callee>
-    ensures { TellsCallee (environment env.now) told.old told.new result (parts.named_callee (environment env.now) mode (designator d.now) count) }
-{
-    let entity = designated(env, told, d)?;
-    function(env, told, mode, d, count, entity)
+    let entity = designated(env, told, d);
+    let function = function_if(env, told, mode, d, count, entity);
+    let callee = answer_if(no_value, function);
+    Called {
+        wants: wants_of_call(env, entity, callee),
+        callee,
+    }
 }
 
 /// The type of the first argument. All are judged, against what they have to meet.

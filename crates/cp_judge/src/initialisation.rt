@@ -2,22 +2,24 @@
 
 ghost use Rattle.std.specs.Prelude.{◌≡◌, ◌++◌, [], ◌∷◌, map, length, Option, None, Some, slice_get};
 ghost use Rattle.cp_model.specs.RulesEnvironment as r;
-ghost use Rattle.cp_model.specs.RulesJudged.{least, then_judge, violations_of};
+ghost use Rattle.cp_model.specs.RulesExpressions as x;
+ghost use Rattle.cp_model.specs.RulesJudged.{least, meaning_of, then_judge, violations_of};
 ghost use Rattle.cp_model.specs.RulesStatements as st;
-ghost use Rattle.cp_model.specs.View.{expression, expressions_of, init_item};
+ghost use Rattle.cp_model.specs.View.{designator, expression, expressions_of, init_item};
 ghost use Rattle.cp_judge.specs.Environments.{environment};
 ghost use Rattle.cp_judge.specs.InitParts as parts;
-ghost use Rattle.cp_judge.specs.Tells.{Tells, TellsOf};
+ghost use Rattle.cp_judge.specs.Tells.{Tells};
 
 use crate::callees::parameter;
-use crate::environment::{Environment, agree, is_component, system, system_row};
-use crate::expressions::judge;
+use crate::designators::names_fit;
+use crate::environment::{Environment, INTEGER, agree, is_component, system, system_row};
+use crate::expressions::{self, judge};
 use crate::names::{anywhere, is_in_routine, named, queue_named};
-use crate::places::first_token;
+use crate::places::{first_token, last_name};
 use crate::telling::{answer_if, broken, tell, unless_holds};
 use crate::values::designated;
 use cp_model::rules::{Access, Entity, Mode, Rule, SystemRow, Violation};
-use cp_model::tree::{Expression, Identifier, InitItem, Selector};
+use cp_model::tree::{Designator, Expression, Identifier, InitItem, Selector};
 
 fn own_system(
     told: &mut Option<Violation>,
@@ -78,16 +80,66 @@ fn counted(
     broken(told, Rule::C12, x.at)
 }
 
+// The system type that is initialised, whatever the number of arguments is.
 fn component(
     env: &Environment,
     told: &mut Option<Violation>,
     x: &Identifier,
     count: usize,
-) -> Option<SystemRow>
-    ensures { Tells told.old told.new result (parts.component (environment env.now) x.now count) }
+) -> Option<usize>
+    ensures told { told.new ≡ least told.old (violations_of (parts.component (environment env.now) x.now count)) }
+    ensures system { result ≡ meaning_of (parts.system (environment env.now) x.now) }
 {
     let y = component_named(env, told, x)?;
-    counted(env, told, x, count, y)
+    counted(env, told, x, count, y);
+    Some(y)
+}
+
+// ---- an argument of which nothing is wanted, or only a component's name
+
+fn unused(
+    env: &Environment,
+    told: &mut Option<Violation>,
+    d: &Designator,
+    entity: Entity,
+) -> Option<usize>
+    ensures { Tells told.old told.new result (st.unused (environment env.now) (designator d.now) entity) }
+{
+    let in_place = anywhere(env, told, last_name(d), entity);
+    answer_if(in_place, Some(INTEGER))
+}
+
+fn unused_designator(
+    env: &Environment,
+    told: &mut Option<Violation>,
+    d: &Designator,
+) -> Option<usize>
+    ensures { Tells told.old told.new result (then_judge (x.designated (environment env.now) (designator d.now)) (st.unused (environment env.now) (designator d.now))) }
+{
+    let entity = expressions::designated(env, told, d)?;
+    unused(env, told, d, entity)
+}
+
+fn unwanted_designator(
+    env: &Environment,
+    told: &mut Option<Violation>,
+    d: &Designator,
+) -> Option<usize>
+    ensures { Tells told.old told.new result (parts.unwanted_designator (environment env.now) (designator d.now)) }
+{
+    let fits = names_fit(env, told, Mode::Value, d);
+    let t = unused_designator(env, told, d);
+    answer_if(fits, t)
+}
+
+// An argument of which nothing is wanted: what a designator stands for isn't judged as a value.
+fn unwanted(env: &Environment, told: &mut Option<Violation>, e: &Expression) -> Option<usize>
+    ensures { Tells told.old told.new result (st.unwanted (environment env.now) (expression e.now)) }
+{
+    match designated(e) {
+        Some(d) => unwanted_designator(env, told, d),
+        None => judge(env, told, Mode::Value, e),
+    }
 }
 
 // C12: an argument that isn't of the component type that is wanted.
@@ -176,7 +228,7 @@ fn component_argument(
                     at: first_token(e),
                 },
             );
-            judge(env, told, Mode::Value, e);
+            unwanted(env, told, e);
             None
         }
     }
@@ -219,7 +271,7 @@ fn argument(
     ensures { Tells told.old told.new result (st.init_argument (environment env.now) wanted (expression e.now)) }
 {
     match wanted {
-        None => judge(env, told, Mode::Value, e),
+        None => unwanted(env, told, e),
         Some(wanted) => {
             if is_component(env, wanted) {
                 component_argument(env, told, wanted, e)
@@ -231,10 +283,10 @@ fn argument(
 }
 
 // The type of the parameter of this number, where it is known.
-fn parameter_type(env: &Environment, row: Option<SystemRow>, number: usize) -> Option<usize>
-    ensures { result ≡ parts.type_if (slice_get (parts.parameters_if (environment env.now) row) number) }
+fn parameter_type(env: &Environment, system: Option<usize>, number: usize) -> Option<usize>
+    ensures { result ≡ parts.type_if (slice_get (parts.parameters_if (environment env.now) system) number) }
 {
-    let row = row?;
+    let row = system_row(env, system?);
     let p = parameter(env, row.first, row.count, number)?;
     p.of
 }
@@ -242,13 +294,13 @@ fn parameter_type(env: &Environment, row: Option<SystemRow>, number: usize) -> O
 fn arguments(
     env: &Environment,
     told: &mut Option<Violation>,
-    row: Option<SystemRow>,
+    system: Option<usize>,
     list: &[Expression],
 )
-    ensures { told.new ≡ least told.old (st.init_arguments (environment env.now) (parts.parameters_if (environment env.now) row) (expressions_of (map expression list.now))) }
+    ensures { told.new ≡ least told.old (st.init_arguments (environment env.now) (parts.parameters_if (environment env.now) system) (expressions_of (map expression list.now))) }
 {
     for (number, e) in list.iter().enumerate() {
-        argument(env, told, parameter_type(env, row, number), e);
+        argument(env, told, parameter_type(env, system, number), e);
     }
 }
 
@@ -256,8 +308,8 @@ fn item(env: &Environment, told: &mut Option<Violation>, item: &InitItem)
     ensures { told.new ≡ least told.old (st.init_item (environment env.now) (init_item item.now)) }
 {
     queue_named(env, told, Mode::Value, &item.component);
-    let row = component(env, told, &item.component, item.arguments.len());
-    arguments(env, told, row, &item.arguments);
+    let system = component(env, told, &item.component, item.arguments.len());
+    arguments(env, told, system, &item.arguments);
 }
 
 /// An `init`, whose word stands at the place. C12: it stands in a routine, or an item is wrong.

@@ -1,7 +1,8 @@
-//! Fields of records, and routines of components: what stands behind a `.`.
+//! Fields of records, and routines of components: what stands after a `.`.
 
 ghost use Rattle.std.specs.Prelude.{◌≡◌, ◌∷◌, [], map, Option, None, Some, get_or};
 ghost use Rattle.cp_model.specs.RulesEnvironment as r;
+ghost use Rattle.cp_model.specs.Names.{lookup};
 ghost use Rattle.cp_model.specs.RulesNames as n;
 ghost use Rattle.cp_judge.specs.Environments.{environment};
 ghost use Rattle.cp_judge.specs.Tells.{Tells, TellsOf};
@@ -14,12 +15,12 @@ use cp_model::tree::Identifier;
 
 // A member of a table of members, by its name.
 fn find(env: &Environment, table: usize, x: &Identifier) -> Option<Member>
-    ensures { result ≡ r.lookup x.now.name (get_or (environment env.now).members table []) }
+    ensures { result ≡ lookup x.now.name (get_or (environment env.now).members table []) }
 {
     env.members.get(table)?.get(x.name.as_bytes()).copied()
 }
 
-/// What a name behind a `.` stands for. C2: `.` behind what is neither a record nor a component.
+/// What a name after a `.` stands for. C2: `.` after what is neither a record nor a component.
 pub fn member(
     env: &Environment,
     told: &mut Option<Violation>,
@@ -39,5 +40,16 @@ pub fn member(
             member_named(env, told, x, access, find(env, k, x))
         }
         _ => broken(told, Rule::C2, at),
+    }
+}
+
+/// The member of this name that a type has, if it has one.
+pub fn member_of_type(env: &Environment, t: usize, x: &Identifier) -> Option<Member>
+    ensures { result ≡ n.member_in x.now.name (r.members_in (environment env.now) (r.row_of (environment env.now) t).structure) }
+{
+    match environment::structure(env, t) {
+        Structure::Record(k) => find(env, k, x),
+        Structure::System(y) => find(env, environment::system_row(env, y).members, x),
+        _ => None,
     }
 }

@@ -136,21 +136,6 @@ pub fn anywhere(
     finished && in_place
 }
 
-/// C5: a routine behind a `.` without `entry`.
-fn entry_behind_dot(
-    env: &Environment,
-    told: &mut Option<Violation>,
-    x: &Identifier,
-    routine: usize,
-) -> Option<Entity>
-    ensures { Tells told.old told.new result (n.routine_behind_dot (environment env.now) x.now routine) }
-{
-    if environment::routine(env, routine).entry {
-        return Some(Entity::Entry(routine));
-    }
-    broken(told, Rule::C5, x.at)
-}
-
 /// What a member of a record or a component stands for. C1: there is none of this name.
 pub fn member_named(
     env: &Environment,
@@ -164,11 +149,11 @@ pub fn member_named(
     match member {
         None => broken(told, Rule::C1, x.at),
         Some(Member::Field(t)) => Some(Entity::Variable(t, access)),
-        Some(Member::Routine(routine)) => entry_behind_dot(env, told, x, routine),
+        Some(Member::Routine(routine)) => Some(Entity::Entry(routine)),
     }
 }
 
-/// C2: `[` behind what is no array.
+/// C2: `[` after what is no array.
 pub fn array(
     env: &Environment,
     told: &mut Option<Violation>,
@@ -229,18 +214,24 @@ pub fn queue_named(
     }
 }
 
+// The rule of a last name of another sort, where C10 judges the place of the first.
+fn sort_rule_of_variable(selectors: &[Selector]) -> Rule
+    ensures { result ≡ n.sort_rule_of_variable (selectors_of (map selector selectors.now)) }
+{
+    if has_field(selectors) {
+        Rule::C2
+    } else {
+        Rule::C10
+    }
+}
+
 /// The rule of a name of another sort than is wanted: C2, or C10 where that judges the place.
 pub fn sort_rule(mode: Mode, d: &Designator) -> Rule
     ensures { result ≡ n.sort_rule mode (designator d.now) }
 {
     match mode {
-        Mode::Variable => {
-            if has_field(&d.selectors) {
-                Rule::C2
-            } else {
-                Rule::C10
-            }
-        }
+        Mode::Variable => sort_rule_of_variable(&d.selectors),
+        Mode::FirstOperand => sort_rule_of_variable(&d.selectors),
         _ => Rule::C2,
     }
 }

@@ -106,17 +106,18 @@ pub fn mode(want: Want) -> Mode
     }
 }
 
-/// How the first operand of an operator is judged: it isn't the argument itself.
+/// How the first operand of an argument is judged, or the name of a call that is one: it isn't the argument itself.
 pub fn first_operand(mode: Mode) -> Mode
     ensures { result ≡ x.first_operand mode }
 {
     match mode {
         Mode::Queue => Mode::Value,
+        Mode::Variable => Mode::FirstOperand,
         _ => mode,
     }
 }
 
-// C2: a passive argument that doesn't agree. C10: a `var` argument that isn't of the parameter's very type.
+// C2: a value argument that doesn't agree. C10: a `var` argument that isn't of the parameter's very type.
 fn fits_type(
     env: &Environment,
     told: &mut Option<Violation>,

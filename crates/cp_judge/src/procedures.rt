@@ -1,45 +1,50 @@
 //! Procedures that are called as statements.
 
 ghost use Rattle.std.specs.Prelude.{◌≡◌, ◌++◌, [], ◌∷◌, map, length, Option, None, Some};
-ghost use Rattle.cp_model.specs.RulesJudged.{least};
+ghost use Rattle.cp_model.specs.RulesJudged.{Judged, least};
+ghost use Rattle.cp_model.specs.RulesExpressions as x;
+ghost use Rattle.cp_model.specs.declared.rules.Entity.{Entity as EntityValue};
 ghost use Rattle.cp_model.specs.RulesStatements as st;
 ghost use Rattle.cp_model.specs.View.{designator, expression, expressions_of};
-ghost use Rattle.cp_judge.specs.Callees.{TellsCallee};
+ghost use Rattle.cp_judge.specs.Callees.{wants_of, TellsCallee};
 ghost use Rattle.cp_judge.specs.Environments.{environment};
 ghost use Rattle.cp_judge.specs.StatementParts as parts;
+ghost use Rattle.cp_judge.specs.Tells.{Tells};
 
-use crate::callees::{Callee, no_indexed_value, procedure};
+use crate::callees::{Called, Callee, procedure, wants_of_call};
+use crate::designators::{names_fit, no_indexed_value};
 use crate::environment::Environment;
-use crate::expressions::{arguments, designated, wants};
-use crate::names::queue_named;
-use crate::places::first_name;
+use crate::expressions::{arguments, designated};
 use crate::telling::answer_if;
-use cp_model::rules::{Mode, Violation};
+use cp_model::rules::{Entity, Mode, Violation};
 use cp_model::tree::{Designator, Expression};
 
-fn procedure_named(
+// The procedure that is called, where it is known what stands there.
+fn procedure_if(
     env: &Environment,
     told: &mut Option<Violation>,
     d: &Designator,
     count: usize,
+    entity: Option<Entity>,
 ) -> Option<Callee>
-    ensures { TellsCallee (environment env.now) told.old told.new result (parts.procedure_named (environment env.now) (designator d.now) count) }
+    ensures { (t : Option Violation) (j : Judged EntityValue) → Tells t told.old entity j → TellsCallee (environment env.now) t told.new result (parts.procedure_if (environment env.now) (designator d.now) count j) }
 {
-    let entity = designated(env, told, d)?;
+    let entity = entity?;
     procedure(env, told, d, count, entity)
 }
 
-fn called(
-    env: &Environment,
-    told: &mut Option<Violation>,
-    d: &Designator,
-    count: usize,
-) -> Option<Callee>
-    ensures { TellsCallee (environment env.now) told.old told.new result (parts.procedure_called (environment env.now) (designator d.now) count) }
+fn called(env: &Environment, told: &mut Option<Violation>, d: &Designator, count: usize) -> Called
+    ensures callee { TellsCallee (environment env.now) told.old told.new result.callee (parts.procedure_called (environment env.now) (designator d.now) count) }
+    ensures wants { wants_of (environment env.now) result.wants ≡ x.wants_in (environment env.now) (x.designated (environment env.now) (designator d.now)) (parts.procedure_called (environment env.now) (designator d.now) count) }
 {
     let no_value = no_indexed_value(env, told, Mode::Value, d);
-    let callee = procedure_named(env, told, d, count);
-    answer_if(no_value, callee)
+    let entity = designated(env, told, d);
+    let procedure = procedure_if(env, told, d, count, entity);
+    let callee = answer_if(no_value, procedure);
+    Called {
+        wants: wants_of_call(env, entity, callee),
+        callee,
+    }
 }
 
 /// A procedure's call. C2: what is called is no procedure, or an argument doesn't fit.
@@ -51,7 +56,7 @@ pub fn performed(
 )
     ensures { told.new ≡ least told.old (st.performed (environment env.now) (designator d.now) (expressions_of (map expression list.now))) }
 {
-    queue_named(env, told, Mode::Value, first_name(d));
-    let callee = called(env, told, d, list.len());
-    arguments(env, told, wants(callee), list);
+    names_fit(env, told, Mode::Value, d);
+    let called = called(env, told, d, list.len());
+    arguments(env, told, called.wants, list);
 }

@@ -3,9 +3,10 @@
 //! They are one list in the order of their declarations, as in the definitions; leaving a scope forgets the names that were
 //! declared in it.
 
-ghost use Rattle.std.specs.Prelude.{◌≡◌, ℕ, IfOk, OnOk, map, None, length, take};
-ghost use Rattle.cp_model.specs.RulesEnvironment.{Names, lookup};
-ghost use Rattle.cp_judge.specs.Scopes.{seen, added, no_names};
+ghost use Rattle.std.specs.Prelude.{◌≡◌, ℕ, IfOk, OnOk, map, None, length, option_map, slice_get, take};
+ghost use Rattle.cp_model.specs.RulesEnvironment.{Names};
+ghost use Rattle.cp_model.specs.Names.{lookup};
+ghost use Rattle.cp_judge.specs.Scopes.{AreDistinct, seen, added, no_names};
 
 use cp_model::rules::Entity;
 use indexmap::IndexMap;
@@ -41,11 +42,20 @@ impl<'t> Scope<'t> {
         self.names.get(name).copied()
     }
 
-    /// How many names are visible: a mark to leave to.
+    /// How many names are visible: a mark to leave to. No two of them are the same.
     pub fn mark(&self) -> usize
-        ensures { result ≡ length self.now }
+        ensures count { result ≡ length self.now }
+        ensures distinct { AreDistinct self.now }
     {
         self.names.len()
+    }
+
+    /// A visible name by its number, and what it stands for.
+    pub fn get(&self, number: usize) -> Option<(&'t [u8], Entity)>
+        ensures { option_map seen result ≡ slice_get self.now number }
+    {
+        let (name, entity) = self.names.get_index(number)?;
+        Some((*name, *entity))
     }
 
     /// Declares a name that isn't visible. It fails only for want of memory.

@@ -74,7 +74,7 @@ pub fn value(
             if is_no_component(env, mode, t) {
                 return Some(t);
             }
-            broken(told, Rule::C2, last_name(d).at)
+            broken(told, sort_rule(mode, d), last_name(d).at)
         }
         Entity::Type(_) => broken(told, sort_rule(mode, d), last_name(d).at),
         Entity::UnfinishedConstant => {
@@ -110,7 +110,7 @@ fn selects_field_first(selectors: &[Selector]) -> bool
     }
 }
 
-/// Whether a name with these selectors behind it is a variable or a part of one. A name that is unknown is told of elsewhere.
+/// Whether a name with these selectors after it is a variable or a part of one. A name that is unknown is told of elsewhere.
 pub fn is_variable(env: &Environment, x: &Identifier, selectors: &[Selector]) -> bool
     ensures { result ≡ n.is_variable (environment env.now) (selectors_of (map selector selectors.now)) (r.c1_named (environment env.now) x.now) }
 {

@@ -12,7 +12,7 @@ use Rattle.cp_model.specs.Outcomes.{Fault, Gives, Outcome, and_then, provided}
 use Rattle.cp_model.specs.Environments.{Environment}
 use Rattle.cp_model.specs.Places.{TypedValue, ordinal_in, ordinal_of, referent, within}
 use Rattle.cp_model.specs.Expressions.{place, value}
-use Rattle.cp_model.specs.Continuations.{Do, EndBody, EndCall, EndProcess, ForNext, RepeatTest, Task, WhileTest, depth, gates_of, holds_gate, push}
+use Rattle.cp_model.specs.Continuations.{Do, EndBody, EndCall, EndProcess, ForNext, RepeatTest, Task, WhileTest, depth, marked_monitors, is_in_monitor, push}
 use Rattle.cp_model.specs.Components.{Component, monitor_number}
 use Rattle.cp_model.specs.Calls.{Callee, Found, UserCall, call_in_task, callee, procedure_call}
 use Rattle.cp_model.specs.Actions.{Action, Acts, Calls, Rests, action}
@@ -147,15 +147,15 @@ frames_below p n t st st' (EndProcess ∷ k) r d h = frames_below p n t st st' k
 
 -- A call: the new frame refers into its caller's reach.
 call_continuation : (p : ℕ) (st st' : Store) (k : List Task) (env : Environment) (gate : Option ℕ) (x : Statement)
-    → NewReferences (in_reach p (gates_of k)) (OfActivation p (depth k)) (forget (OfActivation p (depth k)) st) st'
-    → IsFrameOf env.frame (OfActivation p (depth k)) → EnvironmentIn (in_reach p (gates_of (EndCall env gate ∷ k))) env
+    → NewReferences (in_reach p (marked_monitors k)) (OfActivation p (depth k)) (forget (OfActivation p (depth k)) st) st'
+    → IsFrameOf env.frame (OfActivation p (depth k)) → EnvironmentIn (in_reach p (marked_monitors (EndCall env gate ∷ k))) env
     → ContinuationInvariant p st k → ContinuationInvariant p st' (push x env (EndCall env gate ∷ k))
 call_continuation p st st' k env gate x r f h o =
     push_continuation p st' x env (EndCall env gate ∷ k) h (record {
       tasks = (h, o.tasks);
       frames = (
         record { frame = f; references = λ l j e g. elim (r.references l j g) [ inl y ↦ absurd (forgotten (OfActivation p (depth k)) st l j e y) | inr y ↦ y.1 ] },
-        frames_below p (depth k) (in_reach p (gates_of k)) (forget (OfActivation p (depth k)) st) st' k r (Prim.omega arith)
+        frames_below p (depth k) (in_reach p (marked_monitors k)) (forget (OfActivation p (depth k)) st) st' k r (Prim.omega arith)
             (frames_keep_store p st (forget (OfActivation p (depth k)) st) k
             (forget_no_new_reference (OfActivation p (depth k)) st) o.frames),
       );
@@ -211,7 +211,7 @@ new_store t q d a b n s = record {
 }
 
 module _ (w : Context) (config : Configuration) (s : StoreInvariant config.store) where
-  call_after : (u : UserCall) (k : List Task) → EnvironmentIn (in_reach w.process (gates_of k)) u.environment
+  call_after : (u : UserCall) (k : List Task) → EnvironmentIn (in_reach w.process (marked_monitors k)) u.environment
       → ContinuationInvariant w.process config.store k → IfGives (StepInvariant w.process) (call w config u k)
   call_after u k h o = go (target w config.store u.environment u.callee.of) (target_in u.callee.of)
     where
@@ -219,53 +219,53 @@ module _ (w : Context) (config : Configuration) (s : StoreInvariant config.store
       at = record { owner = OfActivation w.process (depth k); path = [] }
 
       target_in : (n : Option Component) → in_reach w.process
-          (gates_of (EndCall u.environment (target w config.store u.environment n).gate ∷ k))
+          (marked_monitors (EndCall u.environment (target w config.store u.environment n).gate ∷ k))
           (target w config.store u.environment n).component.owner ≡ true
       target_in None = h.component
       target_in (Some n) = by_sort n.system.sort
         where
-          by_sort : (y : Sort) → in_reach w.process (gates_of
+          by_sort : (y : Sort) → in_reach w.process (marked_monitors
               (EndCall u.environment (component_target w u.environment config.store y n).gate ∷ k))
               (component_target w u.environment config.store y n).component.owner ≡ true
           by_sort Class = rw (class_location_owner w config s u.environment n) h.component
-          by_sort Monitor = in_first w config s (monitor_number u.environment config.store n) (gates_of k)
+          by_sort Monitor = in_first w config s (monitor_number u.environment config.store n) (marked_monitors k)
           by_sort Process = h.component
 
-      closed : IsClosed (in_reach w.process (gates_of k)) config.store
+      closed : IsClosed (in_reach w.process (marked_monitors k)) config.store
       closed = is_closed w.process config.store k s o
 
       arg_new : (l : Location) (v : Variable) (e : Expression) → l.owner ≡ OfActivation w.process (depth k)
-          → IfGives (CallWrites (in_reach w.process (gates_of k)) (OfActivation w.process (depth k)))
+          → IfGives (CallWrites (in_reach w.process (marked_monitors k)) (OfActivation w.process (depth k)))
           (argument_writes w.clock u.environment config.store l v e)
       arg_new l v e g = by_kind v.by_reference
         where
-          by_kind : (b : Bool) → IfGives (CallWrites (in_reach w.process (gates_of k)) (OfActivation w.process (depth k)))
+          by_kind : (b : Bool) → IfGives (CallWrites (in_reach w.process (marked_monitors k)) (OfActivation w.process (depth k)))
               (if b then reference_writes l (place w.clock u.environment config.store (designator_of e)) else and_then
               (value w.clock u.environment config.store e) (writes_of l v.type))
           by_kind true =
-              then_gives (PlaceIn (in_reach w.process (gates_of k)))
-              (CallWrites (in_reach w.process (gates_of k)) (OfActivation w.process (depth k)))
+              then_gives (PlaceIn (in_reach w.process (marked_monitors k)))
+              (CallWrites (in_reach w.process (marked_monitors k)) (OfActivation w.process (depth k)))
               (place w.clock u.environment config.store (designator_of e)) _
-              (place_in (in_reach w.process (gates_of k)) config.store config.store w.clock u.environment closed h
+              (place_in (in_reach w.process (marked_monitors k)) config.store config.store w.clock u.environment closed h
               (designator_of e)) (λ p i. ((g, i), tt))
           by_kind false =
-              then_gives (λ y. Unit {0}) (CallWrites (in_reach w.process (gates_of k)) (OfActivation w.process (depth k))) (value w.clock u.environment config.store e) _ (anything (value w.clock u.environment config.store e))
-              (λ y i. writes_new (in_reach w.process (gates_of k)) (OfActivation w.process (depth k)) l v.type y g)
+              then_gives (λ y. Unit {0}) (CallWrites (in_reach w.process (marked_monitors k)) (OfActivation w.process (depth k))) (value w.clock u.environment config.store e) _ (anything (value w.clock u.environment config.store e))
+              (λ y i. writes_new (in_reach w.process (marked_monitors k)) (OfActivation w.process (depth k)) l v.type y g)
 
-      called_after : (t : Target) (ws : Writes) → in_reach w.process (gates_of (EndCall u.environment t.gate ∷ k))
+      called_after : (t : Target) (ws : Writes) → in_reach w.process (marked_monitors (EndCall u.environment t.gate ∷ k))
           t.component.owner ≡ true
-          → CallWrites (in_reach w.process (gates_of k)) (OfActivation w.process (depth k)) ws
+          → CallWrites (in_reach w.process (marked_monitors k)) (OfActivation w.process (depth k)) ws
           → StepInvariant w.process (called_configuration config u k t (OfActivation w.process (depth k)) ws)
       called_after t ws i n =
           let f : Store = forget (OfActivation w.process (depth k)) config.store in
           let vs : List (Name × Variable) = declarations u.environment.globals u.callee.routine.variables in
-          let both : NewReferences (in_reach w.process (gates_of k)) (OfActivation w.process (depth k)) f
+          let both : NewReferences (in_reach w.process (marked_monitors k)) (OfActivation w.process (depth k)) f
           (put_all (starting_writes at vs) (put_all ws f)) =
-          new_then (in_reach w.process (gates_of k)) (OfActivation w.process (depth k)) f (put_all ws f)
+          new_then (in_reach w.process (marked_monitors k)) (OfActivation w.process (depth k)) f (put_all ws f)
           (put_all (starting_writes at vs) (put_all ws f))
-          (puts_new (in_reach w.process (gates_of k)) (OfActivation w.process (depth k)) ws f n)
-          (puts_new (in_reach w.process (gates_of k)) (OfActivation w.process (depth k)) (starting_writes at vs)
-          (put_all ws f) (starting_writes_new (in_reach w.process (gates_of k)) at vs)) in
+          (puts_new (in_reach w.process (marked_monitors k)) (OfActivation w.process (depth k)) ws f n)
+          (puts_new (in_reach w.process (marked_monitors k)) (OfActivation w.process (depth k)) (starting_writes at vs)
+          (put_all ws f) (starting_writes_new (in_reach w.process (marked_monitors k)) at vs)) in
           let env : Environment = activation_environment u t (OfActivation w.process (depth k)) in
           let ok : ContinuationInvariant w.process (put_all (starting_writes at vs) (put_all ws f))
           (push u.callee.routine.body env (EndCall env t.gate ∷ k)) =
@@ -273,39 +273,39 @@ module _ (w : Context) (config : Configuration) (s : StoreInvariant config.store
           u.callee.routine.body both refl
           (record { component = by_gate t.gate i; frame = eq-eqb w.process w.process refl }) o in
           record {
-            store = new_store (in_reach w.process (gates_of k)) w.process (depth k) f
+            store = new_store (in_reach w.process (marked_monitors k)) w.process (depth k) f
                 (put_all (starting_writes at vs) (put_all ws f)) both
                 (forget_store (OfActivation w.process (depth k)) config.store s);
             ok = ok;
             effect = by_effect t.gate env;
           }
         where
-          by_gate : (g : Option ℕ) → in_reach w.process (gates_of (EndCall u.environment g ∷ k)) t.component.owner ≡ true
-              → in_reach w.process (gates_of (EndCall (activation_environment u t (OfActivation w.process (depth k))) g ∷
+          by_gate : (g : Option ℕ) → in_reach w.process (marked_monitors (EndCall u.environment g ∷ k)) t.component.owner ≡ true
+              → in_reach w.process (marked_monitors (EndCall (activation_environment u t (OfActivation w.process (depth k))) g ∷
               k)) t.component.owner ≡ true
           by_gate None i = i
           by_gate (Some m) i = i
 
-          has : (x : Statement) (env : Environment) (m : ℕ) → holds_gate (push x env (EndCall env (Some m) ∷ k)) ≡ true
-          has x env m = push_keeps (λ l. holds_gate l ≡ true) env (λ y l g. g) (λ a b y l g. g) (λ a b y l g. g) x (EndCall env (Some m) ∷ k) refl
+          has : (x : Statement) (env : Environment) (m : ℕ) → is_in_monitor (push x env (EndCall env (Some m) ∷ k)) ≡ true
+          has x env m = push_keeps (λ l. is_in_monitor l ≡ true) env (λ y l g. g) (λ a b y l g. g) (λ a b y l g. g) x (EndCall env (Some m) ∷ k) refl
 
           by_effect : (g : Option ℕ) (env : Environment)
               → EffectInvariant (push u.callee.routine.body env (EndCall env g ∷ k)) (entering g)
           by_effect None env = tt
           by_effect (Some m) env = has u.callee.routine.body env m
 
-      go : (t : Target) → in_reach w.process (gates_of (EndCall u.environment t.gate ∷ k)) t.component.owner ≡ true
+      go : (t : Target) → in_reach w.process (marked_monitors (EndCall u.environment t.gate ∷ k)) t.component.owner ≡ true
           → IfGives (StepInvariant w.process) (if t.is_callable then and_then
           (bind (argument_writes w.clock u.environment config.store)
           (record { owner = OfActivation w.process (depth k); path = [] })
           (declarations u.environment.globals u.callee.routine.parameters) u.arguments)
           (λ ws. Gives (called_configuration config u k t (OfActivation w.process (depth k)) ws)) else Fault 6)
       go t i = if_after w config s t.is_callable _ (Fault 6)
-          (then_gives (CallWrites (in_reach w.process (gates_of k)) (OfActivation w.process (depth k)))
+          (then_gives (CallWrites (in_reach w.process (marked_monitors k)) (OfActivation w.process (depth k)))
           (StepInvariant w.process) (bind (argument_writes w.clock u.environment config.store) at
           (declarations u.environment.globals u.callee.routine.parameters) u.arguments)
           (λ ws. Gives (called_configuration config u k t (OfActivation w.process (depth k)) ws))
-          (bind_new (in_reach w.process (gates_of k)) (argument_writes w.clock u.environment config.store) at
+          (bind_new (in_reach w.process (marked_monitors k)) (argument_writes w.clock u.environment config.store) at
           (declarations u.environment.globals u.callee.routine.parameters) u.arguments arg_new)
           (λ ws n. called_after t ws i n))
           tt
@@ -314,20 +314,20 @@ module _ (w : Context) (config : Configuration) (s : StoreInvariant config.store
 
 abbrev ActionInvariant : ℕ → Store → Action → Type 0
 ActionInvariant p st Rests = Unit {0}
-ActionInvariant p st (Calls u k) = EnvironmentIn (in_reach p (gates_of k)) u.environment × ContinuationInvariant p st k
+ActionInvariant p st (Calls u k) = EnvironmentIn (in_reach p (marked_monitors k)) u.environment × ContinuationInvariant p st k
 ActionInvariant p st (Acts i k) = ContinuationInvariant p st (i ∷ k)
 
 action_invariant : (p : ℕ) (st : Store) (k : List Task) → ContinuationInvariant p st k → ActionInvariant p st (action k)
 action_invariant p st [] o = tt
 action_invariant p st (i ∷ k) o = go (call_in_task (Literal 0) i)
-    (call_in_task_in (in_reach p (gates_of (i ∷ k))) (Literal 0) i o.tasks.0)
+    (call_in_task_in (in_reach p (marked_monitors (i ∷ k))) (Literal 0) i o.tasks.0)
   where
     ProcOk : Option UserCall → Type 0
     ProcOk None = Unit {0}
-    ProcOk (Some u) = EnvironmentIn (in_reach p (gates_of k)) u.environment × ContinuationInvariant p st k
+    ProcOk (Some u) = EnvironmentIn (in_reach p (marked_monitors k)) u.environment × ContinuationInvariant p st k
 
     in_do : (d : Designator) (arguments : Expressions) (env : Environment) (c : Option Callee)
-        → EnvironmentIn (in_reach p (gates_of k)) env → ContinuationInvariant p st k
+        → EnvironmentIn (in_reach p (marked_monitors k)) env → ContinuationInvariant p st k
         → ProcOk (elim c as (λ x. Option UserCall) [ None ↦ None | Some c ↦ Some (record { callee = c; arguments = arguments; environment = env }) ])
     in_do d arguments env None h o = tt
     in_do d arguments env (Some c) h o = (h, o)
@@ -342,7 +342,7 @@ action_invariant p st (i ∷ k) o = go (call_in_task (Literal 0) i)
     by_procedure None h = o
     by_procedure (Some u) h = h
 
-    go : (f : Found Task) → FoundIn (in_reach p (gates_of (i ∷ k))) f
+    go : (f : Found Task) → FoundIn (in_reach p (marked_monitors (i ∷ k))) f
         → ActionInvariant p st (elim f as (λ x. Action) [ Some f ↦ Calls f.0 (i ∷ k) | None ↦ elim (procedure_call i) as (λ x. Action) [ Some u ↦ Calls u k | None ↦ Acts i k ] ])
     go None h = by_procedure (procedure_call i) (procedure i o)
     go (Some f) h = (h, o)

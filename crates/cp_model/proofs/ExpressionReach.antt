@@ -2,7 +2,8 @@
 use Rattle.std.specs.Prelude.{Bool, None, Option, Some, [], codes, false, if◌then◌else◌, pos, refl, true, ℕ, ℤ, ◌≡◌}
 use Rattle.std.proofs.Common.{ap, ◌∙◌}
 use Rattle.cp_model.specs.Abstract.{At, BaseType, Binary, Call, Designator, Expression, Expressions, Known, Letter, Literal, MoreExpressions, Name, Negative, NoExpression, Not, Part, Plain, Positive, Use}
-use Rattle.cp_model.specs.Names.{lookup, same_name}
+use Rattle.cp_model.specs.Names.{lookup}
+use Rattle.std.specs.Str.{bytes_eq}
 use Rattle.cp_model.specs.Types.{ArrayOf, ComponentOf, NoType, Queue, RecordOf, ResolvedType, Simple}
 use Rattle.cp_model.specs.Declarations.{Variable}
 use Rattle.cp_model.specs.Locations.{Location, Owner, Path}
@@ -131,7 +132,7 @@ module _ (t : Owner → Bool) (a b : Store) (c : Clock) (env : Environment) (clo
     value_same (Literal n) = refl
     value_same (Letter n) = refl
     value_same (Use (Plain x)) =
-        ap (λ g. if same_name x (codes "realtime") then integer_result (pos (realtime c)) else Gives g)
+        ap (λ g. if bytes_eq x (codes "realtime") then integer_result (pos (realtime c)) else Gives g)
         (value_of_meaning_same (meaning env x) (meaning_in t env x within_reach))
     value_same (Use (Part d x)) =
         then_same (PlaceIn t) (place c env (mix t a b) (Part d x)) (place c env a (Part d x)) _ _ (place_same (Part d x))

@@ -21,3 +21,6 @@ pub mod RoundLaws
 pub mod PartsKept
 pub mod RoundCount
 pub mod OrderRows
+pub mod SharedTurns
+pub mod AskingChains
+pub mod PrivatelyReady

@@ -3,7 +3,7 @@ use Rattle.std.specs.Prelude.{Bool, List, None, Some, [], false, if◌then◌els
 use Rattle.std.proofs.Common.{sym}
 use Rattle.std.proofs.lemmas.Bool.{eqb-true}
 use Rattle.cp_model.specs.Outcomes.{Fault, Gives}
-use Rattle.cp_model.specs.Continuations.{Task, holds_gate}
+use Rattle.cp_model.specs.Continuations.{Task, is_in_monitor}
 use Rattle.cp_model.specs.Configurations.{Asking, Continues, Delayed, Delays, Effect, Ended, Ends, Enters, Faulted, Fresh, Leaves, Opens, Own, Ready, Starts, Status, StepResult, Unstarted, Waiting, Waits}
 use Rattle.cp_model.specs.States.{Free, HeldBy, Holder, Setup, State, Unset, set_status, with_configuration}
 use Rattle.cp_model.specs.Gates.{apply_effect, enter, made_ready, make_ready, pass_to, set_gate, start_process}
@@ -17,9 +17,9 @@ module _ (setup : Setup) where
   NotPrivateAt s p = NotPrivate setup (kind_of (s.status p) (s.continuation p))
 
   abbrev BlockedHoldsAt : State → ℕ → Type 0
-  BlockedHoldsAt s p = IsBlocked (s.status p) → holds_gate (s.continuation p) ≡ true
+  BlockedHoldsAt s p = IsBlocked (s.status p) → is_in_monitor (s.continuation p) ≡ true
 
-  made_ready_other : (x : Status) (k : List Task) → NotPrivate setup (kind_of x k) → (IsBlocked x → holds_gate k ≡ true)
+  made_ready_other : (x : Status) (k : List Task) → NotPrivate setup (kind_of x k) → (IsBlocked x → is_in_monitor k ≡ true)
       → NotPrivate setup (kind_of (made_ready x) k)
   made_ready_other Unstarted k o h = tt
   made_ready_other Fresh k o h = tt

@@ -5,7 +5,7 @@ use Rattle.std.proofs.lemmas.Bool.{eq-eqb}
 use Rattle.cp_model.specs.Locations.{Location, OfActivation, Owner}
 use Rattle.cp_model.specs.Stores.{Store}
 use Rattle.cp_model.specs.Outcomes.{Fault, Gives}
-use Rattle.cp_model.specs.Continuations.{Task, gates_of, holds_gate}
+use Rattle.cp_model.specs.Continuations.{Task, marked_monitors, is_in_monitor}
 use Rattle.cp_model.specs.Actions.{action, is_kernel_action}
 use Rattle.cp_model.specs.Configurations.{Asking, Configuration, Continues, Delayed, Delays, Effect, Ended, Ends, Enters, Faulted, Fresh, Leaves, Opens, Own, Ready, Starts, Status, StepResult, Unstarted, Waiting, Waits}
 use Rattle.cp_model.specs.Step.{step_of}
@@ -63,8 +63,8 @@ install_stepped s p (Gives (r, Starts x k)) h q = absurd q
 -- ---- Kinds
 
 pub kind_private : (x : Status) (k : List Task) → kind_of x k ≡ Private
-    → (x ≡ Ready) × (gates_of k ≡ []) × (is_kernel_action (action k) ≡ false)
-kind_private Ready k h = go (gates_of k) (is_kernel_action (action k)) h
+    → (x ≡ Ready) × (marked_monitors k ≡ []) × (is_kernel_action (action k) ≡ false)
+kind_private Ready k h = go (marked_monitors k) (is_kernel_action (action k)) h
   where
     go : (ms : List ℕ) (b : Bool) → (if (elim ms as (λ x. Bool) [ [] ↦ false | m ∷ rest ↦ true ]) || b then Kernel else Private) ≡ Private → (Ready ≡ Ready) × (ms ≡ []) × (b ≡ false)
     go [] true h = absurd (Prim.grind arith)
@@ -87,7 +87,7 @@ pub record MayCommute (s : State) : Type 0 where
   pub others : (p q : ℕ) → p ≢ q → kind s q ≡ Kernel → IsClosed (is_foreign p) s.store × ContinuationIn (is_foreign p)
       (s.continuation q)
   -- Who asks or is delayed is in a monitor.
-  pub blocked : (p : ℕ) → IsBlocked (s.status p) → holds_gate (s.continuation p) ≡ true
+  pub blocked : (p : ℕ) → IsBlocked (s.status p) → is_in_monitor (s.continuation p) ≡ true
 
 module _ (setup : Setup) where
   abbrev pub outcome : State → ℕ → StepResult

@@ -1,4 +1,4 @@
--- What a private step, a kernel turn and a waking leave as it was: the own parts of other processes, and the kernel's part.
+-- What a private step, a kernel turn and a waking leave as it was: the private states of other processes, and the kernel's part.
 use Rattle.std.specs.Prelude.{Bool, List, None, Some, [], false, if◌then◌else◌, nat_eq, not, refl, suc, true, zero, ℕ, ◌%◌, ◌∷◌, ◌≡◌, ◌≢◌}
 use Rattle.std.proofs.Common.{ap, arith, subst, sym, ◌∙◌}
 use Rattle.std.proofs.lemmas.Bool.{eqb-true}
@@ -14,7 +14,7 @@ use Rattle.cp_model.specs.Gates.{apply_effect, enter, made_ready, make_ready, pa
 use Rattle.cp_model.specs.Turns.{Kernel, Kind, NoStep, Private, after_step, if_kernel, if_private, kernel_step, kernel_turn, kind, kind_of, private_step, private_turn, step}
 use Rattle.cp_model.specs.Rounds.{after_own_turn, awakened, own_parts, owner_process, wake}
 use Rattle.cp_model.specs.Invariant.{Invariant}
-use Rattle.cp_model.specs.Parts.{HasBegun, HasNotBegun, SameKernelPart, SameOwnPart, is_own, kernel_status, own_status}
+use Rattle.cp_model.specs.Parts.{HasBegun, HasNotBegun, SameKernelPart, SamePrivateState, is_own, kernel_status, private_status}
 use Rattle.cp_model.proofs.StateMaps.{differ, is_foreign, own_apart, with_at_here, with_at_there}
 use Rattle.cp_model.proofs.MixedStores.{IsClosed, mix_same}
 use Rattle.cp_model.proofs.ActionReach.{ContinuationIn}
@@ -25,8 +25,8 @@ use Rattle.cp_model.proofs.StepOrder.{foreign_activation}
 use Rattle.cp_model.proofs.StateInvariant.{kernel_step_keeps, may_commute}
 use Rattle.cp_model.proofs.LawfulRounds.{below_are_out}
 
-pub own_part_refl : (p : ℕ) (s : State) → SameOwnPart p s s
-own_part_refl p s = record {
+pub private_state_refl : (p : ℕ) (s : State) → SamePrivateState p s s
+private_state_refl p s = record {
   status = refl;
   transcript = refl;
   consumed = refl;
@@ -34,8 +34,8 @@ own_part_refl p s = record {
   continuation = λ a. refl;
 }
 
-pub own_part_trans : (p : ℕ) (s u v : State) → SameOwnPart p s u → SameOwnPart p u v → SameOwnPart p s v
-own_part_trans p s u v a b = record {
+pub private_state_trans : (p : ℕ) (s u v : State) → SamePrivateState p s u → SamePrivateState p u v → SamePrivateState p s v
+private_state_trans p s u v a b = record {
   status = b.status ∙ a.status;
   transcript = b.transcript ∙ a.transcript;
   consumed = b.consumed ∙ a.consumed;
@@ -52,9 +52,9 @@ module _ (setup : Setup) where
   -- ---- A private part in place
 
   pub own_part_is_turned : (t : ℕ) (s : State) (p : ℕ) → is_in p (processes setup) ≡ true
-      → SameOwnPart p (private_turn setup t s p) (own_parts setup t s)
+      → SamePrivateState p (private_turn setup t s p) (own_parts setup t s)
   own_part_is_turned t s p h = record {
-    status = ap own_status (part (λ x. x.status p));
+    status = ap private_status (part (λ x. x.status p));
     transcript = part (λ x. x.transcript p);
     consumed = part (λ x. x.consumed p);
     store = λ a l m. ap (λ k. after_own_turn setup t s (λ x. x.store l) k) (owner_of p l.owner m) ∙ part (λ x. x.store l);
@@ -157,7 +157,7 @@ module _ (setup : Setup) where
 
 -- ---- What the kernel does beside p
 
-gate_own : (p m : ℕ) (x : Holder) (qs : List ℕ) (v : State) → SameOwnPart p v (set_gate m x qs v)
+gate_own : (p m : ℕ) (x : Holder) (qs : List ℕ) (v : State) → SamePrivateState p v (set_gate m x qs v)
 gate_own p m x qs v = record {
   status = refl;
   transcript = refl;
@@ -166,16 +166,16 @@ gate_own p m x qs v = record {
   continuation = λ a. refl;
 }
 
-status_own : (p q : ℕ) (x : Status) (v : State) → q ≢ p → SameOwnPart p v (set_status q x v)
+status_own : (p q : ℕ) (x : Status) (v : State) → q ≢ p → SamePrivateState p v (set_status q x v)
 status_own p q x v d = record {
-  status = ap own_status (with_at_there q p x v.status (differ q p d));
+  status = ap private_status (with_at_there q p x v.status (differ q p d));
   transcript = refl;
   consumed = refl;
   store = λ a l h. refl;
   continuation = λ a. refl;
 }
 
-made_ready_own_status : (x : Status) → own_status (made_ready x) ≡ own_status x
+made_ready_own_status : (x : Status) → private_status (made_ready x) ≡ private_status x
 made_ready_own_status Unstarted = refl
 made_ready_own_status Fresh = refl
 made_ready_own_status Ready = refl
@@ -185,7 +185,7 @@ made_ready_own_status (Asking m) = refl
 made_ready_own_status (Delayed m q) = refl
 made_ready_own_status (Faulted n) = refl
 
-make_ready_own : (p r : ℕ) (v : State) → SameOwnPart p v (make_ready r v)
+make_ready_own : (p r : ℕ) (v : State) → SamePrivateState p v (make_ready r v)
 make_ready_own p r v = record {
   status = at (nat_eq r p) refl;
   transcript = refl;
@@ -194,23 +194,23 @@ make_ready_own p r v = record {
   continuation = λ a. refl;
 }
   where
-    at : (b : Bool) → nat_eq r p ≡ b → own_status (if b then made_ready (v.status r) else v.status p)
-        ≡ own_status (v.status p)
-    at true e = made_ready_own_status (v.status r) ∙ ap (λ k. own_status (v.status k)) (eqb-true r p e)
+    at : (b : Bool) → nat_eq r p ≡ b → private_status (if b then made_ready (v.status r) else v.status p)
+        ≡ private_status (v.status p)
+    at true e = made_ready_own_status (v.status r) ∙ ap (λ k. private_status (v.status k)) (eqb-true r p e)
     at false e = refl
 
-pass_own : (p m : ℕ) (qs : List ℕ) (v : State) → SameOwnPart p v (pass_to m qs v)
+pass_own : (p m : ℕ) (qs : List ℕ) (v : State) → SamePrivateState p v (pass_to m qs v)
 pass_own p m [] v = gate_own p m Free [] v
-pass_own p m (r ∷ qs) v = own_part_trans p v (set_gate m (HeldBy r) qs v) _ (gate_own p m (HeldBy r) qs v)
+pass_own p m (r ∷ qs) v = private_state_trans p v (set_gate m (HeldBy r) qs v) _ (gate_own p m (HeldBy r) qs v)
     (make_ready_own p r (set_gate m (HeldBy r) qs v))
 
-enter_own : (p q m : ℕ) (x : Holder) (v : State) → q ≢ p → SameOwnPart p v (enter q m x v)
+enter_own : (p q m : ℕ) (x : Holder) (v : State) → q ≢ p → SamePrivateState p v (enter q m x v)
 enter_own p q m Unset v d = gate_own p m (HeldBy q) (v.gates m).askers v
 enter_own p q m Free v d = gate_own p m (HeldBy q) (v.gates m).askers v
-enter_own p q m (HeldBy c) v d = own_part_trans p v (set_gate m (HeldBy c) _ v) _ (gate_own p m (HeldBy c) _ v)
+enter_own p q m (HeldBy c) v d = private_state_trans p v (set_gate m (HeldBy c) _ v) _ (gate_own p m (HeldBy c) _ v)
     (status_own p q (Asking m) (set_gate m (HeldBy c) _ v) d)
 
-start_own : (p r : ℕ) (k : List Task) (x : Status) (v : State) → v.status r ≡ x → SameOwnPart p v (start_process r k x v)
+start_own : (p r : ℕ) (k : List Task) (x : Status) (v : State) → v.status r ≡ x → SamePrivateState p v (start_process r k x v)
 start_own p r k Unstarted v e = record {
   status = at (nat_eq r p) refl;
   transcript = refl;
@@ -219,38 +219,38 @@ start_own p r k Unstarted v e = record {
   continuation = λ a. continuation a (nat_eq r p) refl;
 }
   where
-    at : (b : Bool) → nat_eq r p ≡ b → own_status (if b then Fresh else v.status p) ≡ own_status (v.status p)
-    at true h = sym (ap own_status e) ∙ ap (λ j. own_status (v.status j)) (eqb-true r p h)
+    at : (b : Bool) → nat_eq r p ≡ b → private_status (if b then Fresh else v.status p) ≡ private_status (v.status p)
+    at true h = sym (ap private_status e) ∙ ap (λ j. private_status (v.status j)) (eqb-true r p h)
     at false h = refl
 
-    continuation : HasBegun (own_status (v.status p)) → (b : Bool) → nat_eq r p ≡ b → (if b then k else v.continuation p)
+    continuation : HasBegun (private_status (v.status p)) → (b : Bool) → nat_eq r p ≡ b → (if b then k else v.continuation p)
         ≡ v.continuation p
     continuation a true h = absurd (subst HasBegun (ap
-        (λ j. own_status (v.status j)) (sym (eqb-true r p h)) ∙ ap own_status e) a)
+        (λ j. private_status (v.status j)) (sym (eqb-true r p h)) ∙ ap private_status e) a)
     continuation a false h = refl
-start_own p r k Fresh v e = own_part_refl p v
-start_own p r k Ready v e = own_part_refl p v
-start_own p r k Ended v e = own_part_refl p v
-start_own p r k Waiting v e = own_part_refl p v
-start_own p r k (Asking m) v e = own_part_refl p v
-start_own p r k (Delayed m q) v e = own_part_refl p v
-start_own p r k (Faulted n) v e = own_part_refl p v
+start_own p r k Fresh v e = private_state_refl p v
+start_own p r k Ready v e = private_state_refl p v
+start_own p r k Ended v e = private_state_refl p v
+start_own p r k Waiting v e = private_state_refl p v
+start_own p r k (Asking m) v e = private_state_refl p v
+start_own p r k (Delayed m q) v e = private_state_refl p v
+start_own p r k (Faulted n) v e = private_state_refl p v
 
-effect_own : (p q : ℕ) (e : Effect) (v : State) → q ≢ p → SameOwnPart p v (apply_effect q e v)
-effect_own p q Own v d = own_part_refl p v
+effect_own : (p q : ℕ) (e : Effect) (v : State) → q ≢ p → SamePrivateState p v (apply_effect q e v)
+effect_own p q Own v d = private_state_refl p v
 effect_own p q Ends v d = status_own p q Ended v d
 effect_own p q Waits v d = status_own p q Waiting v d
 effect_own p q (Enters m) v d = enter_own p q m (v.gates m).holder v d
 effect_own p q (Leaves m) v d = pass_own p m (v.gates m).askers v
-effect_own p q (Delays m l) v d = own_part_trans p v (set_status q (Delayed m l) v) _ (status_own p q (Delayed m l) v d)
+effect_own p q (Delays m l) v d = private_state_trans p v (set_status q (Delayed m l) v) _ (status_own p q (Delayed m l) v d)
     (pass_own p m (v.gates m).askers (set_status q (Delayed m l) v))
 effect_own p q (Continues m None) v d = pass_own p m (v.gates m).askers v
-effect_own p q (Continues m (Some r)) v d = own_part_trans p v (set_gate m (HeldBy r) (v.gates m).askers v) _
+effect_own p q (Continues m (Some r)) v d = private_state_trans p v (set_gate m (HeldBy r) (v.gates m).askers v) _
     (gate_own p m (HeldBy r) (v.gates m).askers v) (make_ready_own p r (set_gate m (HeldBy r) (v.gates m).askers v))
 effect_own p q (Opens m) v d = gate_own p m (HeldBy q) [] v
 effect_own p q (Starts r k) v d = start_own p r k (v.status r) v refl
 
-begun_is_started : (x : Status) → HasBegun (own_status x) → is_started x ≡ true
+begun_is_started : (x : Status) → HasBegun (private_status x) → is_started x ≡ true
 begun_is_started Unstarted h = absurd h
 begun_is_started Fresh h = refl
 begun_is_started Ready h = refl
@@ -285,10 +285,10 @@ module _ (setup : Setup) where
       (λ a. record { monitors = λ m. refl; processes = foreign_unstarted p s h; same_started = refl; same_set = refl })
 
   after_step_own : (p q : ℕ) (s : State) (o : StepResult) → q ≢ p
-      → (HasBegun (own_status (s.status p)) → o ≡ result_mixed (is_foreign p) s.store o)
-      → SameOwnPart p s (after_step s q o)
+      → (HasBegun (private_status (s.status p)) → o ≡ result_mixed (is_foreign p) s.store o)
+      → SamePrivateState p s (after_step s q o)
   after_step_own p q s (Fault n) d w = status_own p q (Faulted n) s d
-  after_step_own p q s (Gives (u, e)) d w = own_part_trans p s (with_configuration s q u) _ first
+  after_step_own p q s (Gives (u, e)) d w = private_state_trans p s (with_configuration s q u) _ first
       (effect_own p q e (with_configuration s q u) d)
     where
       store_of : StepResult → Store
@@ -302,7 +302,7 @@ module _ (setup : Setup) where
           clash : false ≡ true → ⊥
           clash g = Prim.grind arith
 
-      first : SameOwnPart p s (with_configuration s q u)
+      first : SamePrivateState p s (with_configuration s q u)
       first = record {
         status = refl;
         transcript = with_at_there q p u.transcript s.transcript (differ q p d);
@@ -311,24 +311,24 @@ module _ (setup : Setup) where
         continuation = λ a. with_at_there q p u.continuation s.continuation (differ q p d);
       }
 
-  kernel_step_other_parts : (p q : ℕ) (s : State) → q ≢ p → Invariant s → SameOwnPart p s (kernel_step setup s q)
+  kernel_step_other_parts : (p q : ℕ) (s : State) → q ≢ p → Invariant s → SamePrivateState p s (kernel_step setup s q)
   kernel_step_other_parts p q s d i = go (kind s q) refl
     where
-      go : (k : Kind) → kind s q ≡ k → SameOwnPart p s (if_kernel k (step setup s q) s)
-      go NoStep h = own_part_refl p s
-      go Private h = own_part_refl p s
+      go : (k : Kind) → kind s q ≡ k → SamePrivateState p s (if_kernel k (step setup s q) s)
+      go NoStep h = private_state_refl p s
+      go Private h = private_state_refl p s
       go Kernel h = after_step_own p q s (outcome_of s q) d
           (λ a. kernel_writes_beside p q s (λ e. d (sym e)) (may_commute s i) h (begun_is_started (s.status p) a))
 
-  -- A kernel turn leaves every other process's own part as it was.
+  -- A kernel turn leaves every other process's private state as it was.
   pub kernel_turn_other_parts : (t : ℕ) (p q : ℕ) (s : State) → q ≢ p → Invariant s
-      → SameOwnPart p s (kernel_turn setup t s q)
-  kernel_turn_other_parts zero p q s d i = own_part_refl p s
-  kernel_turn_other_parts (suc t) p q s d i = own_part_trans p s (kernel_step setup s q) _
+      → SamePrivateState p s (kernel_turn setup t s q)
+  kernel_turn_other_parts zero p q s d i = private_state_refl p s
+  kernel_turn_other_parts (suc t) p q s d i = private_state_trans p s (kernel_step setup s q) _
       (kernel_step_other_parts p q s d i) (kernel_turn_other_parts t p q (kernel_step setup s q) d
       (kernel_step_keeps setup s q i))
 
-  pub private_step_other_parts : (p q : ℕ) (s : State) → q ≢ p → Invariant s → SameOwnPart p s (private_step setup s q)
+  pub private_step_other_parts : (p q : ℕ) (s : State) → q ≢ p → Invariant s → SamePrivateState p s (private_step setup s q)
   private_step_other_parts p q s d i = go (kind s q) refl
     where
       at : (l : Location) (b : Bool) → b ≡ false → (if b then (own_configuration setup s q).store l else s.store l)
@@ -339,11 +339,11 @@ module _ (setup : Setup) where
           clash g = Prim.grind arith
       at l false h = refl
 
-      go : (k : Kind) → kind s q ≡ k → SameOwnPart p s (private_step setup s q)
-      go NoStep h = subst (λ (u : State). SameOwnPart p s u) (sym (no_private_step setup q s NoStep h tt)) (own_part_refl p s)
-      go Kernel h = subst (λ (u : State). SameOwnPart p s u) (sym (no_private_step setup q s Kernel h tt)) (own_part_refl p s)
-      go Private h = subst (λ (u : State). SameOwnPart p s u) (sym (private_step_is setup q s s (may_commute s i) h (same_for_self setup q s))) (record {
-        status = ap own_status (with_at_there q p (status_after setup s q) s.status (differ q p d));
+      go : (k : Kind) → kind s q ≡ k → SamePrivateState p s (private_step setup s q)
+      go NoStep h = subst (λ (u : State). SamePrivateState p s u) (sym (no_private_step setup q s NoStep h tt)) (private_state_refl p s)
+      go Kernel h = subst (λ (u : State). SamePrivateState p s u) (sym (no_private_step setup q s Kernel h tt)) (private_state_refl p s)
+      go Private h = subst (λ (u : State). SamePrivateState p s u) (sym (private_step_is setup q s s (may_commute s i) h (same_for_self setup q s))) (record {
+        status = ap private_status (with_at_there q p (status_after setup s q) s.status (differ q p d));
         transcript = with_at_there q p (own_configuration setup s q).transcript s.transcript (differ q p d);
         consumed = with_at_there q p (own_configuration setup s q).consumed s.consumed (differ q p d);
         store = λ a l m. at l (is_own q l.owner) (own_apart p q l.owner (λ e. d (sym e)) m);

@@ -2,15 +2,16 @@
 use Rattle.std.specs.Prelude.{Bool, List, None, Option, Some, [], codes, false, if◌then◌else◌, not, true, ℕ, ℤ, ◌∷◌, ◌≡◌}
 use Rattle.std.proofs.Common.{arith}
 use Rattle.cp_model.specs.Abstract.{Assign, Case, Char, Class, Cycle, Designator, Expression, Expressions, For, If, Init, Integer, Literal, Monitor, MoreExpressions, Name, NoExpression, Nothing, Perform, Plain, Process, Repeat, Seq, Sort, Statement, While}
-use Rattle.cp_model.specs.Names.{same_name}
+use Rattle.std.specs.Str.{bytes_eq}
 use Rattle.cp_model.specs.Declarations.{declarations}
-use Rattle.cp_model.specs.Locations.{Location, OfActivation, same_integer}
+use Rattle.cp_model.specs.Locations.{Location, OfActivation}
+use Rattle.cp_model.specs.Integers.{same_integer}
 use Rattle.cp_model.specs.Stores.{put_all}
 use Rattle.cp_model.specs.Outcomes.{Fault, Gives, Outcome, and_then}
 use Rattle.cp_model.specs.Environments.{Environment}
 use Rattle.cp_model.specs.Places.{ordinal_of, simple_value}
 use Rattle.cp_model.specs.Expressions.{name_of, place, value}
-use Rattle.cp_model.specs.Continuations.{Do, EndBody, EndCall, EndProcess, ForNext, RepeatTest, Task, WhileTest, depth, gates_of, push}
+use Rattle.cp_model.specs.Continuations.{Do, EndBody, EndCall, EndProcess, ForNext, RepeatTest, Task, WhileTest, depth, marked_monitors, push}
 use Rattle.cp_model.specs.Components.{Component, class_location, component_named, same_sort}
 use Rattle.cp_model.specs.Calls.{Found, UserCall, call_in_task, is_monitor_call, procedure_call}
 use Rattle.cp_model.specs.Actions.{Action, Acts, Calls, Rests, action, is_kernel_action}
@@ -42,7 +43,7 @@ if_quiet true o u h k = h
 if_quiet false o u h k = k
 
 -- A part of a list without gates has none.
-pub no_gates-tail : (i : Task) (k : List Task) → gates_of (i ∷ k) ≡ [] → gates_of k ≡ []
+pub no_gates-tail : (i : Task) (k : List Task) → marked_monitors (i ∷ k) ≡ [] → marked_monitors k ≡ []
 no_gates-tail (Do s env) k h = h
 no_gates-tail (WhileTest now e s env) k h = h
 no_gates-tail (RepeatTest now s e env) k h = h
@@ -58,7 +59,7 @@ delay_quiet : (p : ℕ) (config : Configuration) (k : List Task) (q : Location) 
 delay_quiet p config k q [] h = tt
 delay_quiet p config k q (m ∷ ms) h = absurd (Prim.grind arith)
 
-continue_quiet : (config : Configuration) (q : Location) (k : List Task) → gates_of k ≡ []
+continue_quiet : (config : Configuration) (q : Location) (k : List Task) → marked_monitors k ≡ []
     → Quietly (continue config q (innermost_call k))
 continue_quiet config q [] h = tt
 continue_quiet config q (EndCall env None ∷ k) h = tt
@@ -93,20 +94,20 @@ module _ (w : Context) (config : Configuration) where
           by_sort Monitor h = absurd (Prim.grind arith)
           by_sort Process h = tt
 
-  standard_procedure_quiet : (env : Environment) (k : List Task) (x : Name) (e : Expression) → gates_of k ≡ []
+  standard_procedure_quiet : (env : Environment) (k : List Task) (x : Name) (e : Expression) → marked_monitors k ≡ []
       → Quietly (standard_procedure w config env k x e)
   standard_procedure_quiet env k x e h =
-      if_quiet (same_name x (codes "display")) _ _ (then_quiet (value w.clock env config.store e) _ (λ v. tt))
-      (if_quiet (same_name x (codes "accept")) _ _
+      if_quiet (bytes_eq x (codes "display")) _ _ (then_quiet (value w.clock env config.store e) _ (λ v. tt))
+      (if_quiet (bytes_eq x (codes "accept")) _ _
       (then_quiet (place w.clock env config.store (designator_of e)) _
       (λ p. then_quiet (writes_of p.at p.type (simple_value Char (next_input w.input config.consumed))) _ (λ ws. tt)))
-      (if_quiet (same_name x (codes "delay")) _ _
+      (if_quiet (bytes_eq x (codes "delay")) _ _
       (then_quiet (place w.clock env config.store (designator_of e)) _
-      (λ p. delay_quiet w.process config k p.at (gates_of k) h))
+      (λ p. delay_quiet w.process config k p.at (marked_monitors k) h))
       (then_quiet (place w.clock env config.store (designator_of e)) _ (λ p. continue_quiet config p.at k h))))
 
   standard_statement_quiet : (env : Environment) (k : List Task) (d : Designator) (arguments : Expressions)
-      → gates_of k ≡ [] → Quietly (standard_statement w config env k d arguments)
+      → marked_monitors k ≡ [] → Quietly (standard_statement w config env k d arguments)
   standard_statement_quiet env k d NoExpression h = tt
   standard_statement_quiet env k d (MoreExpressions e es) h = standard_procedure_quiet env k (name_of d) e h
 
@@ -117,7 +118,7 @@ module _ (w : Context) (config : Configuration) where
       (λ p. and_then (writes_of p.at p.type (simple_value Integer n)) (λ ws. own_step (record config { store = put_all ws config.store; continuation = push x env (ForNext v down n last x env ∷ k) })))
       (λ p. then_quiet (writes_of p.at p.type (simple_value Integer n)) (λ ws. own_step (record config { store = put_all ws config.store; continuation = push x env (ForNext v down n last x env ∷ k) })) (λ ws. tt))
 
-  execute_quiet : (x : Statement) (env : Environment) (k : List Task) → gates_of k ≡ []
+  execute_quiet : (x : Statement) (env : Environment) (k : List Task) → marked_monitors k ≡ []
       → is_kernel_action (Acts (Do x env) k) ≡ false → Quietly (execute w config env k x)
   execute_quiet Nothing env k g h = tt
   execute_quiet (Seq x y) env k g h = tt
@@ -154,7 +155,7 @@ module _ (w : Context) (config : Configuration) where
       go None h = tt
       go (Some n) h = by_sort n n.system.sort h
 
-  run_task_quiet : (i : Task) (k : List Task) → gates_of (i ∷ k) ≡ [] → is_kernel_action (Acts i k) ≡ false
+  run_task_quiet : (i : Task) (k : List Task) → marked_monitors (i ∷ k) ≡ [] → is_kernel_action (Acts i k) ≡ false
       → Quietly (run_task w config i k)
   run_task_quiet (Do x env) k g h = execute_quiet x env k g h
   run_task_quiet (WhileTest now e x env) k g h = then_quiet (value w.clock env config.store now) _ (λ v. tt)
@@ -171,9 +172,9 @@ module _ (w : Context) (config : Configuration) where
 abbrev GatesIn : Action → Type 0
 GatesIn Rests = Unit {0}
 GatesIn (Calls u k) = Unit {0}
-GatesIn (Acts i k) = gates_of (i ∷ k) ≡ []
+GatesIn (Acts i k) = marked_monitors (i ∷ k) ≡ []
 
-action_without_gates : (k : List Task) → gates_of k ≡ [] → GatesIn (action k)
+action_without_gates : (k : List Task) → marked_monitors k ≡ [] → GatesIn (action k)
 action_without_gates [] h = tt
 action_without_gates (i ∷ k) h = go (call_in_task (Literal 0) i)
   where
@@ -191,7 +192,7 @@ take_action_quiet w config Rests g h = tt
 take_action_quiet w config (Calls u k) g h = call_quiet w config u k h
 take_action_quiet w config (Acts i k) g h = run_task_quiet w config i k g h
 
-pub private_is_quiet : (w : Context) (config : Configuration) → gates_of config.continuation ≡ []
+pub private_is_quiet : (w : Context) (config : Configuration) → marked_monitors config.continuation ≡ []
     → is_kernel_action (action config.continuation) ≡ false → Quietly (step_of w config)
 private_is_quiet w config g h = take_action_quiet w config (action config.continuation)
     (action_without_gates config.continuation g) h

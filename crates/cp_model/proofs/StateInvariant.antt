@@ -6,7 +6,7 @@ use Rattle.cp_model.specs.Locations.{Location, OfActivation, OfMonitor, OfProces
 use Rattle.cp_model.specs.Stores.{Reference, Store}
 use Rattle.cp_model.specs.Outcomes.{Fault, Gives}
 use Rattle.cp_model.specs.Environments.{Environment, Frame}
-use Rattle.cp_model.specs.Continuations.{Do, EndBody, EndCall, EndProcess, ForNext, RepeatTest, Task, WhileTest, depth, gates_of, holds_gate}
+use Rattle.cp_model.specs.Continuations.{Do, EndBody, EndCall, EndProcess, ForNext, RepeatTest, Task, WhileTest, depth, marked_monitors, is_in_monitor}
 use Rattle.cp_model.specs.Configurations.{Asking, Continues, Delayed, Delays, Effect, Ended, Ends, Enters, Faulted, Fresh, Leaves, Opens, Own, Ready, Starts, Status, StepResult, Unstarted, Waiting, Waits}
 use Rattle.cp_model.specs.Step.{step_of}
 use Rattle.cp_model.specs.States.{Free, HeldBy, Holder, Setup, State, Unset, configuration, context, is_set, is_started, processes, set_status, with_at, with_configuration}
@@ -54,10 +54,10 @@ task_more t v (EndCall env gate) h g = environment_more t v env h g
 task_more t v (EndBody gate) h g = tt
 task_more t v EndProcess h g = tt
 
-tasks_own : (p : ℕ) (k : List Task) → gates_of k ≡ [] → TasksInReach p k → ContinuationIn (is_own p) k
+tasks_own : (p : ℕ) (k : List Task) → marked_monitors k ≡ [] → TasksInReach p k → ContinuationIn (is_own p) k
 tasks_own p [] g h = tt
 tasks_own p (i ∷ k) g h = (
-  task_more (in_reach p (gates_of (i ∷ k))) (is_own p) i
+  task_more (in_reach p (marked_monitors (i ∷ k))) (is_own p) i
       (λ o e. sym (in_reach_own p o) ∙ (subst (λ ms. in_reach p ms o ≡ true) g e)) h.0,
   tasks_own p k (no_gates-tail i k g) h.1,
 )
@@ -66,7 +66,7 @@ tasks_more : (p : ℕ) (v : Owner → Bool) (k : List Task) → ((ms : List ℕ)
     → TasksInReach p k → ContinuationIn v k
 tasks_more p v [] h g = tt
 tasks_more p v (i ∷ k) h g = (
-  task_more (in_reach p (gates_of (i ∷ k))) v i (h (gates_of (i ∷ k))) g.0,
+  task_more (in_reach p (marked_monitors (i ∷ k))) v i (h (marked_monitors (i ∷ k))) g.0,
   tasks_more p v k h
       g.1,
 )
@@ -83,7 +83,7 @@ closed_but s i v h = record {
     go : (l j : Location) (w : Owner) → l.owner ≡ w → v l.owner ≡ true → s.store l ≡ Reference j → IsActivation l.owner
         → v j.owner ≡ true
     go l j (OfActivation r d) f g e a =
-        h r d (gates_of (s.continuation r)) j.owner (subst (λ y. v y ≡ true) f g)
+        h r d (marked_monitors (s.continuation r)) j.owner (subst (λ y. v y ≡ true) f g)
         ((is_closed r s.store (s.continuation r) i.store (i.continuations r)).references l j (rw f (eq-eqb r r refl)) e)
     go l j (OfProcess q) f g e a = absurd (subst (λ y. IsActivation y) f a)
     go l j (OfMonitor q) f g e a = absurd (subst (λ y. IsActivation y) f a)
@@ -191,7 +191,7 @@ module _ (setup : Setup) where
       other r ms (OfActivation x n) h e = rw (← eqb-true r x e) h
 
   abbrev BlockedHoldsIn : State → Type 0
-  BlockedHoldsIn u = (q : ℕ) → IsBlocked (u.status q) → holds_gate (u.continuation q) ≡ true
+  BlockedHoldsIn u = (q : ℕ) → IsBlocked (u.status q) → is_in_monitor (u.continuation q) ≡ true
 
   abbrev UnstartedIsFlatIn : State → Type 0
   UnstartedIsFlatIn u = (q : ℕ) → u.status q ≡ Unstarted → depth (u.continuation q) ≡ 0
@@ -225,7 +225,7 @@ module _ (setup : Setup) where
       (λ q h. at q (nat_eq r q) refl h) (λ q h. flat q (nat_eq r q) refl h)
     where
       at : (q : ℕ) (b : Bool) → nat_eq r q ≡ b → IsBlocked (if b then made_ready (u.status r) else u.status q)
-          → holds_gate (u.continuation q) ≡ true
+          → is_in_monitor (u.continuation q) ≡ true
       at q true e h = absurd (made_ready_not_blocked (u.status r) h)
       at q false e h = i.blocked q h
 
@@ -242,12 +242,12 @@ module _ (setup : Setup) where
   pass_to_keeps m (r ∷ qs) u i = make_ready_keeps r (set_gate m (HeldBy r) qs u) (set_gate_keeps m (HeldBy r) qs u i)
 
   -- A status that wants a gate is only for who holds one.
-  set_status_keeps : (p : ℕ) (x : Status) (u : State) → (IsBlocked x → holds_gate (u.continuation p) ≡ true) → x ≢ Unstarted
+  set_status_keeps : (p : ℕ) (x : Status) (u : State) → (IsBlocked x → is_in_monitor (u.continuation p) ≡ true) → x ≢ Unstarted
       → Invariant u → Invariant (set_status p x u)
   set_status_keeps p x u g n i = invariant_of (set_status p x u) i.store i.continuations
       (λ q h. at q (nat_eq p q) refl h) (λ q h. flat q (nat_eq p q) h)
     where
-      at : (q : ℕ) (b : Bool) → nat_eq p q ≡ b → IsBlocked (if b then x else u.status q) → holds_gate (u.continuation q)
+      at : (q : ℕ) (b : Bool) → nat_eq p q ≡ b → IsBlocked (if b then x else u.status q) → is_in_monitor (u.continuation q)
           ≡ true
       at q true e h = rw (← eqb-true p q e) (g h)
       at q false e h = i.blocked q h
@@ -294,7 +294,7 @@ module _ (setup : Setup) where
           ok q false g = i.continuations q
 
           at : (q : ℕ) (b : Bool) → IsBlocked (if b then Fresh else u.status q)
-              → holds_gate (if b then k else u.continuation q) ≡ true
+              → is_in_monitor (if b then k else u.continuation q) ≡ true
           at q true g = absurd g
           at q false g = i.blocked q g
 
@@ -344,7 +344,7 @@ module _ (setup : Setup) where
                   transcript false z = refl
 
           at : (q : ℕ) (x : Bool) → nat_eq p q ≡ x → IsBlocked (s.status q)
-              → holds_gate (if x then r.continuation else s.continuation q) ≡ true
+              → is_in_monitor (if x then r.continuation else s.continuation q) ≡ true
           at q true g y = absurd (subst (λ z. IsBlocked z) (ap s.status (sym (eqb-true p q g)) ∙ h) y)
           at q false g y = i.blocked q y
 

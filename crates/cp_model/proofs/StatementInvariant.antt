@@ -3,23 +3,24 @@ use Rattle.std.specs.Prelude.{Bool, List, None, Option, Some, [], codes, false, 
 use Rattle.std.proofs.Common.{ap, arith, subst, sym, ◌∙◌}
 use Rattle.std.proofs.lemmas.Bool.{eq-eqb, eqb-false, eqb-true}
 use Rattle.cp_model.specs.Abstract.{Assign, Case, Char, Class, Cycle, Designator, Expression, Expressions, For, If, Init, Integer, Monitor, MoreExpressions, Name, NoExpression, Nothing, Perform, Plain, Process, Repeat, Seq, Sort, Statement, While}
-use Rattle.cp_model.specs.Names.{same_name}
+use Rattle.std.specs.Str.{bytes_eq}
 use Rattle.cp_model.specs.Types.{ArrayOf, ComponentOf, NoType, Queue, RecordOf, ResolvedType, Simple}
 use Rattle.cp_model.specs.Declarations.{Variable, declarations}
-use Rattle.cp_model.specs.Locations.{ByName, Location, OfActivation, OfProcess, Owner, same_integer, under}
+use Rattle.cp_model.specs.Locations.{ByName, Location, OfActivation, OfProcess, Owner, under}
+use Rattle.cp_model.specs.Integers.{same_integer}
 use Rattle.cp_model.specs.Stores.{Absent, ClassRight, Initialised, MonitorRight, Ordinal, QueueHolds, Reference, Store, Value, Writes, forget, put, put_all}
 use Rattle.cp_model.specs.Outcomes.{Fault, Gives, Outcome, and_then}
 use Rattle.cp_model.specs.Environments.{Environment, Frame}
 use Rattle.cp_model.specs.Places.{TypedValue, ordinal_of, simple_value}
 use Rattle.cp_model.specs.Expressions.{name_of, place, value}
-use Rattle.cp_model.specs.Continuations.{Do, EndBody, EndCall, EndProcess, ForNext, RepeatTest, Task, WhileTest, depth, gates_of, holds_gate, push}
+use Rattle.cp_model.specs.Continuations.{Do, EndBody, EndCall, EndProcess, ForNext, RepeatTest, Task, WhileTest, depth, marked_monitors, is_in_monitor, push}
 use Rattle.cp_model.specs.Components.{Component, class_location, class_or_here, component_named, monitor_location, monitor_number, name_location, process_location, process_number, same_sort}
 use Rattle.cp_model.specs.Calls.{Found, call_in_statement, call_in_task, first_call, in_context}
 use Rattle.cp_model.specs.Configurations.{Configuration, Context, Delays, Effect, Ends, Enters, Own, Starts, StepResult, Waits, own_step}
 use Rattle.cp_model.specs.Assignments.{writes_of}
 use Rattle.cp_model.specs.Arguments.{bind, designator_of, init_argument_writes, named_right_writes, right_writes}
 use Rattle.cp_model.specs.CallSteps.{innermost_call, is_initialised, leaving, return_value, returns, with_answer}
-use Rattle.cp_model.specs.StandardCalls.{continue, delay, enqueue, next_input, process_in_queue, standard_procedure, standard_statement}
+use Rattle.cp_model.specs.StandardCalls.{continue, delay, enqueue, next_input, next_place, process_in_queue, standard_procedure, standard_statement}
 use Rattle.cp_model.specs.Initialisation.{body_environment, init_arguments, init_component}
 use Rattle.cp_model.specs.StatementSteps.{chosen_arm, execute, for_step, is_past, is_true, next_counter}
 use Rattle.cp_model.specs.Step.{run_task}
@@ -37,8 +38,8 @@ pub record StartedContinuation (r : ℕ) (k : List Task) : Type 0 where
   pub frames : (st : Store) → FramesInvariant r st k
 
 abbrev pub EffectInvariant : List Task → Effect → Type 0
-EffectInvariant k (Enters m) = holds_gate k ≡ true
-EffectInvariant k (Delays m q) = holds_gate k ≡ true
+EffectInvariant k (Enters m) = is_in_monitor k ≡ true
+EffectInvariant k (Delays m q) = is_in_monitor k ≡ true
 EffectInvariant k (Starts r l) = StartedContinuation r l
 EffectInvariant k _ = Unit {0}
 
@@ -212,10 +213,10 @@ module _ (w : Context) (config : Configuration) (s : StoreInvariant config.store
   if_after true o u h k = h
   if_after false o u h k = k
 
-  has_gate : (k : List Task) (m : ℕ) (ms : List ℕ) → gates_of k ≡ m ∷ ms → holds_gate k ≡ true
+  has_gate : (k : List Task) (m : ℕ) (ms : List ℕ) → marked_monitors k ≡ m ∷ ms → is_in_monitor k ≡ true
   has_gate k m ms h = ap (λ x. elim x as (λ y. Bool) [ [] ↦ false | n ∷ ns ↦ true ]) h
 
-  delay_after : (k : List Task) (q : Location) (ms : List ℕ) → gates_of k ≡ ms
+  delay_after : (k : List Task) (q : Location) (ms : List ℕ) → marked_monitors k ≡ ms
       → ContinuationInvariant w.process config.store k → ContinuationInvariant w.process config.store config.continuation
       → IfGives (StepInvariant w.process) (delay w.process config k q ms)
   delay_after k q [] h o l = record { store = s; ok = l; effect = tt }
@@ -250,13 +251,13 @@ module _ (w : Context) (config : Configuration) (s : StoreInvariant config.store
       → ContinuationInvariant w.process config.store k → ContinuationInvariant w.process config.store config.continuation
       → IfGives (StepInvariant w.process) (standard_procedure w config env k x e)
   standard_procedure_after env k x e o l =
-      if_after (same_name x (codes "display")) _ _ (then_after (value w.clock env config.store e) _
+      if_after (bytes_eq x (codes "display")) _ _ (then_after (value w.clock env config.store e) _
       (λ v. goes_on k _ Own tt o))
-      (if_after (same_name x (codes "accept")) _ _
+      (if_after (bytes_eq x (codes "accept")) _ _
       (then_after (place w.clock env config.store (designator_of e)) _
-      (λ at. then_store at.at at.type (simple_value Char (next_input w.input config.consumed)) _ (λ ws h. stored k (suc config.consumed) config.transcript ws h o)))
-      (if_after (same_name x (codes "delay")) _ _
-      (then_after (place w.clock env config.store (designator_of e)) _ (λ at. delay_after k at.at (gates_of k) refl o l))
+      (λ at. then_store at.at at.type (simple_value Char (next_input w.input config.consumed)) _ (λ ws h. stored k (next_place w.input config.consumed) config.transcript ws h o)))
+      (if_after (bytes_eq x (codes "delay")) _ _
+      (then_after (place w.clock env config.store (designator_of e)) _ (λ at. delay_after k at.at (marked_monitors k) refl o l))
       (then_after (place w.clock env config.store (designator_of e)) _ (λ at. continue_after k at.at o l))))
 
   standard_statement_after : (env : Environment) (k : List Task) (d : Designator) (arguments : Expressions)
@@ -266,13 +267,13 @@ module _ (w : Context) (config : Configuration) (s : StoreInvariant config.store
   standard_statement_after env k d (MoreExpressions e es) o l = standard_procedure_after env k (name_of d) e o l
 
   for_next_continuation : (env : Environment) (k : List Task) (v : Name) (down : Bool) (n last : ℤ) (x : Statement)
-      → EnvironmentIn (in_reach w.process (gates_of k)) env → ContinuationInvariant w.process config.store k
+      → EnvironmentIn (in_reach w.process (marked_monitors k)) env → ContinuationInvariant w.process config.store k
       → ContinuationInvariant w.process config.store (push x env (ForNext v down n last x env ∷ k))
   for_next_continuation env k v down n last x h o = push_continuation w.process config.store x env
       (ForNext v down n last x env ∷ k) h (record { tasks = (h, o.tasks); frames = o.frames; beyond = o.beyond })
 
   for_step_after : (env : Environment) (k : List Task) (v : Name) (down : Bool) (n last : ℤ) (x : Statement)
-      → EnvironmentIn (in_reach w.process (gates_of k)) env → ContinuationInvariant w.process config.store k
+      → EnvironmentIn (in_reach w.process (marked_monitors k)) env → ContinuationInvariant w.process config.store k
       → IfGives (StepInvariant w.process) (for_step w config env k v down n last x)
   for_step_after env k v down n last x h o =
       then_after (place w.clock env config.store (Plain v))
@@ -367,7 +368,7 @@ module _ (w : Context) (config : Configuration) (s : StoreInvariant config.store
       x (EndProcess ∷ []) (record { tasks = (tt, tt); deep = refl; frames = λ st. tt })
 
   body_ok : (x : Statement) (env : Environment) (gate : Option ℕ) (k : List Task)
-      → EnvironmentIn (in_reach w.process (gates_of (EndBody gate ∷ k))) env
+      → EnvironmentIn (in_reach w.process (marked_monitors (EndBody gate ∷ k))) env
       → ContinuationInvariant w.process config.store k
       → ContinuationInvariant w.process config.store (push x env (EndBody gate ∷ k))
   body_ok x env gate k h o = push_continuation w.process config.store x env (EndBody gate ∷ k) h
@@ -377,7 +378,7 @@ module _ (w : Context) (config : Configuration) (s : StoreInvariant config.store
   in_first m ms = rw (eq-eqb m m refl) refl
 
   init_after : (y : Sort) (env : Environment) (k : List Task) (arguments : Expressions) (n : Component) → n.system.sort ≡ y
-      → EnvironmentIn (in_reach w.process (gates_of k)) env → ContinuationInvariant w.process config.store k
+      → EnvironmentIn (in_reach w.process (marked_monitors k)) env → ContinuationInvariant w.process config.store k
       → IfGives (StepInvariant w.process) (init_component y w config env k arguments n)
   init_after Class env k arguments n e h o =
       let l = class_location env config.store n in
@@ -406,7 +407,7 @@ module _ (w : Context) (config : Configuration) (s : StoreInvariant config.store
         ok = continuation_keeps_store w.process config.store (put_all ws config.store) _
             (put_all_no_new_reference ws config.store g)
             (body_ok n.system.body (body_environment env n.system (monitor_location m)) (Some m) k
-            (record { component = in_first m (gates_of k); frame = tt }) o);
+            (record { component = in_first m (marked_monitors k); frame = tt }) o);
         effect = tt;
       }))
     where
@@ -430,7 +431,7 @@ module _ (w : Context) (config : Configuration) (s : StoreInvariant config.store
 
   -- ---- Tasks
 
-  execute_after : (x : Statement) (env : Environment) (k : List Task) → EnvironmentIn (in_reach w.process (gates_of k)) env
+  execute_after : (x : Statement) (env : Environment) (k : List Task) → EnvironmentIn (in_reach w.process (marked_monitors k)) env
       → ContinuationInvariant w.process config.store k → ContinuationInvariant w.process config.store config.continuation
       → IfGives (StepInvariant w.process) (execute w config env k x)
   execute_after Nothing env k h o l = goes_on k config.transcript Own tt o

@@ -77,7 +77,7 @@ module _ (setup : Setup) where
       (λ a. record { monitors = λ m. refl; processes = foreign_process p s h; same_started = is_started_same p s x h e; same_set = refl })
 
   -- Its own run where p's step was not.
-  kernel_writes : (p q : ℕ) (s : State) → p ≢ q → MayCommute s → kind s q ≡ Kernel → s.status p ≡ Ready
+  pub kernel_writes : (p q : ℕ) (s : State) → p ≢ q → MayCommute s → kind s q ≡ Kernel → s.status p ≡ Ready
       → outcome setup s q ≡ result_mixed (is_foreign p) s.store (outcome setup s q)
   kernel_writes p q s d g k h =
       let o : IsClosed (is_foreign p) s.store × ContinuationIn (is_foreign p) (s.continuation q) = g.others p q d k in
@@ -111,7 +111,7 @@ module _ (setup : Setup) where
           state_is _ _ (λ i l. at l (is_own p l.owner) i) (with_at_swap q p u.continuation r.continuation s.continuation (λ e. d (sym e))) (with_at_swap q p u.transcript r.transcript s.transcript (λ e. d (sym e)))
           (with_at_swap q p u.consumed r.consumed s.consumed (λ e. d (sym e))) refl refl refl
 
-  kernel_same_for : (p q : ℕ) (s : State) (o : StepResult) → p ≢ q → s.status p ≡ Ready
+  pub kernel_same_for : (p q : ℕ) (s : State) (o : StepResult) → p ≢ q → s.status p ≡ Ready
       → o ≡ result_mixed (is_foreign p) s.store o → IsSameFor setup p s (after_step s q o)
   kernel_same_for p q s (Fault n) d h e =
       let a = status_alone p q (Faulted n) s d in

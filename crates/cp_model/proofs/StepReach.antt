@@ -2,16 +2,17 @@
 use Rattle.std.specs.Prelude.{Bool, List, None, Option, Some, [], codes, false, if◌then◌else◌, not, refl, true, ℕ, ℤ, ◌∷◌, ◌≡◌}
 use Rattle.std.proofs.Common.{ap, ◌∙◌}
 use Rattle.cp_model.specs.Abstract.{Assign, Case, Char, Class, Cycle, Designator, Expression, Expressions, For, If, Init, Integer, Monitor, MoreExpressions, Name, NoExpression, Nothing, Perform, Plain, Process, Repeat, Seq, Sort, Statement, While}
-use Rattle.cp_model.specs.Names.{same_name}
+use Rattle.std.specs.Str.{bytes_eq}
 use Rattle.cp_model.specs.Types.{ArrayOf, ComponentOf, NoType, Queue, RecordOf, ResolvedType, Simple}
 use Rattle.cp_model.specs.Declarations.{Variable, declarations}
-use Rattle.cp_model.specs.Locations.{ByName, Location, OfActivation, OfMonitor, OfProcess, Owner, same_integer}
+use Rattle.cp_model.specs.Locations.{ByName, Location, OfActivation, OfMonitor, OfProcess, Owner}
+use Rattle.cp_model.specs.Integers.{same_integer}
 use Rattle.cp_model.specs.Stores.{Absent, ClassRight, Initialised, MonitorRight, Ordinal, QueueHolds, Reference, Store, Value, Writes, forget, put, put_all}
 use Rattle.cp_model.specs.Outcomes.{Fault, Gives, Outcome, and_then}
 use Rattle.cp_model.specs.Environments.{Environment, Frame}
 use Rattle.cp_model.specs.Places.{Place, TypedValue, ordinal_of, simple_value}
 use Rattle.cp_model.specs.Expressions.{name_of, place, value}
-use Rattle.cp_model.specs.Continuations.{Do, EndBody, EndCall, EndProcess, ForNext, RepeatTest, Task, WhileTest, depth, gates_of, push}
+use Rattle.cp_model.specs.Continuations.{Do, EndBody, EndCall, EndProcess, ForNext, RepeatTest, Task, WhileTest, depth, marked_monitors, push}
 use Rattle.cp_model.specs.Components.{Component, class_location, class_or_here, component_named, monitor_location, monitor_number, name_location, process_location, process_number, same_sort}
 use Rattle.cp_model.specs.Calls.{UserCall, is_monitor_call}
 use Rattle.cp_model.specs.Actions.{Action, Acts, Calls, Rests, action, is_kernel_action}
@@ -378,11 +379,11 @@ module _ (t : Owner → Bool) (b : Store) (w : Context) (f g : ℕ → Bool) (co
       → ContinuationIn t k
       → standard_procedure other_context mixed_config env k x e ≡ result_mixed t b (standard_procedure w config env k x e)
   standard_procedure_same env k x e s l =
-      if_moved t b (same_name x (codes "display")) _ _ _ _ (at_value env e _ _ s (λ v. refl))
-      (if_moved t b (same_name x (codes "accept")) _ _ _ _
+      if_moved t b (bytes_eq x (codes "display")) _ _ _ _ (at_value env e _ _ s (λ v. refl))
+      (if_moved t b (bytes_eq x (codes "accept")) _ _ _ _
       (at_place env (designator_of e) _ _ s (λ p h. stores p.at p.type (simple_value Char (next_input w.input config.consumed)) _ _ h (λ ws g. rw (put_all_mix t ws config.store b g) refl)))
-      (if_moved t b (same_name x (codes "delay")) _ _ _ _
-      (at_place env (designator_of e) _ _ s (λ p h. delay_same k p.at (gates_of k) h))
+      (if_moved t b (bytes_eq x (codes "delay")) _ _ _ _
+      (at_place env (designator_of e) _ _ s (λ p h. delay_same k p.at (marked_monitors k) h))
       (at_place env (designator_of e) _ _ s (λ p h. continue_same p.at (innermost_call k) (end_in k l) h))))
 
   standard_statement_same : (env : Environment) (k : List Task) (d : Designator) (arguments : Expressions)

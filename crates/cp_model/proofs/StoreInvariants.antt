@@ -7,11 +7,12 @@ use Rattle.cp_model.specs.Types.{ArrayOf, ComponentOf, Members, MoreMembers, NoM
 use Rattle.cp_model.specs.Declarations.{Variable}
 use Rattle.cp_model.specs.Locations.{ByIndex, ByName, Location, OfActivation, OfMonitor, OfProcess, Owner, PathStep, same_location, same_owner, under}
 use Rattle.cp_model.specs.Stores.{Absent, ClassRight, Initialised, MonitorRight, Ordinal, QueueHolds, Reference, Store, Value, Writes, forget, put, put_all}
-use Rattle.cp_model.specs.Leaves.{Leaf, below_step, component_leaves, count_between, integers_from, leaves, leaves_of_members}
+use Rattle.cp_model.specs.Leaves.{Leaf, below_step, component_leaves, integers_from, leaves, leaves_of_members}
+use Rattle.cp_model.specs.Integers.{count_between}
 use Rattle.cp_model.specs.Outcomes.{provided}
 use Rattle.cp_model.specs.Environments.{Environment}
 use Rattle.cp_model.specs.Places.{TypedValue, ordinal_in, ordinal_of, within}
-use Rattle.cp_model.specs.Continuations.{Do, EndBody, EndCall, EndProcess, ForNext, RepeatTest, Task, WhileTest, depth, gates_of, push}
+use Rattle.cp_model.specs.Continuations.{Do, EndBody, EndCall, EndProcess, ForNext, RepeatTest, Task, WhileTest, depth, marked_monitors, push}
 use Rattle.cp_model.specs.Assignments.{starting_writes, writes_of}
 use Rattle.cp_model.specs.States.{is_in}
 use Rattle.cp_model.specs.Start.{start}
@@ -41,15 +42,15 @@ push_keeps Q env a b c (Init x arguments) k h = a (Init x arguments) k h
 
 -- A list with more tasks and no more marks.
 record Behind (p : ℕ) (st : Store) (ms : List ℕ) (n : ℕ) (k : List Task) : Type 0 where
-  pub gates : gates_of k ≡ ms
+  pub gates : marked_monitors k ≡ ms
   pub deep : depth k ≡ n
   pub tasks : TasksInReach p k
   pub frames : FramesInvariant p st k
 
 pub push_continuation : (p : ℕ) (st : Store) (s : Statement) (env : Environment) (k : List Task)
-    → EnvironmentIn (in_reach p (gates_of k)) env → ContinuationInvariant p st k → ContinuationInvariant p st (push s env k)
+    → EnvironmentIn (in_reach p (marked_monitors k)) env → ContinuationInvariant p st k → ContinuationInvariant p st (push s env k)
 push_continuation p st s env k h o =
-    let b = push_keeps (Behind p st (gates_of k) (depth k)) env
+    let b = push_keeps (Behind p st (marked_monitors k) (depth k)) env
     (λ x l g. record { gates = g.gates; deep = g.deep; tasks = (subst (λ ms. EnvironmentIn (in_reach p ms) env) (sym g.gates) h, g.tasks); frames = g.frames })
     (λ x e y l g. record { gates = g.gates; deep = g.deep; tasks = (subst (λ ms. EnvironmentIn (in_reach p ms) env) (sym g.gates) h, g.tasks); frames = g.frames })
     (λ x e y l g. record { gates = g.gates; deep = g.deep; tasks = (subst (λ ms. EnvironmentIn (in_reach p ms) env) (sym g.gates) h, g.tasks); frames = g.frames })
@@ -184,11 +185,11 @@ in_reach_more p m ms (OfMonitor n) h = go (nat_eq n m)
     go true = refl
     go false = h
 
-in_reach_tail : (p : ℕ) (i : Task) (k : List Task) (o : Owner) → in_reach p (gates_of k) o ≡ true
-    → in_reach p (gates_of (i ∷ k)) o ≡ true
-in_reach_tail p (EndCall env (Some m)) k o h = in_reach_more p m (gates_of k) o h
+in_reach_tail : (p : ℕ) (i : Task) (k : List Task) (o : Owner) → in_reach p (marked_monitors k) o ≡ true
+    → in_reach p (marked_monitors (i ∷ k)) o ≡ true
+in_reach_tail p (EndCall env (Some m)) k o h = in_reach_more p m (marked_monitors k) o h
 in_reach_tail p (EndCall env None) k o h = h
-in_reach_tail p (EndBody (Some m)) k o h = in_reach_more p m (gates_of k) o h
+in_reach_tail p (EndBody (Some m)) k o h = in_reach_more p m (marked_monitors k) o h
 in_reach_tail p (EndBody None) k o h = h
 in_reach_tail p (Do s env) k o h = h
 in_reach_tail p (WhileTest now e s env) k o h = h
@@ -198,13 +199,13 @@ in_reach_tail p EndProcess k o h = h
 
 pub frame_refers : (p : ℕ) (st : Store) (k : List Task) (l j : Location) (d : ℕ) → FramesInvariant p st k → d < depth k
     → l.owner ≡ OfActivation p d → st l ≡ Reference j
-    → in_reach p (gates_of k) j.owner ≡ true
+    → in_reach p (marked_monitors k) j.owner ≡ true
 frame_refers p st [] l j d f h o e = absurd (Prim.omega arith)
 frame_refers p st (EndCall env gate ∷ k) l j d f h o e = in_reach_tail p (EndCall env gate) k j.owner
     (go (nat_eq d (depth k)) refl (λ g. frame_refers p st k l j d f.1 g o e))
   where
-    go : (b : Bool) → nat_eq d (depth k) ≡ b → (d < depth k → in_reach p (gates_of k) j.owner ≡ true)
-        → in_reach p (gates_of k) j.owner ≡ true
+    go : (b : Bool) → nat_eq d (depth k) ≡ b → (d < depth k → in_reach p (marked_monitors k) j.owner ≡ true)
+        → in_reach p (marked_monitors k) j.owner ≡ true
     go true g ih = f.0.references l j (o ∙ ap (λ n. OfActivation p n) (eqb-true d (depth k) g)) e
     go false g ih = ih (lesser (eqb-false d (depth k) g))
       where
@@ -220,21 +221,21 @@ frame_refers p st (EndProcess ∷ k) l j d f h o e = frame_refers p st k l j d f
 
 -- What a process names in its reach stays in it.
 pub is_closed : (p : ℕ) (st : Store) (k : List Task) → StoreInvariant st → ContinuationInvariant p st k
-    → IsClosed (in_reach p (gates_of k)) st
+    → IsClosed (in_reach p (marked_monitors k)) st
 is_closed p st k s o = record { references = λ l j h e. go l j l.owner refl h e (s.references l j e); classes = λ l j h e. rw (s.classes l j e) h }
   where
-    lesser : (l j : Location) (d : ℕ) → l.owner ≡ OfActivation p d → st l ≡ Reference j → in_reach p (gates_of k) j.owner
+    lesser : (l j : Location) (d : ℕ) → l.owner ≡ OfActivation p d → st l ≡ Reference j → in_reach p (marked_monitors k) j.owner
         ≡ true
     lesser l j d f e = by (nat_lt d (depth k)) refl
       where
-        by : (b : Bool) → nat_lt d (depth k) ≡ b → in_reach p (gates_of k) j.owner ≡ true
+        by : (b : Bool) → nat_lt d (depth k) ≡ b → in_reach p (marked_monitors k) j.owner ≡ true
         by true g = frame_refers p st k l j d o.frames (Prim.grind arith) f e
         by false g = absurd (o.beyond l j d (Prim.grind arith) f e)
 
-    go : (l j : Location) (w : Owner) → l.owner ≡ w → in_reach p (gates_of k) l.owner ≡ true → st l ≡ Reference j
-        → IsActivation l.owner → in_reach p (gates_of k) j.owner ≡ true
+    go : (l j : Location) (w : Owner) → l.owner ≡ w → in_reach p (marked_monitors k) l.owner ≡ true → st l ≡ Reference j
+        → IsActivation l.owner → in_reach p (marked_monitors k) j.owner ≡ true
     go l j (OfActivation q d) f h e a =
-        let x : nat_eq p q ≡ true = subst (λ y. in_reach p (gates_of k) y ≡ true) f h in
+        let x : nat_eq p q ≡ true = subst (λ y. in_reach p (marked_monitors k) y ≡ true) f h in
         lesser l j d (f ∙ ap (λ n. OfActivation n d) (sym (eqb-true p q x))) e
     go l j (OfProcess q) f h e a = absurd (subst (λ y. IsActivation y) f a)
     go l j (OfMonitor q) f h e a = absurd (subst (λ y. IsActivation y) f a)

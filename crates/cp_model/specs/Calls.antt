@@ -2,9 +2,10 @@
 --
 -- The user calls in the expressions of a statement are made first, leftmost and innermost first, each by steps of its own. The
 -- value of a call then takes its place in the statement. A test makes its calls anew each time.
-use Rattle.std.specs.Prelude.{Bool, None, Option, Some, false, find, true, ◌++◌}
+use Rattle.std.specs.Prelude.{Bool, None, Option, Some, false, find, true, ◌++◌, is_some}
 use Rattle.cp_model.specs.Abstract.{Assign, At, Binary, Call, Case, Designator, Expression, Expressions, For, If, Init, Monitor, MoreExpressions, Name, Negative, NoExpression, Not, Part, Perform, Plain, Positive, Routine, Statement, System, Use}
-use Rattle.cp_model.specs.Names.{lookup, same_name}
+use Rattle.cp_model.specs.Names.{lookup}
+use Rattle.std.specs.Str.{bytes_eq}
 use Rattle.cp_model.specs.Types.{GlobalScope}
 use Rattle.cp_model.specs.Declarations.{Variable, declarations}
 use Rattle.cp_model.specs.Environments.{Environment, Frame}
@@ -19,16 +20,12 @@ pub record Callee : Type 0 where
   pub of : Option Component
 
 abbrev pub routine_named : Name → System → Option Routine
-routine_named x s = find (λ r. same_name x r.name) s.routines
-
-abbrev pub is_some_variable : Option Variable → Bool
-is_some_variable (Some v) = true
-is_some_variable None = false
+routine_named x s = find (λ r. bytes_eq x r.name) s.routines
 
 -- A parameter or variable of a routine may have the name of a routine that is declared behind it: then no call is meant.
 abbrev pub is_local : GlobalScope → Option Frame → Name → Bool
 is_local g None x = false
-is_local g (Some f) x = is_some_variable (lookup x (declarations g f.routine.parameters ++ declarations g f.routine.variables))
+is_local g (Some f) x = is_some (lookup x (declarations g f.routine.parameters ++ declarations g f.routine.variables))
 
 abbrev pub own_routine : Bool → Name → System → Option Routine
 own_routine true x s = None

@@ -1,23 +1,30 @@
 -- Chains of askers: p, then, while the last one is asking, the holder of that gate.
 --
--- Gates are asked for in the order of their types, so no chain is longer than all monitors and one process; that is the bound
--- here.
-use Rattle.std.specs.Prelude.{List, None, Option, Some, [], suc, zero, ℕ, ◌∷◌}
+-- Nothing bounds a chain here. That it ends, and soon, is a property of accepted texts and not of the definition.
+use Rattle.std.specs.Prelude.{List, None, Option, Some, [], option_map, suc, zero, ℕ, ◌≡◌, ◌∷◌}
 use Rattle.cp_model.specs.Configurations.{Asking, Status}
-use Rattle.cp_model.specs.States.{HeldBy, Holder, Setup, State, monitor_count}
+use Rattle.cp_model.specs.States.{HeldBy, Holder, State}
 
 abbrev pub holding_process : Holder → Option ℕ
 holding_process (HeldBy p) = Some p
 holding_process _ = None
 
+-- Whom an asking process waits for.
 abbrev pub holder_asked : State → Status → Option ℕ
 holder_asked s (Asking m) = holding_process (s.gates m).holder
 holder_asked s _ = None
 
--- The chain from p with at most so many behind it.
-abbrev pub chain : ℕ → State → ℕ → List ℕ
-chain zero s p = p ∷ []
-chain (suc n) s p = elim (holder_asked s (s.status p)) [ None ↦ p ∷ [] | Some q ↦ p ∷ chain n s q ]
+-- These processes are the chain from p.
+abbrev pub IsAskingChain : State → ℕ → List ℕ → Type 0
+IsAskingChain s p [] = ⊥
+IsAskingChain s p (q ∷ []) = (q ≡ p) × (holder_asked s (s.status p) ≡ None)
+IsAskingChain s p (q ∷ r ∷ rs) = (q ≡ p) × (holder_asked s (s.status p) ≡ Some r) × IsAskingChain s r (r ∷ rs)
 
-abbrev pub asking_chain : Setup → State → ℕ → List ℕ
-asking_chain setup s p = chain (monitor_count setup) s p
+-- The chain from p, where it ends within n more processes.
+abbrev pub chain_from : ℕ → State → ℕ → Option ℕ → Option (List ℕ)
+chain_from n s p None = Some (p ∷ [])
+chain_from zero s p (Some q) = None
+chain_from (suc n) s p (Some q) = option_map (λ rs. p ∷ rs) (chain_from n s q (holder_asked s (s.status q)))
+
+abbrev pub chain_within : ℕ → State → ℕ → Option (List ℕ)
+chain_within n s p = chain_from n s p (holder_asked s (s.status p))

@@ -2,7 +2,8 @@
 use Rattle.std.specs.Prelude.{Bool, List, None, Option, Some, [], false, if◌then◌else◌, suc, true, ℕ, ◌+◌, ◌∷◌}
 use Rattle.std.specs.Option.{option_or}
 use Rattle.cp_model.specs.Abstract.{Class, Monitor, Name, Process, Sort, System}
-use Rattle.cp_model.specs.Names.{lookup, same_name}
+use Rattle.cp_model.specs.Names.{lookup}
+use Rattle.std.specs.Str.{bytes_eq}
 use Rattle.cp_model.specs.Types.{ComponentOf, ResolvedType}
 use Rattle.cp_model.specs.Declarations.{Variable, declarations}
 use Rattle.cp_model.specs.Locations.{ByName, Location, OfMonitor, OfProcess, root, under}
@@ -63,7 +64,7 @@ monitor_location m = root (OfMonitor m)
 abbrev pub count_before : Sort → Name → List (Name × Variable) → ℕ
 count_before s x [] = 0
 count_before s x (v ∷ vs) =
-    if same_name x v.0 then 0
+    if bytes_eq x v.0 then 0
     else if is_component_of s v.1.type then suc (count_before s x vs)
     else count_before s x vs
 

@@ -1,5 +1,5 @@
 -- What one step of a process works on, what it reads beside, and what it leaves to the kernel.
-use Rattle.std.specs.Prelude.{Bool, List, Option, ℕ}
+use Rattle.std.specs.Prelude.{Bool, List, Option, [], drop, false, true, ℕ, ◌∷◌}
 use Rattle.cp_model.specs.Abstract.{Designator, Expression}
 use Rattle.cp_model.specs.Locations.{Location}
 use Rattle.cp_model.specs.Stores.{Store, Writes, put_all}
@@ -8,7 +8,7 @@ use Rattle.cp_model.specs.Environments.{Environment}
 use Rattle.cp_model.specs.Places.{Place, TypedValue}
 use Rattle.cp_model.specs.Operators.{Clock}
 use Rattle.cp_model.specs.Expressions.{place, value}
-use Rattle.cp_model.specs.Continuations.{Task}
+use Rattle.cp_model.specs.Continuations.{Task, marked_monitors}
 
 -- Unstarted; fresh, which is started in the running round; ready; asking for a monitor's gate; delayed in a queue of a
 -- monitor; ended; waiting for the clock; stopped by a fault.
@@ -17,6 +17,16 @@ pub data Status : Type 0 where
   Asking : (m : ℕ) → Status
   Delayed : (m : ℕ) (queue : Location) → Status
   Faulted : (number : ℕ) → Status
+
+-- The gates that a process holds, the innermost first: those that its end marks name, but not the innermost one while it is
+-- asking for that or delayed there.
+abbrev pub held_gates : Status → List Task → List ℕ
+held_gates (Asking m) k = drop 1 (marked_monitors k)
+held_gates (Delayed m q) k = drop 1 (marked_monitors k)
+held_gates _ k = marked_monitors k
+
+abbrev pub holds_gate : Status → List Task → Bool
+holds_gate x k = elim (held_gates x k) [ [] ↦ false | m ∷ ms ↦ true ]
 
 -- The store of the system, and of the process: what is left to do, the transcript, and how much input was taken.
 pub record Configuration : Type 0 where

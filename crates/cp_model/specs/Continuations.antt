@@ -28,14 +28,15 @@ push (Repeat s e) env k = push s env (RepeatTest e s e env ∷ k)
 push s env k = Do s env ∷ k
 
 -- The monitors that end marks name, the innermost first.
-abbrev pub gates_of : List Task → List ℕ
-gates_of [] = []
-gates_of (EndCall env (Some m) ∷ k) = m ∷ gates_of k
-gates_of (EndBody (Some m) ∷ k) = m ∷ gates_of k
-gates_of (_ ∷ k) = gates_of k
+abbrev pub marked_monitors : List Task → List ℕ
+marked_monitors [] = []
+marked_monitors (EndCall env (Some m) ∷ k) = m ∷ marked_monitors k
+marked_monitors (EndBody (Some m) ∷ k) = m ∷ marked_monitors k
+marked_monitors (_ ∷ k) = marked_monitors k
 
-abbrev pub holds_gate : List Task → Bool
-holds_gate k = elim (gates_of k) [ [] ↦ false | m ∷ ms ↦ true ]
+-- Whether an end mark of a monitor is left.
+abbrev pub is_in_monitor : List Task → Bool
+is_in_monitor k = elim (marked_monitors k) [ [] ↦ false | m ∷ ms ↦ true ]
 
 -- How many activations there are. The body of a component is none.
 abbrev pub depth : List Task → ℕ

@@ -1,6 +1,6 @@
 -- The abstract syntax of a syntax tree: what is left of it when places and parentheses are left out.
 -- Statement lists become `Seq` and `Nothing`, `init a, b` two statements, `v[i, j]` becomes `v[i][j]`, `array [a, b] of t` an array of arrays.
-use Rattle.std.specs.Prelude.{ℕ, Bool, true, false, List, [], ◌∷◌, ◌++◌, Option, None, Some, map}
+use Rattle.std.specs.Prelude.{ℕ, Bool, true, false, List, [], ◌∷◌, ◌++◌, Option, None, Some, map, is_some}
 use Rattle.cp_model.specs.Syntax as s
 use Rattle.cp_model.specs.Abstract as a
 use Rattle.cp_model.specs.declared.tree.Identifier.{Identifier}
@@ -68,12 +68,17 @@ abbrev pub signed : Sign → a.Expression → a.Expression
 signed sign.Plus e = a.Positive e
 signed sign.Minus e = a.Negative e
 
+-- a call without arguments, which no text has, is a name alone
+abbrev pub called : a.Designator → a.Expressions → a.Expression
+called d a.NoExpression = a.Use d
+called d es = a.Call d es
+
 abbrev mutual
   pub expression : s.Expression → a.Expression
   expression (s.Number at n) = a.Literal n
   expression (s.Character at n) = a.Letter n
   expression (s.Designated d) = a.Use (designator d)
-  expression (s.Call d es) = a.Call (designator d) (expressions es)
+  expression (s.Call d es) = called (designator d) (expressions es)
   expression (s.Parenthesized at e) = expression e
   expression (s.Not at e) = a.Not (expression e)
   expression (s.Signed sign at e) = signed sign (expression e)
@@ -133,10 +138,6 @@ abbrev mutual
 
 -- ---- declarations
 
-abbrev pub is_there : {A : Type 0} → Option A → Bool
-is_there None = false
-is_there (Some x) = true
-
 abbrev pub name_if : Option Identifier → Option a.Name
 name_if None = None
 name_if (Some x) = Some x.name
@@ -145,12 +146,12 @@ abbrev pub variable_group : s.Variables → a.Group
 variable_group g = record { by_reference = false; names = map name g.names; type = type_expression g.of }
 
 abbrev pub parameter_group : s.Parameters → a.Group
-parameter_group p = record { by_reference = is_there p.by_reference; names = map name p.names; type = a.TypeName p.of.name }
+parameter_group p = record { by_reference = is_some p.by_reference; names = map name p.names; type = a.TypeName p.of.name }
 
 abbrev pub routine : s.Routine → a.Routine
 routine r = record {
   name = r.name.name;
-  entry = is_there r.entry;
+  entry = is_some r.entry;
   parameters = map parameter_group r.parameters;
   result = name_if r.result_type;
   variables = map variable_group r.variables;

@@ -3,8 +3,8 @@
 -- They are evaluated left to right, operands before their operator, indices where they stand.
 use Rattle.std.specs.Prelude.{[], codes, if◌then◌else◌, neg_ℤ, pos}
 use Rattle.cp_model.specs.Abstract.{At, Binary, Call, Char, Designator, Expression, Expressions, Integer, Known, Letter, Literal, MoreExpressions, Name, Negative, NoExpression, Not, Part, Plain, Positive, Use}
-use Rattle.cp_model.specs.Names.{same_name}
-use Rattle.cp_model.specs.Locations.{same_integer}
+use Rattle.std.specs.Str.{bytes_eq}
+use Rattle.cp_model.specs.Integers.{same_integer}
 use Rattle.cp_model.specs.Stores.{Store}
 use Rattle.cp_model.specs.Outcomes.{Fault, Gives, Outcome, and_then}
 use Rattle.cp_model.specs.Environments.{Environment, meaning}
@@ -13,7 +13,7 @@ use Rattle.cp_model.specs.Operators.{Clock, apply_operator, integer_result, real
 
 abbrev pub value_of_name : Clock → Environment → Store → Name → Outcome TypedValue
 value_of_name clock env store x =
-    if same_name x (codes "realtime")
+    if bytes_eq x (codes "realtime")
     then integer_result (pos (realtime clock))
     else Gives (value_of_meaning env store (meaning env x))
 

@@ -7,7 +7,7 @@ use Rattle.std.specs.Prelude.{Bool, List, None, Option, Some, [], true, ℕ, ◌
 use Rattle.cp_model.specs.Locations.{Location, OfActivation, Owner}
 use Rattle.cp_model.specs.Stores.{ClassRight, Reference, Store}
 use Rattle.cp_model.specs.Environments.{Environment, Frame}
-use Rattle.cp_model.specs.Continuations.{Do, EndBody, EndCall, EndProcess, ForNext, RepeatTest, Task, WhileTest, depth, gates_of, holds_gate}
+use Rattle.cp_model.specs.Continuations.{Do, EndBody, EndCall, EndProcess, ForNext, RepeatTest, Task, WhileTest, depth, marked_monitors, is_in_monitor}
 use Rattle.cp_model.specs.Configurations.{Asking, Delayed, Status, Unstarted}
 use Rattle.cp_model.specs.States.{State}
 use Rattle.cp_model.specs.Reach.{in_reach}
@@ -47,7 +47,7 @@ TaskIn t EndProcess = Unit {0}
 -- Each task stands in the reach that the process has with it and what is left behind it.
 abbrev pub TasksInReach : ℕ → List Task → Type 0
 TasksInReach p [] = Unit {0}
-TasksInReach p (i ∷ k) = TaskIn (in_reach p (gates_of (i ∷ k))) i × TasksInReach p k
+TasksInReach p (i ∷ k) = TaskIn (in_reach p (marked_monitors (i ∷ k))) i × TasksInReach p k
 
 -- ---- Activations
 
@@ -59,7 +59,7 @@ IsFrameOf (Some f) o = f.owner ≡ o
 pub record FrameInvariant (p : ℕ) (store : Store) (env : Environment) (k : List Task) : Type 0 where
   pub frame : IsFrameOf env.frame (OfActivation p (depth k))
   pub references : (l j : Location) → l.owner ≡ OfActivation p (depth k) → store l ≡ Reference j
-      → in_reach p (gates_of k) j.owner ≡ true
+      → in_reach p (marked_monitors k) j.owner ≡ true
 
 abbrev pub FramesInvariant : ℕ → Store → List Task → Type 0
 FramesInvariant p store [] = Unit {0}
@@ -88,5 +88,5 @@ IsBlocked _ = ⊥
 pub record Invariant (s : State) : Type 0 where
   pub store : StoreInvariant s.store
   pub continuations : (p : ℕ) → ContinuationInvariant p s.store (s.continuation p)
-  pub blocked : (p : ℕ) → IsBlocked (s.status p) → holds_gate (s.continuation p) ≡ true
+  pub blocked : (p : ℕ) → IsBlocked (s.status p) → is_in_monitor (s.continuation p) ≡ true
   pub unstarted : (p : ℕ) → s.status p ≡ Unstarted → depth (s.continuation p) ≡ 0

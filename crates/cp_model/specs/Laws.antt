@@ -1,15 +1,17 @@
 -- The laws of rounds and of the invariant, which the functions of `src/law.rt` state.
-use Rattle.std.specs.Prelude.{List, true, ℕ, ◌≡◌, ◌≢◌}
+use Rattle.std.specs.Prelude.{List, Some, map, true, ℕ, ◌++◌, ◌≡◌, ◌≢◌}
 use Rattle.cp_model.specs.Locations.{Location, OfActivation}
 use Rattle.cp_model.specs.Stores.{ClassRight, Reference}
 use Rattle.cp_model.specs.States.{Setup, State, is_in, processes}
 use Rattle.cp_model.specs.Turns.{Private, kernel_step, kernel_turn, kind, private_step, private_turn}
-use Rattle.cp_model.specs.Rounds.{Event, close_round, own_parts, phased_round, replay_event, replay_round, run, sequential_round, wake}
+use Rattle.cp_model.specs.Rounds.{Event, KernelTurn, close_round, own_parts, phased_round, replay_event, replay_round, run, sequential_round, wake}
 use Rattle.cp_model.specs.Start.{start}
-use Rattle.cp_model.specs.Orders.{IsLawful, replay}
+use Rattle.cp_model.specs.Orders.{AreStepsOf, IsDrawnOnce, IsLawful, replay}
 use Rattle.cp_model.specs.Reach.{reach}
 use Rattle.cp_model.specs.Invariant.{Invariant, IsActivation}
-use Rattle.cp_model.specs.Parts.{SameKernelPart, SameOwnPart}
+use Rattle.cp_model.specs.Chains.{IsAskingChain, chain_within}
+use Rattle.cp_model.specs.Report.{IsReportWithChains, report_with_chains_within}
+use Rattle.cp_model.specs.Parts.{SameKernelPart, SameOwnPart, SamePrivateState}
 
 -- ---- One processor
 
@@ -98,11 +100,11 @@ ClassRightsKeepOwner = (s : State) (l j : Location) → Invariant s → s.store 
 
 -- ---- Parts
 
--- In `own_parts` each process has the own part that its private turn makes, and the kernel's part is as it was.
+-- In `own_parts` each process has the private state that its private turn makes, and the kernel's part is as it was.
 abbrev pub OwnPartIsTurned : Type 0
 OwnPartIsTurned =
     (setup : Setup) (t : ℕ) (s : State) (p : ℕ)
-    → is_in p (processes setup) ≡ true → SameOwnPart p (private_turn setup t s p) (own_parts setup t s)
+    → is_in p (processes setup) ≡ true → SamePrivateState p (private_turn setup t s p) (own_parts setup t s)
 
 abbrev pub OwnPartsKeepKernelPart : Type 0
 OwnPartsKeepKernelPart = (setup : Setup) (t : ℕ) (s : State) → SameKernelPart s (own_parts setup t s)
@@ -113,20 +115,48 @@ WakeKeepsKernelPart = (setup : Setup) (s : State) → SameKernelPart s (wake set
 abbrev pub PrivateStepKeepsKernelPart : Type 0
 PrivateStepKeepsKernelPart = (setup : Setup) (p : ℕ) (s : State) → Invariant s → SameKernelPart s (private_step setup s p)
 
--- A private step and a kernel turn of q leave the own part of every other process as it was.
+-- A private step and a kernel turn of q leave the private state of every other process as it was.
 abbrev pub PrivateStepKeepsOtherParts : Type 0
 PrivateStepKeepsOtherParts =
-    (setup : Setup) (p q : ℕ) (s : State) → q ≢ p → Invariant s → SameOwnPart p s (private_step setup s q)
+    (setup : Setup) (p q : ℕ) (s : State) → q ≢ p → Invariant s → SamePrivateState p s (private_step setup s q)
 
 abbrev pub KernelTurnKeepsOtherParts : Type 0
 KernelTurnKeepsOtherParts =
-    (setup : Setup) (t p q : ℕ) (s : State) → q ≢ p → Invariant s → SameOwnPart p s (kernel_turn setup t s q)
+    (setup : Setup) (t p q : ℕ) (s : State) → q ≢ p → Invariant s → SamePrivateState p s (kernel_turn setup t s q)
+
+-- Where the next step of p is private, a kernel turn of q leaves the whole own part of p as it was, its status included.
+abbrev pub KernelTurnKeepsPrivatelyReady : Type 0
+KernelTurnKeepsPrivatelyReady =
+    (setup : Setup) (t p q : ℕ) (s : State)
+    → q ≢ p → Invariant s → kind s p ≡ Private → SameOwnPart p s (kernel_turn setup t s q)
 
 -- A kernel turn of q makes no other process privately ready.
 abbrev pub KernelTurnMakesNonePrivate : Type 0
 KernelTurnMakesNonePrivate =
     (setup : Setup) (t p q : ℕ) (s : State)
     → q ≢ p → Invariant s → kind s p ≢ Private → kind (kernel_turn setup t s q) p ≢ Private
+
+-- ---- Changing places
+
+-- A private step of p may change places with every private step of another process, and with every kernel turn of one.
+abbrev pub PrivateStepsCommute : Type 0
+PrivateStepsCommute =
+    (setup : Setup) (s : State) (p q : ℕ)
+    → p ≢ q → Invariant s
+    → private_step setup (private_step setup s p) q ≡ private_step setup (private_step setup s q) p
+
+abbrev pub PrivateStepCommutesWithKernelTurn : Type 0
+PrivateStepCommutesWithKernelTurn =
+    (setup : Setup) (t : ℕ) (s : State) (p q : ℕ)
+    → p ≢ q → Invariant s
+    → kernel_turn setup t (private_step setup s p) q ≡ private_step setup (kernel_turn setup t s q) p
+
+-- However the private turns of the processes are shared out and cut into steps: with the kernel turns by number after them they
+-- make a lawful order.
+abbrev pub SharedTurnsAreLawful : Type 0
+SharedTurnsAreLawful =
+    (t : ℕ) (ps drawn : List ℕ) (steps : List Event)
+    → IsDrawnOnce ps drawn → AreStepsOf t drawn steps → IsLawful t ps (steps ++ map KernelTurn ps)
 
 -- ---- The count of rounds
 
@@ -141,3 +171,18 @@ KernelTurnKeepsCount = (setup : Setup) (t p : ℕ) (s : State) → (kernel_turn 
 
 abbrev pub OwnPartsKeepCount : Type 0
 OwnPartsKeepCount = (setup : Setup) (t : ℕ) (s : State) → (own_parts setup t s).rounds ≡ s.rounds
+
+-- ---- Chains
+
+-- A chain that ends within a bound is the asking chain, and a report with chains that was computed within one is the report.
+abbrev pub ChainWithinIsAskingChain : Type 0
+ChainWithinIsAskingChain =
+    (n : ℕ) (s : State) (p : ℕ) (ps : List ℕ) → chain_within n s p ≡ Some ps → IsAskingChain s p ps
+
+abbrev pub AskingChainIsOne : Type 0
+AskingChainIsOne = (s : State) (p : ℕ) (ps qs : List ℕ) → IsAskingChain s p ps → IsAskingChain s p qs → ps ≡ qs
+
+abbrev pub ReportWithinIsReport : Type 0
+ReportWithinIsReport =
+    (n : ℕ) (setup : Setup) (s : State) (text : List ℕ)
+    → report_with_chains_within n setup s ≡ Some text → IsReportWithChains setup s text

@@ -7,6 +7,7 @@ use Rattle.cp_model.specs.Abstract.{Class, Monitor, Process, Sort}
 use Rattle.cp_model.specs.Types.{ArrayOf, ComponentOf, Members, MoreMembers, NoMembers, NoType, Queue, RecordOf, ResolvedType, Simple}
 use Rattle.cp_model.specs.Locations.{ByIndex, ByName, Path, PathStep}
 use Rattle.cp_model.specs.Stores.{Initialised, Ordinal, QueueHolds, Value}
+use Rattle.cp_model.specs.Integers.{count_between}
 
 -- So many integers, rising, from the lowest.
 abbrev pub integers_from : ℤ → ℕ → List ℤ
@@ -17,13 +18,6 @@ integers_from low (suc n) = low ∷ integers_from (next low) n
     next (pos a) = pos (suc a)
     next (negsuc zero) = pos 0
     next (negsuc (suc a)) = negsuc a
-
--- How many integers there are from a to b.
-abbrev pub count_between : ℤ → ℤ → ℕ
-count_between (pos a) (pos b) = suc b - a
-count_between (negsuc a) (pos b) = suc a + suc b
-count_between (negsuc a) (negsuc b) = suc a - b
-count_between (pos a) (negsuc b) = 0
 
 -- A path within the variable, and the start value there.
 abbrev pub Leaf : Type 0

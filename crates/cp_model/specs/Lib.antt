@@ -19,6 +19,7 @@ pub mod RulesDeclarations
 pub mod Rules
 pub mod Erase
 pub mod Abstract
+pub mod Integers
 pub mod Names
 pub mod Types
 pub mod Declarations
@@ -53,8 +54,8 @@ pub mod Orders
 pub mod Reach
 pub mod Invariant
 pub mod Parts
-pub mod Laws
 pub mod Chains
 pub mod Report
+pub mod Laws
 pub mod Input
 pub mod OrderText

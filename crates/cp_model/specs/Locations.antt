@@ -4,7 +4,8 @@
 -- belongs to the process or the monitor there. A location is an owner and a path of names and indices.
 use Rattle.std.specs.Prelude.{Bool, List, [], false, nat_eq, negsuc, pos, true, ℕ, ℤ, ◌&&◌, ◌++◌, ◌∷◌}
 use Rattle.cp_model.specs.Abstract.{Name}
-use Rattle.cp_model.specs.Names.{same_name}
+use Rattle.std.specs.Str.{bytes_eq}
+use Rattle.cp_model.specs.Integers.{same_integer}
 
 -- Processes and monitors are numbered from 1. An activation has the number of its process, and its depth: how many
 -- activations of that process were there before it.
@@ -35,13 +36,8 @@ under l path = record { owner = l.owner; path = l.path ++ path }
 
 -- ---- Equality
 
-abbrev pub same_integer : ℤ → ℤ → Bool
-same_integer (pos a) (pos b) = nat_eq a b
-same_integer (negsuc a) (negsuc b) = nat_eq a b
-same_integer _ _ = false
-
 abbrev pub same_path_step : PathStep → PathStep → Bool
-same_path_step (ByName x) (ByName y) = same_name x y
+same_path_step (ByName x) (ByName y) = bytes_eq x y
 same_path_step (ByIndex i) (ByIndex j) = same_integer i j
 same_path_step _ _ = false
 

@@ -3,9 +3,9 @@
 -- Both operands have been evaluated before; `&` and `or` too take both.
 use Rattle.std.specs.Prelude.{Bool, Some, codes, false, if◌then◌else◌, int_div, int_le, int_lt, int_rem, nat_abs, negsuc, not, pos, true, ℕ, ℤ, ◌&&◌, ◌*ℤ◌, ◌+ℤ◌, ◌-ℤ◌, ◌/◌, ◌||◌}
 use Rattle.cp_model.specs.Abstract.{Add, And, AtLeast, AtMost, Char, Divide, Equal, Greater, Integer, Less, Modulo, Multiply, Name, Operator, Or, Subtract, Unequal}
-use Rattle.cp_model.specs.Names.{same_name}
+use Rattle.std.specs.Str.{bytes_eq}
 use Rattle.cp_model.specs.Types.{first_ordinal, last_ordinal}
-use Rattle.cp_model.specs.Locations.{same_integer}
+use Rattle.cp_model.specs.Integers.{same_integer}
 use Rattle.cp_model.specs.Stores.{QueueHolds, Value}
 use Rattle.cp_model.specs.Outcomes.{Fault, Gives, Outcome, provided}
 use Rattle.cp_model.specs.Places.{TypedValue, base_of_value, head_value, ordinal_of, simple_value, truth_value, within}
@@ -49,11 +49,11 @@ is_empty_queue _ = true
 -- The standard functions of one argument. The last case is `chr`.
 abbrev pub standard_function : Name → TypedValue → Outcome TypedValue
 standard_function f v =
-    if same_name f (codes "abs") then integer_result (pos (nat_abs (ordinal_of v)))
-    else if same_name f (codes "succ") then shifted v (pos 1)
-    else if same_name f (codes "pred") then shifted v (negsuc 0)
-    else if same_name f (codes "ord") then integer_result (ordinal_of v)
-    else if same_name f (codes "empty") then Gives (truth_value (is_empty_queue (head_value v)))
+    if bytes_eq f (codes "abs") then integer_result (pos (nat_abs (ordinal_of v)))
+    else if bytes_eq f (codes "succ") then shifted v (pos 1)
+    else if bytes_eq f (codes "pred") then shifted v (negsuc 0)
+    else if bytes_eq f (codes "ord") then integer_result (ordinal_of v)
+    else if bytes_eq f (codes "empty") then Gives (truth_value (is_empty_queue (head_value v)))
     else provided (within (pos 0) (pos 127) (ordinal_of v)) 1 (simple_value Char (ordinal_of v))
 
 -- ---- The clock

@@ -4,11 +4,8 @@
 -- `P` or `K` and the number of a process, without leading zeros. Of a text with a line that is none the place of the first such
 -- line is told.
 use Rattle.std.specs.Prelude.{Bool, List, None, Option, Some, [], if◌then◌else◌, length, nat_eq, nat_le, ℕ, ◌&&◌, ◌*◌, ◌+◌, ◌-◌, ◌∷◌}
-use Rattle.cp_model.specs.Expressions.{value}
 use Rattle.cp_model.specs.Decimal.{digits}
-use Rattle.cp_model.specs.Turns.{kind}
 use Rattle.cp_model.specs.Rounds.{Event, KernelTurn, PrivateStep}
-use Rattle.cp_model.specs.Report.{line}
 
 -- The events of each round, or the place of the first line that is none: its first byte, counted from 0.
 pub data OrderText : Type 0 where

@@ -2,7 +2,7 @@
 --
 -- An order is lawful where each process has as many events `PrivateStep` as the turn length, all of them before its one
 -- `KernelTurn`, and the kernel turns stand in order of number.
-use Rattle.std.specs.Prelude.{List, [], if◌then◌else◌, nat_eq, suc, ℕ, ◌∷◌, ◌≡◌}
+use Rattle.std.specs.Prelude.{AllPairs, Contains, List, [], flat_map, if◌then◌else◌, nat_eq, replicate, suc, ℕ, ◌∷◌, ◌≡◌, ◌≢◌}
 use Rattle.cp_model.specs.States.{Setup, State, is_in}
 use Rattle.cp_model.specs.Rounds.{Event, KernelTurn, PrivateStep, replay_round}
 
@@ -29,6 +29,25 @@ pub record IsLawful (t : ℕ) (ps : List ℕ) (es : List Event) : Type 0 where
   pub order : kernel_turn_order es ≡ ps
   pub steps : (p : ℕ) → private_steps p es ≡ (if is_in p ps then t else 0)
   pub in_order : ArePrivateStepsFirst es
+
+-- ---- Turns that are shared out
+
+-- The private turns of these processes, one after another, as their steps.
+abbrev pub steps_of : ℕ → List ℕ → List Event
+steps_of t ps = flat_map (λ p. replicate t (PrivateStep p)) ps
+
+-- These are the steps of the private turns of these processes, in any order.
+pub record AreStepsOf (t : ℕ) (drawn : List ℕ) (steps : List Event) : Type 0 where
+  pub private : kernel_turn_order steps ≡ []
+  pub count : (p : ℕ) → private_steps p steps ≡ private_steps p (steps_of t drawn)
+
+-- Drawn are the processes ps, none twice and none left out.
+pub record IsDrawnOnce (ps drawn : List ℕ) : Type 0 where
+  pub known : (p : ℕ) → Contains drawn p → Contains ps p
+  pub distinct : AllPairs (λ p q. p ≢ q) drawn
+  pub whole : (p : ℕ) → Contains ps p → Contains drawn p
+
+-- ---- Many rounds
 
 -- Rounds in any orders, lawful or not, each with its turn length.
 abbrev pub replay : Setup → State → List (ℕ × List Event) → State

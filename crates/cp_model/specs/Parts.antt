@@ -1,7 +1,10 @@
--- The parts of a state that a machine keeps apart: the own part of each process, and the part of the kernel.
+-- The parts of a state: the own part of each process, and, as a machine keeps them apart, the private state of each process and
+-- the kernel's part.
 --
--- A process's own part tells neither whether it is ready, asking or delayed, nor whether it is unstarted or fresh. Before it
--- has begun, its store and what it has left to do belong to the kernel's part, so that the kernel can start it.
+-- A process's own part is all that concerns it alone: its variables, what it has left to do, its transcript, the place in its
+-- input, its status. The private state is less: it tells neither whether the process is ready, asking or delayed, nor whether
+-- it is unstarted or fresh, since the kernel changes that. Before a process has begun, its variables and what it has left to do
+-- belong to the kernel's part, so that the kernel can start it.
 use Rattle.std.specs.Prelude.{Bool, false, nat_eq, true, ℕ, ◌≡◌}
 use Rattle.cp_model.specs.Locations.{Location, OfActivation, OfMonitor, OfProcess, Owner}
 use Rattle.cp_model.specs.Configurations.{Asking, Delayed, Ended, Faulted, Fresh, Ready, Status, Unstarted, Waiting}
@@ -16,31 +19,41 @@ is_own p (OfMonitor m) = false
 
 -- ---- A process's own part
 
-pub data OwnStatus : Type 0 where
-  NotBegun Running Finished Sleeping : OwnStatus
-  Failed : (number : ℕ) → OwnStatus
+-- The own part of p is the same in two states.
+pub record SameOwnPart (p : ℕ) (s u : State) : Type 0 where
+  pub status : u.status p ≡ s.status p
+  pub transcript : u.transcript p ≡ s.transcript p
+  pub consumed : u.consumed p ≡ s.consumed p
+  pub store : (l : Location) → is_own p l.owner ≡ true → u.store l ≡ s.store l
+  pub continuation : u.continuation p ≡ s.continuation p
 
-abbrev pub own_status : Status → OwnStatus
-own_status Unstarted = NotBegun
-own_status Fresh = NotBegun
-own_status Ready = Running
-own_status Ended = Finished
-own_status Waiting = Sleeping
-own_status (Asking m) = Running
-own_status (Delayed m q) = Running
-own_status (Faulted n) = Failed n
+-- ---- A process's private state
 
-abbrev pub HasBegun : OwnStatus → Type 0
+pub data PrivateStatus : Type 0 where
+  NotBegun Running Finished Sleeping : PrivateStatus
+  Failed : (number : ℕ) → PrivateStatus
+
+abbrev pub private_status : Status → PrivateStatus
+private_status Unstarted = NotBegun
+private_status Fresh = NotBegun
+private_status Ready = Running
+private_status Ended = Finished
+private_status Waiting = Sleeping
+private_status (Asking m) = Running
+private_status (Delayed m q) = Running
+private_status (Faulted n) = Failed n
+
+abbrev pub HasBegun : PrivateStatus → Type 0
 HasBegun NotBegun = ⊥
 HasBegun _ = Unit {0}
 
--- The own part of p is the same in two states.
-pub record SameOwnPart (p : ℕ) (s u : State) : Type 0 where
-  pub status : own_status (u.status p) ≡ own_status (s.status p)
+-- The private state of p is the same in two states.
+pub record SamePrivateState (p : ℕ) (s u : State) : Type 0 where
+  pub status : private_status (u.status p) ≡ private_status (s.status p)
   pub transcript : u.transcript p ≡ s.transcript p
   pub consumed : u.consumed p ≡ s.consumed p
-  pub store : HasBegun (own_status (s.status p)) → (l : Location) → is_own p l.owner ≡ true → u.store l ≡ s.store l
-  pub continuation : HasBegun (own_status (s.status p)) → u.continuation p ≡ s.continuation p
+  pub store : HasBegun (private_status (s.status p)) → (l : Location) → is_own p l.owner ≡ true → u.store l ≡ s.store l
+  pub continuation : HasBegun (private_status (s.status p)) → u.continuation p ≡ s.continuation p
 
 -- ---- The kernel's part
 

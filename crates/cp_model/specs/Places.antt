@@ -1,7 +1,7 @@
 -- Places: where a variable or a part of one lies, of what type it is, and what is read there.
 use Rattle.std.specs.Prelude.{Bool, List, [], if◌then◌else◌, int_le, map, pos, ℤ, ◌&&◌, ◌∷◌}
 use Rattle.cp_model.specs.Abstract.{BaseType, Boolean, Name}
-use Rattle.cp_model.specs.Names.{same_name}
+use Rattle.std.specs.Str.{bytes_eq}
 use Rattle.cp_model.specs.Types.{ArrayOf, Members, MoreMembers, NoMembers, NoType, RecordOf, ResolvedType, base_of_type, full_range}
 use Rattle.cp_model.specs.Locations.{ByIndex, ByName, Location, under}
 use Rattle.cp_model.specs.Stores.{Absent, Ordinal, Reference, Store, Value}
@@ -58,7 +58,7 @@ place_of_meaning env store _ = record { at = env.component; type = NoType }
 
 abbrev pub member_type : Name → Members → ResolvedType
 member_type x NoMembers = NoType
-member_type x (MoreMembers y t ps) = if same_name x y then t else member_type x ps
+member_type x (MoreMembers y t ps) = if bytes_eq x y then t else member_type x ps
 
 abbrev pub field_type : Name → ResolvedType → ResolvedType
 field_type x (RecordOf ps) = member_type x ps

@@ -5,7 +5,7 @@
 -- refer to the monitor's variables, and it goes on only when it holds the gate again.
 use Rattle.std.specs.Prelude.{Bool, List, nat_eq, ℕ}
 use Rattle.cp_model.specs.Locations.{Location, OfActivation, OfMonitor, OfProcess, Owner}
-use Rattle.cp_model.specs.Continuations.{gates_of}
+use Rattle.cp_model.specs.Continuations.{marked_monitors}
 use Rattle.cp_model.specs.States.{State, is_in}
 
 -- Whether the locations of an owner are in the reach of p, where p's end marks name these monitors.
@@ -16,4 +16,4 @@ in_reach p ms (OfMonitor m) = is_in m ms
 
 -- Whether a location is in the reach of p in a state.
 abbrev pub reach : State → ℕ → Location → Bool
-reach s p l = in_reach p (gates_of (s.continuation p)) l.owner
+reach s p l = in_reach p (marked_monitors (s.continuation p)) l.owner

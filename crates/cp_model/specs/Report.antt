@@ -1,8 +1,9 @@
 -- The report of a state.
 --
 -- One line for the count of rounds; for each process its status, transcript and variables; for each monitor its gate, askers and
--- variables; and where chains are wanted one line for each asking process. Each line ends with one line feed.
-use Rattle.std.specs.Prelude.{Bool, List, None, Option, Some, [], codes, false, filter, flat_map, if◌then◌else◌, nat_eq, nat_le, nat_lt, not, suc, true, zero, ℕ, ◌%◌, ◌&&◌, ◌++◌, ◌+◌, ◌-◌, ◌/◌, ◌∷◌}
+-- variables; and where chains are wanted one line for each asking process. Each line ends with one line feed. Chains make the
+-- report a relation, since nothing in the definitions bounds them.
+use Rattle.std.specs.Prelude.{◌≡◌, option_map, Bool, List, None, Option, Some, [], codes, false, filter, flat_map, if◌then◌else◌, nat_eq, nat_le, nat_lt, not, suc, true, zero, ℕ, ◌%◌, ◌&&◌, ◌++◌, ◌+◌, ◌-◌, ◌/◌, ◌∷◌}
 use Rattle.cp_model.specs.Abstract.{Monitor, Name, Process, Sort}
 use Rattle.cp_model.specs.Types.{ComponentOf, Members, NoMembers, ResolvedType}
 use Rattle.cp_model.specs.Declarations.{Variable, globals, reported_members}
@@ -13,7 +14,7 @@ use Rattle.cp_model.specs.Components.{is_component_of, monitor_location, process
 use Rattle.cp_model.specs.Configurations.{Asking, Delayed, Ended, Faulted, Fresh, Ready, Status, Unstarted, Waiting}
 use Rattle.cp_model.specs.Decimal.{decimal, natural}
 use Rattle.cp_model.specs.States.{Free, HeldBy, Holder, Setup, State, Unset, initial_variables, processes}
-use Rattle.cp_model.specs.Chains.{asking_chain}
+use Rattle.cp_model.specs.Chains.{IsAskingChain, chain_within}
 
 abbrev pub Text : Type 0
 Text = List ℕ
@@ -127,18 +128,45 @@ abbrev pub is_asking : Status → Bool
 is_asking (Asking m) = true
 is_asking _ = false
 
-abbrev pub chain_line : Setup → State → ℕ → Text
-chain_line setup s p = if is_asking (s.status p) then line (codes "chain" ++ numbers_text (asking_chain setup s p)) else []
+abbrev pub chain_line : List ℕ → Text
+chain_line chain = line (codes "chain" ++ numbers_text chain)
 
-abbrev pub chain_lines : Setup → State → List ℕ → Text
-chain_lines setup s ps = flat_map (chain_line setup s) ps
+-- A text begins with the chain of p, if it is asking, and goes on as said.
+abbrev pub BeginsWithChain : Bool → State → ℕ → (Text → Type 0) → Text → Type 0
+BeginsWithChain true s p GoesOn text =
+    (chain : List ℕ) × ((rest : Text) × IsAskingChain s p chain × GoesOn rest × (text ≡ chain_line chain ++ rest))
+BeginsWithChain false s p GoesOn text = GoesOn text
+
+-- A text has the chain of each of these processes that is asking.
+abbrev pub AreChainLines : State → List ℕ → Text → Type 0
+AreChainLines s [] text = text ≡ []
+AreChainLines s (p ∷ ps) text = BeginsWithChain (is_asking (s.status p)) s p (AreChainLines s ps) text
 
 -- ---- The whole report
 
-abbrev pub report : Setup → Bool → State → Text
-report setup chains s =
+abbrev pub report : Setup → State → Text
+report setup s =
     line (codes "rounds " ++ natural s.rounds)
     ++ (process_text setup s 1 (codes "initial") (reported_members (globals setup.tree) setup.tree.initial)
     ++ (processes_text setup s 2 (components_of setup Process)
-    ++ (monitors_text s 1 (components_of setup Monitor)
-    ++ (if chains then chain_lines setup s (processes setup) else []))))
+    ++ monitors_text s 1 (components_of setup Monitor)))
+
+-- The report with the chains of askers.
+abbrev pub IsReportWithChains : Setup → State → Text → Type 0
+IsReportWithChains setup s text = (lines : Text) × (AreChainLines s (processes setup) lines × (text ≡ report setup s ++ lines))
+
+-- ---- The report with chains, computed
+
+abbrev pub with_chain : Option (List ℕ) → Option Text → Option Text
+with_chain (Some chain) (Some rest) = Some (chain_line chain ++ rest)
+with_chain _ _ = None
+
+-- The chain lines, where each chain ends within n more processes.
+abbrev pub chain_lines_within : ℕ → State → List ℕ → Option Text
+chain_lines_within n s [] = Some []
+chain_lines_within n s (p ∷ ps) =
+    let rest = chain_lines_within n s ps in
+    if is_asking (s.status p) then with_chain (chain_within n s p) rest else rest
+
+abbrev pub report_with_chains_within : ℕ → Setup → State → Option Text
+report_with_chains_within n setup s = option_map (λ lines. report setup s ++ lines) (chain_lines_within n s (processes setup))

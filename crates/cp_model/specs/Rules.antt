@@ -1,12 +1,12 @@
 -- Definitions and the whole text: what is broken in a tree, and which trees are accepted.
-use Rattle.std.specs.Prelude.{◌≡◌, ℕ, suc, ◌+◌, ◌-◌, ℤ, pos, Bool, true, false, List, [], ◌∷◌, ◌++◌, Option, None, Some, if◌then◌else◌, length, drop}
+use Rattle.std.specs.Prelude.{◌≡◌, ℕ, suc, ◌+◌, ◌-◌, pos, false, List, [], ◌∷◌, ◌++◌, Option, None, Some, if◌then◌else◌, length, drop}
 use Rattle.cp_model.specs.Syntax as s
 use Rattle.cp_model.specs.declared.tree.Identifier.{Identifier}
 use Rattle.cp_model.specs.declared.tree.ConstantDefinition.{ConstantDefinition}
 use Rattle.cp_model.specs.declared.tree.Sort.{Sort}
 use Rattle.cp_model.specs.declared.tree.Sort.TheVariants as sort
 use Rattle.cp_model.specs.declared.rules.Rule.{Rule}
-use Rattle.cp_model.specs.declared.rules.Rule.TheVariants.{C1, C13}
+use Rattle.cp_model.specs.declared.rules.Rule.TheVariants.{C13}
 use Rattle.cp_model.specs.declared.rules.Violation.{Violation}
 use Rattle.cp_model.specs.declared.rules.Entity.{Entity}
 use Rattle.cp_model.specs.declared.rules.Entity.TheVariants as entity
@@ -18,11 +18,11 @@ use Rattle.cp_model.specs.declared.rules.Position.{Position}
 use Rattle.cp_model.specs.declared.rules.Position.TheVariants as position
 use Rattle.cp_model.specs.declared.rules.Part.TheVariants as part
 use Rattle.cp_model.specs.RulesJudged.{Violations, violation, unless, least, IsAmong, violations_of}
-use Rattle.cp_model.specs.RulesEnvironment.{Environment, Text, Names, Members, simple_row, declare, c1_declared, entity_of, is_process, process_body, standard_environment}
+use Rattle.cp_model.specs.RulesEnvironment.{Environment, Text, Names, Members, simple_row, declare, c1_declared, entity_of, is_process, standard_environment}
 use Rattle.cp_model.specs.RulesTypes.{constant, type_placed, add_type, capped, is_within}
 use Rattle.cp_model.specs.RulesStatements.{statements}
 use Rattle.cp_model.specs.RulesNeeds.{need_statements}
-use Rattle.cp_model.specs.RulesDeclarations.{Declared, heading, declare_bound, variables, routines}
+use Rattle.cp_model.specs.RulesDeclarations.{Declared, declare_each, heading, variables, routines}
 
 -- ---- constants and enumerations
 
@@ -32,20 +32,18 @@ define_constant env d =
     record { env = declare d.name (entity_of (λ c. entity.Constant c.0 c.1) value) env; violations = c1_declared env d.name ++ violations_of value }
 
 -- the values of an enumeration, from an ordinal on
-abbrev pub values : Environment → ℕ → ℕ → List Identifier → Declared
-values env base n [] = record { env = env; violations = [] }
-values env base n (x ∷ xs) =
-    let rest = values (declare x (entity.Constant base (pos n)) env) base (suc n) xs in
-    record { env = rest.env; violations = c1_declared env x ++ rest.violations }
+abbrev pub values : ℕ → ℕ → List Identifier → List (Identifier × Entity)
+values base n [] = []
+values base n (x ∷ xs) = (x, entity.Constant base (pos n)) ∷ values base (suc n) xs
 
 -- a name that is being defined is no name for a value
 abbrev pub define_enumeration : Environment → Identifier → List Identifier → Declared
 define_enumeration env x xs =
     let t = length env.types in
     let own = add_type env (simple_row t (pos 0) (pos (length xs - 1))) in
-    let defined = values (declare x entity.UnfinishedType own) t 0 xs in
+    let defined = declare_each (declare x entity.UnfinishedType own) (values t 0 xs) in
     record {
-      env = (values (declare x (entity.Type t) own) t 0 xs).env;
+      env = (declare_each (declare x (entity.Type t) own) (values t 0 xs)).env;
       violations = c1_declared env x ++ defined.violations;
     }
 
@@ -73,11 +71,11 @@ abbrev pub define_system : Environment → Identifier → s.System → Declared
 define_system env x y =
     let named = declare x entity.UnfinishedType env in
     let head = heading named (Some y.sort) false y.parameters in
-    let inside = declare_bound (record named {
+    let inside = declare_each (record named {
       parameters = env.parameters ++ head.rows;
       region = record { sort = y.sort; part = part.Body };
     }) head.bound in
-    let own = variables inside (variable_position y.sort) y.variables in
+    let own = variables inside.env (variable_position y.sort) y.variables in
     let all = routines own.env y.sort y.routines in
     let body_need = need_statements all.env y.body.list in
     let count = length head.rows in

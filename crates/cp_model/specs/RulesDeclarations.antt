@@ -1,11 +1,11 @@
 -- Declarations: variables, parameters, routines. What they add to the environment, and the rules inside them.
-use Rattle.std.specs.Prelude.{ℕ, suc, ◌+◌, ◌*◌, ℤ, pos, Bool, true, false, ◌&&◌, ◌||◌, not, List, [], ◌∷◌, ◌++◌, Option, None, Some, nat_lt, nat_eq, if◌then◌else◌, length, map, min, replicate}
+use Rattle.std.specs.Prelude.{Bool, List, None, Option, Some, ℕ, [], false, if◌then◌else◌, is_some, length, map, min, nat_eq, not, replicate, suc, true, ◌&&◌, ◌*◌, ◌++◌, ◌+◌, ◌∷◌}
 use Rattle.cp_model.specs.Syntax as s
 use Rattle.cp_model.specs.declared.tree.Identifier.{Identifier}
 use Rattle.cp_model.specs.declared.tree.Sort.{Sort}
 use Rattle.cp_model.specs.declared.tree.Sort.TheVariants as sort
 use Rattle.cp_model.specs.declared.rules.Rule.{Rule}
-use Rattle.cp_model.specs.declared.rules.Rule.TheVariants.{C1, C5, C7, C8, C11, C13}
+use Rattle.cp_model.specs.declared.rules.Rule.TheVariants.{C5, C7, C8, C11, C13}
 use Rattle.cp_model.specs.declared.rules.Access.{Access}
 use Rattle.cp_model.specs.declared.rules.Access.TheVariants as access
 use Rattle.cp_model.specs.declared.rules.Entity.{Entity}
@@ -21,10 +21,9 @@ use Rattle.cp_model.specs.declared.rules.Position.{Position}
 use Rattle.cp_model.specs.declared.rules.Position.TheVariants as position
 use Rattle.cp_model.specs.declared.rules.Part.{Part}
 use Rattle.cp_model.specs.declared.rules.Part.TheVariants as part
-use Rattle.cp_model.specs.declared.rules.Region.{Region}
 use Rattle.cp_model.specs.RulesJudged.{Judged, Sound, Broken, Violations, violation, unless, breaks, also, then_judge, provided, violations_of, meaning_of}
-use Rattle.cp_model.specs.RulesEnvironment.{Environment, integer, row_of, is_simple, is_some, system_row, is_process, no_routine, declare, c1_declared, entity_of}
-use Rattle.cp_model.specs.RulesTypes.{Made, named_type, type_placed, capped, is_within}
+use Rattle.cp_model.specs.RulesEnvironment.{Environment, integer, row_of, is_simple, system_row, is_process, no_routine, declare, c1_declared, entity_of}
+use Rattle.cp_model.specs.RulesTypes.{named_type, type_placed, capped, is_within}
 use Rattle.cp_model.specs.RulesStatements.{statements}
 use Rattle.cp_model.specs.RulesNeeds.{need_statements}
 
@@ -33,12 +32,16 @@ pub record Declared : Type 0 where
   pub env : Environment
   pub violations : Violations
 
--- each of these names, as the same
+-- each of these names in order, as what stands beside it
+abbrev pub declare_each : Environment → List (Identifier × Entity) → Declared
+declare_each env [] = record { env = env; violations = [] }
+declare_each env (d ∷ ds) =
+    let rest = declare_each (declare d.0 d.1 env) ds in
+    record { env = rest.env; violations = c1_declared env d.0 ++ rest.violations }
+
+-- all of these names, as the same
 abbrev pub declare_all : Environment → Entity → List Identifier → Declared
-declare_all env e [] = record { env = env; violations = [] }
-declare_all env e (x ∷ xs) =
-    let rest = declare_all (declare x e env) e xs in
-    record { env = rest.env; violations = c1_declared env x ++ rest.violations }
+declare_all env e xs = declare_each env (map (λ x. (x, e)) xs)
 
 -- names that are being defined, before their type is known: a variable is no type
 abbrev pub unfinished_variable : Entity
@@ -202,11 +205,6 @@ heading env of is_function (g ∷ gs) =
       words = one.words + rest.words;
     }
 
--- the parameters are visible from the end of the heading
-abbrev pub declare_bound : Environment → List (Identifier × Entity) → Environment
-declare_bound env [] = env
-declare_bound env (b ∷ bs) = declare_bound (declare b.0 b.1 env) bs
-
 -- ---- routines
 
 -- C11: a result type that isn't simple. C8: one with queues
@@ -245,11 +243,12 @@ routine env y r =
     let head = heading (declare r.name (entity.UnfinishedRoutine no_routine) env) None (is_some r.result_type) r.parameters in
     let answer = result_type head.env r.result_type in
     let row : RoutineRow = record { entry = is_some r.entry; first = length env.parameters; count = length head.rows; returns = returns_of answer; need = 0 } in
-    let inside = declare_bound (declare r.name (entity.UnfinishedRoutine row) (record env {
+    -- the parameters are visible from the end of the heading
+    let inside = declare_each (declare r.name (entity.UnfinishedRoutine row) (record env {
       parameters = env.parameters ++ head.rows;
       region = record { sort = y; part = part_of r.entry };
     })) head.bound in
-    let locals = variables inside position.RoutineVariable r.variables in
+    let locals = variables inside.env position.RoutineVariable r.variables in
     let need = capped (1 + result_words answer + head.words + locals.words + need_statements locals.env r.body.list) in
     record {
       env = declare r.name (entity.Routine (length env.routines)) (record locals.env {

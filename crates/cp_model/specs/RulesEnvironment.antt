@@ -1,8 +1,6 @@
 -- The environment of a part of a text: what each visible name stands for, and the tables of types and routines.
-use Rattle.std.specs.Prelude.{ℕ, ◌+◌, zero, suc, ℤ, pos, negsuc, Bool, true, false, ◌&&◌, ◌||◌, not, List, [], ◌∷◌, ◌++◌, Option, None, Some, nat_eq, if◌then◌else◌, take, drop, length, get_or, codes}
-use Rattle.std.specs.Str.{bytes_eq}
-use Rattle.cp_model.specs.declared.rules.Rule.TheVariants.{C1, C2, C4, C9}
-use Rattle.cp_model.specs.declared.rules.Access.{Access}
+use Rattle.std.specs.Prelude.{ℕ, ℤ, pos, negsuc, Bool, true, false, ◌&&◌, not, List, [], ◌∷◌, ◌++◌, Option, None, Some, nat_eq, take, drop, get_or, codes, is_some}
+use Rattle.cp_model.specs.declared.rules.Rule.TheVariants.{C1, C4, C9}
 use Rattle.cp_model.specs.declared.rules.Entity.{Entity}
 use Rattle.cp_model.specs.declared.rules.Entity.TheVariants as entity
 use Rattle.cp_model.specs.declared.rules.Structure.{Structure}
@@ -21,7 +19,8 @@ use Rattle.cp_model.specs.declared.rules.Part.TheVariants as part
 use Rattle.cp_model.specs.declared.tree.Sort.{Sort}
 use Rattle.cp_model.specs.declared.tree.Sort.TheVariants as sort
 use Rattle.cp_model.specs.declared.tree.Identifier.{Identifier}
-use Rattle.cp_model.specs.RulesJudged.{Judged, Sound, Broken, Violations, violation, unless, breaks, also, violations_of}
+use Rattle.cp_model.specs.RulesJudged.{Judged, Sound, Broken, Violations, violation, unless, breaks}
+use Rattle.cp_model.specs.Names.{lookup}
 
 abbrev pub Text : Type 0
 Text = List ℕ
@@ -29,10 +28,6 @@ Text = List ℕ
 -- the visible names, in the order of their declarations
 abbrev pub Names : Type 0
 Names = List (Text × Entity)
-
-abbrev pub lookup : {A : Type 0} → Text → List (Text × A) → Option A
-lookup x [] = None
-lookup x (e ∷ es) = if bytes_eq x e.0 then Some e.1 else lookup x es
 
 -- the fields of a record type, or the routines of a system type, by their names
 abbrev pub Members : Type 0
@@ -83,10 +78,6 @@ base_of env t = base_in (row_of env t).structure
 abbrev pub is_base : ℕ → Option ℕ → Bool
 is_base b (Some c) = nat_eq b c
 is_base b None = false
-
-abbrev pub is_some : {A : Type 0} → Option A → Bool
-is_some (Some x) = true
-is_some None = false
 
 abbrev pub is_simple : Environment → ℕ → Bool
 is_simple env t = is_some (base_of env t)

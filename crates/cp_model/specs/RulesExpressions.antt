@@ -1,19 +1,17 @@
 -- Expressions: their types, and the rules inside them.
-use Rattle.std.specs.Prelude.{ℕ, Bool, true, false, ◌&&◌, List, [], ◌∷◌, ◌++◌, Option, None, Some, nat_eq, if◌then◌else◌}
+use Rattle.std.specs.Prelude.{ℕ, Bool, true, false, ◌&&◌, List, [], ◌∷◌, Option, None, Some, nat_eq}
 use Rattle.cp_model.specs.Syntax as s
 use Rattle.cp_model.specs.declared.tree.Operator.{Operator}
 use Rattle.cp_model.specs.declared.tree.Operator.TheVariants as operator
 use Rattle.cp_model.specs.declared.rules.Rule.TheVariants.{C2, C10}
 use Rattle.cp_model.specs.declared.rules.Entity.{Entity}
-use Rattle.cp_model.specs.declared.rules.ArrayPart.{ArrayPart}
-use Rattle.cp_model.specs.declared.rules.ParameterRow.{ParameterRow}
 use Rattle.cp_model.specs.declared.rules.Want.{Want}
 use Rattle.cp_model.specs.declared.rules.Want.TheVariants as want
 use Rattle.cp_model.specs.declared.rules.Mode.{Mode}
 use Rattle.cp_model.specs.declared.rules.Mode.TheVariants as mode
 use Rattle.cp_model.specs.RulesJudged.{Judged, Sound, Broken, Violations, also, both, then_judge, provided}
 use Rattle.cp_model.specs.RulesEnvironment.{Environment, integer, boolean, char, queue, base_of, is_base, is_simple, agree, c1_named}
-use Rattle.cp_model.specs.RulesNames.{Callee, first_name, last_name, first_token, count_of, member_of, c2_array, c2_index, before_selectors, c8_named, function_of, c2_indexed, given, value_of, c10_variable}
+use Rattle.cp_model.specs.RulesNames.{Callee, first_token, count_of, member_of, c2_array, c2_index, before_selectors, c2_c5_c8_named, function_of, wants_named, c2_indexed, given, value_of, c10_variable}
 
 -- ---- C2, operands
 
@@ -58,7 +56,7 @@ mode_of want.CharVariable = mode.Variable
 mode_of want.QueueVariable = mode.Queue
 mode_of _ = mode.Value
 
--- C2: a passive argument doesn't agree. C10: a `var` argument isn't of the parameter's very type. Nothing is told of a parameter whose type is broken
+-- C2: a value argument doesn't agree. C10: a `var` argument isn't of the parameter's very type. Nothing is told of a parameter whose type is broken
 abbrev pub fits_type : Environment → Bool → Option ℕ → s.Expression → ℕ → Judged ℕ
 fits_type env by_reference None e t = Sound t
 fits_type env true (Some u) e t = provided (nat_eq t u) C10 (first_token e) t
@@ -76,10 +74,10 @@ argument env want.Integer e j = then_judge j (λ t. provided (is_base integer (b
 argument env want.CharVariable e j = also (c10_variable env e) (then_judge j (λ t. provided (is_base char (base_of env t)) C2 (first_token e) t))
 argument env want.QueueVariable e j = then_judge j (λ t. provided (nat_eq t queue) C2 (first_token e) t)
 
--- what the arguments have to meet; nothing, where the name is broken
-abbrev pub wants_in : Judged Callee → List Want
-wants_in (Sound c) = c.wants
-wants_in (Broken v vs) = []
+-- what the arguments have to meet; nothing, where it isn't known what is called
+abbrev pub wants_in : Environment → Judged Entity → Judged Callee → List Want
+wants_in env e (Sound c) = c.wants
+wants_in env e (Broken v vs) = wants_named env e
 
 abbrev pub first_type : ℕ → ℕ → Judged ℕ
 first_type t u = Sound t
@@ -87,9 +85,11 @@ first_type t u = Sound t
 abbrev pub result_of : Environment → Callee → ℕ → Judged ℕ
 result_of env c t = Sound (given env t c.gives)
 
--- the first name of an operator's operands isn't the argument itself
+-- the first operand of an argument, or the name of a call that is one, isn't the argument itself: it is used as a value. Where C10 judges
+-- the argument, it judges the place of that name
 abbrev pub first_operand : Mode → Mode
 first_operand mode.Queue = mode.Value
+first_operand mode.Variable = mode.FirstOperand
 first_operand m = m
 
 -- ---- expressions
@@ -99,11 +99,12 @@ abbrev mutual
   pub judge : Environment → Mode → s.Expression → Judged ℕ
   judge env m (s.Number at n) = Sound integer
   judge env m (s.Character at n) = Sound char
-  judge env m (s.Designated d) = also (c8_named env m (first_name d)) (then_judge (designated env d) (value_of env m d))
+  judge env m (s.Designated d) = also (c2_c5_c8_named env m d) (then_judge (designated env d) (value_of env m d))
   -- the arguments are judged whatever is broken in the name
   judge env m (s.Call d es) =
-      let callee = also (c2_indexed env m d) (then_judge (designated env d) (function_of env m d (count_of es))) in
-      also (c8_named env mode.Value (first_name d)) (both callee (arguments env (wants_in callee) es) (result_of env))
+      let called = designated env d in
+      let callee = also (c2_indexed env m d) (then_judge called (function_of env m d (count_of es))) in
+      also (c2_c5_c8_named env (first_operand m) d) (both callee (arguments env (wants_in env called callee) es) (result_of env))
   judge env m (s.Parenthesized at e) = judge env mode.Value e
   judge env m (s.Not at e) = then_judge (judge env mode.Value e) (c2_operand env boolean at)
   judge env m (s.Signed sign at e) = then_judge (judge env mode.Value e) (c2_operand env integer at)
@@ -132,7 +133,7 @@ abbrev mutual
   arguments env [] (s.MoreExpressions e es) = more_arguments env (judge env mode.Value e) [] es
   arguments env (w ∷ ws) (s.MoreExpressions e es) = more_arguments env (argument env w e (judge env (mode_of w) e)) ws es
 
-  -- the arguments behind those that were judged so far
+  -- the arguments after those that were judged so far
   pub more_arguments : Environment → Judged ℕ → List Want → s.Expressions → Judged ℕ
   more_arguments env j ws s.NoExpressions = j
   more_arguments env j [] (s.MoreExpressions e es) = more_arguments env (both j (judge env mode.Value e) first_type) [] es

@@ -1,10 +1,10 @@
 -- Designators: where their names stand, and what is judged of a name by its sort.
-use Rattle.std.specs.Prelude.{ℕ, suc, Bool, true, false, ◌&&◌, ◌||◌, not, List, [], ◌∷◌, ◌++◌, Option, None, Some, nat_eq, if◌then◌else◌, length, map}
+use Rattle.std.specs.Prelude.{ℕ, suc, Bool, true, false, ◌&&◌, not, List, [], ◌∷◌, ◌++◌, Option, None, Some, nat_eq, if◌then◌else◌, length, map, is_some}
 use Rattle.std.specs.Option.{unwrap_or}
 use Rattle.cp_model.specs.Syntax as s
 use Rattle.cp_model.specs.declared.tree.Identifier.{Identifier}
 use Rattle.cp_model.specs.declared.rules.Rule.{Rule}
-use Rattle.cp_model.specs.declared.rules.Rule.TheVariants.{C1, C2, C4, C5, C8, C9, C10}
+use Rattle.cp_model.specs.declared.rules.Rule.TheVariants.{C1, C2, C4, C5, C8, C10}
 use Rattle.cp_model.specs.declared.rules.Access.{Access}
 use Rattle.cp_model.specs.declared.rules.Access.TheVariants as access
 use Rattle.cp_model.specs.declared.rules.Entity.{Entity}
@@ -17,6 +17,7 @@ use Rattle.cp_model.specs.declared.rules.RoutineRow.{RoutineRow}
 use Rattle.cp_model.specs.declared.rules.Returns.{Returns}
 use Rattle.cp_model.specs.declared.rules.Returns.TheVariants as returns
 use Rattle.cp_model.specs.declared.rules.ArrayPart.{ArrayPart}
+use Rattle.cp_model.specs.declared.rules.NamedPart.{NamedPart}
 use Rattle.cp_model.specs.declared.rules.Want.{Want}
 use Rattle.cp_model.specs.declared.rules.Want.TheVariants as want
 use Rattle.cp_model.specs.declared.rules.Gives.{Gives}
@@ -26,7 +27,8 @@ use Rattle.cp_model.specs.declared.rules.Mode.TheVariants as mode
 use Rattle.cp_model.specs.declared.rules.Standard.{Standard}
 use Rattle.cp_model.specs.declared.rules.Standard.TheVariants as standard
 use Rattle.cp_model.specs.RulesJudged.{Judged, Sound, Broken, Violations, violation, unless, breaks, also, then_judge, provided}
-use Rattle.cp_model.specs.RulesEnvironment.{Environment, Members, lookup, integer, boolean, char, row_of, base_of, agree, is_component, routine_of, parameters_from, members_in, c1_named, c4_unfinished, c9_standard, c4_c9_named}
+use Rattle.cp_model.specs.RulesEnvironment.{Environment, Members, integer, boolean, char, row_of, base_of, agree, is_component, routine_of, parameters_from, members_in, Text, c1_named, c4_unfinished, c9_standard, c4_c9_named}
+use Rattle.cp_model.specs.Names.{lookup}
 
 -- ---- where names stand
 
@@ -63,15 +65,12 @@ count_of (s.MoreExpressions e es) = suc (count_of es)
 
 -- ---- parts of variables
 
--- C2: `.` behind what is neither a record nor a component. C1: a field that the record lacks; a name that is no routine of the component's
--- type. C5: a routine without `entry`
-abbrev pub routine_behind_dot : Environment → Identifier → ℕ → Judged Entity
-routine_behind_dot env x r = provided (routine_of env r).entry C5 x.at (entity.Entry r)
-
+-- C2: `.` after what is neither a record nor a component. C1: a field that the record lacks; a name that is no routine of the component's
+-- type
 abbrev pub member_named : Environment → Identifier → Access → Option Member → Judged Entity
 member_named env x a None = breaks C1 x.at
 member_named env x a (Some (member.Field t)) = Sound (entity.Variable t a)
-member_named env x a (Some (member.Routine r)) = routine_behind_dot env x r
+member_named env x a (Some (member.Routine r)) = Sound (entity.Entry r)
 
 abbrev pub member_among : Environment → ℕ → Identifier → Access → Option Members → Judged Entity
 member_among env at x a None = breaks C2 at
@@ -81,7 +80,7 @@ abbrev pub member_of : Environment → ℕ → Identifier → Entity → Judged 
 member_of env at x (entity.Variable t a) = member_among env at x a (members_in env (row_of env t).structure)
 member_of env at x e = breaks C2 at
 
--- C2: `[` behind what is no array; one index more than dimensions
+-- C2: `[` after what is no array; one index more than dimensions
 abbrev pub array_in : ℕ → Access → Structure → Judged ArrayPart
 array_in at a (structure.Array index element) = Sound (record { index = index; element = element; access = a })
 array_in at a _ = breaks C2 at
@@ -94,16 +93,53 @@ c2_array env at e = breaks C2 at
 abbrev pub c2_index : Environment → ℕ → ArrayPart → ℕ → Judged Entity
 c2_index env at part t = provided (agree env part.index t) C2 at (entity.Variable part.element part.access)
 
--- C2: a type's name before `[`
-abbrev pub c2_before_index : Identifier → s.Selectors → Entity → Violations
-c2_before_index x (s.MoreSelectors (s.Indexed is) ss) (entity.Type t) = violation C2 x.at ∷ []
-c2_before_index x (s.MoreSelectors (s.Indexed is) ss) entity.UnfinishedType = violation C2 x.at ∷ []
-c2_before_index x ss e = []
-
 -- what a name stands for before its parts are selected. Where none is, its use judges it
 abbrev pub before_selectors : Environment → Identifier → s.Selectors → Entity → Judged Entity
 before_selectors env x s.NoSelectors e = Sound e
-before_selectors env x (s.MoreSelectors y ys) e = also (c4_c9_named env x e) (also (c2_before_index x (s.MoreSelectors y ys) e) (Sound e))
+before_selectors env x (s.MoreSelectors y ys) e = also (c4_c9_named env x e) (Sound e)
+
+-- ---- what is judged of a designator's names, whatever is broken in it
+
+-- C2: a first name of another sort than is wanted; where C10 judges the place, C10 in its stead
+abbrev pub first_rule : Mode → Rule
+first_rule mode.Variable = C10
+first_rule mode.FirstOperand = C10
+first_rule m = C2
+
+abbrev pub is_type : Judged Entity → Bool
+is_type (Sound (entity.Type t)) = true
+is_type (Sound entity.UnfinishedType) = true
+is_type j = false
+
+abbrev pub is_indexed_first : s.Selectors → Bool
+is_indexed_first (s.MoreSelectors (s.Indexed is) ss) = true
+is_indexed_first ss = false
+
+-- C2: a type's name before `[`
+abbrev pub c2_before_index : Environment → Mode → s.Designator → Violations
+c2_before_index env m (s.Designate x ss) = unless (not (is_indexed_first ss && is_type (c1_named env x))) (first_rule m) x.at
+
+-- the member of this name that a part has
+abbrev pub member_in : Text → Option Members → Option Member
+member_in x None = None
+member_in x (Some ms) = lookup x ms
+
+-- C5: after a component's `.` stands a routine without `entry`
+abbrev pub c5_member : Environment → Identifier → Option Member → Violations
+c5_member env y (Some (member.Routine r)) = unless (routine_of env r).entry C5 y.at
+c5_member env y m = []
+
+abbrev pub member_selected : Environment → Text → Judged Entity → Option Member
+member_selected env y (Sound (entity.Variable t a)) = member_in y (members_in env (row_of env t).structure)
+member_selected env y j = None
+
+abbrev pub c5_selected : Environment → Identifier → s.Selectors → Violations
+c5_selected env x (s.MoreSelectors (s.Field at y) ss) = c5_member env y (member_selected env y.name (c1_named env x))
+c5_selected env x ss = []
+
+-- a component is no part of a variable, so its routines stand after the first name
+abbrev pub c5_after_point : Environment → s.Designator → Violations
+c5_after_point env (s.Designate x ss) = c5_selected env x ss
 
 -- ---- queues
 
@@ -115,6 +151,9 @@ has_queues env j = false
 abbrev pub c8_named : Environment → Mode → Identifier → Violations
 c8_named env mode.Queue x = []
 c8_named env m x = unless (not (has_queues env (c1_named env x))) C8 x.at
+
+abbrev pub c2_c5_c8_named : Environment → Mode → s.Designator → Violations
+c2_c5_c8_named env m d = c2_before_index env m d ++ c5_after_point env d ++ c8_named env m (first_name d)
 
 -- ---- routines that are called
 
@@ -147,76 +186,155 @@ abbrev pub procedure_called : Environment → Identifier → ℕ → RoutineRow 
 procedure_called env x n r =
     provided (is_procedure r.returns && nat_eq r.count n) C2 x.at (record { wants = wants_of env r; gives = gives.Nothing })
 
+-- A routine without `entry` after a `.` is not called. C2: a wrong number of arguments; else C5, wherever it stands. Whether it is a function
+-- isn't judged
+abbrev pub counted : Environment → Identifier → ℕ → RoutineRow → Judged Callee
+counted env x n r = breaks (if nat_eq r.count n then C5 else C2) x.at
+
 -- C5: an entry routine is called by its name alone
 abbrev pub c5_by_name : Identifier → RoutineRow → Violations
 c5_by_name x r = unless (not r.entry) C5 x.at
 
-abbrev pub callee : List Want → Gives → Option Callee
-callee ws g = Some (record { wants = ws; gives = g })
+abbrev pub standard_wants : Standard → List Want
+standard_wants standard.Abs = want.Integer ∷ []
+standard_wants standard.Succ = want.Simple ∷ []
+standard_wants standard.Pred = want.Simple ∷ []
+standard_wants standard.Ord = want.Simple ∷ []
+standard_wants standard.Chr = want.Integer ∷ []
+standard_wants standard.Empty = want.QueueVariable ∷ []
+standard_wants standard.Delay = want.QueueVariable ∷ []
+standard_wants standard.Continue = want.QueueVariable ∷ []
+standard_wants standard.Display = want.Simple ∷ []
+standard_wants standard.Accept = want.CharVariable ∷ []
+standard_wants standard.Realtime = []
+standard_wants standard.Wait = []
+
+abbrev pub callee : Standard → Gives → Option Callee
+callee f g = Some (record { wants = standard_wants f; gives = g })
 
 abbrev pub standard_function : Standard → Option Callee
-standard_function standard.Abs = callee (want.Integer ∷ []) (gives.Value integer)
-standard_function standard.Succ = callee (want.Simple ∷ []) gives.ArgumentBase
-standard_function standard.Pred = callee (want.Simple ∷ []) gives.ArgumentBase
-standard_function standard.Ord = callee (want.Simple ∷ []) (gives.Value integer)
-standard_function standard.Chr = callee (want.Integer ∷ []) (gives.Value char)
-standard_function standard.Empty = callee (want.QueueVariable ∷ []) (gives.Value boolean)
-standard_function standard.Realtime = callee [] (gives.Value integer)
+standard_function standard.Abs = callee standard.Abs (gives.Value integer)
+standard_function standard.Succ = callee standard.Succ gives.ArgumentBase
+standard_function standard.Pred = callee standard.Pred gives.ArgumentBase
+standard_function standard.Ord = callee standard.Ord (gives.Value integer)
+standard_function standard.Chr = callee standard.Chr (gives.Value char)
+standard_function standard.Empty = callee standard.Empty (gives.Value boolean)
+standard_function standard.Realtime = callee standard.Realtime (gives.Value integer)
 standard_function _ = None
 
 abbrev pub standard_procedure : Standard → Option Callee
-standard_procedure standard.Delay = callee (want.QueueVariable ∷ []) gives.Nothing
-standard_procedure standard.Continue = callee (want.QueueVariable ∷ []) gives.Nothing
-standard_procedure standard.Display = callee (want.Simple ∷ []) gives.Nothing
-standard_procedure standard.Accept = callee (want.CharVariable ∷ []) gives.Nothing
-standard_procedure standard.Wait = callee [] gives.Nothing
+standard_procedure standard.Delay = callee standard.Delay gives.Nothing
+standard_procedure standard.Continue = callee standard.Continue gives.Nothing
+standard_procedure standard.Display = callee standard.Display gives.Nothing
+standard_procedure standard.Accept = callee standard.Accept gives.Nothing
+standard_procedure standard.Wait = callee standard.Wait gives.Nothing
 standard_procedure _ = None
 
 -- C2: a wrong number of arguments. The rule is that of a name of another sort
-abbrev pub standard_called : Rule → Identifier → ℕ → Option Callee → Judged Callee
-standard_called rule x n None = breaks rule x.at
-standard_called rule x n (Some c) = provided (nat_eq (length c.wants) n) C2 x.at c
+abbrev pub standard_called : Rule → Identifier → Bool → Option Callee → Judged Callee
+standard_called rule x fits None = breaks (if fits then rule else C2) x.at
+standard_called rule x fits (Some c) = provided fits C2 x.at c
 
--- C2: a name of another sort than is wanted; where C10 judges the place, C10 in its stead
+abbrev pub standard_fits : Standard → ℕ → Bool
+standard_fits f n = nat_eq (length (standard_wants f)) n
+
+-- the same of a last name, which is the first where no field is selected
+abbrev pub sort_rule_of_variable : s.Selectors → Rule
+sort_rule_of_variable ss = if has_field ss then C2 else C10
+
 abbrev pub sort_rule : Mode → s.Designator → Rule
-sort_rule mode.Variable (s.Designate x ss) = if has_field ss then C2 else C10
+sort_rule mode.Variable (s.Designate x ss) = sort_rule_of_variable ss
+sort_rule mode.FirstOperand (s.Designate x ss) = sort_rule_of_variable ss
 sort_rule m d = C2
 
 -- a function that is called with so many arguments
 abbrev pub function_of : Environment → Mode → s.Designator → ℕ → Entity → Judged Callee
 function_of env m d n (entity.Routine r) =
     also (c5_by_name (last_name d) (routine_of env r)) (function_called env (sort_rule m d) (last_name d) n (routine_of env r))
-function_of env m d n (entity.Entry r) = function_called env (sort_rule m d) (last_name d) n (routine_of env r)
+function_of env m d n (entity.Entry r) =
+    if (routine_of env r).entry then function_called env (sort_rule m d) (last_name d) n (routine_of env r)
+    else counted env (last_name d) n (routine_of env r)
 function_of env m d n (entity.UnfinishedRoutine r) =
     also (violation C4 (last_name d).at ∷ []) (function_called env (sort_rule m d) (last_name d) n r)
 function_of env m d n (entity.Standard f) =
-    also (c9_standard env (last_name d) (entity.Standard f)) (standard_called (sort_rule m d) (last_name d) n (standard_function f))
+    also (c9_standard env (last_name d) (entity.Standard f)) (standard_called (sort_rule m d) (last_name d) (standard_fits f n) (standard_function f))
 function_of env m d n e = also (c4_unfinished (last_name d) e) (breaks (sort_rule m d) (last_name d).at)
 
 -- a procedure that is called with so many arguments
 abbrev pub procedure_of : Environment → s.Designator → ℕ → Entity → Judged Callee
 procedure_of env d n (entity.Routine r) = also (c5_by_name (last_name d) (routine_of env r)) (procedure_called env (last_name d) n (routine_of env r))
-procedure_of env d n (entity.Entry r) = procedure_called env (last_name d) n (routine_of env r)
+procedure_of env d n (entity.Entry r) =
+    if (routine_of env r).entry then procedure_called env (last_name d) n (routine_of env r)
+    else counted env (last_name d) n (routine_of env r)
 procedure_of env d n (entity.UnfinishedRoutine r) = also (violation C4 (last_name d).at ∷ []) (procedure_called env (last_name d) n r)
 procedure_of env d n (entity.Standard f) =
-    also (c9_standard env (last_name d) (entity.Standard f)) (standard_called C2 (last_name d) n (standard_procedure f))
+    also (c9_standard env (last_name d) (entity.Standard f)) (standard_called C2 (last_name d) (standard_fits f n) (standard_procedure f))
 procedure_of env d n e = also (c4_unfinished (last_name d) e) (breaks C2 (last_name d).at)
 
--- ---- what isn't a routine, where one is wanted
+-- what the arguments of a call have to meet, whatever is broken in the call
+abbrev pub wants_named : Environment → Judged Entity → List Want
+wants_named env (Sound (entity.Routine r)) = wants_of env (routine_of env r)
+wants_named env (Sound (entity.Entry r)) = wants_of env (routine_of env r)
+wants_named env (Sound (entity.UnfinishedRoutine r)) = wants_of env r
+wants_named env (Sound (entity.Standard f)) = standard_wants f
+wants_named env j = []
 
-abbrev pub is_indexed_alone : s.Selectors → Bool
-is_indexed_alone s.NoSelectors = false
-is_indexed_alone (s.MoreSelectors y ys) = not (has_field (s.MoreSelectors y ys))
+-- ---- what isn't a routine, where one is wanted
 
 abbrev pub is_value : Judged Entity → Bool
 is_value (Sound (entity.Constant base n)) = true
 is_value (Sound (entity.Variable t a)) = true
 is_value j = false
 
--- C2: a routine is wanted, and what is indexed is a variable, a constant or a component
+-- the type of a variable; of its field; of an element, whatever its index is: if there is such a part
+abbrev pub variable_type : Judged Entity → Option ℕ
+variable_type (Sound (entity.Variable t a)) = Some t
+variable_type j = None
+
+abbrev pub type_of_field : Option Member → Option ℕ
+type_of_field (Some (member.Field t)) = Some t
+type_of_field m = None
+
+abbrev pub field_type : Environment → Text → Option ℕ → Option ℕ
+field_type env x None = None
+field_type env x (Some t) = type_of_field (member_in x (members_in env (row_of env t).structure))
+
+abbrev pub type_of_element : Structure → Option ℕ
+type_of_element (structure.Array index element) = Some element
+type_of_element _ = None
+
+abbrev pub element_type : Environment → Option ℕ → Option ℕ
+element_type env None = None
+element_type env (Some t) = type_of_element (row_of env t).structure
+
+abbrev pub indexed_type : Environment → Option ℕ → s.Indices → Option ℕ
+indexed_type env t s.NoIndices = t
+indexed_type env t (s.MoreIndices at e is) = indexed_type env (element_type env t) is
+
+abbrev pub first_part : Judged Entity → NamedPart
+first_part e = record { is_value = is_value e; is_indexed = false; of = variable_type e }
+
+abbrev pub field_part : Option ℕ → NamedPart
+field_part t = record { is_value = is_some t; is_indexed = false; of = t }
+
+abbrev pub next_part : Environment → NamedPart → s.Selector → NamedPart
+next_part env p (s.Field at x) = field_part (field_type env x.name p.of)
+next_part env p (s.Indexed is) = record { is_value = p.is_value; is_indexed = true; of = indexed_type env p.of is }
+
+-- the last name of a designator, and the indices after it
+abbrev pub last_part : Environment → NamedPart → s.Selectors → NamedPart
+last_part env p s.NoSelectors = p
+last_part env p (s.MoreSelectors y ys) = last_part env (next_part env p y) ys
+
+abbrev pub last_part_of : Environment → s.Designator → NamedPart
+last_part_of env (s.Designate x ss) = last_part env (first_part (c1_named env x)) ss
+
+abbrev pub is_indexed_value : NamedPart → Bool
+is_indexed_value p = p.is_indexed && p.is_value
+
+-- C2: a routine is wanted, and what is indexed is a variable, a field, a constant or a component
 abbrev pub c2_indexed : Environment → Mode → s.Designator → Violations
-c2_indexed env m (s.Designate x ss) =
-    unless (not (is_indexed_alone ss && is_value (c1_named env x))) (sort_rule m (s.Designate x ss)) x.at
+c2_indexed env m d = unless (not (is_indexed_value (last_part_of env d))) (sort_rule m d) (last_name d).at
 
 -- ---- what is used as a value, or as a variable
 
@@ -238,7 +356,7 @@ is_used_as_component m env t = not (is_component env t)
 
 abbrev pub value_of : Environment → Mode → s.Designator → Entity → Judged ℕ
 value_of env m d (entity.Constant base n) = Sound base
-value_of env m d (entity.Variable t a) = provided (is_used_as_component m env t) C2 (last_name d).at t
+value_of env m d (entity.Variable t a) = provided (is_used_as_component m env t) (sort_rule m d) (last_name d).at t
 value_of env m d (entity.Type t) = breaks (sort_rule m d) (last_name d).at
 value_of env m d entity.UnfinishedConstant = also (c4_unfinished (last_name d) entity.UnfinishedConstant) (breaks (sort_rule m d) (last_name d).at)
 value_of env m d entity.UnfinishedType = also (c4_unfinished (last_name d) entity.UnfinishedType) (breaks (sort_rule m d) (last_name d).at)

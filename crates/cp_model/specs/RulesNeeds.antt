@@ -7,7 +7,7 @@ use Rattle.cp_model.specs.declared.tree.Sort.TheVariants as sort
 use Rattle.cp_model.specs.declared.rules.Entity.{Entity}
 use Rattle.cp_model.specs.declared.rules.Entity.TheVariants as entity
 use Rattle.cp_model.specs.declared.rules.SystemRow.{SystemRow}
-use Rattle.cp_model.specs.RulesJudged.{Judged, Sound, Broken}
+use Rattle.cp_model.specs.RulesJudged.{Judged, Sound}
 use Rattle.cp_model.specs.RulesEnvironment.{Environment, routine_of, system_of, system_row, c1_named}
 use Rattle.cp_model.specs.RulesExpressions.{designated}
 

@@ -1,9 +1,9 @@
 -- Statements: the rules inside them.
-use Rattle.std.specs.Prelude.{ℕ, suc, ◌+◌, ◌*◌, ℤ, pos, negsuc, Bool, true, false, ◌&&◌, ◌||◌, not, List, [], ◌∷◌, ◌++◌, Option, None, Some, nat_eq, if◌then◌else◌}
+use Rattle.std.specs.Prelude.{ℕ, ℤ, Bool, true, false, ◌&&◌, ◌||◌, not, List, [], ◌∷◌, ◌++◌, Option, None, Some, nat_eq, if◌then◌else◌}
 use Rattle.cp_model.specs.Syntax as s
 use Rattle.cp_model.specs.declared.tree.Identifier.{Identifier}
 use Rattle.cp_model.specs.declared.tree.Constant.{Constant}
-use Rattle.cp_model.specs.declared.rules.Rule.TheVariants.{C2, C3, C4, C8, C10, C12}
+use Rattle.cp_model.specs.declared.rules.Rule.TheVariants.{C2, C3, C4, C10, C12}
 use Rattle.cp_model.specs.declared.rules.Access.{Access}
 use Rattle.cp_model.specs.declared.rules.Access.TheVariants as access
 use Rattle.cp_model.specs.declared.rules.Entity.{Entity}
@@ -14,10 +14,11 @@ use Rattle.cp_model.specs.declared.rules.ParameterRow.{ParameterRow}
 use Rattle.cp_model.specs.declared.rules.SystemRow.{SystemRow}
 use Rattle.cp_model.specs.declared.rules.Mode.TheVariants as mode
 use Rattle.cp_model.specs.RulesJudged.{Judged, Sound, Broken, Violations, violation, unless, breaks, also, both, then_judge, provided, violations_of}
-use Rattle.cp_model.specs.RulesEnvironment.{Environment, boolean, base_of, is_base, is_simple, agree, is_component, system_of, system_row, parameters_from, c1_named, c4_c9_named, is_in_routine}
-use Rattle.cp_model.specs.RulesNames.{first_name, last_name, first_token, count_of, c8_named, c10_designator, c2_indexed, procedure_of, value_of}
+use Rattle.cp_model.specs.RulesEnvironment.{Environment, integer, boolean, base_of, is_base, is_simple, agree, is_component, system_of, system_row, parameters_from, c1_named, c4_c9_named, is_in_routine}
+use Rattle.cp_model.specs.RulesNames.{last_name, first_token, count_of, c8_named, c2_c5_c8_named, c10_designator, c2_indexed, procedure_of, value_of}
 use Rattle.cp_model.specs.RulesExpressions.{judge, designated, arguments, wants_in, result_of}
 use Rattle.cp_model.specs.RulesTypes.{constant, constant_at}
+use Rattle.cp_model.specs.Integers.{same_integer}
 
 abbrev pub plain : Identifier → s.Designator
 plain x = s.Designate x s.NoSelectors
@@ -33,7 +34,7 @@ own_result x ss returned = breaks C10 x.at
 
 abbrev pub other_left : Environment → s.Designator → Judged ℕ
 other_left env d =
-    also (c8_named env mode.Value (first_name d) ++ c10_designator env d) (then_judge (designated env d) (value_of env mode.Variable d))
+    also (c2_c5_c8_named env mode.Variable d ++ c10_designator env d) (then_judge (designated env d) (value_of env mode.Variable d))
 
 abbrev pub left_by : Environment → Identifier → s.Selectors → Judged Entity → Judged ℕ
 left_by env x ss (Sound (entity.UnfinishedRoutine r)) = own_result x ss r.returns
@@ -85,11 +86,6 @@ c2_selector env e = then_judge (judge env mode.Value e) (λ t. provided (is_simp
 -- a constant: its base type and its ordinal
 abbrev pub Label : Type 0
 Label = ℕ × ℤ
-
-abbrev pub same_integer : ℤ → ℤ → Bool
-same_integer (pos a) (pos b) = nat_eq a b
-same_integer (negsuc a) (negsuc b) = nat_eq a b
-same_integer a b = false
 
 abbrev pub is_among : Label → List Label → Bool
 is_among c [] = false
@@ -144,8 +140,9 @@ bound env (Broken v vs) e = judge env mode.Value e
 
 abbrev pub performed : Environment → s.Designator → s.Expressions → Violations
 performed env d es =
-    let callee = also (c2_indexed env mode.Value d) (then_judge (designated env d) (procedure_of env d (count_of es))) in
-    c8_named env mode.Value (first_name d) ++ violations_of (both callee (arguments env (wants_in callee) es) (result_of env))
+    let called = designated env d in
+    let callee = also (c2_indexed env mode.Value d) (then_judge called (procedure_of env d (count_of es))) in
+    c2_c5_c8_named env mode.Value d ++ violations_of (both callee (arguments env (wants_in env called callee) es) (result_of env))
 
 -- ---- `init`
 
@@ -162,6 +159,15 @@ c12_component env x e = also (c4_c9_named env x e) (breaks C12 x.at)
 abbrev pub c12_count : Environment → Identifier → ℕ → ℕ → Judged SystemRow
 c12_count env x n y = provided (nat_eq (system_row env y).count n) C12 x.at (system_row env y)
 
+-- an argument of which nothing is wanted, or only a component's name: what it stands for isn't judged as a value
+abbrev pub unused : Environment → s.Designator → Entity → Judged ℕ
+unused env d e = also (c4_c9_named env (last_name d) e) (Sound integer)
+
+abbrev pub unwanted : Environment → s.Expression → Judged ℕ
+unwanted env (s.Designated d) =
+    also (c2_c5_c8_named env mode.Value d) (then_judge (designated env d) (unused env d))
+unwanted env e = judge env mode.Value e
+
 -- C12: an argument isn't the name of a component of the parameter's type
 abbrev pub c12_passed : Environment → ℕ → Identifier → Entity → Judged ℕ
 c12_passed env u x (entity.Variable t a) = provided (nat_eq t u) C12 x.at t
@@ -170,29 +176,31 @@ c12_passed env u x e = also (c4_c9_named env x e) (breaks C12 x.at)
 abbrev pub component_argument : Environment → ℕ → s.Expression → Judged ℕ
 component_argument env u (s.Designated (s.Designate x s.NoSelectors)) =
     also (c8_named env mode.Value x) (then_judge (c1_named env x) (c12_passed env u x))
-component_argument env u e = also (violation C12 (first_token e) ∷ []) (judge env mode.Value e)
+component_argument env u e = also (violation C12 (first_token e) ∷ []) (unwanted env e)
 
 -- C12: an argument doesn't agree with a simple parameter
 abbrev pub init_argument : Environment → Option ℕ → s.Expression → Judged ℕ
-init_argument env None e = judge env mode.Value e
+init_argument env None e = unwanted env e
 init_argument env (Some u) e =
     if is_component env u then component_argument env u e
     else then_judge (judge env mode.Value e) (λ t. provided (agree env u t) C12 (first_token e) t)
 
 abbrev pub init_arguments : Environment → List ParameterRow → s.Expressions → Violations
 init_arguments env ps s.NoExpressions = []
-init_arguments env [] (s.MoreExpressions e es) = violations_of (judge env mode.Value e) ++ init_arguments env [] es
+init_arguments env [] (s.MoreExpressions e es) = violations_of (unwanted env e) ++ init_arguments env [] es
 init_arguments env (p ∷ ps) (s.MoreExpressions e es) = violations_of (init_argument env p.of e) ++ init_arguments env ps es
 
-abbrev pub parameters_in : Environment → Judged SystemRow → List ParameterRow
-parameters_in env (Sound y) = parameters_from env y.first y.count
+-- the parameters of what is initialised, whatever the number of arguments is
+abbrev pub parameters_in : Environment → Judged ℕ → List ParameterRow
+parameters_in env (Sound y) = parameters_from env (system_row env y).first (system_row env y).count
 parameters_in env (Broken v vs) = []
 
 abbrev pub init_item : Environment → s.InitItem → Violations
 init_item env i =
     let x = i.component in
-    let component = then_judge (then_judge (c1_named env x) (c12_component env x)) (c12_count env x (count_of i.arguments)) in
-    c8_named env mode.Value x ++ violations_of component ++ init_arguments env (parameters_in env component) i.arguments
+    let system = then_judge (c1_named env x) (c12_component env x) in
+    let component = then_judge system (c12_count env x (count_of i.arguments)) in
+    c8_named env mode.Value x ++ violations_of component ++ init_arguments env (parameters_in env system) i.arguments
 
 abbrev pub init_items : Environment → List s.InitItem → Violations
 init_items env [] = []

@@ -1,5 +1,5 @@
 -- Constants and written types: what they stand for, their words, and the rules inside them.
-use Rattle.std.specs.Prelude.{ℕ, suc, ◌+◌, ◌-◌, ◌*◌, ℤ, pos, negsuc, neg_ℤ, Bool, true, false, ◌&&◌, ◌||◌, not, List, [], ◌∷◌, ◌++◌, Option, None, Some, nat_eq, nat_lt, if◌then◌else◌, min, length, map}
+use Rattle.std.specs.Prelude.{ℕ, suc, ◌+◌, ◌*◌, ℤ, pos, negsuc, neg_ℤ, Bool, true, false, ◌||◌, not, List, [], ◌∷◌, ◌++◌, nat_eq, nat_lt, min, length, map}
 use Rattle.std.specs.Str.{bytes_eq}
 use Rattle.cp_model.specs.Syntax as s
 use Rattle.cp_model.specs.declared.tree.Identifier.{Identifier}
@@ -16,8 +16,9 @@ use Rattle.cp_model.specs.declared.rules.TypeRow.{TypeRow}
 use Rattle.cp_model.specs.declared.rules.Member.TheVariants as member
 use Rattle.cp_model.specs.declared.rules.Position.{Position}
 use Rattle.cp_model.specs.declared.rules.Position.TheVariants as position
-use Rattle.cp_model.specs.RulesJudged.{Judged, Sound, Broken, Violations, violation, unless, breaks, also, both, then_judge, provided, violations_of}
-use Rattle.cp_model.specs.RulesEnvironment.{Environment, Text, Members, integer, char, row_of, is_simple, system_of, system_row, c1_named, c4_unfinished}
+use Rattle.cp_model.specs.RulesJudged.{Judged, Sound, Broken, Violations, violation, unless, breaks, also, both, then_judge, provided}
+use Rattle.cp_model.specs.RulesEnvironment.{Environment, Text, Members, integer, char, row_of, is_simple, system_row, c1_named, c4_unfinished}
+use Rattle.cp_model.specs.Integers.{count_between}
 
 -- ---- words, counted to one above the limit
 
@@ -35,13 +36,6 @@ at_most (pos a) (pos b) = not (nat_lt b a)
 at_most (pos a) (negsuc b) = false
 at_most (negsuc a) (pos b) = true
 at_most (negsuc a) (negsuc b) = not (nat_lt a b)
-
--- how many integers there are from a to b
-abbrev pub count_between : ℤ → ℤ → ℕ
-count_between (pos a) (pos b) = suc b - a
-count_between (negsuc a) (pos b) = suc a + suc b
-count_between (negsuc a) (negsuc b) = suc a - b
-count_between (pos a) (negsuc b) = 0
 
 abbrev pub values_in : Structure → ℕ
 values_in (structure.Simple base low high) = count_between low high
@@ -117,6 +111,16 @@ c2_type x e = also (c4_unfinished x e) (breaks C2 x.at)
 abbrev pub named_type : Environment → Identifier → Judged ℕ
 named_type env x = then_judge (c1_named env x) (c2_type x)
 
+-- whether a written type has queues, as far as that is known where something is broken inside it
+abbrev pub has_queues : Environment → Judged ℕ → Bool
+has_queues env (Sound t) = (row_of env t).has_queues
+has_queues env (Broken v vs) = false
+
+abbrev pub holds_queues : Environment → s.TypeExpression → Bool
+holds_queues env (s.Named x) = has_queues env (named_type env x)
+holds_queues env (s.Array at is e) = holds_queues env e
+holds_queues env t = false
+
 -- a type, and the environment with the rows that were made for it
 pub record Made (A : Type 0) : Type 0 where
   pub env : Environment
@@ -139,6 +143,21 @@ c2_c3_subrange at a b =
 -- C2: an array's index type isn't simple
 abbrev pub c2_index_type : Environment → ℕ → Judged ℕ → Judged ℕ
 c2_index_type env at j = then_judge j (λ t. provided (is_simple env t) C2 at t)
+
+-- C2: an array or a record that is written there isn't, whatever is broken inside it
+abbrev pub c2_written_index : s.TypeExpression → Judged ℕ → Violations
+c2_written_index (s.Array at is e) (Broken v vs) = violation C2 at ∷ []
+c2_written_index (s.Record at gs) (Broken v vs) = violation C2 at ∷ []
+c2_written_index t j = []
+
+-- C8: an array with queues that is written has them, whatever is broken inside it
+abbrev pub c8_written : Environment → Position → s.TypeExpression → Judged ℕ → Violations
+c8_written env p (s.Array at is e) (Broken v vs) = unless (allows_queues p || not (holds_queues env e)) C8 at
+c8_written env p t j = []
+
+-- a type where it stands
+abbrev pub placed : Environment → Position → s.TypeExpression → Judged ℕ → Judged ℕ
+placed env p t j = also (c8_written env p t j) (then_judge j (c6_c8_placed env p (type_at t)))
 
 abbrev pub array_row : Environment → ℕ → ℕ → TypeRow
 array_row env i e = record {
@@ -207,7 +226,7 @@ abbrev mutual
   type_of env (s.Array at is e) =
       let index = index_types env is in
       let element = type_of index.env e in
-      arrays element.env at index.of (then_judge element.of (c6_c8_placed element.env position.Element (type_at e)))
+      arrays element.env at index.of (placed element.env position.Element e element.of)
   type_of env (s.Record at gs) = let fields = fields_of env [] gs in made_record fields.env (then_judge fields.of (c13_record fields.env at))
 
   pub index_types : Environment → s.TypeExpressions → Made (List (Judged ℕ))
@@ -215,7 +234,7 @@ abbrev mutual
   index_types env (s.MoreTypes t ts) =
       let one = type_of env t in
       let rest = index_types one.env ts in
-      record { env = rest.env; of = c2_index_type one.env (type_at t) one.of ∷ rest.of }
+      record { env = rest.env; of = also (c2_written_index t one.of) (c2_index_type one.env (type_at t) one.of) ∷ rest.of }
 
   -- the fields, where names were seen before
   pub fields_of : Environment → List Text → s.FieldGroups → Made (Judged FieldList)
@@ -226,11 +245,10 @@ abbrev mutual
       record {
         env = rest.env;
         of = also (c1_fields seen xs)
-            (both (then_judge one.of (c6_c8_placed one.env position.Field (type_at t))) rest.of (λ u fs. appended (fields_of_type xs u) fs));
+            (both (placed one.env position.Field t one.of) rest.of (λ u fs. appended (fields_of_type xs u) fs));
       }
 
--- a type where it stands
 abbrev pub type_placed : Environment → Position → s.TypeExpression → Made (Judged ℕ)
 type_placed env p t =
     let m = type_of env t in
-    record { env = m.env; of = then_judge m.of (c6_c8_placed m.env p (type_at t)) }
+    record { env = m.env; of = placed m.env p t m.of }

@@ -3,14 +3,14 @@
 -- A step that faults takes no input and writes nothing.
 use Rattle.std.specs.Prelude.{List, None, Option, Some, [], codes, if◌then◌else◌, negsuc, pos, slice_get, suc, ℕ, ℤ, ◌++◌, ◌∷◌}
 use Rattle.cp_model.specs.Abstract.{Char, Designator, Expression, Expressions, MoreExpressions, Name, NoExpression}
-use Rattle.cp_model.specs.Names.{same_name}
+use Rattle.std.specs.Str.{bytes_eq}
 use Rattle.cp_model.specs.Locations.{Location}
 use Rattle.cp_model.specs.Stores.{QueueHolds, Value, put}
 use Rattle.cp_model.specs.Outcomes.{Fault, Gives, and_then}
 use Rattle.cp_model.specs.Environments.{Environment}
 use Rattle.cp_model.specs.Places.{TypedValue, base_of_value, ordinal_of, simple_value}
 use Rattle.cp_model.specs.Expressions.{name_of}
-use Rattle.cp_model.specs.Continuations.{Task, gates_of}
+use Rattle.cp_model.specs.Continuations.{Task, marked_monitors}
 use Rattle.cp_model.specs.Configurations.{Configuration, Context, Continues, Delays, StepResult, Waits, designation, evaluation, own_step, with_continuation, with_writes}
 use Rattle.cp_model.specs.Assignments.{writes_of}
 use Rattle.cp_model.specs.Arguments.{designator_of}
@@ -30,6 +30,10 @@ display_text v = elim (base_of_value v) [ Char ↦ byte (ordinal_of v) ∷ [] | 
 -- At the end of the input each character is 25.
 abbrev pub next_input : List ℕ → ℕ → ℤ
 next_input input i = elim (slice_get input i) [ None ↦ pos 25 | Some b ↦ pos b ]
+
+-- The place in the input after one more `accept`: at the end nothing is taken.
+abbrev pub next_place : List ℕ → ℕ → ℕ
+next_place input i = elim (slice_get input i) [ None ↦ i | Some b ↦ suc i ]
 
 -- ---- delay and continue
 
@@ -58,16 +62,16 @@ continue config q _ = own_step config
 
 abbrev pub standard_procedure : Context → Configuration → Environment → List Task → Name → Expression → StepResult
 standard_procedure context config env k x e =
-    if same_name x (codes "display")
+    if bytes_eq x (codes "display")
     then and_then (evaluation context config env e) (λ v.
     own_step (record config { continuation = k; transcript = config.transcript ++ display_text v }))
-    else if same_name x (codes "accept")
+    else if bytes_eq x (codes "accept")
     then and_then (designation context config env (designator_of e)) (λ at.
     and_then (writes_of at.at at.type (simple_value Char (next_input context.input config.consumed))) (λ ws.
-    own_step (record (with_writes config ws k) { consumed = suc config.consumed })))
-    else if same_name x (codes "delay")
+    own_step (record (with_writes config ws k) { consumed = next_place context.input config.consumed })))
+    else if bytes_eq x (codes "delay")
     then and_then (designation context config env (designator_of e)) (λ at.
-    delay context.process config k at.at (gates_of k))
+    delay context.process config k at.at (marked_monitors k))
     else and_then (designation context config env (designator_of e)) (λ at.
     continue config at.at (innermost_call k))
 

@@ -2,7 +2,7 @@
 use Rattle.std.specs.Prelude.{Bool, List, None, Option, Some, [], false, if◌then◌else◌, int_lt, negsuc, pos, true, ℤ, ◌+ℤ◌, ◌||◌, ◌∷◌}
 use Rattle.cp_model.specs.Abstract.{Arms, Assign, Case, Constant, Cycle, For, If, Init, Integer, MoreArms, Name, NoArm, Perform, Plain, Statement}
 use Rattle.cp_model.specs.Types.{GlobalScope, constant_value}
-use Rattle.cp_model.specs.Locations.{same_integer}
+use Rattle.cp_model.specs.Integers.{same_integer}
 use Rattle.cp_model.specs.Outcomes.{Fault, and_then}
 use Rattle.cp_model.specs.Environments.{Environment}
 use Rattle.cp_model.specs.Places.{TypedValue, ordinal_of, simple_value}

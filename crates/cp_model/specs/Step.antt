@@ -1,6 +1,6 @@
 -- One step of a process: of its next action, on its configuration, with what is left to the kernel.
 use Rattle.std.specs.Prelude.{List, if◌then◌else◌, ◌∷◌}
-use Rattle.cp_model.specs.Locations.{same_integer}
+use Rattle.cp_model.specs.Integers.{same_integer}
 use Rattle.cp_model.specs.Outcomes.{Gives, and_then}
 use Rattle.cp_model.specs.Continuations.{Do, EndBody, EndCall, EndProcess, ForNext, RepeatTest, Task, WhileTest, push}
 use Rattle.cp_model.specs.Actions.{Action, Acts, Calls, Rests, action}

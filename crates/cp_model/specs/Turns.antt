@@ -4,9 +4,9 @@
 -- monitor or `init` of a monitor or process. Any other is private. A process that is not ready has no next step.
 use Rattle.std.specs.Prelude.{List, if◌then◌else◌, suc, zero, ℕ, ◌||◌}
 use Rattle.cp_model.specs.Outcomes.{Fault, Gives}
-use Rattle.cp_model.specs.Continuations.{Task, holds_gate}
+use Rattle.cp_model.specs.Continuations.{Task}
 use Rattle.cp_model.specs.Actions.{action, is_kernel_action}
-use Rattle.cp_model.specs.Configurations.{Faulted, Ready, Status, StepResult}
+use Rattle.cp_model.specs.Configurations.{Faulted, Ready, Status, StepResult, holds_gate}
 use Rattle.cp_model.specs.Step.{step_of}
 use Rattle.cp_model.specs.States.{Setup, State, configuration, context, set_status, with_configuration}
 use Rattle.cp_model.specs.Gates.{apply_effect}
@@ -27,7 +27,7 @@ pub data Kind : Type 0 where
   NoStep Private Kernel : Kind
 
 abbrev pub kind_of : Status → List Task → Kind
-kind_of Ready k = if holds_gate k || is_kernel_action (action k) then Kernel else Private
+kind_of Ready k = if holds_gate Ready k || is_kernel_action (action k) then Kernel else Private
 kind_of _ k = NoStep
 
 abbrev pub kind : State → ℕ → Kind

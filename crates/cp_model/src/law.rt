@@ -7,7 +7,9 @@
 ghost use Rattle.cp_model.specs.Laws.{LawfulRoundIsSequential, PhasedRoundIsSequential, LawfulRoundIsSequentialFromStart, PhasedRoundIsSequentialFromStart};
 ghost use Rattle.cp_model.specs.Laws.{InvariantAtStart, PrivateStepKeepsInvariant, KernelStepKeepsInvariant, PrivateTurnKeepsInvariant, KernelTurnKeepsInvariant, OwnPartsKeepInvariant, WakeKeepsInvariant, CloseKeepsInvariant, EventKeepsInvariant, RoundKeepsInvariant, SequentialRoundKeepsInvariant, RunKeepsInvariant};
 ghost use Rattle.cp_model.specs.Laws.{ReferencesAreInReach, OnlyActivationsRefer, ClassRightsKeepOwner};
-ghost use Rattle.cp_model.specs.Laws.{OwnPartIsTurned, OwnPartsKeepKernelPart, WakeKeepsKernelPart, PrivateStepKeepsKernelPart, PrivateStepKeepsOtherParts, KernelTurnKeepsOtherParts, KernelTurnMakesNonePrivate};
+ghost use Rattle.cp_model.specs.Laws.{OwnPartIsTurned, OwnPartsKeepKernelPart, WakeKeepsKernelPart, PrivateStepKeepsKernelPart, PrivateStepKeepsOtherParts, KernelTurnKeepsOtherParts, KernelTurnKeepsPrivatelyReady, KernelTurnMakesNonePrivate};
+ghost use Rattle.cp_model.specs.Laws.{PrivateStepsCommute, PrivateStepCommutesWithKernelTurn, SharedTurnsAreLawful};
+ghost use Rattle.cp_model.specs.Laws.{ChainWithinIsAskingChain, AskingChainIsOne, ReportWithinIsReport};
 ghost use Rattle.cp_model.specs.Laws.{WakeKeepsCount, PrivateTurnKeepsCount, KernelTurnKeepsCount, OwnPartsKeepCount};
 
 /// From every state with the invariant, each lawful order of a round and the phased round leave what one processor leaves. So it
@@ -43,7 +45,8 @@ pub fn reach()
     ensures classes { ClassRightsKeepOwner }
 {}
 
-/// What the turns of a round leave as it was: the own parts of other processes, and the kernel's part.
+/// What the turns of a round leave as it was: the private states of other processes, the own part of a process that is privately
+/// ready, and the kernel's part.
 pub fn parts()
     ensures turned { OwnPartIsTurned }
     ensures own_parts { OwnPartsKeepKernelPart }
@@ -51,7 +54,23 @@ pub fn parts()
     ensures private_step { PrivateStepKeepsKernelPart }
     ensures beside_private_step { PrivateStepKeepsOtherParts }
     ensures beside_kernel_turn { KernelTurnKeepsOtherParts }
+    ensures privately_ready { KernelTurnKeepsPrivatelyReady }
     ensures none_private { KernelTurnMakesNonePrivate }
+{}
+
+/// A private step may change places with the private steps and the kernel turns of other processes, so private turns may be shared
+/// out and cut into steps in any way.
+pub fn changing_places()
+    ensures private_steps { PrivateStepsCommute }
+    ensures kernel_turn { PrivateStepCommutesWithKernelTurn }
+    ensures shared_turns { SharedTurnsAreLawful }
+{}
+
+/// A process has at most one asking chain, and a chain or report that was computed within a bound is the one of the definition.
+pub fn chains()
+    ensures chain { ChainWithinIsAskingChain }
+    ensures one { AskingChainIsOne }
+    ensures report { ReportWithinIsReport }
 {}
 
 /// Nothing within a round changes the count of rounds.

@@ -8,7 +8,5 @@
 pub mod law;
 pub mod rules;
 pub mod state;
-#[cfg(test)]
-mod tests;
 pub mod token;
 pub mod tree;

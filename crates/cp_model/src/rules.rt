@@ -191,6 +191,17 @@ pub struct ArrayPart {
     pub access: Access,
 }
 
+/// A name of a designator and the indices after it.
+#[derive(Clone, Copy, Debug)]
+pub struct NamedPart {
+    /// The name stands for a variable, a field or a constant.
+    pub is_value: bool,
+    /// There are indices after the name.
+    pub is_indexed: bool,
+    /// The type of the part, whatever the indices are.
+    pub of: Option<usize>,
+}
+
 /// What an argument has to meet.
 #[derive(Clone, Copy, Debug, PartialEq, Eq)]
 pub enum Want {
@@ -223,6 +234,8 @@ pub enum Mode {
     Value,
     /// As what should be a variable: its sort is no rule of a value's.
     Variable,
+    /// As the first operand of what should be a variable: a value, whose sort is no rule of a value's either.
+    FirstOperand,
     /// As the argument that may be a queue.
     Queue,
 }

@@ -8,10 +8,10 @@ use Rattle.cp_model.specs.Actions.{Action, Acts, Calls, action, is_kernel_action
 use Rattle.cp_model.specs.Calls.{call_in_task, procedure_call}
 use Rattle.cp_model.specs.Components.{same_sort}
 use Rattle.cp_model.specs.Configurations.{Asking, Delayed, Ended, Faulted, Fresh, Ready, Status, Unstarted, Waiting}
-use Rattle.cp_model.specs.Continuations.{Do, Task, gates_of, holds_gate}
+use Rattle.cp_model.specs.Continuations.{Do, Task, marked_monitors, is_in_monitor}
 use Rattle.cp_model.specs.Environments.{Environment}
 use Rattle.cp_model.specs.Invariant.{Invariant, IsBlocked}
-use Rattle.cp_model.specs.Parts.{Running, own_status}
+use Rattle.cp_model.specs.Parts.{Running, private_status}
 use Rattle.cp_model.specs.States.{Setup, State, configuration, context}
 use Rattle.cp_model.specs.Step.{run_task, take_action}
 use Rattle.cp_model.specs.Turns.{Kernel, NoStep, Private, after_step, if_private, kind, kind_of, private_step}
@@ -25,8 +25,8 @@ module _ (i : Task) (k : List Task) where
     | None ↦ elim (q j) as (λ x. Action) [ Some u ↦ Calls u k | None ↦ Acts i k ]
   ]
 
-  module _ (s : State) (p : ℕ) (left : s.continuation p ≡ i ∷ k) (ready : s.status p ≡ Ready) (gates : gates_of k ≡ [])
-      (no_mark : gates_of (i ∷ k) ≡ gates_of k) (act : action (i ∷ k) ≡ Acts i k) where
+  module _ (s : State) (p : ℕ) (left : s.continuation p ≡ i ∷ k) (ready : s.status p ≡ Ready) (gates : marked_monitors k ≡ [])
+      (no_mark : marked_monitors (i ∷ k) ≡ marked_monitors k) (act : action (i ∷ k) ≡ Acts i k) where
     kind_ready : kind s p ≡ (if is_kernel_action (Acts i k) then Kernel else Private)
     kind_ready =
         (λ j. kind_of (ready j) (left j))
@@ -52,13 +52,13 @@ pub step_idle : (setup : Setup) (s : State) (p : ℕ) → kind s p ≡ NoStep �
 step_idle setup s p h = λ j. if_private (h j) (after_step s p (take_action (context setup s p) (configuration s p) (action (s.continuation p)))) s
 
 -- A running process without gates is ready.
-pub ready_is : (s : State) (p : ℕ) → Invariant s → own_status (s.status p) ≡ Running → gates_of (s.continuation p) ≡ [] → s.status p ≡ Ready
+pub ready_is : (s : State) (p : ℕ) → Invariant s → private_status (s.status p) ≡ Running → marked_monitors (s.continuation p) ≡ [] → s.status p ≡ Ready
 ready_is s p I running none = by (s.status p) refl running
   where
-    free : holds_gate (s.continuation p) ≡ true → ⊥
+    free : is_in_monitor (s.continuation p) ≡ true → ⊥
     free h = true≢false (sym h ∙ λ j. elim (none j) as (λ x. Bool) [ [] ↦ false | m ∷ ms ↦ true ])
 
-    by : (x : Status) → s.status p ≡ x → own_status x ≡ Running → x ≡ Ready
+    by : (x : Status) → s.status p ≡ x → private_status x ≡ Running → x ≡ Ready
     by Ready e r = refl
     by (Asking m) e r = absurd (free (I.blocked p (subst IsBlocked (sym e) tt)))
     by (Delayed m q) e r = absurd (free (I.blocked p (subst IsBlocked (sym e) tt)))

@@ -6,7 +6,7 @@ use Rattle.std.proofs.lemmas.List.{get_or-replicate, length-replicate}
 use Rattle.std.proofs.lemmas.Option.{get_or_from_slice_get, slice_get_within}
 use Rattle.cp_model.specs.Configurations.{Ready, Status, Unstarted, Waiting}
 use Rattle.cp_model.specs.Continuations.{EndProcess}
-use Rattle.cp_model.specs.Parts.{HasBegun, SameOwnPart, Sleeping, own_status}
+use Rattle.cp_model.specs.Parts.{HasBegun, SamePrivateState, Sleeping, private_status}
 use Rattle.cp_model.specs.Rounds.{awakened, wake}
 use Rattle.cp_model.specs.Start.{start}
 use Rattle.cp_model.specs.Stores.{Ordinal}
@@ -29,9 +29,9 @@ no_sleeper activity.Running h = Prim.grind (arith, h)
 no_sleeper activity.Ended h = Prim.grind (arith, h)
 no_sleeper (activity.Faulted f) h = Prim.grind (arith, h)
 
--- A part of s is one of each state in which the own part of the process is the same.
+-- A part of s is one of each state in which the private state of the process is the same.
 pub seen : (program : Program) (setup : Setup) (s u : State) (p : ℕ) (before : List ℕ) (x : Private)
-    → SameOwnPart p s u → PartOf program setup s p before x → PartOf program setup u p before x
+    → SamePrivateState p s u → PartOf program setup s p before x → PartOf program setup u p before x
 seen program setup s u p before x E P = record {
   number = P.number;
   input = P.input;
@@ -45,11 +45,11 @@ seen program setup s u p before x E P = record {
       let begun = subst HasBegun E.status h in
       E.store begun (variable_location p y) (eq-eqb p p refl) ∙ P.words begun i y n g r;
   continuation = λ h.
-      let begun : HasBegun (own_status (s.status p)) = subst HasBegun (sym (P.status ∙ ap status_of h)) tt in
+      let begun : HasBegun (private_status (s.status p)) = subst HasBegun (sym (P.status ∙ ap status_of h)) tt in
       subst (Continues program setup (names_of program p) (environment_of setup p) x.place) (sym (E.continuation begun)) (P.continuation h);
 }
 
-awakened_same : (x : Status) → (own_status x ≡ Sleeping → ⊥) → own_status (awakened x) ≡ own_status x
+awakened_same : (x : Status) → (private_status x ≡ Sleeping → ⊥) → private_status (awakened x) ≡ private_status x
 awakened_same Waiting h = absurd (h refl)
 awakened_same x h = refl
 
@@ -58,7 +58,7 @@ pub part_wakes : (program : Program) (setup : Setup) (s : State) (p : ℕ) (befo
     → PartOf program setup s p before x → PartOf program setup (wake setup s) p before x
 part_wakes program setup s p before x P = by (nat_eq (suc s.rounds % setup.tick) 0)
   where
-    same : SameOwnPart p s (record s { status = λ q. awakened (s.status q) })
+    same : SamePrivateState p s (record s { status = λ q. awakened (s.status q) })
     same = record {
       status = awakened_same (s.status p) (λ h. no_sleeper x.activity (sym P.status ∙ h));
       transcript = refl;
@@ -104,7 +104,7 @@ module _ (program : Program) (setup : Setup) (input : List ℕ) where
     input = is;
     consumed = refl;
     transcript = refl;
-    status = ap own_status (with_at_there 1 p Ready (λ (q : ℕ). Unstarted) apart);
+    status = ap private_status (with_at_there 1 p Ready (λ (q : ℕ). Unstarted) apart);
     count = length-replicate (length (names_of program p)) (pos 0);
     unbegun_place = λ h. refl;
     unbegun_words = λ h. refl;

@@ -6,8 +6,10 @@ use Rattle.cp_model.specs.Abstract.{Integer, Name}
 use Rattle.cp_model.specs.Calls.{Callee, Found, callee, first_call, in_context, or_else}
 use Rattle.cp_model.specs.Environments.{Environment, IsVariable, constant_or_unknown, meaning, variable_or}
 use Rattle.cp_model.specs.Expressions.{value}
-use Rattle.cp_model.specs.Locations.{OfProcess, same_integer}
-use Rattle.cp_model.specs.Names.{lookup, same_name}
+use Rattle.cp_model.specs.Locations.{OfProcess}
+use Rattle.cp_model.specs.Integers.{same_integer}
+use Rattle.cp_model.specs.Names.{lookup}
+use Rattle.std.specs.Str.{bytes_eq}
 use Rattle.cp_model.specs.Operators.{Clock, apply_operator, integer_result, realtime, with_divisor}
 use Rattle.cp_model.specs.Outcomes as o
 use Rattle.cp_model.specs.Outcomes.{Gives, Outcome, and_then, provided}
@@ -97,7 +99,7 @@ module _ (setup : Setup) (p : ℕ) (names : List Name) where
 
   module _ (no_routines : (system_of setup p).routines ≡ []) where
     pub callee_none : (f : Name) → callee (environment_of setup p) (a.Plain f) ≡ None
-    callee_none f = λ i. elim (find (λ r. same_name f r.name) (no_routines i)) as (λ x. Option Callee) [ None ↦ None | Some r ↦ Some (record { routine = r; of = None }) ]
+    callee_none f = λ i. elim (find (λ r. bytes_eq f r.name) (no_routines i)) as (λ x. Option Callee) [ None ↦ None | Some r ↦ Some (record { routine = r; of = None }) ]
 
     pub no_call : (v : a.Expression) (e : a.Expression) (c : Numbered) → Stands names e c → first_call (environment_of setup p) v e ≡ None
     no_call v (a.Literal n) c h = refl

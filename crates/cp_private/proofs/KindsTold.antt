@@ -6,7 +6,7 @@ use Rattle.cp_model.specs.Configurations.{Asking, Delayed, Ready, Status}
 use Rattle.cp_model.specs.Continuations.{Do, EndProcess, Task}
 use Rattle.cp_model.specs.Environments.{Environment}
 use Rattle.cp_model.specs.Invariant.{Invariant}
-use Rattle.cp_model.specs.Parts.{Running, own_status}
+use Rattle.cp_model.specs.Parts.{Running, private_status}
 use Rattle.cp_model.specs.States.{Setup, State}
 use Rattle.cp_model.specs.Turns as t
 use Rattle.cp_model.specs.Turns.{kind, kind_of}
@@ -30,7 +30,7 @@ use Rattle.cp_private.proofs.Parts.{PartIs, no_gates, part_is}
 use Rattle.cp_private.proofs.Refines.{quiet_assignment, quiet_display}
 
 -- A process that doesn't run has no step to tell.
-untold : (x : Status) (l : List Task) → (own_status x ≡ Running → ⊥) → t.NoStep ≡ told x l
+untold : (x : Status) (l : List Task) → (private_status x ≡ Running → ⊥) → t.NoStep ≡ told x l
 untold Ready l h = absurd (h refl)
 untold (Asking m) l h = absurd (h refl)
 untold (Delayed m q) l h = absurd (h refl)

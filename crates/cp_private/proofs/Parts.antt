@@ -1,11 +1,11 @@
--- The own part of a process as a relation to plain data.
+-- The private state of a process as a relation to plain data.
 use Rattle.std.proofs.Common.{◌≡◌, ℕ, pos, List, [], ◌∷◌, ◌++◌, length, refl, sym, subst}
 use Rattle.std.specs.Prelude.{replicate}
 use Rattle.cp_model.specs.Abstract as a
 use Rattle.cp_model.specs.Abstract.{Name}
-use Rattle.cp_model.specs.Continuations.{Do, EndProcess, Task, gates_of, push}
+use Rattle.cp_model.specs.Continuations.{Do, EndProcess, Task, marked_monitors, push}
 use Rattle.cp_model.specs.Environments.{Environment}
-use Rattle.cp_model.specs.Parts.{HasBegun, own_status}
+use Rattle.cp_model.specs.Parts.{HasBegun, private_status}
 use Rattle.cp_model.specs.States.{Setup, State}
 use Rattle.cp_program.specs.declared.program.Program.{Program}
 use Rattle.cp_program.specs.StandsFor.{CodeFor, names_of, start_of}
@@ -20,11 +20,11 @@ pub record PartIs (program : Program) (setup : Setup) (s : State) (p : ℕ) (bef
   pub input : o.input ≡ setup.inputs p
   pub consumed : o.consumed ≡ s.consumed p
   pub transcript : s.transcript p ≡ before ++ o.output
-  pub status : own_status (s.status p) ≡ status_of o.activity
+  pub status : private_status (s.status p) ≡ status_of o.activity
   pub count : length o.words ≡ length (names_of program p)
   pub unbegun_place : o.activity ≡ activity.NotBegun → o.place ≡ start_of program p
   pub unbegun_words : o.activity ≡ activity.NotBegun → o.words ≡ replicate (length (names_of program p)) (pos 0)
-  pub words : HasBegun (own_status (s.status p)) → WordsMean (names_of program p) p o.words s.store
+  pub words : HasBegun (private_status (s.status p)) → WordsMean (names_of program p) p o.words s.store
   pub continuation : o.activity ≡ activity.Running
       → Continues program setup (names_of program p) (environment_of setup p) o.place (s.continuation p)
 
@@ -74,7 +74,7 @@ module _ (program : Program) (setup : Setup) (names : List Name) (env : Environm
   continues_push (a.Init x es) place next k c h = (refl, tt, (next, c, h))
   continues_push s place next k c h = absurd c
 
-  pub no_gates : (k : List Task) (place : ℕ) → Continues program setup names env place k → gates_of k ≡ []
+  pub no_gates : (k : List Task) (place : ℕ) → Continues program setup names env place k → marked_monitors k ≡ []
   no_gates (EndProcess ∷ []) place h = refl
   no_gates (Do s e ∷ k) place h = no_gates k h.2.0 h.2.2
   no_gates k place h = absurd h

@@ -8,12 +8,12 @@ use Rattle.cp_model.specs.Actions.{Acts, action, is_kernel_action}
 use Rattle.cp_model.specs.Assignments.{writes_of}
 use Rattle.cp_model.specs.Calls.{UserCall, first_call, in_context, or_else}
 use Rattle.cp_model.specs.Configurations.{Configuration, Ended, Faulted, Ready, Status, own_step, with_continuation, with_writes}
-use Rattle.cp_model.specs.Continuations.{Do, EndProcess, Task, gates_of, push}
+use Rattle.cp_model.specs.Continuations.{Do, EndProcess, Task, marked_monitors, push}
 use Rattle.cp_model.specs.Decimal.{decimal}
 use Rattle.cp_model.specs.Environments.{Environment}
 use Rattle.cp_model.specs.Invariant.{Invariant}
 use Rattle.cp_model.specs.Outcomes.{and_then, provided, Gives}
-use Rattle.cp_model.specs.Parts.{HasBegun, Running, own_status}
+use Rattle.cp_model.specs.Parts.{HasBegun, Running, private_status}
 use Rattle.cp_model.specs.Places.{place_of_meaning, within}
 use Rattle.cp_model.specs.StandardCalls.{display_text, standard_procedure}
 use Rattle.cp_model.specs.StateViews.{fault_number}
@@ -42,7 +42,7 @@ use Rattle.cp_private.proofs.Parts.{PartIs, continues_push, no_gates}
 use Rattle.cp_private.proofs.Words.{words_set}
 
 -- A process that isn't running has no step.
-pub idle : (x : Status) (k : List Task) → (own_status x ≡ Running → ⊥) → kind_of x k ≡ NoStep
+pub idle : (x : Status) (k : List Task) → (private_status x ≡ Running → ⊥) → kind_of x k ≡ NoStep
 idle Ready k h = absurd (h refl)
 idle x k h = refl
 
@@ -87,8 +87,8 @@ module _ (program : Program) (setup : Setup) (p : ℕ) (before : List ℕ) (Q : 
       subst (λ v. PartIs program setup v p before (step program o)) (sym e) (subst (PartIs program setup u p before) (sym f) h)
 
   module _ (running : o.activity ≡ activity.Running) (ready : s.status p ≡ Ready) where
-    begun : HasBegun (own_status (s.status p))
-    begun = subst (λ x. HasBegun (own_status x)) (sym ready) tt
+    begun : HasBegun (private_status (s.status p))
+    begun = subst (λ x. HasBegun (private_status x)) (sym ready) tt
 
     step_is : (x : Op) → op_at program o.place ≡ Some x → step program o ≡ act_on o x
     step_is x h = λ i. if_running (running i) (act o (h i)) o
@@ -117,7 +117,7 @@ module _ (program : Program) (setup : Setup) (p : ℕ) (before : List ℕ) (Q : 
       input = P.input;
       consumed = P.consumed;
       transcript = P.transcript;
-      status = ap own_status (with_at_here p (Faulted (fault_number f)) s.status);
+      status = ap private_status (with_at_here p (Faulted (fault_number f)) s.status);
       count = P.count;
       unbegun_place = λ h. absurd (Prim.grind (arith, h));
       unbegun_words = λ h. absurd (Prim.grind (arith, h));
@@ -131,7 +131,7 @@ module _ (program : Program) (setup : Setup) (p : ℕ) (before : List ℕ) (Q : 
       input = P.input;
       consumed = P.consumed ∙ sym (with_at_here p (s.consumed p) s.consumed);
       transcript = with_at_here p (s.transcript p) s.transcript ∙ P.transcript;
-      status = ap own_status (with_at_here p Ended s.status);
+      status = ap private_status (with_at_here p Ended s.status);
       count = P.count;
       unbegun_place = λ h. absurd (Prim.grind (arith, h));
       unbegun_words = λ h. absurd (Prim.grind (arith, h));
@@ -164,7 +164,7 @@ module _ (program : Program) (setup : Setup) (p : ℕ) (before : List ℕ) (Q : 
     displayed k next (Ok n) C = moved s.store k (s.transcript p ++ decimal n) (o.output ++ decimal n) o.words next P.count (P.words begun) C
         (ap (λ t. t ++ decimal n) P.transcript ∙ append_assoc before o.output (decimal n))
 
-    module _ (t : a.Statement) (k : List Task) (left : s.continuation p ≡ Do t env ∷ k) (none : gates_of k ≡ [])
+    module _ (t : a.Statement) (k : List Task) (left : s.continuation p ≡ Do t env ∷ k) (none : marked_monitors k ≡ [])
         (act' : action (Do t env ∷ k) ≡ Acts (Do t env) k) where
       private_acts : is_kernel_action (Acts (Do t env) k) ≡ false
           → private_step setup s p ≡ after_step s p (run_task (context setup s p) config (Do t env) k)

@@ -7,7 +7,7 @@ use Rattle.std.proofs.Math.Nat.{div-le_self}
 use Rattle.std.proofs.lemmas.Int.{ints, fits_signed_mul, to_z-of_z}
 use Rattle.cp_model.specs.declared.state.Fault.{Fault}
 use Rattle.cp_model.specs.declared.state.Fault.TheVariants as fault
-use Rattle.cp_model.specs.Locations.{same_integer}
+use Rattle.cp_model.specs.Integers.{same_integer}
 use Rattle.cp_model.proofs.StateMaps.{differ}
 use Rattle.cp_private.specs.Values.{in_range, unless_zero}
 

@@ -8,24 +8,24 @@ use Rattle.std.proofs.lemmas.Option.{get_or_from_slice_get, same_Some, slice_get
 use Rattle.cp_model.specs.Abstract.{Name}
 use Rattle.cp_model.specs.Environments.{Environment}
 use Rattle.cp_model.specs.Locations.{same_location}
-use Rattle.cp_model.specs.Names.{same_name}
+use Rattle.std.specs.Str.{bytes_eq}
 use Rattle.cp_model.specs.Stores.{Ordinal, Store, Value, put}
 use Rattle.cp_fragment.specs.Meanings.{AreWords}
 use Rattle.cp_fragment.specs.Processes.{variable_location}
 use Rattle.cp_private.specs.PartOf.{WordsMean}
 use Rattle.cp_private.specs.Values.{word}
 
-pub same_name_itself : (x : Name) → same_name x x ≡ true
+pub same_name_itself : (x : Name) → bytes_eq x x ≡ true
 same_name_itself [] = refl
 same_name_itself (a ∷ x) = λ i. eq-eqb a a refl i && same_name_itself x i
 
-pub same_name_is : (x y : Name) → same_name x y ≡ true → x ≡ y
+pub same_name_is : (x y : Name) → bytes_eq x y ≡ true → x ≡ y
 same_name_is [] [] h = refl
 same_name_is [] (b ∷ y) h = absurd (Prim.grind arith)
 same_name_is (a ∷ x) [] h = absurd (Prim.grind arith)
 same_name_is (a ∷ x) (b ∷ y) h = by (nat_eq a b) refl h (same_name_is x y)
   where
-    by : (t : Bool) → nat_eq a b ≡ t → (t && same_name x y) ≡ true → (same_name x y ≡ true → x ≡ y) → (a ∷ x) ≡ (b ∷ y)
+    by : (t : Bool) → nat_eq a b ≡ t → (t && bytes_eq x y) ≡ true → (bytes_eq x y ≡ true → x ≡ y) → (a ∷ x) ≡ (b ∷ y)
     by true e g f = λ i. eqb-true a b e i ∷ f g i
     by false e g f = absurd (Prim.grind arith)
 
@@ -33,9 +33,9 @@ same_variable : (p : ℕ) (x : Name) → same_location (variable_location p x) (
 same_variable p x = λ i. eq-eqb p p refl i && (same_name_itself x i && true)
 
 variable_is : (p : ℕ) (x y : Name) → same_location (variable_location p x) (variable_location p y) ≡ true → x ≡ y
-variable_is p x y h = by (nat_eq p p) (same_name x y) refl h
+variable_is p x y h = by (nat_eq p p) (bytes_eq x y) refl h
   where
-    by : (a b : Bool) → same_name x y ≡ b → (a && (b && true)) ≡ true → x ≡ y
+    by : (a b : Bool) → bytes_eq x y ≡ b → (a && (b && true)) ≡ true → x ≡ y
     by true true e g = same_name_is x y e
     by true false e g = absurd (Prim.grind arith)
     by false b e g = absurd (Prim.grind arith)

@@ -2,7 +2,7 @@
 use Rattle.std.specs.Prelude.{◌≡◌, ◌≤◌, ℕ, ℤ, pos, List, [], ◌++◌, Some, if◌then◌else◌, length, nat_eq, replicate, slice_get}
 use Rattle.cp_model.specs.Abstract.{Name}
 use Rattle.cp_model.specs.Invariant.{Invariant}
-use Rattle.cp_model.specs.Parts.{HasBegun, own_status}
+use Rattle.cp_model.specs.Parts.{HasBegun, private_status}
 use Rattle.cp_model.specs.Start.{start}
 use Rattle.cp_model.specs.States.{Setup, State, process_count}
 use Rattle.cp_model.specs.Stores.{Ordinal}
@@ -51,7 +51,7 @@ TellsKind program x k =
 abbrev pub TellsWord : Private → ℕ → ℤ → Type 0
 TellsWord x word n =
     (program : Program) (setup : Setup) (s : State) (p : ℕ) (before : List ℕ) (name : Name)
-    → PartOf program setup s p before x → HasBegun (own_status (s.status p)) → slice_get (names_of program p) word ≡ Some name
+    → PartOf program setup s p before x → HasBegun (private_status (s.status p)) → slice_get (names_of program p) word ≡ Some name
     → s.store (variable_location p name) ≡ Ordinal n
 
 -- These bytes end the transcript, behind what was moved of it to the kernel.

@@ -1,7 +1,7 @@
 -- The values of numbered expressions over words, as plain data.
 use Rattle.std.specs.Prelude.{ℕ, ℤ, pos, negsuc, neg_ℤ, ◌+ℤ◌, ◌-ℤ◌, ◌*ℤ◌, int_div, int_rem, ◌<◌, List, [], ◌∷◌, Result, Ok, Err, if◌then◌else◌, slice_index_or}
 use Rattle.std.specs.Int.Signed.{mag}
-use Rattle.cp_model.specs.Locations.{same_integer}
+use Rattle.cp_model.specs.Integers.{same_integer}
 use Rattle.cp_model.specs.Places.{within}
 use Rattle.cp_model.specs.declared.state.Fault.{Fault}
 use Rattle.cp_model.specs.declared.state.Fault.TheVariants as fault

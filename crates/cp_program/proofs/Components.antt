@@ -2,7 +2,8 @@
 use Rattle.std.proofs.Common.{◌≡◌, ◌+◌, ℕ, zero, suc, cond, Bool, true, false, ◌⊎◌, inl, inr, List, [], ◌∷◌, ◌++◌, Some, length, map, slice_get, refl, ap, sym, ◌∙◌, subst, append_assoc, append-nil, arith, length-append}
 use Rattle.std.specs.Str.{bytes_eq}
 use Rattle.cp_model.specs.Syntax as s
-use Rattle.cp_model.specs.RulesEnvironment.{Text, lookup}
+use Rattle.cp_model.specs.RulesEnvironment.{Text}
+use Rattle.cp_model.specs.Names.{lookup}
 use Rattle.cp_fragment.specs.Slots.{Slots, slots, word_names}
 use Rattle.cp_program.specs.declared.code.Op.{Op}
 use Rattle.cp_program.specs.declared.code.Op.TheVariants as op

@@ -3,7 +3,7 @@ use Rattle.std.proofs.Common.{◌≡◌, ◌≢◌, ◌<◌, ◌≤◌, ℕ, Lis
 use Rattle.std.proofs.Math.ListN.{set}
 use Rattle.std.proofs.lemmas.Option.{slice_get_within}
 use Rattle.cp_model.specs.Syntax as s
-use Rattle.cp_model.specs.RulesEnvironment.{lookup}
+use Rattle.cp_model.specs.Names.{lookup}
 use Rattle.cp_fragment.specs.declared.slot.Slot.{Slot}
 use Rattle.cp_fragment.specs.declared.slot.Slot.TheVariants as slot
 use Rattle.cp_fragment.specs.Slots.{Slots}

@@ -4,7 +4,8 @@ use Rattle.std.specs.Option.{is_some, option_copied}
 use Rattle.std.specs.Str.{bytes_eq}
 use Rattle.std.specs.Map.{lookup as first_by}
 use Rattle.std.proofs.lemmas.Slice.Eq.{bytes_eq-Decides}
-use Rattle.cp_model.specs.RulesEnvironment.{Text, lookup}
+use Rattle.cp_model.specs.RulesEnvironment.{Text}
+use Rattle.cp_model.specs.Names.{lookup}
 use Rattle.cp_program.specs.Tables.{SameNames, seen}
 
 pub lookup_seen : {A : Type 0} (x : Text) (es : List (Bor Text × A)) → lookup x (map seen es) ≡ first_by (λ k. bytes_eq x k.now) es

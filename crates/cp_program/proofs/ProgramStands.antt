@@ -5,7 +5,8 @@ use Rattle.std.proofs.lemmas.List.{length-map}
 use Rattle.std.proofs.lemmas.Option.{slice_get-map, slice_get-get_or}
 use Rattle.cp_model.specs.Syntax as s
 use Rattle.cp_model.specs.Erase as erase
-use Rattle.cp_model.specs.RulesEnvironment.{Text, lookup}
+use Rattle.cp_model.specs.RulesEnvironment.{Text}
+use Rattle.cp_model.specs.Names.{lookup}
 use Rattle.cp_model.specs.Abstract.{Name, Statement}
 use Rattle.cp_model.specs.Stores.{Ordinal}
 use Rattle.cp_model.specs.Start.{start}

@@ -1,7 +1,8 @@
 -- The components and processes that a text is numbered as.
 use Rattle.std.specs.Prelude.{◌≡◌, ℕ, suc, List, [], ◌∷◌, ◌++◌, Option, Some, None, slice_get, length, map, codes}
 use Rattle.cp_model.specs.Syntax as s
-use Rattle.cp_model.specs.RulesEnvironment.{Text, lookup}
+use Rattle.cp_model.specs.RulesEnvironment.{Text}
+use Rattle.cp_model.specs.Names.{lookup}
 use Rattle.cp_fragment.specs.Slots.{process_list, slots, systems_of, word_names}
 use Rattle.cp_program.specs.declared.code.Op.{Op}
 use Rattle.cp_program.specs.declared.code.Op.TheVariants as op

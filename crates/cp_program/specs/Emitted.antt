@@ -3,7 +3,7 @@
 -- It is defined for each text. A name without a slot, and what isn't in the fragment, is numbered as something harmless.
 use Rattle.std.specs.Prelude.{◌≡◌, ◌≤◌, ℕ, Option, Some, List, [], ◌∷◌, slice_get, length}
 use Rattle.cp_model.specs.Syntax as s
-use Rattle.cp_model.specs.RulesEnvironment.{lookup}
+use Rattle.cp_model.specs.Names.{lookup}
 use Rattle.cp_model.specs.declared.tree.Operator.{Operator}
 use Rattle.cp_model.specs.declared.tree.Operator.TheVariants as operator
 use Rattle.cp_model.specs.declared.tree.Sign.{Sign}

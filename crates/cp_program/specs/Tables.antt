@@ -1,7 +1,8 @@
 -- Tables of names: what a table stands for, and when two tables give each name the same meaning.
 use Rattle.std.specs.Prelude.{◌≡◌, List}
 use Rattle.std.specs.Borrow.{Bor}
-use Rattle.cp_model.specs.RulesEnvironment.{Text, lookup}
+use Rattle.cp_model.specs.RulesEnvironment.{Text}
+use Rattle.cp_model.specs.Names.{lookup}
 
 -- an entry of the map: the name's letters, and what it stands for
 abbrev pub seen : {A : Type 0} → Bor Text × A → Text × A

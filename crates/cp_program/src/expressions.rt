@@ -1,7 +1,7 @@
 //! Expressions over the words of a process.
 
 ghost use Rattle.std.specs.Prelude.{◌≡◌, [], ◌∷◌, IfOk, map};
-ghost use Rattle.cp_model.specs.RulesEnvironment.{lookup};
+ghost use Rattle.cp_model.specs.Names.{lookup};
 ghost use Rattle.cp_model.specs.View as view;
 ghost use Rattle.cp_program.specs.Emitted as emitted;
 ghost use Rattle.cp_program.specs.Emitted.{number_of, number_operation, word_number};

@@ -11,8 +11,6 @@ mod numbering;
 pub mod program;
 mod statements;
 mod table;
-#[cfg(test)]
-mod tests;
 mod variables;
 
 pub use program::Program;

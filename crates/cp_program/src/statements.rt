@@ -3,7 +3,7 @@
 //! They are emitted from their end: where an operation leads is known when it is made.
 
 ghost use Rattle.std.specs.Prelude.{◌≡◌, ℕ, ◌+◌, ◌-◌, ◌<◌, List, [], ◌∷◌, IfOk, length, map, slice_set};
-ghost use Rattle.cp_model.specs.RulesEnvironment.{lookup};
+ghost use Rattle.cp_model.specs.Names.{lookup};
 ghost use Rattle.cp_model.specs.View as view;
 ghost use Rattle.cp_program.specs.Emitted as emitted;
 ghost use Rattle.cp_program.specs.Emitted.{Emits, StandsAt, number_of};

@@ -1,7 +1,8 @@
 //! Tables of names: the numbers that the names of a text stand for.
 
 ghost use Rattle.std.specs.Prelude.{◌≡◌, ◌++◌, ◌∷◌, [], List, OnOk, map};
-ghost use Rattle.cp_model.specs.RulesEnvironment.{Text, lookup};
+ghost use Rattle.cp_model.specs.RulesEnvironment.{Text};
+ghost use Rattle.cp_model.specs.Names.{lookup};
 ghost use Rattle.cp_program.specs.Tables.{SameNames, seen};
 
 use indexmap::IndexMap;

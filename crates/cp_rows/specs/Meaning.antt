@@ -77,6 +77,18 @@ index_by_local_1 = run_answer 1 100 1 false [] (codes "type a = array [1..3] of 
 abbrev pub inner_rights_1 : Type 0
 inner_rights_1 = run_answer 1 100 1 false [] (codes "type n = class; var k: integer; procedure entry up; begin k := k + 1 end; function entry get: integer; begin get := k end; begin k := 10 end;\no = class(x: n); procedure entry twice; begin x.up; x.up end; begin x.up end;\nw = class; var a: n; b: o; procedure entry run; begin b.twice; display(a.get) end; begin init a, b(a) end;\nvar z: w;\nbegin init z; z.run end.") ≡ (codes "rounds 1\nprocess 1 initial ended\nout '13'\nvar z.a.k = 13\n")
 
+abbrev pub input_beyond_its_end_1 : Type 0
+input_beyond_its_end_1 = run_answer 1 100 1 false [] (codes "var a, b, c: char;\nbegin accept(a); accept(b); accept(c) end.") ≡ (codes "rounds 1\nprocess 1 initial ended\nout ''\nvar a = 25\nvar b = 25\nvar c = 25\n")
+
+abbrev pub input_beyond_its_end_2 : Type 0
+input_beyond_its_end_2 = consumed_answer 1 100 1 [] (codes "var a, b, c: char;\nbegin accept(a); accept(b); accept(c) end.") ≡ (codes "consumed 0\n")
+
+abbrev pub input_beyond_its_end_3 : Type 0
+input_beyond_its_end_3 = run_answer 1 100 1 false (codes "x") (codes "var a, b, c: char;\nbegin accept(a); accept(b); accept(c) end.") ≡ (codes "rounds 1\nprocess 1 initial ended\nout ''\nvar a = 120\nvar b = 25\nvar c = 25\n")
+
+abbrev pub input_beyond_its_end_4 : Type 0
+input_beyond_its_end_4 = consumed_answer 1 100 1 (codes "x") (codes "var a, b, c: char;\nbegin accept(a); accept(b); accept(c) end.") ≡ (codes "consumed 1\n")
+
 abbrev pub input_in_subrange_1 : Type 0
 input_in_subrange_1 = run_answer 1 100 1 false (codes "xyz") (codes "var c: 'a'..'c'; d: char;\nbegin accept(d); accept(c) end.") ≡ (codes "rounds 1\nprocess 1 initial fault 1\nout ''\nvar c = 97\nvar d = 120\n")
 
@@ -147,4 +159,4 @@ abbrev pub waiting_processes_wake_at_the_tick_2 : Type 0
 waiting_processes_wake_at_the_tick_2 = run_answer 6 100 2 false [] (codes "type p = process; begin wait; display(realtime); wait; display(realtime) end;\nvar a: p;\nbegin init a; wait; display(realtime) end.") ≡ (codes "rounds 6\nprocess 1 initial ended\nout '2'\nprocess 2 a ended\nout '23'\n")
 
 abbrev pub Meaning : Type 0
-Meaning = an_array_of_queues_1 × an_array_of_queues_2 × an_array_of_queues_3 × argument_range_first_1 × askers_in_order_1 × askers_in_order_2 × body_that_waits_1 × body_that_waits_2 × body_that_waits_3 × call_test_after_arguments_1 × calls_in_bounds_and_selectors_1 × calls_left_to_right_1 × case_of_negative_1 × class_in_monitor_1 × counting_down_1 × cycle_in_a_monitor_1 × division_1 × early_class_1 × early_handing_on_1 × fault_with_outer_gates_1 × field_names_1 × for_subrange_1 × function_that_continues_1 × index_by_local_1 × inner_rights_1 × input_in_subrange_1 × input_in_subrange_2 × label_constants_1 × later_component_1 × later_constant_routine_1 × later_definitions_1 × later_routine_parameter_1 × later_routine_variable_1 × local_record_field_1 × monitor_variable_handed_down_1 × nested_delay_1 × nested_delay_2 × overflow_signs_1 × parameters_of_init_1 × references_of_references_1 × result_named_later_1 × same_function_names_1 × same_local_names_1 × structures_1 × subranges_of_characters_and_enumerations_1 × tests_anew_1 × waiting_processes_wake_at_the_tick_1 × waiting_processes_wake_at_the_tick_2
+Meaning = an_array_of_queues_1 × an_array_of_queues_2 × an_array_of_queues_3 × argument_range_first_1 × askers_in_order_1 × askers_in_order_2 × body_that_waits_1 × body_that_waits_2 × body_that_waits_3 × call_test_after_arguments_1 × calls_in_bounds_and_selectors_1 × calls_left_to_right_1 × case_of_negative_1 × class_in_monitor_1 × counting_down_1 × cycle_in_a_monitor_1 × division_1 × early_class_1 × early_handing_on_1 × fault_with_outer_gates_1 × field_names_1 × for_subrange_1 × function_that_continues_1 × index_by_local_1 × inner_rights_1 × input_beyond_its_end_1 × input_beyond_its_end_2 × input_beyond_its_end_3 × input_beyond_its_end_4 × input_in_subrange_1 × input_in_subrange_2 × label_constants_1 × later_component_1 × later_constant_routine_1 × later_definitions_1 × later_routine_parameter_1 × later_routine_variable_1 × local_record_field_1 × monitor_variable_handed_down_1 × nested_delay_1 × nested_delay_2 × overflow_signs_1 × parameters_of_init_1 × references_of_references_1 × result_named_later_1 × same_function_names_1 × same_local_names_1 × structures_1 × subranges_of_characters_and_enumerations_1 × tests_anew_1 × waiting_processes_wake_at_the_tick_1 × waiting_processes_wake_at_the_tick_2

@@ -2,6 +2,81 @@
 use Rattle.std.specs.Prelude.{◌≡◌, true, false, [], ◌∷◌, ◌++◌, codes}
 use Rattle.cp_rows.specs.Answers.{check_answer, run_answer, replay_answer, consumed_answer}
 
+abbrev pub arrays_broken_inside_1 : Type 0
+arrays_broken_inside_1 = check_answer (codes "var x: array [y] of queue; begin end.") ≡ (codes "refused C8 at 7")
+
+abbrev pub arrays_broken_inside_2 : Type 0
+arrays_broken_inside_2 = check_answer (codes "var x: array [integer, boolean] of queue; begin end.") ≡ (codes "refused C8 at 7")
+
+abbrev pub arrays_broken_inside_3 : Type 0
+arrays_broken_inside_3 = check_answer (codes "var x: array [2..1] of queue; begin end.") ≡ (codes "refused C8 at 7")
+
+abbrev pub arrays_broken_inside_4 : Type 0
+arrays_broken_inside_4 = check_answer (codes "var x: array [true] of queue; begin end.") ≡ (codes "refused C8 at 7")
+
+abbrev pub arrays_broken_inside_5 : Type 0
+arrays_broken_inside_5 = check_answer (codes "var x: array [y] of array [1..2] of queue; begin end.") ≡ (codes "refused C8 at 7")
+
+abbrev pub arrays_broken_inside_6 : Type 0
+arrays_broken_inside_6 = check_answer (codes "var x: array [1..2] of array [y] of queue; begin end.") ≡ (codes "refused C8 at 7")
+
+abbrev pub arrays_broken_inside_7 : Type 0
+arrays_broken_inside_7 = check_answer (codes "type q = array [1..2] of queue; var x: array [y] of q; begin end.") ≡ (codes "refused C8 at 39")
+
+abbrev pub arrays_broken_inside_8 : Type 0
+arrays_broken_inside_8 = check_answer (codes "var x: array [y] of integer; begin end.") ≡ (codes "refused C1 at 14")
+
+abbrev pub arrays_broken_inside_9 : Type 0
+arrays_broken_inside_9 = check_answer (codes "var x: array [y] of z; begin end.") ≡ (codes "refused C1 at 14")
+
+abbrev pub arrays_broken_inside_10 : Type 0
+arrays_broken_inside_10 = check_answer (codes "type r = record x: array [y] of queue end; begin end.") ≡ (codes "refused C8 at 19")
+
+abbrev pub arrays_broken_inside_11 : Type 0
+arrays_broken_inside_11 = check_answer (codes "type t = array [1..2] of record x: array [y] of queue end; begin end.") ≡ (codes "refused C8 at 35")
+
+abbrev pub arrays_broken_inside_12 : Type 0
+arrays_broken_inside_12 = check_answer (codes "type c = class; var x: array [y] of queue; begin end; begin end.") ≡ (codes "refused C8 at 23")
+
+abbrev pub arrays_broken_inside_13 : Type 0
+arrays_broken_inside_13 = check_answer (codes "type p = process; var x: array [y] of queue; begin end; begin end.") ≡ (codes "refused C8 at 25")
+
+abbrev pub arrays_broken_inside_14 : Type 0
+arrays_broken_inside_14 = check_answer (codes "type m = monitor; var x: array [y] of queue; begin end; begin end.") ≡ (codes "refused C1 at 32")
+
+abbrev pub arrays_broken_inside_15 : Type 0
+arrays_broken_inside_15 = check_answer (codes "type m = monitor; procedure p; var x: array [y] of queue; begin end; begin end; begin end.") ≡ (codes "refused C8 at 38")
+
+abbrev pub arrays_broken_inside_16 : Type 0
+arrays_broken_inside_16 = check_answer (codes "procedure p; var x: array [y] of queue; begin end; begin end.") ≡ (codes "refused C8 at 20")
+
+abbrev pub arrays_broken_inside_17 : Type 0
+arrays_broken_inside_17 = check_answer (codes "type t = array [y] of queue; begin end.") ≡ (codes "refused C1 at 16")
+
+abbrev pub arrays_broken_inside_18 : Type 0
+arrays_broken_inside_18 = check_answer (codes "type t = array [array [y] of char] of char; begin end.") ≡ (codes "refused C2 at 16")
+
+abbrev pub arrays_broken_inside_19 : Type 0
+arrays_broken_inside_19 = check_answer (codes "type t = array [record a: y end] of char; begin end.") ≡ (codes "refused C2 at 16")
+
+abbrev pub arrays_broken_inside_20 : Type 0
+arrays_broken_inside_20 = check_answer (codes "type t = array [array [boolean, integer] of char] of char; begin end.") ≡ (codes "refused C2 at 16")
+
+abbrev pub arrays_broken_inside_21 : Type 0
+arrays_broken_inside_21 = check_answer (codes "type t = array [array [y] of queue] of char; begin end.") ≡ (codes "refused C2 at 16")
+
+abbrev pub arrays_broken_inside_22 : Type 0
+arrays_broken_inside_22 = check_answer (codes "type t = array [boolean, record a, a: char end] of char; begin end.") ≡ (codes "refused C2 at 25")
+
+abbrev pub arrays_broken_inside_23 : Type 0
+arrays_broken_inside_23 = check_answer (codes "var x: array [array [y] of char] of queue; begin end.") ≡ (codes "refused C8 at 7")
+
+abbrev pub arrays_broken_inside_24 : Type 0
+arrays_broken_inside_24 = check_answer (codes "type t = array [2..1] of char; begin end.") ≡ (codes "refused C3 at 19")
+
+abbrev pub arrays_broken_inside_25 : Type 0
+arrays_broken_inside_25 = check_answer (codes "type t = array [boolean, integer] of char; begin end.") ≡ (codes "refused C13 at 9")
+
 abbrev pub system_types_where_they_may_not_stand_1 : Type 0
 system_types_where_they_may_not_stand_1 = check_answer (codes "type c = class; begin end; r = record x: c end; begin end.") ≡ (codes "refused C6 at 41")
 
@@ -129,4 +204,4 @@ abbrev pub written_types_16 : Type 0
 written_types_16 = check_answer (codes "type e = (red, green); a = array ['a'..'b', boolean, e] of -3..3; var v: a; begin v['a', true, green] := -3 end.") ≡ (codes "accepted\n")
 
 abbrev pub Types : Type 0
-Types = system_types_where_they_may_not_stand_1 × system_types_where_they_may_not_stand_2 × system_types_where_they_may_not_stand_3 × system_types_where_they_may_not_stand_4 × system_types_where_they_may_not_stand_5 × system_types_where_they_may_not_stand_6 × system_types_where_they_may_not_stand_7 × system_types_where_they_may_not_stand_8 × system_types_where_they_may_not_stand_9 × system_types_where_they_may_not_stand_10 × system_types_where_they_may_not_stand_11 × system_types_where_they_may_not_stand_12 × system_types_where_they_may_not_stand_13 × system_types_where_they_may_not_stand_14 × system_types_where_they_may_not_stand_15 × system_types_where_they_may_not_stand_16 × system_types_where_they_may_not_stand_17 × words_of_owners_1 × words_of_owners_2 × words_of_owners_3 × words_of_owners_4 × words_of_owners_5 × words_of_owners_6 × words_of_owners_7 × words_of_owners_8 × words_of_owners_9 × written_types_1 × written_types_2 × written_types_3 × written_types_4 × written_types_5 × written_types_6 × written_types_7 × written_types_8 × written_types_9 × written_types_10 × written_types_11 × written_types_12 × written_types_13 × written_types_14 × written_types_15 × written_types_16
+Types = arrays_broken_inside_1 × arrays_broken_inside_2 × arrays_broken_inside_3 × arrays_broken_inside_4 × arrays_broken_inside_5 × arrays_broken_inside_6 × arrays_broken_inside_7 × arrays_broken_inside_8 × arrays_broken_inside_9 × arrays_broken_inside_10 × arrays_broken_inside_11 × arrays_broken_inside_12 × arrays_broken_inside_13 × arrays_broken_inside_14 × arrays_broken_inside_15 × arrays_broken_inside_16 × arrays_broken_inside_17 × arrays_broken_inside_18 × arrays_broken_inside_19 × arrays_broken_inside_20 × arrays_broken_inside_21 × arrays_broken_inside_22 × arrays_broken_inside_23 × arrays_broken_inside_24 × arrays_broken_inside_25 × system_types_where_they_may_not_stand_1 × system_types_where_they_may_not_stand_2 × system_types_where_they_may_not_stand_3 × system_types_where_they_may_not_stand_4 × system_types_where_they_may_not_stand_5 × system_types_where_they_may_not_stand_6 × system_types_where_they_may_not_stand_7 × system_types_where_they_may_not_stand_8 × system_types_where_they_may_not_stand_9 × system_types_where_they_may_not_stand_10 × system_types_where_they_may_not_stand_11 × system_types_where_they_may_not_stand_12 × system_types_where_they_may_not_stand_13 × system_types_where_they_may_not_stand_14 × system_types_where_they_may_not_stand_15 × system_types_where_they_may_not_stand_16 × system_types_where_they_may_not_stand_17 × words_of_owners_1 × words_of_owners_2 × words_of_owners_3 × words_of_owners_4 × words_of_owners_5 × words_of_owners_6 × words_of_owners_7 × words_of_owners_8 × words_of_owners_9 × written_types_1 × written_types_2 × written_types_3 × written_types_4 × written_types_5 × written_types_6 × written_types_7 × written_types_8 × written_types_9 × written_types_10 × written_types_11 × written_types_12 × written_types_13 × written_types_14 × written_types_15 × written_types_16

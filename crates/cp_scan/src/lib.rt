@@ -13,8 +13,6 @@ mod numbers;
 mod piece;
 mod refusal;
 mod scanning;
-#[cfg(test)]
-mod tests;
 mod words;
 
 pub use refusal::{Cause, ScanError};

@@ -3,7 +3,7 @@ use Rattle.std.proofs.Common.{◌≡◌, ℕ, suc, ◌-◌, ◌<◌, ◌≤◌, 
 use Rattle.std.proofs.lemmas.List.{take-append-drop, append-nil}
 use Rattle.cp_model.specs.Grammar.{nesting_limit, BeginsWithin}
 use Rattle.cp_model.specs.declared.token.Token.{Token}
-use Rattle.cp_grammar.specs.Laws.{TextIsComplete, StopsInside, FrontBeginsAText, WrongIsFirst, DeepIsFirst, DeepOpensTheNext}
+use Rattle.cp_grammar.specs.Laws.{TextIsComplete, StopsInside, FrontBeginsAText, WrongIsFirst, DeepIsFirst, DeepOpensTheNext, DeepBeginsADeeperText}
 use Rattle.cp_grammar.specs.Reading.{Fails}
 use Rattle.cp_grammar.specs.Text.{text_at}
 use Rattle.cp_grammar.specs.declared.stop.Stop.{Stop}
@@ -32,7 +32,7 @@ StopsAt ts left = (text_at nesting_limit ts ≡ Err (Wrong left)) ⊎ (text_at n
 
 -- the laws of the reading functions
 module _ (complete : TextIsComplete) (inside : StopsInside) (begun : FrontBeginsAText) (wrong : WrongIsFirst) (deep : DeepIsFirst)
-    (opens : DeepOpensTheNext) (ts : List Token) (len : ℕ) where
+    (opens : DeepOpensTheNext) (deeper : DeepBeginsADeeperText) (ts : List Token) (len : ℕ) where
   no_tree : (s : Stop) → text_at nesting_limit ts ≡ Err s → HasNoTree ts
   no_tree s stopped t reads = let read : text_at nesting_limit ts ≡ Ok (t, []) = complete nesting_limit ts t reads in cc
 
@@ -43,6 +43,7 @@ module _ (complete : TextIsComplete) (inside : StopsInside) (begun : FrontBegins
   too_deep left at k stopped =
       let there : text_at nesting_limit (k.front ++ k.token ∷ k.behind) ≡ Err (Deep (suc (length k.behind))) = rw (k.stands, k.counted) at stopped in
       record {
+        begins = deeper nesting_limit k.front k.token k.behind there;
         within = λ (more, t, reads). deep nesting_limit k.front k.token k.behind there more t reads;
         beyond = opens nesting_limit k.front k.token k.behind there;
       }

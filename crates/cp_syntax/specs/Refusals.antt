@@ -29,8 +29,9 @@ HasNoTree tokens = (t : s.Tree) → Reads tokens t → ⊥
 abbrev pub NoTextHas : {tokens : List Token} {left at : ℕ} → TokenAt tokens left at → Type 0
 NoTextHas k = Begins (up_to k) → ⊥
 
--- no text within the limit of nesting goes on with this token, and each text beyond it that does opens there a level too many
+-- Some text goes on with this token, but none within the limit of nesting, and each text that does opens there a level too many.
 pub record OpensTooDeep {tokens : List Token} {left at : ℕ} (k : TokenAt tokens left at) : Type 0 where
+  pub begins : Begins (up_to k)
   pub within : BeginsWithin (up_to k) → ⊥
   pub beyond : (limit : ℕ) (more : List Token) (t : s.Tree) → text limit t (up_to k ++ more) []
       → get_or (text_levels t) (length k.front) 0 ≡ suc nesting_limit

@@ -1,19 +1,20 @@
 //! The token at which a text stops being one.
 
-use crate::words::{reserved, tokens};
-use cp_model::token::Symbol;
+use crate::words::tokens;
+use cp_model::token::{Kind, Symbol, Token};
 use cp_syntax::{SyntaxError, parse};
 use std::alloc::{AllocError, Global};
 use std::test::Fail;
 
-/// What is wrong with a text, whose first token that no text has there is marked by a `^`. Nothing, if it has a tree.
+/// What is wrong with a text. Nothing, if it has a tree.
 fn error(alloc: Global, text: &str) -> Result<Option<SyntaxError>, AllocError> {
     let tokens = tokens(alloc, text)?;
     Ok(parse(alloc, tokens.as_slice(), text.len()).err())
 }
 
+/// Texts with a `^` before the first token that no text has there.
 const UNEXPECTED: &[&str] = &[
-    // Behind a whole text.
+    // After a whole text.
     "begin end . ^x",
     // A `;` ends the statement, and with it the `if`.
     "begin if a then b ; ^else c end .",
@@ -21,7 +22,7 @@ const UNEXPECTED: &[&str] = &[
     "begin a := 1 < 2 ^< 3 end .",
     "begin a := 1 + ^- 1 end .",
     "begin a := 1 mod ^- 1 end .",
-    // Arguments, and nothing but arguments, behind the name of a routine.
+    // Arguments, and nothing but arguments, after the name of a routine.
     "begin a := f ( ^) end .",
     "begin f ( ^) end .",
     "begin a := f ( 1 ) ^. x end .",
@@ -34,7 +35,7 @@ const UNEXPECTED: &[&str] = &[
     "const a = - ^b ; begin end .",
     "var a : - ^'a' .. 'b' ; begin end .",
     "begin case 1 of - ^a : end end .",
-    // Behind the first bound of a subrange that is no name.
+    // After the first bound of a subrange that is no name.
     "var a : 1 ^; begin end .",
     "var a : - 1 ^; begin end .",
     "var a : 'a' ^; begin end .",
@@ -91,7 +92,7 @@ const UNEXPECTED: &[&str] = &[
 #[test]
 fn the_first_token_that_no_text_has_is_told(rt: HostRuntime) -> Result<(), Fail> {
     for text in UNEXPECTED {
-        let at = text.find('^').unwrap_or(0);
+        let at = text.find('^').map_or(0, |mark| mark.saturating_add(1));
         let told = error(rt.alloc(), text)?;
         assert_eq!(rt; told, Some(SyntaxError::Unexpected { at }), "{text}");
     }
@@ -172,7 +173,10 @@ fn each_beginning_of_a_text_is_told_from_none(rt: HostRuntime) -> Result<(), Fai
             read.len()
         );
         let at = token.span.from;
-        read.push(reserved(Symbol::With, token.span))?;
+        read.push(Token {
+            kind: Kind::Symbol(Symbol::With),
+            span: token.span,
+        })?;
         let told = parse(rt.alloc(), read.as_slice(), len).err();
         assert_eq!(rt;
             told,

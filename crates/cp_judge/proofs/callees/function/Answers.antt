@@ -12,5 +12,5 @@ returns-in-Standard c =
     let d = designator c.args.d.now in
     let s = c.in-Standard.standard in
     rw (c.in-Standard.is, c.answer_if-in-Standard.ensures) (also_callee env c.args.told.now c.in_place-in_place.new.told c.standard_function_called.new.told
-    c.in_place-in_place.result (r.c9_standard env (n.last_name d) (entity.Standard s)) c.standard_function_called.result (n.standard_called (n.sort_rule c.args.mode d) (n.last_name d) c.args.count (n.standard_function s))
+    c.in_place-in_place.result (r.c9_standard env (n.last_name d) (entity.Standard s)) c.standard_function_called.result (n.standard_called (n.sort_rule c.args.mode d) (n.last_name d) (n.standard_fits s c.args.count) (n.standard_function s))
     (rw c.last_name-x.ensures at c.in_place-in_place.ensures) (rw (c.last_name-x.ensures, c.sort_rule-rule.ensures) at c.standard_function_called.ensures))

@@ -13,6 +13,7 @@ use Rattle.cp_judge.specs.Callees.{wants_of, result_if}
 use Rattle.cp_judge.specs.Environments.{environment}
 use Rattle.cp_judge.specs.ExpressionParts as parts
 use Rattle.cp_judge.proofs.ExpressionsTold.{argument_parts, first_operand_again, judge_chain, more_step, first_told, count_expressions, wants_told, result_told}
+use Rattle.cp_judge.proofs.CalleesTold.{also_callee}
 use Rattle.cp_judge.proofs.Tells.{also_told}
 use Rattle.cp_judge.proofs.Views.{view_call, view_chain, view_operation, view_index}
 use Rattle.cp_judge.proofs.expressions.+judge.Goals as goal
@@ -89,7 +90,7 @@ judge-returns-else-is_empty t c =
     let rest = c.in-Chain.rest.items in
     let v : expression c.args.e.now ≡ chain_of e (map operation rest) = rw c.in-Chain.is (view_chain c.in-Chain.first c.in-Chain.rest) in
     let some : 1 ≤ length rest = grind (arith, nat_tests) in
-    let left = rw (c.first_operand.ensures, c.deref-in-Chain.ensures) at c.judge-left.ensures in
+    let left = rw (c.first_operand-in-Chain.ensures, c.deref-in-Chain.ensures) at c.judge-left.ensures in
     rw (v, judge_chain env c.args.mode e rest some) (rw c.deref-in-Chain-2.ensures.value at (c.chain.ensures c.args.told.now c.args.mode e left))
 
 pub judge-returns-in-Call : goal.judge-returns-in-Call
@@ -101,11 +102,36 @@ judge-returns-in-Call t c =
     let v : expression c.args.e.now ≡ s.Call d es = rw c.in-Call.is (view_call c.in-Call.d c.in-Call.list) in
     let count : c.len.result ≡ n.count_of es = c.len.ensures ∙ sym c.deref.ensures.len ∙ ap length c.deref.ensures.value ∙ sym (count_expressions list) in
     let jc = parts.callee_of env c.args.mode d (n.count_of es) in
-    let ja = x.arguments env (x.wants_in jc) es in
-    let callee = rw count at c.callee-callee.ensures in
-    let wanted = wants_told env c.callee-callee.result jc callee.1 in
-    let given = rw (c.wants.ensures, wanted, c.deref.ensures.value) at c.arguments-t.ensures in
-    let result = result_told env c.queue_named-no_queue.new.told c.callee-callee.new.told c.arguments-t.new.told c.callee-callee.result c.arguments-t.result jc ja callee given in
-    rw (v, c.answer_if.ensures, c.result.ensures) (also_told c.args.told.now c.queue_named-no_queue.new.told c.arguments-t.new.told c.queue_named-no_queue.result
-    (n.c8_named env mode.Value (n.first_name d)) (result_if env c.callee-callee.result c.arguments-t.result) (both jc ja (x.result_of env))
-    (rw c.first_name.ensures at c.queue_named-no_queue.ensures) result)
+    let ja = x.arguments env (x.wants_in env (x.designated env d) jc) es in
+    let callee = rw count at c.called-called.ensures.callee in
+    let wanted = rw count at c.called-called.ensures.wants in
+    let given = rw (wanted, c.deref.ensures.value) at c.arguments-t.ensures in
+    let result = result_told env c.names_fit-fits.new.told c.called-called.new.told c.arguments-t.new.told c.called-called.result.callee c.arguments-t.result jc ja callee given in
+    rw (v, c.answer_if.ensures, c.result.ensures) (also_told c.args.told.now c.names_fit-fits.new.told c.arguments-t.new.told c.names_fit-fits.result
+    (n.c2_c5_c8_named env (x.first_operand c.args.mode) d) (result_if env c.called-called.result.callee c.arguments-t.result) (both jc ja (x.result_of env))
+    (rw c.first_operand.ensures at c.names_fit-fits.ensures) result)
+
+pub used-returns : goal.used-returns
+used-returns t c =
+    let env = environment c.args.env.now in
+    let d = designator c.args.d.now in
+    rw c.answer_if.ensures (also_told c.args.told.now c.names_fit-fits.new.told c.typed-t.new.told c.names_fit-fits.result (n.c2_c5_c8_named env c.args.mode d)
+    c.typed-t.result (parts.typed env c.args.mode d) c.names_fit-fits.ensures c.typed-t.ensures)
+
+pub called-returns-clause-callee : goal.called-returns-clause-callee
+called-returns-clause-callee t c =
+    let env = environment c.args.env.now in
+    let d = designator c.args.d.now in
+    let je = x.designated env d in
+    let t1 = c.no_indexed_value-no_value.new.told in
+    rw c.answer_if-callee.ensures (also_callee env c.args.told.now t1 c.function_if-function.new.told c.no_indexed_value-no_value.result (n.c2_indexed env c.args.mode d)
+    c.function_if-function.result (parts.function_if env c.args.mode d c.args.count je) c.no_indexed_value-no_value.ensures
+    (c.function_if-function.ensures t1 je c.designated-entity.ensures))
+
+pub called-returns-clause-wants : goal.called-returns-clause-wants
+called-returns-clause-wants t c =
+    let env = environment c.args.env.now in
+    let d = designator c.args.d.now in
+    let je = x.designated env d in
+    c.wants_of_call.ensures ∙ wants_told env c.designated-entity.result je c.answer_if-callee.result (parts.callee_of env c.args.mode d c.args.count) c.designated-entity.ensures.1
+    (called-returns-clause-callee t c).1

@@ -12,7 +12,7 @@ use Rattle.cp_judge.proofs.initialisation.arguments.Goals as goal
 pub loop-number-preserved : goal.loop-number-preserved
 loop-number-preserved c =
     let env = environment c.args.env.now in
-    let ps = parts.parameters_if env c.args.row in
+    let ps = parts.parameters_if env c.args.system in
     let all = c.args.list.now in
     let i = c.loop-number.number in
     let o = c.index-list-number.result in

@@ -10,6 +10,6 @@ use Rattle.cp_judge.proofs.initialisation.arguments.Given as goal
 abbrev pub invariant-loop-number : goal.invariant-loop-number
 invariant-loop-number l =
     let env = environment l.env in
-    let ps = parameters_if env l.row in
+    let ps = parameters_if env l.system in
     least l.told (st.init_arguments env (drop l.number ps) (expressions_of (map expression (drop l.number l.list))))
     ≡ least l.fn.told (st.init_arguments env ps (expressions_of (map expression l.list)))

@@ -1,6 +1,6 @@
 use Rattle.std.proofs.Common.{◌≡◌, map, get_or, [], ◌∙◌, sym, ap}
 use Rattle.std.proofs.lemmas.List.{get_or-map}
-use Rattle.cp_model.specs.RulesEnvironment.{lookup}
+use Rattle.cp_model.specs.Names.{lookup}
 use Rattle.cp_judge.specs.Scopes.{seen}
 use Rattle.cp_judge.proofs.Seen.{lookup_seen}
 use Rattle.cp_judge.proofs.members.find.Goals as goal

@@ -1,6 +1,5 @@
 use Rattle.std.proofs.Common.{◌≡◌, map, refl}
 use Rattle.cp_model.specs.Syntax.{chain_of}
-use Rattle.cp_model.specs.RulesNeeds as n
 use Rattle.cp_model.specs.View.{expression, operation}
 use Rattle.cp_judge.specs.Environments.{environment}
 use Rattle.cp_judge.proofs.NeedsOfChains.{need_chain}

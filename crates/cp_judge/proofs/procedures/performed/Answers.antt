@@ -6,7 +6,7 @@ use Rattle.cp_model.specs.RulesNames as n
 use Rattle.cp_model.specs.View.{designator, expression, expressions_of}
 use Rattle.cp_judge.specs.Environments.{environment}
 use Rattle.cp_judge.specs.StatementParts as parts
-use Rattle.cp_judge.proofs.ExpressionsTold.{count_expressions, wants_told, result_told}
+use Rattle.cp_judge.proofs.ExpressionsTold.{count_expressions, result_told}
 use Rattle.cp_judge.proofs.Tells.{more_told}
 use Rattle.cp_judge.proofs.procedures.performed.Goals as goal
 
@@ -18,10 +18,9 @@ returns c =
     let es = expressions_of (map expression list) in
     let count : length list ≡ n.count_of es = sym (count_expressions list) in
     let jc = parts.procedure_called env d (n.count_of es) in
-    let ja = x.arguments env (x.wants_in jc) es in
-    let callee = rw count at c.called-callee.ensures in
-    let wanted = wants_told env c.called-callee.result jc callee.1 in
-    let given = rw (c.wants.ensures, wanted) at c.arguments.ensures in
-    let result = result_told env c.queue_named.new.told c.called-callee.new.told c.arguments.new.told c.called-callee.result c.arguments.result jc ja callee given in
-    let queue = rw c.first_name.ensures at c.queue_named.ensures in
-    more_told c.args.told.now c.queue_named.new.told c.arguments.new.told (n.c8_named env mode.Value (n.first_name d)) (violations_of (both jc ja (x.result_of env))) queue.0 result.0
+    let ja = x.arguments env (x.wants_in env (x.designated env d) jc) es in
+    let callee = rw count at c.called-called.ensures.callee in
+    let wanted = rw count at c.called-called.ensures.wants in
+    let given = rw wanted at c.arguments.ensures in
+    let result = result_told env c.names_fit.new.told c.called-called.new.told c.arguments.new.told c.called-called.result.callee c.arguments.result jc ja callee given in
+    more_told c.args.told.now c.names_fit.new.told c.arguments.new.told (n.c2_c5_c8_named env mode.Value d) (violations_of (both jc ja (x.result_of env))) c.names_fit.ensures.0 result.0

@@ -11,7 +11,7 @@ use Rattle.cp_judge.proofs.Tells.{also_told}
 use Rattle.cp_judge.proofs.roots.before_selectors.Goals as goal
 
 of_some : (env : r.Environment) (x : Identifier) (e : Entity) (xs : List Selector) → 1 ≤ length xs
-    → n.before_selectors env x (selectors_of (map selector xs)) e ≡ also (r.c4_c9_named env x e) (also (n.c2_before_index x (selectors_of (map selector xs)) e) (Sound e))
+    → n.before_selectors env x (selectors_of (map selector xs)) e ≡ also (r.c4_c9_named env x e) (Sound e)
 of_some env x e [] some = absurd (omega (arith, some))
 of_some env x e (y ∷ ys) some = refl
 
@@ -20,10 +20,6 @@ returns-in_default c =
     let env = environment c.args.env.now in
     let x = c.args.x.now in
     let e = c.args.entity in
-    let ws = n.c2_before_index x (selectors_of (map selector c.args.selectors.now)) e in
-    let t0 = c.args.told.now in
     let t1 = c.anywhere-in_place.new.told in
-    let t2 = c.no_indexed_type-is_indexable.new.told in
-    rw (of_some env x e c.args.selectors.now c.in_default.len_at_least, c.answer_if-in_default.ensures, c.answer_if.ensures)
-    (also_told t0 t1 t2 c.anywhere-in_place.result (r.c4_c9_named env x e) _ (also ws (Sound e)) c.anywhere-in_place.ensures
-    (also_told t1 t2 t2 c.no_indexed_type-is_indexable.result ws (Some e) (Sound e) c.no_indexed_type-is_indexable.ensures (refl, refl)))
+    rw (of_some env x e c.args.selectors.now c.in_default.len_at_least, c.answer_if.ensures)
+    (also_told c.args.told.now t1 t1 c.anywhere-in_place.result (r.c4_c9_named env x e) (Some e) (Sound e) c.anywhere-in_place.ensures (refl, refl))

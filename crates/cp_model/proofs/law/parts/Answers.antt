@@ -1,4 +1,5 @@
 use Rattle.cp_model.proofs.PartsKept.{kernel_turn_makes_none_private, kernel_turn_other_parts, own_part_is_turned, own_parts_kernel_part, private_step_kernel_part, private_step_other_parts, wake_kernel_part}
+use Rattle.cp_model.proofs.PrivatelyReady.{kernel_turn_keeps_privately_ready}
 use Rattle.cp_model.proofs.law.parts.Goals as goal
 
 pub returns : goal.returns
@@ -9,5 +10,6 @@ returns c = record {
   private_step = private_step_kernel_part;
   beside_private_step = private_step_other_parts;
   beside_kernel_turn = kernel_turn_other_parts;
+  privately_ready = kernel_turn_keeps_privately_ready;
   none_private = kernel_turn_makes_none_private;
 }

@@ -7,4 +7,4 @@ returns-in-Ok-clause-unique c u reads = c.text_laws.ensures.unique _ _ _ _ reads
 pub returns-in-Err-clause-refused : goal.returns-in-Err-clause-refused
 returns-in-Err-clause-refused c =
     let laws = c.refusal_laws.ensures in
-    refused c.text_laws.ensures.complete laws.inside laws.begun laws.wrong laws.deep laws.opens _ _ _ _ c.in-Err.ensures c.refusal.ensures
+    refused c.text_laws.ensures.complete laws.inside laws.begun laws.wrong laws.deep laws.opens laws.deeper _ _ _ _ c.in-Err.ensures c.refusal.ensures

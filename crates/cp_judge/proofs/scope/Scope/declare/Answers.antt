@@ -3,7 +3,7 @@ use Rattle.std.proofs.lemmas.List.{map-append}
 use Rattle.std.specs.Str.{bytes_eq}
 use Rattle.indexmap.proofs.CallerLemmas.{insert_entry-new}
 use Rattle.cp_judge.proofs.Seen.{lookup_seen}
-use Rattle.cp_model.specs.RulesEnvironment.{lookup}
+use Rattle.cp_model.specs.Names.{lookup}
 use Rattle.cp_judge.specs.Scopes.{added, seen}
 use Rattle.cp_judge.proofs.scope.Scope.declare.Goals as goal
 

@@ -1,6 +1,6 @@
 use Rattle.std.proofs.Common.{sym, ◌∙◌, ap}
 use Rattle.cp_judge.proofs.Seen.{lookup_seen}
-use Rattle.cp_model.specs.RulesEnvironment.{lookup}
+use Rattle.cp_model.specs.Names.{lookup}
 use Rattle.cp_judge.proofs.scope.Scope.find.Goals as goal
 
 pub returns : goal.returns

@@ -3,7 +3,7 @@ use Rattle.std.proofs.lemmas.List.{map-append}
 use Rattle.std.specs.Option.{is_some}
 use Rattle.std.specs.Str.{bytes_eq}
 use Rattle.indexmap.proofs.CallerLemmas.{insert_entry-new}
-use Rattle.cp_model.specs.RulesEnvironment.{lookup}
+use Rattle.cp_model.specs.Names.{lookup}
 use Rattle.cp_program.specs.Tables.{seen}
 use Rattle.cp_program.proofs.Names.{copied_none, copied_there, lookup_seen, present_again}
 use Rattle.cp_program.proofs.table.Table.add.Goals as goal

@@ -1,5 +1,5 @@
 use Rattle.std.proofs.Common.{sym, ◌∙◌, ap}
-use Rattle.cp_model.specs.RulesEnvironment.{lookup}
+use Rattle.cp_model.specs.Names.{lookup}
 use Rattle.cp_program.proofs.Names.{lookup_seen}
 use Rattle.cp_program.proofs.table.Table.find.Goals as goal
 

@@ -1,0 +1,133 @@
+//! Standard functions and procedures that are called.
+
+ghost use Rattle.std.specs.Prelude.{◌≡◌, ◌∷◌, [], Option, None, Some, length, nat_eq};
+ghost use Rattle.cp_model.specs.RulesNames as n;
+ghost use Rattle.cp_judge.specs.Environments.{environment};
+ghost use Rattle.cp_judge.specs.Callees.{wants_of, callee_if, TellsCallee};
+
+use crate::callees::{Callee, Wants};
+use crate::environment::{BOOLEAN, CHAR, Environment, INTEGER};
+use crate::telling::broken;
+use cp_model::rules::{Gives, Rule, Standard, Violation, Want};
+use cp_model::tree::Identifier;
+
+/// What the arguments of a standard routine have to meet.
+pub fn standard_wants(env: &Environment, standard: Standard) -> Wants
+    ensures { wants_of (environment env.now) result ≡ n.standard_wants standard }
+{
+    match standard {
+        Standard::Abs => Wants::One(Want::Integer),
+        Standard::Succ => Wants::One(Want::Simple),
+        Standard::Pred => Wants::One(Want::Simple),
+        Standard::Ord => Wants::One(Want::Simple),
+        Standard::Chr => Wants::One(Want::Integer),
+        Standard::Empty => Wants::One(Want::QueueVariable),
+        Standard::Delay => Wants::One(Want::QueueVariable),
+        Standard::Continue => Wants::One(Want::QueueVariable),
+        Standard::Display => Wants::One(Want::Simple),
+        Standard::Accept => Wants::One(Want::CharVariable),
+        Standard::Realtime => Wants::Nothing,
+        Standard::Wait => Wants::Nothing,
+    }
+}
+
+// Whether a standard routine takes so many arguments.
+fn standard_fits(standard: Standard, count: usize) -> bool
+    ensures { result ≡ n.standard_fits standard count }
+{
+    match standard {
+        Standard::Realtime => 0 == count,
+        Standard::Wait => 0 == count,
+        _ => 1 == count,
+    }
+}
+
+// What a standard function wants and gives.
+fn standard_function(env: &Environment, standard: Standard) -> Option<Callee>
+    ensures { callee_if (environment env.now) result ≡ n.standard_function standard }
+{
+    let gives = match standard {
+        Standard::Abs => Gives::Value(INTEGER),
+        Standard::Succ => Gives::ArgumentBase,
+        Standard::Pred => Gives::ArgumentBase,
+        Standard::Ord => Gives::Value(INTEGER),
+        Standard::Chr => Gives::Value(CHAR),
+        Standard::Empty => Gives::Value(BOOLEAN),
+        Standard::Realtime => Gives::Value(INTEGER),
+        _ => return None,
+    };
+    let wants = standard_wants(env, standard);
+    Some(Callee { wants, gives })
+}
+
+// What a standard procedure wants.
+fn standard_procedure(env: &Environment, standard: Standard) -> Option<Callee>
+    ensures { callee_if (environment env.now) result ≡ n.standard_procedure standard }
+{
+    let is_procedure = match standard {
+        Standard::Delay => true,
+        Standard::Continue => true,
+        Standard::Display => true,
+        Standard::Accept => true,
+        Standard::Wait => true,
+        _ => false,
+    };
+    if is_procedure {
+        let wants = standard_wants(env, standard);
+        let gives = Gives::Nothing;
+        Some(Callee { wants, gives })
+    } else {
+        None
+    }
+}
+
+// A standard routine that is called. C2: a wrong number of arguments.
+fn standard_called(
+    env: &Environment,
+    told: &mut Option<Violation>,
+    rule: Rule,
+    x: &Identifier,
+    fits: bool,
+    callee: Option<Callee>,
+) -> Option<Callee>
+    ensures { TellsCallee (environment env.now) told.old told.new result (n.standard_called rule x.now fits (callee_if (environment env.now) callee)) }
+{
+    if !fits {
+        return broken(told, Rule::C2, x.at);
+    }
+    match callee {
+        Some(callee) => Some(callee),
+        None => broken(told, rule, x.at),
+    }
+}
+
+/// A standard function that is called with so many arguments.
+pub fn standard_function_called(
+    env: &Environment,
+    told: &mut Option<Violation>,
+    rule: Rule,
+    x: &Identifier,
+    count: usize,
+    standard: Standard,
+) -> Option<Callee>
+    ensures { TellsCallee (environment env.now) told.old told.new result (n.standard_called rule x.now (n.standard_fits standard count) (n.standard_function standard)) }
+{
+    let fits = standard_fits(standard, count);
+    let callee = standard_function(env, standard);
+    standard_called(env, told, rule, x, fits, callee)
+}
+
+/// A standard procedure that is called with so many arguments.
+pub fn standard_procedure_called(
+    env: &Environment,
+    told: &mut Option<Violation>,
+    x: &Identifier,
+    count: usize,
+    standard: Standard,
+) -> Option<Callee>
+    ensures { TellsCallee (environment env.now) told.old told.new result (n.standard_called Rule.C2 x.now (n.standard_fits standard count) (n.standard_procedure standard)) }
+{
+    let fits = standard_fits(standard, count);
+    let callee = standard_procedure(env, standard);
+    standard_called(env, told, Rule::C2, x, fits, callee)
+}
