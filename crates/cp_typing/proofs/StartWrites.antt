@@ -1,0 +1,139 @@
+-- The writes of the start: each location is written with one value, and that stays.
+use Rattle.std.proofs.Common.{◌≡◌, inl, inr, ℕ, suc, ℤ, pos, negsuc, Bool, true, false, List, [], ◌∷◌, Some, if◌then◌else◌, nat_eq, eqb-true, eq-eqb, bytes_eq, refl, ap, ap₂, sym, subst, ◌∙◌, arith}
+use Rattle.std.proofs.lemmas.Bool.{true≢false, and_from, and_parts}
+use Rattle.cp_model.specs.Abstract.{Name, Sort}
+use Rattle.cp_model.specs.Names.{lookup}
+use Rattle.cp_model.specs.Integers.{same_integer}
+use Rattle.cp_model.specs.Declarations.{Variable}
+use Rattle.cp_model.specs.Locations.{ByIndex, ByName, Location, OfActivation, OfMonitor, OfProcess, Owner, Path, PathStep, same_location, same_owner, same_path, same_path_step}
+use Rattle.cp_model.specs.Stores.{Store, Value, Writes, put, put_all}
+use Rattle.cp_model.specs.Components.{count_before, is_component_of}
+use Rattle.cp_typing.specs.Declared.{Distinct}
+use Rattle.cp_typing.specs.StartValues.{IsIn}
+use Rattle.cp_typing.proofs.Names.{bytes_eq-refl, bytes_same}
+use Rattle.cp_typing.proofs.Visible.{some_same}
+
+-- ---- equal locations
+
+same_integer_is : (i j : ℤ) → same_integer i j ≡ true → i ≡ j
+same_integer_is (pos a) (pos b) h = ap (λ n. pos n) (eqb-true a b h)
+same_integer_is (negsuc a) (negsuc b) h = ap (λ n. negsuc n) (eqb-true a b h)
+same_integer_is (pos a) (negsuc b) h = absurd (true≢false (sym h))
+same_integer_is (negsuc a) (pos b) h = absurd (true≢false (sym h))
+
+same_step_is : (s t : PathStep) → same_path_step s t ≡ true → s ≡ t
+same_step_is (ByName x) (ByName y) h = ap (λ z. ByName z) (bytes_same x y h)
+same_step_is (ByIndex i) (ByIndex j) h = ap (λ z. ByIndex z) (same_integer_is i j h)
+same_step_is (ByName x) (ByIndex j) h = absurd (true≢false (sym h))
+same_step_is (ByIndex i) (ByName y) h = absurd (true≢false (sym h))
+
+same_path_is : (p q : Path) → same_path p q ≡ true → p ≡ q
+same_path_is [] [] h = refl
+same_path_is (s ∷ p) (t ∷ q) h =
+    let k : (same_path_step s t ≡ true) × (same_path p q ≡ true) = and_parts (same_path_step s t) (same_path p q) h in
+    ap₂ (λ x y. x ∷ y) (same_step_is s t k.0) (same_path_is p q k.1)
+same_path_is [] (t ∷ q) h = absurd (true≢false (sym h))
+same_path_is (s ∷ p) [] h = absurd (true≢false (sym h))
+
+same_owner_is : (o w : Owner) → same_owner o w ≡ true → o ≡ w
+same_owner_is (OfProcess p) (OfProcess q) h = ap (λ n. OfProcess n) (eqb-true p q h)
+same_owner_is (OfMonitor p) (OfMonitor q) h = ap (λ n. OfMonitor n) (eqb-true p q h)
+same_owner_is (OfActivation p d) (OfActivation q e) h =
+    let k : (nat_eq p q ≡ true) × (nat_eq d e ≡ true) = and_parts (nat_eq p q) (nat_eq d e) h in ap₂ (λ m n. OfActivation m n) (eqb-true p q k.0) (eqb-true d e k.1)
+same_owner_is (OfProcess p) (OfMonitor q) h = absurd (true≢false (sym h))
+same_owner_is (OfProcess p) (OfActivation q e) h = absurd (true≢false (sym h))
+same_owner_is (OfMonitor p) (OfProcess q) h = absurd (true≢false (sym h))
+same_owner_is (OfMonitor p) (OfActivation q e) h = absurd (true≢false (sym h))
+same_owner_is (OfActivation p d) (OfProcess q) h = absurd (true≢false (sym h))
+same_owner_is (OfActivation p d) (OfMonitor q) h = absurd (true≢false (sym h))
+
+same_location_is : (l k : Location) → same_location l k ≡ true → l ≡ k
+same_location_is l k h =
+    let z : (same_owner l.owner k.owner ≡ true) × (same_path l.path k.path ≡ true) = and_parts (same_owner l.owner k.owner) (same_path l.path k.path) h in
+    ap₂ location (same_owner_is l.owner k.owner z.0) (same_path_is l.path k.path z.1)
+  where
+    location : Owner → Path → Location
+    location o p = record { owner = o; path = p }
+
+same_location-refl : (l : Location) → same_location l l ≡ true
+same_location-refl l = and_from (same_owner l.owner l.owner) (same_path l.path l.path) (owner l.owner) (path l.path)
+  where
+    owner : (o : Owner) → same_owner o o ≡ true
+    owner (OfProcess p) = eq-eqb p p refl
+    owner (OfMonitor m) = eq-eqb m m refl
+    owner (OfActivation p d) = and_from (nat_eq p p) (nat_eq d d) (eq-eqb p p refl) (eq-eqb d d refl)
+
+    step : (s : PathStep) → same_path_step s s ≡ true
+    step (ByName x) = bytes_eq-refl x
+    step (ByIndex (pos n)) = eq-eqb n n refl
+    step (ByIndex (negsuc n)) = eq-eqb n n refl
+
+    path : (p : Path) → same_path p p ≡ true
+    path [] = refl
+    path (s ∷ p) = and_from (same_path_step s s) (same_path p p) (step s) (path p)
+
+-- ---- what stays of writes
+
+-- all that is written at one location is one value
+abbrev pub OneValue : Writes → Location → Value → Type 0
+OneValue ws l v = (w : Value) → IsIn (l, w) ws → w ≡ v
+
+stays : (ws : Writes) (st : Store) (l : Location) (v : Value) → OneValue ws l v → st l ≡ v → put_all ws st l ≡ v
+stays [] st l v one h = h
+stays (w ∷ ws) st l v one h = stays ws (put w.0 w.1 st) l v (λ u k. one u (inr k)) (go (same_location w.0 l) refl)
+  where
+    go : (b : Bool) → same_location w.0 l ≡ b → (if b then w.1 else st l) ≡ v
+    go true is = one w.1 (inl (ap (λ k. (k, w.1)) (sym (same_location_is w.0 l is))))
+    go false is = h
+
+pub written : (ws : Writes) (st : Store) (l : Location) (v : Value) → OneValue ws l v → IsIn (l, v) ws → put_all ws st l ≡ v
+written [] st l v one h = absurd h
+written (w ∷ ws) st l v one (inl h) =
+    stays ws (put w.0 w.1 st) l v (λ u k. one u (inr k))
+    (subst (λ z. put z.0 z.1 st l ≡ v) h (ap (λ b. if b then v else st l) (same_location-refl l)))
+written (w ∷ ws) st l v one (inr h) = written ws (put w.0 w.1 st) l v (λ u k. one u (inr k)) h
+
+-- ---- names and numbers
+
+pub found_in : (ds : List (Name × Variable)) (x : Name) (v : Variable) → Distinct ds → IsIn (x, v) ds → lookup x ds ≡ Some v
+found_in [] x v d h = absurd h
+found_in (e ∷ ds) x v d (inl h) =
+    ap (λ b. if b then Some e.1 else lookup x ds) (ap (bytes_eq x) (sym (ap (λ z. z.0) h)) ∙ bytes_eq-refl x) ∙ ap (λ z. Some z.1) (sym h)
+found_in (e ∷ ds) x v d (inr h) = go (bytes_eq x e.0) refl (found_in ds x v d.1 h)
+  where
+    go : (b : Bool) → bytes_eq x e.0 ≡ b → lookup x ds ≡ Some v → (if b then Some e.1 else lookup x ds) ≡ Some v
+    go false is k = k
+    go true is k = absurd (cc (ap (λ z. lookup z ds) (bytes_same x e.0 is), d.0, k))
+
+-- two components of one sort with one number have one name
+pub numbers_apart : (s : Sort) (ds : List (Name × Variable)) (x y : Name) (v w : Variable) → lookup x ds ≡ Some v → is_component_of s v.type ≡ true → lookup y ds ≡ Some w
+    → is_component_of s w.type ≡ true → count_before s x ds ≡ count_before s y ds → x ≡ y
+numbers_apart s [] x y v w h p g q same = absurd (cc)
+numbers_apart s (d ∷ ds) x y v w h p g q same =
+    go (bytes_eq x d.0) (bytes_eq y d.0) refl refl h g same (λ h g e. numbers_apart s ds x y v w h p g q e)
+  where
+    here : (z : Variable) → Some d.1 ≡ Some z → is_component_of s z.type ≡ true → is_component_of s d.1.type ≡ true
+    here z h p = ap (λ k. is_component_of s k.type) (some_same (Some d.1) d.1 z refl h) ∙ p
+
+    later : Name → ℕ
+    later z = if is_component_of s d.1.type then suc (count_before s z ds) else count_before s z ds
+
+    go : (a b : Bool) → bytes_eq x d.0 ≡ a → bytes_eq y d.0 ≡ b → (if a then Some d.1 else lookup x ds) ≡ Some v → (if b then Some d.1 else lookup y ds) ≡ Some w
+        → (if a then 0 else later x) ≡ (if b then 0 else later y) → (lookup x ds ≡ Some v → lookup y ds ≡ Some w → count_before s x ds ≡ count_before s y ds → x ≡ y) → x ≡ y
+    go true true i j h g e rest = bytes_same x d.0 i ∙ sym (bytes_same y d.0 j)
+    go true false i j h g e rest = absurd (zero_later (is_component_of s d.1.type) (here v h p) y e)
+      where
+        zero_later : (b : Bool) → b ≡ true → (z : Name) → 0 ≡ (if b then suc (count_before s z ds) else count_before s z ds) → ⊥
+        zero_later true is z e = omega (arith, e)
+        zero_later false is z e = true≢false (sym is)
+    go false true i j h g e rest = absurd (zero_later (is_component_of s d.1.type) (here w g q) x e)
+      where
+        zero_later : (b : Bool) → b ≡ true → (z : Name) → (if b then suc (count_before s z ds) else count_before s z ds) ≡ 0 → ⊥
+        zero_later true is z e = omega (arith, e)
+        zero_later false is z e = true≢false (sym is)
+    go false false i j h g e rest = rest h g (both (is_component_of s d.1.type) e)
+      where
+        both : (b : Bool) → (if b then suc (count_before s x ds) else count_before s x ds) ≡ (if b then suc (count_before s y ds) else count_before s y ds)
+            → count_before s x ds ≡ count_before s y ds
+        both true e = omega (arith, e)
+        both false e = e

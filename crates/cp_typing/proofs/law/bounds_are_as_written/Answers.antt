@@ -1,0 +1,5 @@
+use Rattle.cp_typing.proofs.Magnitudes as proved
+use Rattle.cp_typing.proofs.law.bounds_are_as_written.Goals as goal
+
+pub returns : goal.returns
+returns c = proved.bounds_small

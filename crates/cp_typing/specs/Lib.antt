@@ -1,0 +1,13 @@
+pub mod StaticTypes
+pub mod SoundTypes
+pub mod Judgement
+pub mod Declared
+pub mod Systems
+pub mod Words
+pub mod Needs
+pub mod TypedTasks
+pub mod Variables
+pub mod WellTyped
+pub mod StartValues
+pub mod Magnitudes
+pub mod Laws

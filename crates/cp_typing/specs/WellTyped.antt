@@ -1,0 +1,72 @@
+-- When a text is well typed: its system types in text order, the initial process, its counts and its words.
+use Rattle.std.specs.Prelude.{◌≡◌, ◌≤◌, ℕ, true, List, [], ◌++◌, None, Some, slice_get, length, take}
+use Rattle.cp_model.specs.Abstract.{Process, Routine, System}
+use Rattle.cp_model.specs.Types.{GlobalScope}
+use Rattle.cp_model.specs.Declarations.{declarations, globals}
+use Rattle.cp_model.specs.Locations.{Location, Owner}
+use Rattle.cp_model.specs.Environments.{local_variables, permanent_variables}
+use Rattle.cp_model.specs.Calls.{routine_named}
+use Rattle.cp_model.specs.States.{Setup, initial_variables, monitor_count, process_count}
+use Rattle.cp_typing.specs.Judgement.{Place, TypedStatement}
+use Rattle.cp_typing.specs.Declared.{AllData, Each, Distinct, InitialVariable, ResultFits, RoutineParameter, RoutineVariable, SystemParameter, SystemVariable, is_function}
+use Rattle.cp_typing.specs.Systems.{systems_of}
+use Rattle.cp_typing.specs.Needs.{WordsFit}
+
+-- ---- Where statements stand
+
+-- Statements of a component, wherever it lies; and those of an activation of routine k of it, whoever owns that.
+abbrev pub body_place : GlobalScope → List System → System → Location → Place
+body_place g before s at = record {
+  env = record { globals = g; system = s; component = at; frame = None };
+  systems = before;
+  routines = length s.routines;
+}
+
+abbrev pub routine_place : GlobalScope → List System → System → ℕ → Routine → Location → Owner → Place
+routine_place g before s k r at o = record {
+  env = record { globals = g; system = s; component = at; frame = Some (record { owner = o; routine = r }) };
+  systems = before;
+  routines = k;
+}
+
+-- ---- Routines and bodies
+
+-- Routine k of a system type. No name of its own is one of the component's.
+pub record TypedRoutine (g : GlobalScope) (before : List System) (s : System) (k : ℕ) (r : Routine) : Type 0 where
+  pub found : routine_named r.name s ≡ Some r
+  pub alone : (j : ℕ) (q : Routine) → slice_get s.routines j ≡ Some q → q.name ≡ r.name → j ≡ k
+  pub entry : r.entry ≡ true → s.sort ≡ Process → ⊥
+  pub parameters : Each (RoutineParameter g (is_function r.result)) (declarations g r.parameters)
+  pub variables : Each (RoutineVariable g) (declarations g r.variables)
+  pub result : ResultFits g r.result
+  pub distinct : Distinct (local_variables g r ++ permanent_variables g s)
+  pub body : (at : Location) (o : Owner) → TypedStatement (routine_place g before s k r at o) r.body
+
+pub record TypedBodies (g : GlobalScope) (before : List System) (s : System) : Type 0 where
+  pub distinct : Distinct (permanent_variables g s)
+  pub routines : (k : ℕ) (r : Routine) → slice_get s.routines k ≡ Some r → TypedRoutine g before s k r
+  pub body : (at : Location) → TypedStatement (body_place g before s at) s.body
+
+-- a system type, where these were defined before
+pub record TypedSystem (g : GlobalScope) (before : List System) (s : System) : Type 0 where
+  pub parameters : Each (SystemParameter g before s.sort) (declarations g s.parameters)
+  pub variables : Each (SystemVariable g before s.sort) (declarations g s.variables)
+  pub bodies : TypedBodies g before s
+
+-- ---- The whole text
+
+abbrev pub text_systems : Setup → List System
+text_systems setup = systems_of setup.tree.definitions
+
+-- The initial process is counted among the processes.
+pub record WellTyped (setup : Setup) : Type 0 where
+  pub systems : (i : ℕ) (s : System) → slice_get (text_systems setup) i ≡ Some s
+      → TypedSystem (globals setup.tree) (take i (text_systems setup)) s
+  pub initial_parameters : setup.tree.initial.parameters ≡ []
+  pub initial_sort : setup.tree.initial.sort ≡ Process
+  pub initial_variables : Each (InitialVariable (globals setup.tree) (text_systems setup)) (initial_variables setup)
+  pub initial_bodies : TypedBodies (globals setup.tree) (text_systems setup) setup.tree.initial
+  pub processes : process_count setup ≤ 255
+  pub monitors : monitor_count setup ≤ 255
+  pub types : AllData (globals setup.tree) (globals setup.tree).types
+  pub words : WordsFit setup
