@@ -1,16 +1,14 @@
 //! The check of a text: its program, or why it has none.
 
-ghost use Rattle.std.specs.Prelude.{◌≡◌, true};
 ghost use Rattle.cp_model.specs.Rules.{Accepted};
 ghost use Rattle.cp_model.specs.View as view;
-ghost use Rattle.cp_fragment.specs.Fragment.{is_in_fragment};
 ghost use Rattle.cp_check.specs.Checked.{Checks};
 
-use crate::text::broken;
 use cp_fragment::fits::fits;
 use cp_model::rules::Violation;
 use cp_model::tree::Tree;
 use cp_program::program::Program;
+use cp_rules::text::{Refusal, judge};
 use std::alloc::Global;
 
 /// Why a text has no program.
@@ -18,35 +16,36 @@ use std::alloc::Global;
 pub enum CheckError {
     /// A rule is broken: the earliest violation, and at its place the lowest rule.
     Broken(Violation),
-    /// The text is not of the fragment, whether or not a rule is broken in it.
+    /// The text is accepted, and not of the fragment.
     Outside,
-    /// There was too little memory.
+    /// Memory ran out.
     Memory,
 }
 
 /// The program of an accepted text of the fragment.
 ///
-/// It fails with `Outside` where the text is not of the fragment; else with `Broken` where a rule is broken in it, or for want of
-/// memory.
+/// It fails with `Broken` where a rule is broken in the text; else with `Outside` where it is not of the fragment; or when memory
+/// runs out.
 pub fn check(alloc: Global, tree: &Tree) -> Result<Program, CheckError>
+    ensures { Checks (view.tree tree.now) result }
+{
+    match judge(alloc, tree) {
+        Err(Refusal::Broken(violation)) => Err(CheckError::Broken(violation)),
+        Err(Refusal::Memory) => Err(CheckError::Memory),
+        Ok(_) => program(alloc, tree),
+    }
+}
+
+/// The program of an accepted text.
+///
+/// It fails with `Outside` where the text is not of the fragment, or when memory runs out.
+pub fn program(alloc: Global, tree: &Tree) -> Result<Program, CheckError>
+    requires accepted { Accepted (view.tree tree.now) }
     ensures { Checks (view.tree tree.now) result }
 {
     if !fits(tree) {
         return Err(CheckError::Outside);
     }
-    match broken(alloc, tree) {
-        Err(_) => Err(CheckError::Memory),
-        Ok(Some(violation)) => Err(CheckError::Broken(violation)),
-        Ok(None) => number(alloc, tree),
-    }
-}
-
-// The program of an accepted text.
-fn number(alloc: Global, tree: &Tree) -> Result<Program, CheckError>
-    requires accepted { Accepted (view.tree tree.now) }
-    requires fits { is_in_fragment (view.tree tree.now) ≡ true }
-    ensures { Checks (view.tree tree.now) result }
-{
     match Program::number(alloc, tree) {
         Ok(program) => Ok(program),
         Err(_) => Err(CheckError::Memory),

@@ -1,0 +1,109 @@
+-- Definitions: a name is judged where it is being defined; then it is left, and declared as what it was judged to be.
+use Rattle.std.proofs.Common.{◌≡◌, ◌∷◌, ◌++◌, ◌-◌, ℕ, ℤ, pos, List, [], Result, length, take, subst, refl, ap, ◌∙◌}
+use Rattle.cp_model.specs.Syntax as s
+use Rattle.cp_model.specs.declared.tree.Constant.{Constant}
+use Rattle.cp_model.specs.declared.tree.Identifier.{Identifier}
+use Rattle.cp_model.specs.declared.rules.Entity.{Entity}
+use Rattle.cp_model.specs.declared.rules.Entity.TheVariants as entity
+use Rattle.cp_model.specs.declared.rules.Position.TheVariants as position
+use Rattle.cp_model.specs.declared.rules.Violation.{Violation}
+use Rattle.cp_model.specs.RulesEnvironment.{Environment, Names, declare, entity_of, simple_row, with_names}
+use Rattle.cp_model.specs.RulesJudged.{Broken, Judged, Sound, Violations, violations_of}
+use Rattle.cp_model.specs.RulesTypes.{Made, add_type, constant, type_placed}
+use Rattle.cp_model.specs.RulesDeclarations as d
+use Rattle.cp_model.specs.Rules.{define_constant, define_each, define_enumeration, define_type, values}
+use Rattle.cp_rules.specs.Checking.{Judges, Makes, State, after, declared_name, first_of}
+use Rattle.cp_rules.specs.Definitions.{constant_entity, type_entity}
+use Rattle.cp_rules.proofs.Kept.{begins_at, begins_trans, declare_begins, declare_each_begins, declare_each_is, left, left_names, placed_keeps}
+use Rattle.cp_rules.proofs.Telling.{told_in, told_more}
+
+constant_is : (j : Judged (ℕ × ℤ)) → constant_entity (first_of j) ≡ entity_of (λ c. entity.Constant c.0 c.1) j
+constant_is (Sound c) = refl
+constant_is (Broken v vs) = refl
+
+type_is : (j : Judged ℕ) → type_entity (first_of j) ≡ entity_of entity.Type j
+type_is (Sound t) = refl
+type_is (Broken v vs) = refl
+
+module _ (old s1 s2 s3 s4 : State) (x : Identifier) (e : Entity) (mark : ℕ) (at : mark ≡ length old.env.names)
+    (outside : s3 ≡ record s2 { env = with_names (take mark s2.env.names) s2.env }) (named : s4 ≡ record s3 { env = declare x e s3.env }) where
+  pub constant_defined : (v : Constant) (r : Result (ℕ × ℤ) Violation) → s1 ≡ after old (declared_name old.env x entity.UnfinishedConstant)
+      → Judges s1 s2 r (constant s1.env v) → e ≡ constant_entity r → s4 ≡ after old (define_constant old.env (record { name = x; value = v }))
+  constant_defined v r declared judged entity_is =
+      let inner : d.Declared = declared_name old.env x entity.UnfinishedConstant in
+      let value : Judged (ℕ × ℤ) = constant inner.env v in
+      let judges : Judges (after old inner) s2 r value = subst (λ (z : State). Judges z s2 r (constant z.env v)) declared judged in
+      let all : Violations = inner.violations ++ violations_of value in
+      let told2 : s2 ≡ told_in inner.env old.told all = judges.0 ∙ told_more inner.env old.told inner.violations (violations_of value) in
+      let told3 : s3 ≡ told_in old.env old.told all =
+      outside ∙ ap (λ (z : State). let st : State = record z { env = with_names (take mark z.env.names) z.env } in st) told2
+      ∙ ap (λ n. told_in (with_names (take n inner.env.names) inner.env) old.told all) at
+      ∙ ap (λ (v' : Environment). told_in v' old.told all) (left old.env entity.UnfinishedConstant (x ∷ [])) in
+      let is : e ≡ entity_of (λ c. entity.Constant c.0 c.1) value = entity_is ∙ ap constant_entity judges.1 ∙ constant_is value in
+      named ∙ (λ i. let st : State = record (told3 i) { env = declare x (is i) (told3 i).env } in st)
+
+  pub type_defined : (t : s.TypeExpression) (r : Result ℕ Violation) → s1 ≡ after old (declared_name old.env x entity.UnfinishedType)
+      → Makes s1 s2 r (type_placed s1.env position.Definition t) → e ≡ type_entity r → s4 ≡ after old (define_type old.env x t)
+  type_defined t r declared judged entity_is =
+      let inner : d.Declared = declared_name old.env x entity.UnfinishedType in
+      let made : Made (Judged ℕ) = type_placed inner.env position.Definition t in
+      let makes : Makes (after old inner) s2 r made = subst (λ (z : State). Makes z s2 r (type_placed z.env position.Definition t)) declared judged in
+      let all : Violations = inner.violations ++ violations_of made.of in
+      let told2 : s2 ≡ told_in made.env old.told all = makes.0 ∙ told_more made.env old.told inner.violations (violations_of made.of) in
+      let begins = begins_at old.env.names inner.env.names made.env.names (declare_begins x entity.UnfinishedType old.env) (placed_keeps inner.env position.Definition t).names in
+      let names : take mark made.env.names ≡ old.env.names = ap (λ n. take n made.env.names) at ∙ left_names old.env.names made.env.names begins in
+      let told3 : s3 ≡ told_in (with_names old.env.names made.env) old.told all =
+      outside ∙ ap (λ (z : State). let st : State = record z { env = with_names (take mark z.env.names) z.env } in st) told2
+      ∙ ap (λ (ns : Names). told_in (with_names ns made.env) old.told all) names in
+      let is : e ≡ entity_of entity.Type made.of = entity_is ∙ ap type_entity makes.1 ∙ type_is made.of in
+      named ∙ (λ i. let st : State = record (told3 i) { env = declare x (is i) (told3 i).env } in st)
+
+-- ---- enumerations
+
+pub enumeration_defined : (old s1 s2 s3 s4 s5 s6 : State) (x : Identifier) (xs : List Identifier) (t mark : ℕ)
+    → t ≡ length old.env.types → s1 ≡ record old { env = add_type old.env (simple_row t (pos 0) (pos (length xs - 1))) }
+    → mark ≡ length s1.env.names → s2 ≡ after s1 (declared_name s1.env x entity.UnfinishedType)
+    → s3 ≡ after s2 (d.declare_each s2.env (values t 0 xs))
+    → s4 ≡ record s3 { env = with_names (take mark s3.env.names) s3.env }
+    → s5 ≡ record s4 { env = declare x (entity.Type t) s4.env }
+    → s6 ≡ record s5 { env = (d.declare_each s5.env (values t 0 xs)).env }
+    → s6 ≡ after old (define_enumeration old.env x xs)
+enumeration_defined old s1 s2 s3 s4 s5 s6 x xs t mark t_is made at declared valued outside named shown =
+    let n : ℕ = length old.env.types in
+    let own : Environment = add_type old.env (simple_row n (pos 0) (pos (length xs - 1))) in
+    let vs : List (Identifier × Entity) = values n 0 xs in
+    let vs_are : values t 0 xs ≡ vs = ap (λ m. values m 0 xs) t_is in
+    let made_is : s1 ≡ told_in own old.told [] =
+    made ∙ ap (λ m. told_in (add_type old.env (simple_row m (pos 0) (pos (length xs - 1)))) old.told []) t_is in
+    let inner : d.Declared = declared_name own x entity.UnfinishedType in
+    let told2 : s2 ≡ told_in inner.env old.told inner.violations = declared ∙ ap (λ (z : State). after z (declared_name z.env x entity.UnfinishedType)) made_is in
+    let all : d.Declared = d.declare_each inner.env vs in
+    let told3 : s3 ≡ told_in all.env old.told (inner.violations ++ all.violations) =
+    valued ∙ (λ i. after (told2 i) (d.declare_each (told2 i).env (vs_are i))) ∙ told_more all.env old.told inner.violations all.violations in
+    let mark_is : mark ≡ length own.names = at ∙ ap (λ (z : State). length z.env.names) made_is in
+    let told4 : s4 ≡ told_in own old.told (inner.violations ++ all.violations) =
+    outside ∙ ap (λ (z : State). let st : State = record z { env = with_names (take mark z.env.names) z.env } in st) told3
+    ∙ ap (λ m. told_in (with_names (take m all.env.names) all.env) old.told (inner.violations ++ all.violations)) mark_is
+    ∙ ap (λ (e : Environment). told_in e old.told (inner.violations ++ all.violations)) (left_all own x vs) in
+    let told5 : s5 ≡ told_in (declare x (entity.Type n) own) old.told (inner.violations ++ all.violations) =
+    named ∙ (λ i. let st : State = record (told4 i) { env = declare x (entity.Type (t_is i)) (told4 i).env } in st) in
+    shown ∙ (λ i. let st : State = record (told5 i) { env = (d.declare_each (told5 i).env (vs_are i)).env } in st)
+  where
+    left_all : (env : Environment) (y : Identifier) (es : List (Identifier × Entity))
+        → let after_all : Environment = (d.declare_each (declare y entity.UnfinishedType env) es).env in
+        with_names (take (length env.names) after_all.names) after_all ≡ env
+    left_all env y es =
+        let first : Environment = declare y entity.UnfinishedType env in
+        let after_all : Environment = (d.declare_each first es).env in
+        let begins = begins_trans env.names first.names after_all.names (declare_begins y entity.UnfinishedType env) (declare_each_begins first es) in
+        ap (λ (ns : Names). with_names ns after_all) (left_names env.names after_all.names begins)
+        ∙ ap (with_names env.names) (declare_each_is first es)
+
+-- ---- one definition, and then the rest
+
+pub rest_defined : {A : Type 0} (f : Environment → A → d.Declared) (old new : State) (e : A) (es : List A) → new ≡ after old (f old.env e)
+    → after new (define_each f new.env es) ≡ after old (define_each f old.env (e ∷ es))
+rest_defined f old new e es same =
+    let one = f old.env e in
+    let rest = define_each f one.env es in
+    ap (λ (z : State). after z (define_each f z.env es)) same ∙ told_more rest.env old.told one.violations rest.violations

@@ -1,0 +1,117 @@
+-- A group of variables: its type is judged where its names are being defined; then they are left, and declared with that type.
+use Rattle.std.proofs.Common.{◌≡◌, ◌*◌, ◌+◌, ◌∷◌, ◌++◌, ℕ, List, Result, length, take, subst, refl, ap, sym, ◌∙◌}
+use Rattle.cp_model.specs.Syntax as s
+use Rattle.cp_model.specs.declared.tree.Identifier.{Identifier}
+use Rattle.cp_model.specs.declared.rules.Entity.{Entity}
+use Rattle.cp_model.specs.declared.rules.Position.{Position}
+use Rattle.cp_model.specs.declared.rules.Position.TheVariants as position
+use Rattle.cp_model.specs.declared.rules.Violation.{Violation}
+use Rattle.cp_model.specs.RulesEnvironment.{Environment, entity_of, with_names}
+use Rattle.cp_model.specs.RulesDeclarations as d
+use Rattle.cp_model.specs.RulesJudged.{Broken, Judged, Sound, Violations, least, violations_of}
+use Rattle.cp_model.specs.RulesTypes.{Made, capped, type_placed}
+use Rattle.cp_judge.proofs.Tells.{least_append}
+use Rattle.cp_rules.specs.Checking.{Makes, State, after, first_of}
+use Rattle.cp_rules.specs.Declaring.{Declares, entity_of_type, group_made, group_type, left_group, owners_of_type, with_variables, words_of_type}
+use Rattle.cp_rules.proofs.CappedWords.{capped_more}
+use Rattle.cp_rules.proofs.Kept.{begins_at, declare_all_begins, left_names, placed_keeps}
+
+-- ---- what the code keeps of a judged type is enough
+
+pub entity_is : (f : ℕ → Entity) (j : Judged ℕ) → entity_of_type f (first_of j) ≡ entity_of f j
+entity_is f (Sound t) = refl
+entity_is f (Broken v vs) = refl
+
+pub words_is : (env : Environment) (j : Judged ℕ) → words_of_type env (first_of j) ≡ d.words_of env j
+words_is env (Sound t) = refl
+words_is env (Broken v vs) = refl
+
+owners_is : (env : Environment) (p : Position) (j : Judged ℕ) (xs : List Identifier) → owners_of_type env p (first_of j) xs ≡ d.owners env p j xs
+owners_is env position.InitialVariable (Sound t) xs = refl
+owners_is env position.InitialVariable (Broken v vs) xs = refl
+owners_is env position.Definition j xs = refl
+owners_is env position.Element j xs = refl
+owners_is env position.Field j xs = refl
+owners_is env position.MonitorVariable j xs = refl
+owners_is env position.ComponentVariable j xs = refl
+owners_is env position.RoutineVariable j xs = refl
+
+-- ---- the type
+
+module _ (old : State) (p : Position) (g : s.Variables) where
+  abbrev defined : d.Declared
+  defined = d.declare_all old.env d.unfinished_variable g.names
+
+  abbrev made : Made (Judged ℕ)
+  made = group_made old.env p g
+
+  pub group_left : (s1 s2 s3 : State) (mark : ℕ) (of : Result ℕ Violation) → mark ≡ length old.env.names → s1 ≡ after old defined
+      → Makes s1 s2 of (type_placed s1.env p g.of) → s3 ≡ record s2 { env = with_names (take mark s2.env.names) s2.env }
+      → (s3 ≡ left_group old p g) × (of ≡ group_type old.env p g)
+  group_left s1 s2 s3 mark of at inside judged outside =
+      let makes : Makes (after old defined) s2 of made = subst (λ (z : State). Makes z s2 of (type_placed z.env p g.of)) inside judged in
+      let begins = begins_at old.env.names defined.env.names made.env.names (declare_all_begins old.env d.unfinished_variable g.names) (placed_keeps defined.env p g.of).names in
+      let names : take mark made.env.names ≡ old.env.names = ap (λ (n : ℕ). take n made.env.names) at ∙ left_names old.env.names made.env.names begins in (
+        outside ∙ ap (λ (z : State). record z { env = with_names (take mark z.env.names) z.env }) makes.0
+            ∙ (λ i. record { env = with_names (names i) made.env; told = sym (least_append old.told defined.violations (violations_of made.of)) i }),
+        makes.1,
+      )
+
+  -- ---- the variables
+
+  abbrev base : Environment
+  base = with_names old.env.names made.env
+
+  abbrev told : Violations
+  told = defined.violations ++ violations_of made.of
+
+  -- the state, where the names are declared as this
+  abbrev visible : Entity → State
+  visible e = record { env = (d.declare_all base e g.names).env; told = least old.told told }
+
+  abbrev counted : Result ℕ Violation → State
+  counted of =
+      let v = visible (entity_of_type d.own_variable of) in
+      after v (owners_of_type v.env p of g.names)
+
+  counted_is : counted (first_of made.of) ≡ with_variables old (d.variable_group old.env p g)
+  counted_is =
+      ap (λ (e : Entity). after (visible e) (owners_of_type (visible e).env p (first_of made.of) g.names)) (entity_is d.own_variable made.of)
+      ∙ (let v = visible (entity_of d.own_variable made.of) in
+      let owned = d.owners v.env p made.of g.names in
+      ap (after v) (owners_is v.env p made.of g.names)
+      ∙ ap (λ t. let st : State = record { env = owned.env; told = t } in st) (sym (least_append old.told told owned.violations)))
+
+  pub group_declared : (s1 s2 s3 : State) (of : Result ℕ Violation) (e : Entity) (each n : ℕ)
+      → s1 ≡ left_group old p g → of ≡ group_type old.env p g → each ≡ words_of_type s1.env of → e ≡ entity_of_type d.own_variable of
+      → s2 ≡ record s1 { env = (d.declare_all s1.env e g.names).env } → s3 ≡ after s2 (owners_of_type s2.env p of g.names)
+      → n ≡ capped (length g.names * each) → Declares old s3 n (d.variable_group old.env p g)
+  group_declared s1 s2 s3 of e each n left type words entity names owners counting =
+      let shown : s2 ≡ visible (entity_of_type d.own_variable of) =
+      names ∙ ap (λ (z : State). let st : State = record z { env = (d.declare_all z.env e g.names).env } in st) left ∙ ap visible entity in
+      let all : s3 ≡ counted of = owners ∙ ap (λ (z : State). after z (owners_of_type z.env p of g.names)) shown in
+      let one : each ≡ d.words_of made.env made.of =
+      words ∙ ap (λ (z : State). words_of_type z.env of) left ∙ ap (words_of_type base) type ∙ words_is base made.of ∙ same_words made.of in
+      (all ∙ ap counted type ∙ counted_is, counting ∙ ap (λ (w : ℕ). capped (length g.names * w)) one)
+    where
+      same_words : (j : Judged ℕ) → d.words_of base j ≡ d.words_of made.env j
+      same_words (Sound t) = refl
+      same_words (Broken v vs) = refl
+
+-- ---- one group, and then the rest
+
+module _ (old new : State) (p : Position) (g : s.Variables) (gs : List s.Variables) where
+  abbrev one : d.Variables
+  one = d.variable_group old.env p g
+
+  pub rest_declared : new ≡ with_variables old one → with_variables new (d.variables new.env p gs) ≡ with_variables old (d.variables old.env p (g ∷ gs))
+  rest_declared same =
+      let rest = d.variables one.env p gs in
+      ap (λ (z : State). with_variables z (d.variables z.env p gs)) same
+      ∙ ap (λ t. let st : State = record { env = rest.env; told = t } in st) (sym (least_append old.told one.violations rest.violations))
+
+  pub rest_counted : new ≡ with_variables old one → (words more sum : ℕ) → more ≡ capped one.words → sum ≡ capped (words + more)
+      → capped (sum + (d.variables new.env p gs).words) ≡ capped (words + (d.variables old.env p (g ∷ gs)).words)
+  rest_counted same words more sum h k =
+      ap (λ (z : State). capped (sum + (d.variables z.env p gs).words)) same
+      ∙ capped_more words more one.words sum (d.variables one.env p gs).words h k

@@ -1,0 +1,158 @@
+-- A group of parameters: its type is judged where its names are being defined; then they are left, and hidden. What is collected of a
+-- heading group by group.
+use Rattle.std.proofs.Common.{◌≡◌, ◌≤◌, ◌+◌, ◌*◌, ◌∷◌, ◌++◌, [], Bool, true, false, ℕ, List, Option, Result, length, replicate, take, subst, refl, ap, sym, ◌∙◌, append_assoc, append-nil, arith}
+use Rattle.cp_model.specs.Syntax as s
+use Rattle.cp_model.specs.declared.tree.Sort.{Sort}
+use Rattle.cp_model.specs.declared.rules.Entity.{Entity}
+use Rattle.cp_model.specs.declared.rules.Entity.TheVariants as entity
+use Rattle.cp_model.specs.declared.rules.ParameterRow.{ParameterRow}
+use Rattle.cp_model.specs.declared.rules.Rule.{Rule}
+use Rattle.cp_model.specs.declared.rules.Violation.{Violation}
+use Rattle.cp_model.specs.RulesEnvironment.{Environment, Names}
+use Rattle.cp_model.specs.RulesEnvironment as r
+use Rattle.cp_model.specs.RulesDeclarations as d
+use Rattle.cp_model.specs.RulesJudged.{Broken, Judged, Sound, Violations, least, meaning_of, then_judge, violations_of}
+use Rattle.cp_model.specs.RulesTypes.{capped, named_type}
+use Rattle.cp_judge.proofs.Tells.{least_append}
+use Rattle.cp_rules.specs.Checking.{Judges, State, after, first_of, telling}
+use Rattle.cp_rules.specs.Declaring.{entity_of_type}
+use Rattle.cp_rules.specs.Headings.{Bound, Collected, bound_as, hidden_group, is_by_reference, parameter_judged, row_of_type, with_heading, with_names, with_part, words_of_parameter}
+use Rattle.cp_rules.proofs.Groups.{entity_is}
+use Rattle.cp_rules.proofs.Kept.{declare_all_is, left}
+
+module _ (old : State) (of : Option Sort) (is_function : Bool) (g : s.Parameters) where
+  abbrev defined : d.Declared
+  defined = d.declare_all old.env d.unfinished_variable g.names
+
+  abbrev var : Violations
+  var = d.c7_c11_var (d.var_rule of is_function) g.by_reference
+
+  abbrev judged : Judged ℕ
+  judged = parameter_judged old.env of g
+
+  abbrev told_after : Environment → Violations → State
+  told_after e vs = record { env = e; told = least old.told vs }
+
+  more : (e : Environment) (vs ws : Violations) → telling (told_after e vs) ws ≡ told_after e (vs ++ ws)
+  more e vs ws = ap (λ t. let st : State = record { env = e; told = t } in st) (sym (least_append old.told vs ws))
+
+  -- the type is judged the same where the names are being defined
+  same_judged : then_judge (named_type defined.env g.of) (d.c7_c8_parameter defined.env of g.of.at) ≡ judged
+  same_judged =
+      ap (λ (e : Environment). then_judge (named_type defined.env g.of) (d.c7_c8_parameter e of g.of.at))
+      (declare_all_is old.env d.unfinished_variable g.names)
+
+  pub group_hidden : (s1 s2 s3 s4 s5 : State) (mark : ℕ) (rule : Option Rule) (t : Result ℕ Violation)
+      → mark ≡ length old.env.names → s1 ≡ after old defined → rule ≡ d.var_rule of is_function
+      → s2 ≡ telling s1 (d.c7_c11_var rule g.by_reference)
+      → Judges s2 s3 t (then_judge (named_type s2.env g.of) (d.c7_c8_parameter s2.env of g.of.at))
+      → s4 ≡ record s3 { env = r.with_names (take mark s3.env.names) s3.env }
+      → s5 ≡ record s4 { env = (d.declare_all s4.env entity.Hidden g.names).env }
+      → (s5 ≡ hidden_group old of is_function g) × (t ≡ first_of judged)
+  group_hidden s1 s2 s3 s4 s5 mark rule t at inside ruled var_told judging outside hiding =
+      let told2 : s2 ≡ told_after defined.env (defined.violations ++ var) =
+      var_told ∙ ap (λ (z : State). telling z (d.c7_c11_var rule g.by_reference)) inside
+      ∙ ap (λ o. telling (after old defined) (d.c7_c11_var o g.by_reference)) ruled ∙ more defined.env defined.violations var in
+      let judges : Judges (told_after defined.env (defined.violations ++ var)) s3 t judged =
+      subst (λ j. Judges (told_after defined.env (defined.violations ++ var)) s3 t j) same_judged
+      (subst (λ (z : State). Judges z s3 t (then_judge (named_type z.env g.of) (d.c7_c8_parameter z.env of g.of.at))) told2 judging) in
+      let all : Violations = defined.violations ++ var ++ violations_of judged in
+      let told3 : s3 ≡ told_after defined.env all = judges.0 ∙ more defined.env (defined.violations ++ var) (violations_of judged) in
+      let told4 : s4 ≡ told_after old.env all =
+      outside ∙ ap (λ (z : State). let st : State = record z { env = r.with_names (take mark z.env.names) z.env } in st) told3
+      ∙ ap (λ (n : ℕ). told_after (r.with_names (take n defined.env.names) defined.env) all) at
+      ∙ ap (λ (e : Environment). told_after e all) (left old.env d.unfinished_variable g.names) in
+      (hiding ∙ ap (λ (z : State). let st : State = record z { env = (d.declare_all z.env entity.Hidden g.names).env } in st) told4, judges.1)
+
+  -- ---- what is collected of the group
+
+  row_is : (by_reference : Bool) (j : Judged ℕ) → row_of_type by_reference (first_of j) ≡ record { by_reference = by_reference; of = meaning_of j }
+  row_is by_reference (Sound x) = refl
+  row_is by_reference (Broken v vs) = refl
+
+  words_is : (names : Names) (by_reference : Bool) (j : Judged ℕ)
+      → words_of_parameter (r.with_names names old.env) by_reference (first_of j) ≡ d.parameter_words old.env by_reference j
+  words_is names true j = refl
+  words_is names false (Sound x) = refl
+  words_is names false (Broken v vs) = refl
+
+  abbrev hidden : Environment
+  hidden = (d.declare_all old.env entity.Hidden g.names).env
+
+  abbrev by_reference : Bool
+  by_reference = is_by_reference of g
+
+  abbrev group : d.Heading
+  group = d.parameter_group old.env of is_function g
+
+  add_words : (words w each n sum : ℕ) → each ≡ w → n ≡ capped (length g.names * each) → sum ≡ capped (words + n)
+      → sum ≡ capped (words + length g.names * w)
+  add_words words w each n sum h k l =
+      l ∙ ap (λ (m : ℕ). capped (words + m)) (k ∙ ap (λ (m : ℕ). capped (length g.names * m)) h) ∙ capped_sum words (length g.names * w)
+    where
+      capped_sum : (a b : ℕ) → capped (a + capped b) ≡ capped (a + b)
+      capped_sum a b = omega arith
+
+  pub group_collected : (k added : Collected) (new : State) (t : Result ℕ Violation) (e : Entity) (row : ParameterRow) (each n sum : ℕ)
+      → new ≡ hidden_group old of is_function g → t ≡ first_of judged → e ≡ entity_of_type (d.parameter_entity by_reference) t
+      → row ≡ row_of_type by_reference t → each ≡ words_of_parameter new.env by_reference t
+      → n ≡ capped (length g.names * each) → sum ≡ capped (k.words + n) → added ≡ with_names k e row g.names
+      → record added { words = sum } ≡ with_part k group
+  group_collected k added new t e row each n sum hiding judging stands rows words counting summing adding =
+      let e_is : e ≡ r.entity_of (d.parameter_entity by_reference) judged =
+      stands ∙ ap (entity_of_type (d.parameter_entity by_reference)) judging ∙ entity_is (d.parameter_entity by_reference) judged in
+      let row_is_one : row ≡ record { by_reference = by_reference; of = meaning_of judged } =
+      rows ∙ ap (row_of_type by_reference) judging ∙ row_is by_reference judged in
+      let each_is : each ≡ d.parameter_words old.env by_reference judged =
+      words ∙ ap (λ (z : State). words_of_parameter z.env by_reference t) hiding ∙ ap (words_of_parameter hidden by_reference) judging
+      ∙ ap (λ (env : Environment). words_of_parameter env by_reference (first_of judged)) (declare_all_is old.env entity.Hidden g.names)
+      ∙ words_is hidden.names by_reference judged in
+      let sum_is : sum ≡ capped (k.words + group.words) = add_words k.words _ each n sum each_is counting summing in
+      ap (λ (a : Collected). let b : Collected = record a { words = sum } in b) adding
+      ∙ (λ i. record {
+        bound = k.bound ++ bound_as (e_is i) g.names;
+        rows = k.rows ++ replicate (length g.names) (row_is_one i);
+        words = sum_is i;
+      })
+
+-- ---- one group, and then the rest
+
+module _ (old new : State) (of : Option Sort) (is_function : Bool) (g : s.Parameters) (gs : List s.Parameters) where
+  abbrev one : d.Heading
+  one = d.parameter_group old.env of is_function g
+
+  abbrev rest : d.Heading
+  rest = d.heading one.env of is_function gs
+
+  abbrev whole : d.Heading
+  whole = d.heading old.env of is_function (g ∷ gs)
+
+  pub rest_judged : new ≡ hidden_group old of is_function g → with_heading new (d.heading new.env of is_function gs) ≡ with_heading old whole
+  rest_judged same =
+      ap (λ (z : State). with_heading z (d.heading z.env of is_function gs)) same
+      ∙ ap (λ t. let st : State = record { env = rest.env; told = t } in st) (sym (least_append old.told one.violations rest.violations))
+
+  rest_words : (words m : ℕ) → capped (capped (words + m) + rest.words) ≡ capped (words + (m + rest.words))
+  rest_words words m = omega arith
+
+  pub rest_collected : new ≡ hidden_group old of is_function g → (k more : Collected) → more ≡ with_part k one
+      → with_part more (d.heading new.env of is_function gs) ≡ with_part k whole
+  rest_collected same k more h =
+      ap (λ (z : State). with_part more (d.heading z.env of is_function gs)) same
+      ∙ ap (λ (m : Collected). with_part m rest) h
+      ∙ (λ i. record {
+        bound = append_assoc k.bound one.bound rest.bound i;
+        rows = append_assoc k.rows one.rows rest.rows i;
+        words = rest_words k.words one.words i;
+      })
+
+pub end_collected : (k : Collected) (h : d.Heading) → h.bound ≡ [] → h.rows ≡ [] → h.words ≡ 0 → k.words ≤ 65537 → k ≡ with_part k h
+end_collected k h bound rows words within =
+    λ i. record {
+      bound = sym (ap (λ (b : Bound). k.bound ++ b) bound ∙ append-nil k.bound) i;
+      rows = sym (ap (λ (rs : List ParameterRow). k.rows ++ rs) rows ∙ append-nil k.rows) i;
+      words = same i;
+    }
+  where
+    same : k.words ≡ capped (k.words + h.words)
+    same = omega (arith, words, within)

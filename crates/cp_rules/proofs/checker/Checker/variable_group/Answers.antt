@@ -1,0 +1,19 @@
+use Rattle.std.proofs.Common.{◌≡◌, length, rules}
+use Rattle.cp_model.specs.Syntax as s
+use Rattle.cp_model.specs.View as view
+use Rattle.cp_rules.specs.Checking.{state}
+use Rattle.cp_rules.proofs.Groups.{group_declared}
+use Rattle.cp_rules.proofs.Views.{view_fields}
+use Rattle.cp_rules.proofs.checker.Checker.variable_group.Goals as goal
+
+pub returns : goal.returns
+returns c =
+    let group = c.args.group.now in
+    let g : s.Variables = record { names = group.names.items; of = view.type_expression group.of } in
+    let judged = rw (view_fields group) at c.in_ok-of.ensures in
+    let count : c.len.result ≡ length group.names.items = search rules in
+    rw (view_fields group)
+    (group_declared (state c.args.self.now) c.args.position g (state c.group_type.new.self) (state c.add_all.new.self) (state c.owners.new.self)
+    c.in_ok-of.of c.entity.result c.words-each.result c.product.result
+    judged.0 judged.1 c.words-each.ensures c.entity.ensures
+    (rw c.deref.ensures.value at c.in_ok-add_all.ensures) (rw c.deref-2.ensures.value at c.owners.ensures) (rw count at c.product.ensures))

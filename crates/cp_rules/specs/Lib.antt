@@ -1,0 +1,11 @@
+pub mod Checking
+pub mod StandardNames
+pub mod Declaring
+pub mod Headings
+pub mod Routines
+pub mod Systems
+pub mod Outer
+pub mod Records
+pub mod Types
+pub mod Definitions
+pub mod Texts

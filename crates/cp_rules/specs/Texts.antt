@@ -1,0 +1,39 @@
+-- Whole texts: what is told of one, and what is answered.
+use Rattle.std.specs.Prelude.{◌≡◌, ◌+◌, ◌++◌, ℕ, Some, Result, Ok, Err}
+use Rattle.cp_model.specs.Syntax as s
+use Rattle.cp_model.specs.declared.tree.Sort.TheVariants as sort
+use Rattle.cp_model.specs.declared.rules.Position.TheVariants as position
+use Rattle.cp_model.specs.RulesEnvironment.{Environment, standard_environment}
+use Rattle.cp_model.specs.RulesJudged.{Violations}
+use Rattle.cp_model.specs.RulesStatements.{statements}
+use Rattle.cp_model.specs.RulesNeeds.{need_statements}
+use Rattle.cp_model.specs.RulesDeclarations as d
+use Rattle.cp_model.specs.Rules.{Accepted, c13_initial, told}
+use Rattle.cp_judge.specs.Environments.{environment}
+use Rattle.cp_judge.specs.declared.environment.Environment as code
+use Rattle.cp_rules.specs.Checking.{State}
+use Rattle.cp_rules.specs.Definitions.{define_sections}
+use Rattle.cp_rules.specs.declared.text.Refusal.{Refusal}
+use Rattle.cp_rules.specs.declared.text.Refusal.TheVariants as refused
+
+-- the body of the initial process, where the variables have so many words
+abbrev pub body_violations : Environment → ℕ → s.Body → Violations
+body_violations env words b =
+    let body = statements env b.list in
+    body ++ c13_initial b.at (1 + words + need_statements env b.list) body
+
+-- what is known at the end of a text
+abbrev pub environment_of : s.Tree → Environment
+environment_of t =
+    let defined = define_sections standard_environment t.sections in
+    let own = d.variables defined.env position.InitialVariable t.variables in
+    (d.routines own.env sort.Process t.routines).env
+
+abbrev pub judged_text : s.Tree → State
+judged_text t = record { env = environment_of t; told = told t }
+
+-- an accepted text, and what is known at its end; or what is told of it
+abbrev pub Judges : s.Tree → Result code.Environment Refusal → Type 0
+Judges t (Ok env) = Accepted t × (environment env ≡ environment_of t)
+Judges t (Err (refused.Broken v)) = told t ≡ Some v
+Judges t (Err refused.Memory) = Unit {0}

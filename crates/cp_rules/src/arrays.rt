@@ -1,0 +1,162 @@
+//! Subranges and arrays: their rows, and the types that are made of them.
+
+ghost use Rattle.std.specs.Prelude.{◌≡◌, ◌*◌, [], IfOk, OnOk, length, map};
+ghost use Rattle.cp_model.specs.Integers.{count_between};
+ghost use Rattle.cp_model.specs.RulesEnvironment as r;
+ghost use Rattle.cp_model.specs.RulesJudged.{both};
+ghost use Rattle.cp_model.specs.RulesTypes as types;
+ghost use Rattle.cp_judge.specs.Environments.{environment};
+ghost use Rattle.cp_rules.specs.Checking.{Judges, state};
+ghost use Rattle.cp_rules.specs.Outer.{Knows, TellsOuter, around_both, array, arrays, made};
+
+use crate::checker::{Checker, Judged};
+use crate::variables::words_of_row;
+use crate::words::{is_within, product};
+use cp_judge::Environment;
+use cp_judge::constants::constant_at;
+use cp_judge::environment::{has_queues, structure};
+use cp_model::rules::{Rule, Structure, TypeRow};
+use cp_model::tree::Constant;
+use std::alloc::AllocError;
+
+// How many integers there are from one to another.
+fn count_between(low: i32, high: i32) -> usize
+    ensures { result ≡ count_between low high }
+{
+    if high < low {
+        0
+    } else {
+        (i64::from(high) - i64::from(low) + 1) as usize
+    }
+}
+
+// How many values a simple type has.
+fn values_in(structure: Structure) -> usize
+    ensures { result ≡ types.values_in structure }
+{
+    match structure {
+        Structure::Simple(_, low, high) => count_between(low, high),
+        _ => 0,
+    }
+}
+
+fn array_row(env: &Environment, index: usize, element: usize) -> TypeRow
+    ensures { result ≡ types.array_row (environment env.now) index element }
+{
+    let count = values_in(structure(env, index));
+    TypeRow {
+        structure: Structure::Array(index, element),
+        words: product(count, words_of_row(env, element)),
+        has_queues: has_queues(env, element),
+    }
+}
+
+fn is_at_most(a: i32, b: i32) -> bool
+    ensures { result ≡ types.at_most a b }
+{
+    a <= b
+}
+
+impl<'t> Checker<'t> {
+    // C2: the constants are of different base types. C3: the lower bound is above the upper.
+    fn bounds(&mut self, at: usize, low: (usize, i32), high: (usize, i32)) -> Judged<TypeRow>
+        ensures { Judges (state self.old) (state self.new) result (types.c2_c3_subrange at low high) }
+    {
+        if low.0 != high.0 {
+            return self.breaks(Rule::C2, at);
+        }
+        if !is_at_most(low.1, high.1) {
+            return self.breaks(Rule::C3, at);
+        }
+        Ok(TypeRow {
+            structure: Structure::Simple(low.0, low.1, high.1),
+            words: 1,
+            has_queues: false,
+        })
+    }
+
+    fn bounds_known(
+        &mut self,
+        at: usize,
+        low: Judged<(usize, i32)>,
+        high: Judged<(usize, i32)>,
+    ) -> Judged<TypeRow>
+        ensures { TellsOuter (state self.old) (state self.new) result (around_both low high (types.c2_c3_subrange at)) }
+    {
+        self.bounds(at, low?, high?)
+    }
+
+    /// The row of a subrange.
+    pub fn subrange(&mut self, low: &Constant, high: &Constant) -> Judged<TypeRow>
+        ensures { Judges (state self.old) (state self.new) result (both (types.constant (state self.old).env low.now) (types.constant (state self.old).env high.now) (types.c2_c3_subrange (types.constant_at high.now))) }
+    {
+        let first = self.constant(low);
+        let last = self.constant(high);
+        self.bounds_known(constant_at(high), first, last)
+    }
+
+    /// Adds a type, and answers its number. It fails only when memory runs out.
+    pub fn add_type(&mut self, row: TypeRow) -> Result<usize, AllocError>
+        ensures { IfOk result (λ t. (t ≡ length (state self.old).env.types) × (state self.new ≡ record (state self.old) { env = types.add_type (state self.old).env row })) }
+    {
+        let t = self.environment.types.len();
+        self.environment.types.push(row)?;
+        Ok(t)
+    }
+
+    /// Makes a type of a row, where that is known. It fails only when memory runs out.
+    pub fn made(&mut self, row: Judged<TypeRow>) -> Result<Judged<usize>, AllocError>
+        ensures { IfOk result (λ answer. Knows (state self.old) (state self.new) answer (made (state self.old).env [] row)) }
+    {
+        match row {
+            Err(violation) => Ok(Err(violation)),
+            Ok(row) => Ok(Ok(self.add_type(row)?)),
+        }
+    }
+
+    // C13: an array of too many words.
+    fn array_known(
+        &mut self,
+        at: usize,
+        index: Judged<usize>,
+        element: Judged<usize>,
+    ) -> Judged<TypeRow>
+        ensures { TellsOuter (state self.old) (state self.new) result (around_both index element (λ a b. types.c13_type at (types.array_row (state self.old).env a b))) }
+    {
+        let row = array_row(&self.environment, index?, element?);
+        if is_within(row.words) {
+            Ok(row)
+        } else {
+            self.breaks(Rule::C13, at)
+        }
+    }
+
+    // An array type of these index and element types.
+    fn array(
+        &mut self,
+        at: usize,
+        index: Judged<usize>,
+        element: Judged<usize>,
+    ) -> Result<Judged<usize>, AllocError>
+        ensures { IfOk result (λ answer. Knows (state self.old) (state self.new) answer (array (state self.old).env at index element)) }
+    {
+        let row = self.array_known(at, index, element);
+        self.made(row)
+    }
+
+    /// An array of arrays, one for each index type. It fails only when memory runs out.
+    pub fn arrays(
+        &mut self,
+        at: usize,
+        mut indices: Vec<Judged<usize>>,
+        element: Judged<usize>,
+    ) -> Result<Judged<usize>, AllocError>
+        ensures { IfOk result (λ answer. Knows (state self.old) (state self.new) answer (arrays (state self.old).env at indices.items element)) }
+    {
+        let mut of = element;
+        while let Some(index) = indices.pop() {
+            of = self.array(at, index, of)?;
+        }
+        Ok(of)
+    }
+}

@@ -1,0 +1,96 @@
+//! Where a text is judged: the environment so far, and the earliest violation.
+
+ghost use Rattle.std.specs.Prelude.{◌≡◌, [], None, IfOk, OnOk, length, take};
+ghost use Rattle.cp_model.specs.RulesEnvironment as r;
+ghost use Rattle.cp_model.specs.RulesJudged as j;
+ghost use Rattle.cp_rules.specs.Checking.{Judges, after, declared_name, state, telling};
+
+use crate::standard::standard_environment;
+use cp_judge::Environment;
+use cp_judge::telling::{tell, unless_holds};
+use cp_model::rules::{Entity, Rule, Violation};
+use cp_model::tree::Identifier;
+use std::alloc::{AllocError, Global};
+
+/// What is judged of a part of a text: its meaning, or what is broken first in it.
+pub type Judged<A> = Result<A, Violation>;
+
+/// Judges a text: it has the environment of the part that is judged, and keeps the earliest violation, and at its place the lowest
+/// rule.
+#[derive(Drop)]
+pub struct Checker<'t> {
+    pub(crate) environment: Environment<'t>,
+    pub(crate) earliest: Option<Violation>,
+    pub(crate) alloc: Global,
+}
+
+impl<'t> Checker<'t> {
+    /// Judges a text from its beginning. It fails only when memory runs out.
+    pub fn new(alloc: Global) -> Result<Checker<'t>, AllocError>
+        ensures { IfOk result (λ c. state c ≡ record { env = r.standard_environment; told = None }) }
+    {
+        Ok(Checker {
+            environment: standard_environment(alloc)?,
+            earliest: None,
+            alloc,
+        })
+    }
+
+    /// Tells a violation that was told where it stands.
+    pub fn broken<A>(&mut self, violation: Violation) -> Judged<A>
+        ensures { Judges (state self.old) (state self.new) result (j.Broken violation []) }
+    {
+        tell(&mut self.earliest, violation);
+        Err(violation)
+    }
+
+    /// Tells that a rule is broken at a place.
+    pub fn breaks<A>(&mut self, rule: Rule, at: usize) -> Judged<A>
+        ensures { Judges (state self.old) (state self.new) result (j.breaks rule at) }
+    {
+        let violation = Violation { rule, at };
+        tell(&mut self.earliest, violation);
+        Err(violation)
+    }
+
+    /// Tells that a rule is broken at a place unless the test holds.
+    pub fn unless(&mut self, holds: bool, rule: Rule, at: usize)
+        ensures { state self.new ≡ telling (state self.old) (j.unless holds rule at) }
+    {
+        unless_holds(&mut self.earliest, holds, rule, at);
+    }
+
+    /// Declares a name, unless it is visible: the first declaration stands. It fails only when memory runs out.
+    pub fn add(&mut self, x: &'t Identifier, entity: Entity) -> Result<(), AllocError>
+        ensures { OnOk result (state self.new ≡ record (state self.old) { env = r.declare x.now entity (state self.old).env }) }
+    {
+        let name = x.name.as_bytes();
+        if self.environment.names.find(name).is_none() {
+            self.environment.names.declare(name, entity)?;
+        }
+        Ok(())
+    }
+
+    /// Declares a name. C1: it is visible. It fails only when memory runs out.
+    pub fn declare(&mut self, x: &'t Identifier, entity: Entity) -> Result<(), AllocError>
+        ensures { OnOk result (state self.new ≡ after (state self.old) (declared_name (state self.old).env x.now entity)) }
+    {
+        let is_new = self.environment.names.find(x.name.as_bytes()).is_none();
+        self.unless(is_new, Rule::C1, x.at);
+        self.add(x, entity)
+    }
+
+    /// How many names are visible: a mark to leave to.
+    pub fn mark(&self) -> usize
+        ensures { result ≡ length (state self.now).env.names }
+    {
+        self.environment.names.mark()
+    }
+
+    /// Forgets the names that were declared since there were so many.
+    pub fn leave(&mut self, mark: usize)
+        ensures { state self.new ≡ record (state self.old) { env = r.with_names (take mark (state self.old).env.names) (state self.old).env } }
+    {
+        self.environment.names.leave(mark);
+    }
+}

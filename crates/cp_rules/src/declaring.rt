@@ -1,0 +1,32 @@
+//! Names that are declared one after another as the same entity.
+
+ghost use Rattle.std.specs.Prelude.{◌≡◌, OnOk};
+ghost use Rattle.cp_model.specs.RulesDeclarations as d;
+ghost use Rattle.cp_rules.specs.Checking.{after, state};
+
+use crate::checker::Checker;
+use cp_model::rules::Entity;
+use cp_model::tree::Identifier;
+use std::alloc::AllocError;
+
+impl<'t> Checker<'t> {
+    /// Declares each of these names, in their order. C1: one is visible. It fails only when memory runs out.
+    pub fn declare_all(&mut self, names: &'t [Identifier], entity: Entity) -> Result<(), AllocError>
+        ensures { OnOk result (state self.new ≡ after (state self.old) (d.declare_all (state self.old).env entity names.now)) }
+    {
+        for x in names {
+            self.declare(x, entity)?;
+        }
+        Ok(())
+    }
+
+    /// Declares each of these names, unless it is visible. It fails only when memory runs out.
+    pub fn add_all(&mut self, names: &'t [Identifier], entity: Entity) -> Result<(), AllocError>
+        ensures { OnOk result (state self.new ≡ record (state self.old) { env = (d.declare_all (state self.old).env entity names.now).env }) }
+    {
+        for x in names {
+            self.add(x, entity)?;
+        }
+        Ok(())
+    }
+}

@@ -1,0 +1,160 @@
+//! The definitions of a text: constants, types and enumerations, one after another.
+
+ghost use Rattle.std.specs.Prelude.{◌≡◌, ℕ, IfOk, OnOk, length, map, pos, ◌-◌};
+ghost use Rattle.cp_model.specs.Rules as rules;
+ghost use Rattle.cp_model.specs.RulesEnvironment as r;
+ghost use Rattle.cp_model.specs.View as view;
+ghost use Rattle.cp_rules.specs.Checking.{after, state};
+ghost use Rattle.cp_rules.specs.Definitions.{constant_entity, define_constants, define_sections, define_types, type_entity};
+ghost use Rattle.cp_rules.specs.Headings.{lent};
+
+use crate::checker::{Checker, Judged};
+use cp_model::rules::{Entity, Position, Structure, TypeRow};
+use cp_model::tree::{
+    ConstantDefinition, Defined, Identifier, Section, TypeDefinition, TypeExpression,
+};
+use std::alloc::{AllocError, Global};
+
+fn constant_entity(of: Judged<(usize, i32)>) -> Entity
+    ensures { result ≡ constant_entity of }
+{
+    match of {
+        Ok((base, ordinal)) => Entity::Constant(base, ordinal),
+        Err(violation) => Entity::Broken(violation),
+    }
+}
+
+fn type_entity(of: Judged<usize>) -> Entity
+    ensures { result ≡ type_entity of }
+{
+    match of {
+        Ok(t) => Entity::Type(t),
+        Err(violation) => Entity::Broken(violation),
+    }
+}
+
+// A number of values as an ordinal. More values than ordinals need more memory than there is.
+fn ordinal(n: usize) -> Result<i32, AllocError>
+    ensures { IfOk result (λ i. i ≡ pos n) }
+{
+    if n > 0x7fff_ffff {
+        return Err(AllocError);
+    }
+    Ok(n as i32)
+}
+
+// The row of an enumeration of so many values.
+fn enumeration(t: usize, count: usize) -> Result<TypeRow, AllocError>
+    ensures { IfOk result (λ row. row ≡ r.simple_row t (pos 0) (pos (count - 1))) }
+{
+    let last = ordinal(count.saturating_sub(1))?;
+    Ok(TypeRow {
+        structure: Structure::Simple(t, 0, last),
+        words: 1,
+        has_queues: false,
+    })
+}
+
+// The values of an enumeration, and what they stand for.
+fn values<'t>(
+    alloc: Global,
+    t: usize,
+    names: &'t [Identifier],
+) -> Result<Vec<(&'t Identifier, Entity)>, AllocError>
+    ensures { IfOk result (λ values. map lent values.items ≡ rules.values t 0 names.now) }
+{
+    let mut values = Vec::new(alloc);
+    for (i, x) in names.iter().enumerate() {
+        values.push((x, Entity::Constant(t, ordinal(i)?)))?;
+    }
+    Ok(values)
+}
+
+impl<'t> Checker<'t> {
+    fn define_constant(&mut self, d: &'t ConstantDefinition) -> Result<(), AllocError>
+        ensures { OnOk result (state self.new ≡ after (state self.old) (rules.define_constant (state self.old).env d.now)) }
+    {
+        let outside = self.mark();
+        self.declare(&d.name, Entity::UnfinishedConstant)?;
+        let value = self.constant(&d.value);
+        self.leave(outside);
+        self.add(&d.name, constant_entity(value))
+    }
+
+    // Defines an enumeration. C1: one of its values is visible, or stands twice.
+    fn define_enumeration(
+        &mut self,
+        x: &'t Identifier,
+        names: &'t [Identifier],
+    ) -> Result<(), AllocError>
+        ensures { OnOk result (state self.new ≡ after (state self.old) (rules.define_enumeration (state self.old).env x.now names.now)) }
+    {
+        let t = self.environment.types.len();
+        let row = enumeration(t, names.len())?;
+        self.add_type(row)?;
+        let values = values(self.alloc, t, names)?;
+        let outside = self.mark();
+        self.declare(x, Entity::UnfinishedType)?;
+        self.declare_each(&values)?;
+        self.leave(outside);
+        self.add(x, Entity::Type(t))?;
+        self.add_each(&values)
+    }
+
+    fn define_type(&mut self, x: &'t Identifier, t: &'t TypeExpression) -> Result<(), AllocError>
+        ensures { OnOk result (state self.new ≡ after (state self.old) (rules.define_type (state self.old).env x.now (view.type_expression t.now))) }
+    {
+        let outside = self.mark();
+        self.declare(x, Entity::UnfinishedType)?;
+        let of = self.type_placed(Position::Definition, t)?;
+        self.leave(outside);
+        self.add(x, type_entity(of))
+    }
+
+    fn define(&mut self, d: &'t TypeDefinition) -> Result<(), AllocError>
+        ensures { OnOk result (state self.new ≡ after (state self.old) (rules.define_as (state self.old).env d.now.name (view.defined_type d.now.defined))) }
+    {
+        match &d.defined {
+            Defined::Written(t) => self.define_type(&d.name, t),
+            Defined::Enumeration(names) => self.define_enumeration(&d.name, names),
+            Defined::System(y) => self.define_system(&d.name, y),
+        }
+    }
+
+    fn define_constants(&mut self, list: &'t [ConstantDefinition]) -> Result<(), AllocError>
+        ensures { OnOk result (state self.new ≡ after (state self.old) (define_constants (state self.old).env list.now)) }
+    {
+        for d in list {
+            self.define_constant(d)?;
+        }
+        Ok(())
+    }
+
+    fn define_types(&mut self, list: &'t [TypeDefinition]) -> Result<(), AllocError>
+        ensures { OnOk result (state self.new ≡ after (state self.old) (define_types (state self.old).env (map view.type_definition list.now))) }
+    {
+        for d in list {
+            self.define(d)?;
+        }
+        Ok(())
+    }
+
+    fn define_section(&mut self, section: &'t Section) -> Result<(), AllocError>
+        ensures { OnOk result (state self.new ≡ after (state self.old) (rules.define_section (state self.old).env (view.section_of section.now))) }
+    {
+        match section {
+            Section::Constants(list) => self.define_constants(list),
+            Section::Types(list) => self.define_types(list),
+        }
+    }
+
+    /// Judges the definitions of a text in their order. It fails only when memory runs out.
+    pub fn define_sections(&mut self, sections: &'t [Section]) -> Result<(), AllocError>
+        ensures { OnOk result (state self.new ≡ after (state self.old) (define_sections (state self.old).env (map view.section_of sections.now))) }
+    {
+        for section in sections {
+            self.define_section(section)?;
+        }
+        Ok(())
+    }
+}

@@ -1,0 +1,72 @@
+//! Owners: the processes and monitors that variables of the initial process declare.
+
+ghost use Rattle.std.specs.Prelude.{◌≡◌, suc, nat_eq};
+ghost use Rattle.cp_model.specs.RulesEnvironment as r;
+ghost use Rattle.cp_model.specs.RulesDeclarations as d;
+ghost use Rattle.cp_rules.specs.Checking.{after, state};
+ghost use Rattle.cp_rules.specs.Declaring.{counted_owner, owners_of_type};
+
+use crate::checker::{Checker, Judged};
+use crate::words::is_within;
+use cp_judge::environment::{structure, system_row};
+use cp_model::rules::{Position, Rule, Structure, SystemRow};
+use cp_model::tree::{Identifier, Sort};
+
+// The most processes, with the initial one, and the most monitors.
+const MOST: usize = 255;
+
+// Whether one more is one too many.
+fn is_full(count: usize) -> bool
+    ensures { result ≡ nat_eq (suc count) d.one_too_many }
+{
+    count == MOST
+}
+
+// One more, counted to one too many.
+fn one_more(count: usize) -> usize
+    ensures { result ≡ d.one_more count }
+{
+    if count < MOST { count + 1 } else { MOST + 1 }
+}
+
+impl<'t> Checker<'t> {
+    // Counts an owner. C13: it is process 256 or monitor 256, or has too many words.
+    fn owner(&mut self, x: &Identifier, y: SystemRow)
+        ensures { state self.new ≡ after (state self.old) (counted_owner (state self.old).env y x.now) }
+    {
+        match y.sort {
+            Sort::Process => {
+                let count = self.environment.processes;
+                self.unless(!is_full(count) && is_within(y.words), Rule::C13, x.at);
+                self.environment.processes = one_more(count);
+            }
+            Sort::Monitor => {
+                let count = self.environment.monitors;
+                self.unless(!is_full(count) && is_within(y.words), Rule::C13, x.at);
+                self.environment.monitors = one_more(count);
+            }
+            Sort::Class => {}
+        }
+    }
+
+    fn owners_of(&mut self, names: &[Identifier], y: SystemRow)
+        ensures { state self.new ≡ after (state self.old) (d.owners_of (state self.old).env y names.now) }
+    {
+        for x in names {
+            self.owner(x, y);
+        }
+    }
+
+    /// Counts the processes or monitors that these variables of a type are, where the initial process declares them. C13: one is too
+    /// many, or has too many words.
+    pub fn owners(&mut self, position: Position, of: Judged<usize>, names: &[Identifier])
+        ensures { state self.new ≡ after (state self.old) (owners_of_type (state self.old).env position of names.now) }
+    {
+        if let (Position::InitialVariable, Ok(t)) = (position, of) {
+            if let Structure::System(y) = structure(&self.environment, t) {
+                let row = system_row(&self.environment, y);
+                self.owners_of(names, row);
+            }
+        }
+    }
+}

@@ -1,0 +1,193 @@
+//! Where a type may stand.
+
+ghost use Rattle.std.specs.Prelude.{◌≡◌, ◌||◌, not};
+ghost use Rattle.cp_model.specs.RulesEnvironment.{is_simple};
+ghost use Rattle.cp_model.specs.RulesJudged.{meaning_of, provided};
+ghost use Rattle.cp_model.specs.RulesTypes as types;
+ghost use Rattle.cp_model.specs.View as view;
+ghost use Rattle.cp_model.specs.declared.rules.Rule.TheVariants.{C2};
+ghost use Rattle.cp_rules.specs.Checking.{Judges, state};
+ghost use Rattle.cp_judge.specs.Environments.{environment};
+ghost use Rattle.cp_rules.specs.Outer.{TellsOuter, index_type, is_written_structure, misplaces_queues, placed};
+
+use crate::checker::{Checker, Judged};
+use cp_judge::Environment;
+use cp_judge::constants::constant_at;
+use cp_judge::environment::{has_queues, is_simple, structure, system_row};
+use cp_judge::names::known;
+use cp_model::rules::{Entity, Position, Rule, Structure};
+use cp_model::tree::{Identifier, Sort, TypeExpression};
+
+fn is_class(sort: Sort) -> bool
+    ensures { result ≡ types.is_class sort }
+{
+    match sort {
+        Sort::Class => true,
+        _ => false,
+    }
+}
+
+fn allows_system(position: Position, sort: Sort) -> bool
+    ensures { result ≡ types.allows_system position sort }
+{
+    match position {
+        Position::InitialVariable => true,
+        Position::MonitorVariable => is_class(sort),
+        Position::ComponentVariable => is_class(sort),
+        _ => false,
+    }
+}
+
+fn allows_structure(env: &Environment, position: Position, structure: Structure) -> bool
+    ensures { result ≡ types.allows_structure (environment env.now) position structure }
+{
+    match structure {
+        Structure::System(y) => allows_system(position, system_row(env, y).sort),
+        _ => true,
+    }
+}
+
+fn allows_queues(position: Position) -> bool
+    ensures { result ≡ types.allows_queues position }
+{
+    match position {
+        Position::Definition => true,
+        Position::Element => true,
+        Position::MonitorVariable => true,
+        _ => false,
+    }
+}
+
+/// The first token of a written type.
+pub fn type_at(t: &TypeExpression) -> usize
+    ensures { result ≡ types.type_at (view.type_expression t.now) }
+{
+    match t {
+        TypeExpression::Named(x) => x.at,
+        TypeExpression::Subrange(low, _) => constant_at(low),
+        TypeExpression::Array { at, .. } => *at,
+        TypeExpression::Record { at, .. } => *at,
+    }
+}
+
+// Whether an array or a record is written there.
+fn is_written_structure(t: &TypeExpression) -> bool
+    ensures { result ≡ is_written_structure (view.type_expression t.now) }
+{
+    matches!(
+        t,
+        TypeExpression::Array { .. } | TypeExpression::Record { .. }
+    )
+}
+
+// What a name of a type stands for, if that is known.
+fn known_type(env: &Environment, x: &Identifier) -> Option<usize>
+    ensures { result ≡ meaning_of (types.named_type (environment env.now) x.now) }
+{
+    match known(env, x)? {
+        Entity::Type(t) => Some(t),
+        _ => None,
+    }
+}
+
+fn names_queues(env: &Environment, x: &Identifier) -> bool
+    ensures { result ≡ types.has_queues (environment env.now) (types.named_type (environment env.now) x.now) }
+{
+    match known_type(env, x) {
+        Some(t) => has_queues(env, t),
+        None => false,
+    }
+}
+
+// Whether a written type has queues, as far as that is known where something is broken inside it.
+fn holds_queues(env: &Environment, t: &TypeExpression) -> bool
+    ensures { result ≡ types.holds_queues (environment env.now) (view.type_expression t.now) }
+{
+    match t {
+        TypeExpression::Named(x) => names_queues(env, x),
+        TypeExpression::Array { element, .. } => holds_queues(env, element),
+        _ => false,
+    }
+}
+
+// Whether an array with queues is written where none may stand.
+fn misplaces_queues(env: &Environment, position: Position, t: &TypeExpression) -> bool
+    ensures { result ≡ misplaces_queues (environment env.now) position (view.type_expression t.now) }
+{
+    match t {
+        TypeExpression::Array { element, .. } => {
+            !(allows_queues(position) || !holds_queues(env, element))
+        }
+        _ => false,
+    }
+}
+
+impl<'t> Checker<'t> {
+    // C6: a system type where none may stand. C8: a type with queues where none may stand.
+    fn placed_at(&mut self, position: Position, at: usize, t: usize) -> Judged<usize>
+        ensures { Judges (state self.old) (state self.new) result (types.c6_c8_placed (state self.old).env position at t) }
+    {
+        let env = &self.environment;
+        let has_place = allows_structure(env, position, structure(env, t));
+        let queues_have = allows_queues(position) || !has_queues(env, t);
+        match (has_place, queues_have) {
+            (true, true) => Ok(t),
+            (true, false) => self.breaks(Rule::C8, at),
+            (false, true) => self.breaks(Rule::C6, at),
+            (false, false) => {
+                let first = self.breaks(Rule::C6, at);
+                self.unless(false, Rule::C8, at);
+                first
+            }
+        }
+    }
+
+    /// Judges where a written type stands, which was judged in itself. C6: a system type where none may stand. C8: a type with queues
+    /// where none may stand, also where something is broken inside it.
+    pub fn placed(
+        &mut self,
+        position: Position,
+        t: &TypeExpression,
+        of: Judged<usize>,
+    ) -> Judged<usize>
+        ensures { TellsOuter (state self.old) (state self.new) result (placed (state self.old).env position (view.type_expression t.now) of) }
+    {
+        match of {
+            Ok(number) => self.placed_at(position, type_at(t), number),
+            Err(violation) => {
+                if misplaces_queues(&self.environment, position, t) {
+                    self.breaks(Rule::C8, type_at(t))
+                } else {
+                    Err(violation)
+                }
+            }
+        }
+    }
+
+    // C2: an index type isn't simple.
+    fn simple(&mut self, at: usize, t: usize) -> Judged<usize>
+        ensures { Judges (state self.old) (state self.new) result (provided (is_simple (state self.old).env t) C2 at t) }
+    {
+        if is_simple(&self.environment, t) {
+            Ok(t)
+        } else {
+            self.breaks(Rule::C2, at)
+        }
+    }
+
+    /// Judges a written index type, which was judged in itself. C2: it isn't simple, also where something is broken inside it.
+    pub fn index_type(&mut self, t: &TypeExpression, of: Judged<usize>) -> Judged<usize>
+        ensures { TellsOuter (state self.old) (state self.new) result (index_type (state self.old).env (view.type_expression t.now) of) }
+    {
+        match of {
+            Ok(number) => self.simple(type_at(t), number),
+            Err(violation) => {
+                if is_written_structure(t) {
+                    self.breaks(Rule::C2, type_at(t))
+                } else {
+                    Err(violation)
+                }
+            }
+        }
+    }
+}

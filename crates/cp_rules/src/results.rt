@@ -1,0 +1,98 @@
+//! The results of functions, and the word `entry`.
+
+ghost use Rattle.std.specs.Prelude.{◌≡◌};
+ghost use Rattle.cp_model.specs.RulesDeclarations as d;
+ghost use Rattle.cp_model.specs.RulesEnvironment as r;
+ghost use Rattle.cp_rules.specs.Checking.{Judges, state, telling};
+ghost use Rattle.cp_rules.specs.Routines.{JudgesResult, result_judged, returns_of_result, result_words};
+
+use crate::checker::{Checker, Judged};
+use cp_judge::environment::{has_queues, is_simple};
+use cp_model::rules::{Part, Returns, Rule};
+use cp_model::tree::{Identifier, Sort};
+
+fn is_process(sort: Sort) -> bool
+    ensures { result ≡ r.is_process sort }
+{
+    match sort {
+        Sort::Process => true,
+        _ => false,
+    }
+}
+
+/// The part that the body of a routine is.
+pub fn part(entry: Option<usize>) -> Part
+    ensures { result ≡ d.part_of entry }
+{
+    match entry {
+        None => Part::Routine,
+        Some(_) => Part::EntryRoutine,
+    }
+}
+
+/// What a routine answers, whose result type is judged so.
+pub fn returns(answer: Option<Judged<usize>>) -> Returns
+    ensures { result ≡ returns_of_result answer }
+{
+    match answer {
+        None => Returns::Nothing,
+        Some(Ok(t)) => Returns::Value(t),
+        Some(Err(violation)) => Returns::Broken(violation),
+    }
+}
+
+/// The words that a result takes in an activation.
+pub fn words(answer: Option<Judged<usize>>) -> usize
+    ensures { result ≡ result_words answer }
+{
+    match answer {
+        None => 0,
+        Some(_) => 1,
+    }
+}
+
+impl<'t> Checker<'t> {
+    /// C5: the word `entry` in a process type or the initial process.
+    pub fn judge_entry(&mut self, sort: Sort, entry: Option<usize>)
+        ensures { state self.new ≡ telling (state self.old) (d.c5_entry sort entry) }
+    {
+        if let Some(at) = entry {
+            self.unless(!is_process(sort), Rule::C5, at);
+        }
+    }
+
+    // C8: a result with queues. C11: a result that isn't simple.
+    fn result(&mut self, at: usize, t: usize) -> Judged<usize>
+        ensures { Judges (state self.old) (state self.new) result (d.c8_c11_result (state self.old).env at t) }
+    {
+        let is_without_queues = !has_queues(&self.environment, t);
+        let is_simple = is_simple(&self.environment, t);
+        match (is_without_queues, is_simple) {
+            (true, true) => Ok(t),
+            (true, false) => self.breaks(Rule::C11, at),
+            (false, true) => self.breaks(Rule::C8, at),
+            (false, false) => {
+                let first = self.breaks(Rule::C8, at);
+                self.unless(false, Rule::C11, at);
+                first
+            }
+        }
+    }
+
+    fn result_named(&mut self, x: &Identifier) -> Judged<usize>
+        ensures { Judges (state self.old) (state self.new) result (result_judged (state self.old).env x.now) }
+    {
+        let t = self.named_type(x)?;
+        self.result(x.at, t)
+    }
+
+    /// The result type of a function.
+    pub fn result_type(&mut self, name: &Option<Identifier>) -> Option<Judged<usize>>
+        ensures { JudgesResult (state self.old) (state self.new) result (d.result_type (state self.old).env name.now) }
+    {
+        match name {
+            None => None,
+            Some(x) => Some(self.result_named(x)),
+        }
+    }
+}

@@ -1,0 +1,128 @@
+//! Routines: their headings, their variables and bodies, and the words that they need.
+
+ghost use Rattle.std.specs.Prelude.{◌≡◌, ◌+◌, ◌++◌, ◌∷◌, [], IfOk, OnOk, length, map, take};
+ghost use Rattle.cp_model.specs.RulesDeclarations as d;
+ghost use Rattle.cp_model.specs.RulesEnvironment as r;
+ghost use Rattle.cp_model.specs.View as view;
+ghost use Rattle.cp_model.specs.declared.rules.Entity.TheVariants as entities;
+ghost use Rattle.cp_rules.specs.Checking.{after, state};
+ghost use Rattle.cp_rules.specs.Headings.{collected};
+ghost use Rattle.cp_rules.specs.Routines.{HeadsRoutine, JudgesBody, inside, left_routine, locals, row_as};
+
+use crate::checker::{Checker, Judged};
+use crate::headings::Heading;
+use crate::results::{part, returns, words};
+use crate::words::sum;
+use cp_model::rules::{Entity, Position, Region, Returns, RoutineRow};
+use cp_model::tree::{Identifier, Routine, Sort};
+use std::alloc::AllocError;
+
+// What a routine's name stands for in its heading.
+const NO_ROUTINE: RoutineRow = RoutineRow {
+    entry: false,
+    first: 0,
+    count: 0,
+    returns: Returns::Nothing,
+    need: 0,
+};
+
+// The row of a routine whose parameters are the next of the table, before its need is known.
+fn row(
+    first: usize,
+    count: usize,
+    entry: Option<usize>,
+    answer: Option<Judged<usize>>,
+) -> RoutineRow
+    ensures { result ≡ row_as first count entry answer }
+{
+    RoutineRow {
+        entry: entry.is_some(),
+        first,
+        count,
+        returns: returns(answer),
+        need: 0,
+    }
+}
+
+impl<'t> Checker<'t> {
+    // The heading of a routine, and the type of its result.
+    fn routine_heading(
+        &mut self,
+        sort: Sort,
+        routine: &'t Routine,
+    ) -> Result<(Heading<'t>, Option<Judged<usize>>), AllocError>
+        ensures { IfOk result (λ p. HeadsRoutine (state self.old) (state self.new) p.0 p.1 sort (view.routine routine.now)) }
+    {
+        let outside = self.mark();
+        self.declare(&routine.name, Entity::UnfinishedRoutine(NO_ROUTINE))?;
+        self.judge_entry(sort, routine.entry);
+        let is_function = routine.result_type.is_some();
+        let heading = self.heading(None, is_function, &routine.parameters)?;
+        let answer = self.result_type(&routine.result_type);
+        self.leave(outside);
+        Ok((heading, answer))
+    }
+
+    // The variables and the body of a routine, and the words that they take.
+    fn routine_body(
+        &mut self,
+        sort: Sort,
+        routine: &'t Routine,
+        row: RoutineRow,
+        heading: &Heading<'t>,
+    ) -> Result<usize, AllocError>
+        ensures { IfOk result (λ n. JudgesBody (state self.old) (state self.new) n (locals (inside (state self.old).env sort (view.routine routine.now) row (collected heading.now)) (view.routine routine.now)) (view.body routine.now.body)) }
+    {
+        let region = Region {
+            sort,
+            part: part(routine.entry),
+        };
+        self.enter(&heading.rows, region)?;
+        self.add(&routine.name, Entity::UnfinishedRoutine(row))?;
+        self.add_each(&heading.bound)?;
+        let words = self.variables(Position::RoutineVariable, &routine.variables)?;
+        self.statements(&routine.body.statements)?;
+        Ok(sum(words, self.need(&routine.body.statements)))
+    }
+
+    // Leaves a routine, and adds its row and its name.
+    fn leave_routine(
+        &mut self,
+        outside: usize,
+        region: Region,
+        name: &'t Identifier,
+        row: RoutineRow,
+    ) -> Result<(), AllocError>
+        ensures { OnOk result (state self.new ≡ left_routine (state self.old) outside region name.now row) }
+    {
+        self.leave(outside);
+        self.environment.region = region;
+        let number = self.environment.routines.len();
+        self.environment.routines.push(row)?;
+        self.add(name, Entity::Routine(number))
+    }
+
+    /// Declares a routine of a component of this sort, and judges it. It fails only when memory runs out.
+    pub fn routine(&mut self, sort: Sort, routine: &'t Routine) -> Result<(), AllocError>
+        ensures { OnOk result (state self.new ≡ after (state self.old) (d.routine (state self.old).env sort (view.routine routine.now))) }
+    {
+        let outside = self.mark();
+        let region = self.environment.region;
+        let (heading, answer) = self.routine_heading(sort, routine)?;
+        let first = self.environment.parameters.len();
+        let mut row = row(first, heading.rows.len(), routine.entry, answer);
+        let inside = self.routine_body(sort, routine, row, &heading)?;
+        row.need = sum(sum(1 + words(answer), heading.words), inside);
+        self.leave_routine(outside, region, &routine.name, row)
+    }
+
+    /// Declares routines of a component of this sort, one after another. It fails only when memory runs out.
+    pub fn routines(&mut self, sort: Sort, list: &'t [Routine]) -> Result<(), AllocError>
+        ensures { OnOk result (state self.new ≡ after (state self.old) (d.routines (state self.old).env sort (map view.routine list.now))) }
+    {
+        for routine in list {
+            self.routine(sort, routine)?;
+        }
+        Ok(())
+    }
+}

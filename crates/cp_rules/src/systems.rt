@@ -1,0 +1,130 @@
+//! System types: their parameters, variables, routines and bodies, and the words of a component.
+
+ghost use Rattle.std.specs.Prelude.{◌≡◌, ◌+◌, ◌++◌, IfOk, OnOk, length, map};
+ghost use Rattle.cp_model.specs.Rules as rules;
+ghost use Rattle.cp_model.specs.RulesDeclarations as d;
+ghost use Rattle.cp_model.specs.View as view;
+ghost use Rattle.cp_judge.specs.Scopes.{seen};
+ghost use Rattle.cp_rules.specs.Checking.{after, state, telling};
+ghost use Rattle.cp_rules.specs.Headings.{collected};
+ghost use Rattle.cp_rules.specs.Systems.{HeadsSystem, JudgesParts, added_system, left_system, parts, row_as, words_of};
+
+use crate::checker::Checker;
+use crate::headings::Heading;
+use crate::words::{capped, sum};
+use cp_judge::environment::Members;
+use cp_model::rules::{Entity, Part, Position, Region, Structure, SystemRow, TypeRow};
+use cp_model::tree::{Identifier, Sort, System};
+use std::alloc::AllocError;
+
+fn variable_position(sort: Sort) -> Position
+    ensures { result ≡ rules.variable_position sort }
+{
+    match sort {
+        Sort::Monitor => Position::MonitorVariable,
+        _ => Position::ComponentVariable,
+    }
+}
+
+// The words of a component: one, its parameters, its variables, and what its body needs where it is a process.
+fn words_of(sort: Sort, count: usize, words: usize, need: usize) -> usize
+    ensures { result ≡ words_of sort count words need }
+{
+    let own = sum(sum(1, count), words);
+    match sort {
+        Sort::Process => sum(own, need),
+        _ => own,
+    }
+}
+
+impl<'t> Checker<'t> {
+    // The heading of a system type, whose name is declared.
+    fn system_heading(&mut self, y: &'t System) -> Result<Heading<'t>, AllocError>
+        ensures { IfOk result (λ h. HeadsSystem (state self.old) (state self.new) h (view.system y.now)) }
+    {
+        let outside = self.mark();
+        let heading = self.heading(Some(y.sort), false, &y.parameters)?;
+        self.leave(outside);
+        Ok(heading)
+    }
+
+    // The variables, the routines and the body of a system type, and the words of its variables.
+    fn system_parts(&mut self, y: &'t System, heading: &Heading<'t>) -> Result<usize, AllocError>
+        ensures { IfOk result (λ n. JudgesParts (state self.old) (state self.new) n (parts (state self.old).env (view.system y.now) (collected heading.now))) }
+    {
+        let region = Region {
+            sort: y.sort,
+            part: Part::Body,
+        };
+        self.enter(&heading.rows, region)?;
+        self.add_each(&heading.bound)?;
+        let words = self.variables(variable_position(y.sort), &y.variables)?;
+        self.routines(y.sort, &y.routines)?;
+        self.statements(&y.body.statements)?;
+        Ok(words)
+    }
+
+    // Adds a system type, and answers the number of the type.
+    fn add_system(&mut self, row: SystemRow, members: Members<'t>) -> Result<usize, AllocError>
+        ensures { IfOk result (λ t. (t ≡ length (state self.old).env.types) × (state self.new ≡ record (state self.old) { env = added_system (state self.old).env row (map seen members.entry.entries) })) }
+    {
+        let t = self.environment.types.len();
+        let structure = Structure::System(self.environment.systems.len());
+        self.environment.types.push(TypeRow {
+            structure,
+            words: row.words,
+            has_queues: false,
+        })?;
+        self.environment.members.push(members)?;
+        self.environment.systems.push(row)?;
+        Ok(t)
+    }
+
+    // Leaves a system type, and adds its row and its name.
+    fn leave_system(
+        &mut self,
+        outside: usize,
+        region: Region,
+        name: &'t Identifier,
+        row: SystemRow,
+        members: Members<'t>,
+    ) -> Result<(), AllocError>
+        ensures { OnOk result (state self.new ≡ left_system (state self.old) outside region name.now row (map seen members.entry.entries)) }
+    {
+        self.leave(outside);
+        self.environment.region = region;
+        let t = self.add_system(row, members)?;
+        self.add(name, Entity::Type(t))
+    }
+
+    // The row of a system type whose parts were judged.
+    fn system_row(&self, y: &System, first: usize, count: usize, words: usize) -> SystemRow
+        ensures { result ≡ row_as (state self.now).env (view.system y.now) first count words }
+    {
+        let need = self.need(&y.body.statements);
+        SystemRow {
+            sort: y.sort,
+            first,
+            count,
+            words: words_of(y.sort, count, words, need),
+            body_need: need,
+            members: self.environment.members.len(),
+        }
+    }
+
+    /// Defines a system type, and judges its parts. It fails only when memory runs out.
+    pub fn define_system(&mut self, x: &'t Identifier, y: &'t System) -> Result<(), AllocError>
+        ensures { OnOk result (state self.new ≡ after (state self.old) (rules.define_system (state self.old).env x.now (view.system y.now))) }
+    {
+        let outside = self.mark();
+        let region = self.environment.region;
+        self.declare(x, Entity::UnfinishedType)?;
+        let inside = self.mark();
+        let heading = self.system_heading(y)?;
+        let first = self.environment.parameters.len();
+        let words = self.system_parts(y, &heading)?;
+        let row = self.system_row(y, first, heading.rows.len(), words);
+        let members = self.routine_members(inside)?;
+        self.leave_system(outside, region, x, row, members)
+    }
+}

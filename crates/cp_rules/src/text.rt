@@ -1,0 +1,81 @@
+//! The rules of a whole text: its definitions, then the variables, the routines and the body of the initial process.
+
+ghost use Rattle.std.specs.Prelude.{◌≡◌, ℕ, None, IfOk, OnOk, map};
+ghost use Rattle.cp_model.specs.RulesJudged.{least};
+ghost use Rattle.cp_model.specs.RulesStatements as st;
+ghost use Rattle.cp_model.specs.RulesTypes as ty;
+ghost use Rattle.cp_model.specs.View as view;
+ghost use Rattle.cp_rules.specs.Checking.{state};
+ghost use Rattle.cp_rules.specs.Texts.{Judges, body_violations, judged_text};
+ghost use Rattle.cp_rules.specs.Checking.{telling};
+
+use crate::checker::Checker;
+use crate::words::{is_within, sum};
+use cp_judge::Environment;
+use cp_judge::statements::statements;
+use cp_judge::telling::tell;
+use cp_model::rules::{Position, Rule, Violation};
+use cp_model::tree::{Body, Sort, Statement, Tree};
+use std::alloc::{AllocError, Global};
+
+/// Why a text isn't accepted.
+#[derive(Clone, Copy, Debug, PartialEq, Eq)]
+pub enum Refusal {
+    /// A rule is broken: the earliest violation, and at its place the lowest rule.
+    Broken(Violation),
+    /// Memory ran out.
+    Memory,
+}
+
+impl<'t> Checker<'t> {
+    // The earliest violation in statements alone.
+    fn violation_in(&self, list: &[Statement]) -> Result<Option<Violation>, AllocError>
+        ensures { IfOk result (λ v. v ≡ least None (st.statements (state self.now).env (view.statements_of (map view.statement list.now)))) }
+    {
+        let mut inside = None;
+        statements(&self.environment, self.alloc, &mut inside, list)?;
+        Ok(inside)
+    }
+
+    // The body of the initial process, whose variables have so many words. C13, that it has too many words, is judged only where
+    // nothing is broken in the body.
+    fn initial_body(&mut self, words: usize, body: &Body) -> Result<(), AllocError>
+        ensures { (n : ℕ) → words ≡ ty.capped n → OnOk result (state self.new ≡ telling (state self.old) (body_violations (state self.old).env n (view.body body.now))) }
+    {
+        match self.violation_in(&body.statements)? {
+            Some(violation) => tell(&mut self.earliest, violation),
+            None => {
+                let need = self.need(&body.statements);
+                let fits = is_within(sum(sum(1, words), need));
+                self.unless(fits, Rule::C13, body.at);
+            }
+        }
+        Ok(())
+    }
+
+    fn text(alloc: Global, tree: &'t Tree) -> Result<Checker<'t>, AllocError>
+        ensures { IfOk result (λ c. state c ≡ judged_text (view.tree tree.now)) }
+    {
+        let mut checker = Checker::new(alloc)?;
+        checker.define_sections(&tree.sections)?;
+        let words = checker.variables(Position::InitialVariable, &tree.variables)?;
+        checker.routines(Sort::Process, &tree.routines)?;
+        checker.initial_body(words, &tree.body)?;
+        Ok(checker)
+    }
+}
+
+/// Judges a text by all rules. Of an accepted one it answers what its names and tables are at its end.
+///
+/// It fails with `Broken` where a rule is broken, or when memory runs out.
+pub fn judge<'t>(alloc: Global, tree: &'t Tree) -> Result<Environment<'t>, Refusal>
+    ensures { Judges (view.tree tree.now) result }
+{
+    match Checker::text(alloc, tree) {
+        Err(_) => Err(Refusal::Memory),
+        Ok(checker) => match checker.earliest {
+            Some(violation) => Err(Refusal::Broken(violation)),
+            None => Ok(checker.environment),
+        },
+    }
+}

@@ -1,0 +1,107 @@
+//! Types where they are written: what they stand for, and the rules inside them.
+
+ghost use Rattle.std.specs.Prelude.{◌≡◌, IfOk, OnOk, map};
+ghost use Rattle.cp_judge.specs.Scopes.{seen};
+ghost use Rattle.cp_model.specs.Syntax as s;
+ghost use Rattle.cp_model.specs.RulesTypes as ty;
+ghost use Rattle.cp_model.specs.View as view;
+ghost use Rattle.cp_rules.specs.Checking.{Makes, state};
+ghost use Rattle.cp_rules.specs.Records as records;
+ghost use Rattle.cp_rules.specs.Records.{number_or_any, or_first};
+ghost use Rattle.cp_rules.specs.Types.{JudgesIndices, with_groups};
+
+use crate::checker::{Checker, Judged};
+use crate::records::FieldList;
+use cp_model::rules::Position;
+use cp_model::tree::{Fields, TypeExpression};
+use std::alloc::AllocError;
+
+// The number of a type that is known. A broken one counts as any: what it is a part of isn't made.
+fn number_or_any(of: Judged<usize>) -> usize
+    ensures { result ≡ number_or_any of }
+{
+    match of {
+        Ok(t) => t,
+        Err(_) => 0,
+    }
+}
+
+impl<'t> Checker<'t> {
+    // A type in itself.
+    #[cycle(types)]
+    fn type_of(&mut self, t: &'t TypeExpression) -> Result<Judged<usize>, AllocError>
+        ensures { IfOk result (λ of. Makes (state self.old) (state self.new) of (ty.type_of (state self.old).env (view.type_expression t.now))) }
+    {
+        match t {
+            TypeExpression::Named(x) => Ok(self.named_type(x)),
+            TypeExpression::Subrange(low, high) => {
+                let row = self.subrange(low, high);
+                self.made(row)
+            }
+            TypeExpression::Array {
+                at,
+                indices,
+                element,
+            } => {
+                let indices = self.index_types(indices)?;
+                let of = self.type_of(element)?;
+                let of = self.placed(Position::Element, element, of);
+                self.arrays(*at, indices, of)
+            }
+            TypeExpression::Record { at, groups } => self.record_type(*at, groups),
+        }
+    }
+
+    #[cycle(types)]
+    fn index_types(&mut self, list: &'t [TypeExpression]) -> Result<Vec<Judged<usize>>, AllocError>
+        ensures { IfOk result (λ answers. JudgesIndices (state self.old) (state self.new) answers.items (ty.index_types (state self.old).env (view.types_of (map view.type_expression list.now)))) }
+    {
+        let mut answers = Vec::new(self.alloc);
+        for t in list {
+            let of = self.type_of(t)?;
+            answers.push(self.index_type(t, of))?;
+        }
+        Ok(answers)
+    }
+
+    #[cycle(types)]
+    fn record_type(&mut self, at: usize, groups: &'t [Fields]) -> Result<Judged<usize>, AllocError>
+        ensures { IfOk result (λ of. Makes (state self.old) (state self.new) of (ty.type_of (state self.old).env (s.Record at (view.fields_of (map view.variables groups.now))))) }
+    {
+        let mut fields = FieldList::new(self.alloc);
+        for group in groups {
+            self.field_group(&mut fields, group)?;
+        }
+        self.made_record(at, fields)
+    }
+
+    // Fields of one type.
+    #[cycle(types)]
+    fn field_group(
+        &mut self,
+        fields: &mut FieldList<'t>,
+        group: &'t Fields,
+    ) -> Result<(), AllocError>
+        ensures state { OnOk result (state self.new ≡ with_groups (state self.old) (records.group (state self.old).env (map seen fields.old.members.entries) (view.variables group.now))) }
+        ensures members { OnOk result (map seen fields.new.members.entries ≡ (records.group (state self.old).env (map seen fields.old.members.entries) (view.variables group.now)).members) }
+        ensures first { OnOk result (fields.new.first ≡ or_first fields.old.first (records.group (state self.old).env (map seen fields.old.members.entries) (view.variables group.now)).violations) }
+    {
+        let of = self.type_of(&group.of)?;
+        let of = self.placed(Position::Field, &group.of, of);
+        self.add_fields(fields, &group.names, number_or_any(of))?;
+        fields.note(of);
+        Ok(())
+    }
+
+    /// Judges a type where it is written. It fails only when memory runs out.
+    pub fn type_placed(
+        &mut self,
+        position: Position,
+        t: &'t TypeExpression,
+    ) -> Result<Judged<usize>, AllocError>
+        ensures { IfOk result (λ of. Makes (state self.old) (state self.new) of (ty.type_placed (state self.old).env position (view.type_expression t.now))) }
+    {
+        let of = self.type_of(t)?;
+        Ok(self.placed(position, t, of))
+    }
+}

@@ -1,0 +1,119 @@
+//! Variables: groups of names of one type, and the words that they take of their owner.
+
+ghost use Rattle.std.specs.Prelude.{◌≡◌, IfOk, OnOk, map};
+ghost use Rattle.cp_model.specs.RulesEnvironment as r;
+ghost use Rattle.cp_model.specs.RulesTypes.{capped};
+ghost use Rattle.cp_model.specs.RulesDeclarations as d;
+ghost use Rattle.cp_model.specs.View as view;
+ghost use Rattle.cp_judge.specs.Environments.{environment};
+ghost use Rattle.cp_rules.specs.Checking.{after, state};
+ghost use Rattle.cp_rules.specs.Declaring.{Declares, entity_of_type, group_type, left_group, words_of_type};
+
+use crate::checker::{Checker, Judged};
+use crate::words::{product, sum};
+use cp_judge::Environment;
+use cp_judge::environment::{INTEGER, structure, system_row};
+use cp_model::rules::{Access, Entity, Position, Structure};
+use cp_model::tree::{Fields, Sort};
+use std::alloc::AllocError;
+
+/// A name whose type isn't known yet: a variable is no type.
+pub const UNFINISHED: Entity = Entity::Variable(INTEGER, Access::Own);
+
+// What a variable of a type stands for.
+fn entity(of: Judged<usize>) -> Entity
+    ensures { result ≡ entity_of_type d.own_variable of }
+{
+    match of {
+        Ok(t) => Entity::Variable(t, Access::Own),
+        Err(violation) => Entity::Broken(violation),
+    }
+}
+
+/// The words of a variable of the type.
+pub fn words_of_row(env: &Environment, t: usize) -> usize
+    ensures { result ≡ (r.row_of (environment env.now) t).words }
+{
+    match env.types.get(t) {
+        Some(row) => row.words,
+        None => 1,
+    }
+}
+
+// A process or a monitor is an owner itself: it takes no words of another.
+fn is_owner(sort: Sort) -> bool
+    ensures { result ≡ d.is_owner sort }
+{
+    match sort {
+        Sort::Class => false,
+        _ => true,
+    }
+}
+
+fn words_in(env: &Environment, words: usize, structure: Structure) -> usize
+    ensures { result ≡ d.words_in (environment env.now) words structure }
+{
+    match structure {
+        Structure::System(y) => if is_owner(system_row(env, y).sort) {
+            0
+        } else {
+            words
+        },
+        _ => words,
+    }
+}
+
+/// The words that one variable of a type takes of its owner.
+pub fn words(env: &Environment, of: Judged<usize>) -> usize
+    ensures { result ≡ words_of_type (environment env.now) of }
+{
+    match of {
+        Ok(t) => words_in(env, words_of_row(env, t), structure(env, t)),
+        Err(_) => 0,
+    }
+}
+
+impl<'t> Checker<'t> {
+    // The type of a group. Inside its definition its names are names of something, but of no type.
+    fn group_type(
+        &mut self,
+        position: Position,
+        group: &'t Fields,
+    ) -> Result<Judged<usize>, AllocError>
+        ensures { IfOk result (λ of. (state self.new ≡ left_group (state self.old) position (view.variables group.now)) × (of ≡ group_type (state self.old).env position (view.variables group.now))) }
+    {
+        let mark = self.mark();
+        self.declare_all(&group.names, UNFINISHED)?;
+        let of = self.type_placed(position, &group.of)?;
+        self.leave(mark);
+        Ok(of)
+    }
+
+    // Variables of one type, and their words.
+    fn variable_group(&mut self, position: Position, group: &'t Fields) -> Result<usize, AllocError>
+        ensures { IfOk result (λ n. Declares (state self.old) (state self.new) n (d.variable_group (state self.old).env position (view.variables group.now))) }
+    {
+        let of = self.group_type(position, group)?;
+        let each = words(&self.environment, of);
+        self.add_all(&group.names, entity(of))?;
+        self.owners(position, of, &group.names);
+        Ok(product(group.names.len(), each))
+    }
+
+    /// Declares variables, and answers the words that they take of their owner, counted to one above the limit. It fails only when memory
+    /// runs out.
+    pub fn variables(
+        &mut self,
+        position: Position,
+        groups: &'t [Fields],
+    ) -> Result<usize, AllocError>
+        ensures { IfOk result (λ n. Declares (state self.old) (state self.new) n (d.variables (state self.old).env position (map view.variables groups.now))) }
+    {
+        let mut words = 0;
+        for group in groups {
+            let more = self.variable_group(position, group)?;
+            words = sum(words, more);
+        }
+        Ok(words)
+    }
+}
