@@ -1,9 +1,11 @@
 #!/usr/bin/env python3
-"""Tries the built program cpm from outside: the examples, its exits, and each allocation, read and write refused in turn.
+"""Tries the built program cpm from outside: the examples, its exits, and each allocation, thread
+start, read and write refused in turn.
 
 Build the program first (`rt run < stdin` in crates/cpm leaves out/cpm), then call this script. It needs a C compiler (`cc`).
 It prints what is wrong and how much was tried, and ends with status 0 where nothing was wrong.
 """
+import json
 import os
 import pathlib
 import re
@@ -42,6 +44,30 @@ def try_examples():
     return count
 
 
+def try_rules():
+    """Each text that breaks a rule, with the line of its refusal beside it."""
+    count = 0
+    for refusal in sorted((EXAMPLES / 'rules').glob('*.refusal')):
+        text = refusal.with_suffix('.cp')
+        expect(refusal.name, run(['check', f'rules/{text.name}']), (1, b'', refusal.read_bytes()))
+        count += 1
+    return count
+
+
+def try_worked():
+    """Each worked text that is checked, by its answer."""
+    listed = subprocess.run([sys.executable, ROOT / 'worked' / 'make_rows.py', '--list'], capture_output=True, check=True).stdout
+    cases = [case for case in json.loads(listed) if case['words'] == 'check']
+    with tempfile.TemporaryDirectory() as folder:
+        file = pathlib.Path(folder) / 'text.cp'
+        for case in cases:
+            file.write_bytes(case['text'].encode('latin-1'))
+            answer = case['answer'].encode('latin-1')
+            accepted = answer == b'accepted\n'
+            expect(case['name'], run(['check', file]), (0, answer, b'') if accepted else (1, b'', answer))
+    return len(cases)
+
+
 def try_exits():
     """Exits that `execute` doesn't give."""
     status, out, _ = run(['--help'])
@@ -49,11 +75,12 @@ def try_exits():
     status, out, _ = run(['run', 'seven.cp'])
     expect('no rounds', (status, out), (2, b''))
     status, out, _ = run([b'\xff'])
-    expect('a word that is not UTF-8', (status, out), (2, b''))
+    expect('an argument that is not UTF-8', (status, out), (2, b''))
     expect('no file', run(['check', 'nowhere.cp']), (4, b'', b'fault I1\n'))
     expect('a folder', run(['check', '.']), (4, b'', b'fault I1\n'))
     expect('no input', run(['run', 'seven.cp', '--rounds', '1', '--input', 'nowhere']), (4, b'', b'fault I1\n'))
-    expect('outside the fragment', run(['check', 'buffer.cp']), (1, b'', b'refused F1 at 0\n'))
+    expect('accepted outside the fragment', run(['check', 'buffer.cp']), (0, b'accepted\n', b''))
+    expect('run outside the fragment', run(['run', 'buffer.cp', '--rounds', '1']), (1, b'', b'refused F1 at 0\n'))
 
 
 def try_each(preloaded, name, count, words, right):
@@ -64,31 +91,57 @@ def try_each(preloaded, name, count, words, right):
             wrong.append(f'{name} {n}: {found}')
 
 
-def try_refusals(folder, words):
-    """Refuses each allocation, read and write of a run. Each write takes one byte then, so that there are many. How many of each."""
-    library, calls = folder / 'refusing.so', folder / 'calls'
-    subprocess.run(['cc', '-shared', '-fPIC', '-O1', '-o', library, REFUSING], check=True)
-    preloaded = {'LD_PRELOAD': str(library), 'SHORT_WRITES': '1'}
+def is_refused_or(due):
+    """Whether a run is refused memory, or has this report: a collection that is refused the room it foresees takes less."""
+    return lambda found: found in [(3, b'', b'fault M\n'), (0, due, b'')]
+
+
+def count_calls(library, words, short):
+    """What a run writes, and its counts of allocations, thread starts, reads and writes."""
     _, due, _ = run(words)
-    expect('writes of one byte', run(words, {**preloaded, 'CALLS': str(calls)}), (0, due, b''))
-    memory, reads, writes = map(int, calls.read_text().split())
-    # A collection that is refused the room it foresees takes less, and then the answer is right.
-    try_each(preloaded, 'REFUSE_ALLOCATION', memory, words, lambda found: found in [(3, b'', b'fault M\n'), (0, due, b'')])
+    calls = library.with_name('calls')
+    expect('a run that is counted', run(words, {'LD_PRELOAD': str(library), 'CALLS': str(calls), **short}), (0, due, b''))
+    return due, map(int, calls.read_text().split())
+
+
+def try_refusals(library, words):
+    """Refuses each allocation, read and write of a run. Each write takes one byte then, so that there are many. How many of each."""
+    short = {'SHORT_WRITES': '1'}
+    preloaded = {'LD_PRELOAD': str(library), **short}
+    due, (memory, _, reads, writes) = count_calls(library, words, short)
+    try_each(preloaded, 'REFUSE_ALLOCATION', memory, words, is_refused_or(due))
     try_each(preloaded, 'REFUSE_READ', reads, words, lambda found: found == (4, b'', b'fault I1\n'))
     try_each(preloaded, 'REFUSE_WRITE', writes, words,
              lambda found: found[0] == 4 and len(found[1]) < len(due) and due.startswith(found[1]) and found[2] == b'fault I2\n')
     return memory, reads, writes
 
 
+def try_threads(library, words):
+    """Refuses each allocation and each thread start of a run by several workers. How many of each."""
+    preloaded = {'LD_PRELOAD': str(library)}
+    due, (memory, threads, _, _) = count_calls(library, words, {})
+    expect('threads are started', threads > 0, True)
+    try_each(preloaded, 'REFUSE_ALLOCATION', memory, words, is_refused_or(due))
+    try_each(preloaded, 'REFUSE_THREAD', threads, words, lambda found: found == (3, b'', b'fault M\n'))
+    return memory, threads
+
+
 def main():
-    examples = try_examples()
+    examples, rules, worked = try_examples(), try_rules(), try_worked()
     try_exits()
     with tempfile.TemporaryDirectory() as folder:
+        library = pathlib.Path(folder) / 'refusing.so'
+        subprocess.run(['cc', '-shared', '-fPIC', '-O1', '-o', library, REFUSING], check=True)
         words = ['run', 'squares.cp', '--rounds', '5', '--turn', '4', '--input', 'seven.cp']
-        memory, reads, writes = try_refusals(pathlib.Path(folder), words)
+        memory, reads, writes = try_refusals(library, words)
+        words = ['run', 'squarers.cp', '--rounds', '5', '--turn', '4', '--workers', '4']
+        waves = [try_threads(library, [*words, '--wave', wave]) for wave in ['1', '2', '255']]
+        shared, threads = map(sum, zip(*waves))
     for line in wrong:
         print(line)
-    print(f'{examples} examples; {memory} allocations, {reads} reads and {writes} writes refused in turn; {len(wrong)} wrong')
+    print(f'{examples} examples, {rules} texts that break a rule, {worked} worked texts; '
+          f'{memory} allocations, {reads} reads and {writes} writes refused in turn; '
+          f'with 4 workers {shared} allocations and {threads} thread starts; {len(wrong)} wrong')
     return 1 if wrong else 0
 
 

@@ -1,12 +1,15 @@
-/* Loaded before the C library: refuses one allocation, one read or one write of a program, or lets each write take one byte.
+/* Loaded before the C library: refuses one allocation, one start of a thread, one read or one write of a program, or lets each
+ * write take one byte.
  *
- * REFUSE_ALLOCATION=N, REFUSE_READ=N, REFUSE_WRITE=N: the Nth such call fails, counted from 1; reads and writes of files 0, 1
- * and 3 upwards count, those of standard error don't. SHORT_WRITES=1: each write takes one byte. CALLS=FILE: at the end the
- * counts of allocations, reads and writes are written to the file.
+ * REFUSE_ALLOCATION=N, REFUSE_THREAD=N, REFUSE_READ=N, REFUSE_WRITE=N: the Nth such call fails, counted from 1 over all threads;
+ * reads and writes of files 0, 1 and 3 upwards count, those of standard error don't. SHORT_WRITES=1: each write takes one byte.
+ * CALLS=FILE: at the end the counts of allocations, thread starts, reads and writes are written to the file.
  */
 #define _GNU_SOURCE
+#include <dlfcn.h>
 #include <errno.h>
 #include <fcntl.h>
+#include <pthread.h>
 #include <stdio.h>
 #include <stdlib.h>
 #include <sys/syscall.h>
@@ -17,7 +20,7 @@ void *__libc_calloc(size_t count, size_t size);
 void *__libc_realloc(void *old, size_t size);
 void *__libc_memalign(size_t alignment, size_t size);
 
-static long allocations, reads, writes;
+static _Atomic long allocations, threads, reads, writes;
 
 static long wanted(const char *name)
 {
@@ -52,6 +55,12 @@ int posix_memalign(void **out, size_t alignment, size_t size)
     return *out ? 0 : ENOMEM;
 }
 
+int pthread_create(pthread_t *thread, const pthread_attr_t *attributes, void *(*start)(void *), void *argument)
+{
+    int (*create)(pthread_t *, const pthread_attr_t *, void *(*)(void *), void *) = dlsym(RTLD_NEXT, "pthread_create");
+    return ++threads == wanted("REFUSE_THREAD") ? EAGAIN : create(thread, attributes, start, argument);
+}
+
 ssize_t read(int file, void *buffer, size_t size)
 {
     if (++reads == wanted("REFUSE_READ")) {
@@ -79,7 +88,7 @@ __attribute__((destructor)) static void tell(void)
     int file, length;
     if (!name)
         return;
-    length = snprintf(line, sizeof line, "%ld %ld %ld\n", allocations, reads, writes);
+    length = snprintf(line, sizeof line, "%ld %ld %ld %ld\n", allocations, threads, reads, writes);
     file = open(name, O_WRONLY | O_CREAT | O_TRUNC, 0600);
     syscall(SYS_write, file, line, (size_t)length);
     close(file);

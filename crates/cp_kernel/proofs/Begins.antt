@@ -10,7 +10,7 @@ use Rattle.cp_model.specs.States.{Setup, State}
 use Rattle.cp_model.specs.Rounds.{after_closing, close_round}
 use Rattle.cp_model.specs.Start.{start}
 use Rattle.cp_model.specs.Parts as parts
-use Rattle.cp_model.specs.Parts.{HasBegun, HasNotBegun, OwnStatus, own_status}
+use Rattle.cp_model.specs.Parts.{HasBegun, HasNotBegun, PrivateStatus, private_status}
 use Rattle.cp_fragment.specs.Processes.{environment_of, system_of, variable_location}
 use Rattle.cp_program.specs.declared.program.Program.{Program}
 use Rattle.cp_program.specs.StandsFor.{CodeFor, ProcessStands, names_of, start_of}
@@ -105,7 +105,7 @@ module _ (program : Program) (setup : Setup) (s : State) (p : ℕ) (before : Lis
     input = part.input;
     consumed = part.consumed;
     transcript = part.transcript;
-    status = ap (λ (y : Status). own_status (after_closing y)) e;
+    status = ap (λ (y : Status). private_status (after_closing y)) e;
     count = part.count;
     unbegun_place = λ f. absurd (Prim.grind (arith, f));
     unbegun_words = λ f. absurd (Prim.grind (arith, f));
@@ -118,7 +118,7 @@ module _ (program : Program) (setup : Setup) (s : State) (p : ℕ) (before : Lis
   }
     where
       unbegun : x.activity ≡ activity.NotBegun
-      unbegun = not_begun_activity x.activity (sym (ap own_status e) ∙ part.status)
+      unbegun = not_begun_activity x.activity (sym (ap private_status e) ∙ part.status)
 
   -- It was not fresh: nothing of it changes.
   goes_on : after_closing (s.status p) ≡ s.status p → PartOf program setup (close_round s) p before x
@@ -127,11 +127,11 @@ module _ (program : Program) (setup : Setup) (s : State) (p : ℕ) (before : Lis
     input = part.input;
     consumed = part.consumed;
     transcript = part.transcript;
-    status = ap own_status e ∙ part.status;
+    status = ap private_status e ∙ part.status;
     count = part.count;
     unbegun_place = part.unbegun_place;
     unbegun_words = part.unbegun_words;
-    words = λ b. part.words (subst (λ (y : Status). HasBegun (own_status y)) e b);
+    words = λ b. part.words (subst (λ (y : Status). HasBegun (private_status y)) e b);
     continuation = part.continuation;
   }
 

@@ -7,7 +7,7 @@ use Rattle.cp_model.specs.Configurations as c
 use Rattle.cp_model.specs.Configurations.{Status}
 use Rattle.cp_model.specs.States.{Setup, State, with_at}
 use Rattle.cp_model.specs.Parts as parts
-use Rattle.cp_model.specs.Parts.{HasBegun, HasNotBegun, OwnStatus, is_own, own_status}
+use Rattle.cp_model.specs.Parts.{HasBegun, HasNotBegun, PrivateStatus, is_own, private_status}
 use Rattle.cp_model.specs.declared.state.Fault.TheVariants as fault
 use Rattle.cp_model.proofs.StateMaps.{differ, with_at_here, with_at_there}
 use Rattle.cp_fragment.specs.Processes.{environment_of, system_of}
@@ -27,11 +27,11 @@ use Rattle.cp_kernel.proofs.KernelSteps.{started_state}
 
 module _ (program : Program) (setup : Setup) (s : State) (p : ℕ) (before : List ℕ) (x : Private)
     (part : PartOf program setup s p before x) (running : x.activity ≡ activity.Running) where
-  pub runs : own_status (s.status p) ≡ parts.Running
+  pub runs : private_status (s.status p) ≡ parts.Running
   runs = part.status ∙ ap (λ (v : Activity). status_of v) running
 
-  begun : HasBegun (own_status (s.status p))
-  begun = subst (λ (v : OwnStatus). HasBegun v) (sym runs) tt
+  begun : HasBegun (private_status (s.status p))
+  begun = subst (λ (v : PrivateStatus). HasBegun v) (sym runs) tt
 
   -- It faults: nothing else changes.
   pub faulted_part : (r : ℕ) (k : List Task)
@@ -41,7 +41,7 @@ module _ (program : Program) (setup : Setup) (s : State) (p : ℕ) (before : Lis
     input = part.input;
     consumed = part.consumed;
     transcript = part.transcript;
-    status = ap own_status (with_at_here p (c.Faulted 7) s.status);
+    status = ap private_status (with_at_here p (c.Faulted 7) s.status);
     count = part.count;
     unbegun_place = λ e. absurd (Prim.grind (arith, e));
     unbegun_words = λ e. absurd (Prim.grind (arith, e));
@@ -58,7 +58,7 @@ module _ (program : Program) (setup : Setup) (s : State) (p : ℕ) (before : Lis
     input = part.input;
     consumed = part.consumed ∙ sym (with_at_here p (s.consumed p) s.consumed);
     transcript = with_at_here p (s.transcript p) s.transcript ∙ part.transcript;
-    status = ap own_status (with_at_there r p c.Fresh s.status apart) ∙ part.status;
+    status = ap private_status (with_at_there r p c.Fresh s.status apart) ∙ part.status;
     count = part.count;
     unbegun_place = λ e. absurd (let f = sym running ∙ e in Prim.grind (arith, f));
     unbegun_words = λ e. absurd (let f = sym running ∙ e in Prim.grind (arith, f));

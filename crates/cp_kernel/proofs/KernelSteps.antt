@@ -6,7 +6,7 @@ use Rattle.cp_model.specs.Abstract.{Name}
 use Rattle.cp_model.specs.Declarations.{declarations}
 use Rattle.cp_model.specs.Environments.{Environment}
 use Rattle.cp_model.specs.Components.{Component, process_location, process_number, same_sort}
-use Rattle.cp_model.specs.Continuations.{Do, EndProcess, Task, holds_gate, push}
+use Rattle.cp_model.specs.Continuations.{Do, EndProcess, Task, is_in_monitor, push}
 use Rattle.cp_model.specs.Actions.{action, is_kernel_action}
 use Rattle.cp_model.specs.Arguments.{bind, init_argument_writes}
 use Rattle.cp_model.specs.Configurations as c
@@ -104,8 +104,8 @@ module _ (setup : Setup) (s : State) (p r : ℕ) (x : Name) (k : List Task) (m :
 
   kinds : t.kind_of c.Ready left ≡ t.Kernel
   kinds =
-      ap (λ (b : Bool). if holds_gate left || b then t.Kernel else t.Private) is_kernel
-      ∙ ap (λ (b : Bool). if b then t.Kernel else t.Private) (or_true (holds_gate left))
+      ap (λ (b : Bool). if is_in_monitor left || b then t.Kernel else t.Private) is_kernel
+      ∙ ap (λ (b : Bool). if b then t.Kernel else t.Private) (or_true (is_in_monitor left))
 
   pub kernel_steps : s.status p ≡ c.Ready → s.continuation p ≡ Do (a.Init x a.NoExpression) (environment_of setup p) ∷ k
       → t.kernel_step setup s p ≡ started_state setup s p r k (is_started (s.status r))

@@ -3,7 +3,7 @@ use Rattle.std.proofs.Common.{◌≡◌, ℕ, suc, ◌-◌, ◌≤◌, Some, ref
 use Rattle.cp_model.specs.Configurations as c
 use Rattle.cp_model.specs.Configurations.{Status}
 use Rattle.cp_model.specs.Locations.{Location}
-use Rattle.cp_model.specs.Parts.{own_status}
+use Rattle.cp_model.specs.Parts.{private_status}
 use Rattle.cp_model.specs.States.{Setup, State, process_count}
 use Rattle.cp_model.specs.StateViews.{fault_number, status}
 use Rattle.cp_fragment.specs.Processes.{environment_of}
@@ -28,7 +28,7 @@ stage_at setup s k p kernel first last =
     let (g, e) = got_at k.stages.items (p - 1) (omega (arith, count, first, last)) in
     e ∙ ap (λ x. Some x) (kernel.stages.each (p - 1) g e ∙ ap (λ q. stage_of (s.status q)) number)
 
-status_told : (queues : ℕ → ℕ → Location) (a : Activity) (y : Status) → own_status y ≡ status_of a → (a ≡ activity.Running → y ≡ c.Ready)
+status_told : (queues : ℕ → ℕ → Location) (a : Activity) (y : Status) → private_status y ≡ status_of a → (a ≡ activity.Running → y ≡ c.Ready)
     → status queues (state_of a (Some (stage_of y))) ≡ y
 status_told queues activity.NotBegun c.Unstarted e h = refl
 status_told queues activity.NotBegun c.Fresh e h = refl

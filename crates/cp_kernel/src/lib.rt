@@ -6,6 +6,4 @@
 
 pub mod closing;
 pub mod kernel;
-#[cfg(test)]
-mod tests;
 pub mod turns;

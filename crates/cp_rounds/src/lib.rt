@@ -4,9 +4,13 @@
 #![tactic(auto)]
 
 pub mod gate;
+pub mod generation;
 pub mod machine;
 pub mod plan;
 pub mod reading;
-#[cfg(test)]
-mod tests;
+pub mod team;
 pub mod tick;
+pub mod turns;
+pub mod wave;
+pub mod whole;
+pub mod worker;

@@ -8,23 +8,26 @@ ghost use Rattle.cp_model.specs.States.{Setup, State, numbers_from, process_coun
 ghost use Rattle.cp_program.specs.StandsFor.{StandsFor};
 ghost use Rattle.cp_kernel.specs.KernelOf.{KernelOf, moved};
 ghost use Rattle.cp_kernel.specs.Stand.{Stand};
-ghost use Rattle.cp_rounds.specs.Holds.{AllReady, AllTurned, AreInputs, AreStarts, IsIn, Turned};
+ghost use Rattle.cp_rounds.specs.Holds.{AllReady, AreInputs, AreStarts, IsIn, MakesPrivateTurns, MakesRound, WavesMade};
 
 use crate::gate::TurnGate;
+use crate::generation::{Generation, copy_kernel, kernel_turns};
 use crate::plan::Plan;
+use crate::team::Idle;
 use crate::tick::Tick;
+use crate::turns::Turns;
+use crate::whole::{append, whole_wave};
 use cp_kernel::closing::end_round;
 use cp_kernel::kernel::Kernel;
-use cp_kernel::turns::kernel_turn;
 use cp_private::private::Private;
-use cp_private::steps::private_turn;
 use cp_private::turn::Turn;
 use cp_program::program::Program;
 use std::alloc::{AllocError, Global};
+use std::mem;
 use std::sync::Wait;
 use std::thread::Threads;
 
-/// A machine. The processes stand in it by number: process 1 comes first. `reading` has the calls that tell of it.
+/// A machine. The processes stand in it by number: process 1 comes first. `reading` has the calls that read it.
 #[derive(Drop)]
 pub struct Machine {
     /// Where rounds take their memory.
@@ -38,68 +41,90 @@ pub struct Machine {
     pub tick: Tick,
 }
 
-/// Memory was wanting in this round of a run, counted from 1. The rounds before it were made, and nothing of it.
+/// Memory ran out in this round of a run, counted from 1. The rounds before it were made, and nothing of it.
 #[derive(Clone, Copy, Debug, PartialEq, Eq)]
 pub struct MemoryAt(pub u32);
 
-// The private turn of process p, on a copy.
-fn turned<G: TurnGate>(
-    alloc: Global,
-    program: &Program,
-    private: &Private,
-    p: usize,
-    turn: Turn,
-    gate: &G,
-) -> Result<Private, AllocError>
-    ensures { IfOk result (λ y. Turned program.now turn.steps p private.now y) }
-{
-    let mut next = private.copy(alloc)?;
-    next.reserve(turn)?;
-    gate.begin(p);
-    private_turn(program, &mut next, turn);
-    Ok(next)
-}
-
-// All private turns, by number.
-fn all_turned<G: TurnGate>(
-    alloc: Global,
-    program: &Program,
-    privates: &[Private],
-    turn: Turn,
-    gate: &G,
-) -> Result<Vec<Private>, AllocError>
-    ensures { IfOk result (λ ys. AllTurned program.now turn.steps privates.now ys.items) }
-{
-    let mut all = Vec::with_capacity(alloc, privates.len())?;
-    for i in 0..privates.len() {
-        all.push(turned(alloc, program, &privates[i], i + 1, turn, gate)?)?;
-    }
-    Ok(all)
-}
-
-// Room for every kernel turn.
-fn reserve_all(kernel: &mut Kernel, privates: &[Private]) -> Result<(), AllocError>
+// Room for the kernel turns from an index on.
+fn reserve_from(kernel: &mut Kernel, privates: &[Private], from: usize) -> Result<(), AllocError>
     ensures same { (setup : Setup) (s : State) → KernelOf setup s kernel.old → KernelOf setup s kernel.new }
     ensures moved { (i : ℕ) → moved kernel.new i ≡ moved kernel.old i }
-    ensures ready { IfOk result (λ _. AllReady 0 privates.now kernel.new) }
+    ensures ready { IfOk result (λ _. AllReady from privates.now kernel.new) }
 {
-    for i in 0..privates.len() {
+    for i in from..privates.len() {
         kernel.reserve(&privates[i], i + 1)?;
     }
     Ok(())
 }
 
-// All kernel turns, by number.
-fn all_kernel_turns(program: &Program, kernel: &mut Kernel, privates: &mut [Private], turn: Turn)
-    requires ready { AllReady 0 privates.old kernel.old }
-    ensures turns { (setup : Setup) (s : State) → StandsFor program.now setup → Invariant s → length privates.old ≡ process_count setup
-        → Stand program.now setup s privates.old kernel.old
-        → Stand program.now setup (r.kernel_turns setup turn.steps s (numbers_from 1 (length privates.old))) privates.new kernel.new }
-    ensures count { length privates.new ≡ length privates.old }
+// All turns of a round, wave by wave: the kernel turns of a wave beside the private turns of the next one.
+fn all_waves<'x, R: Threads + Wait + Sync, G: TurnGate>(
+    rt: &R,
+    alloc: Global,
+    program: &'x Program,
+    privates: &'x Vec<Private>,
+    kernel: Kernel,
+    plan: &Plan,
+    gate: &G,
+) -> Result<(Kernel, Vec<Private>), AllocError>
+    ensures made { IfOk result (λ r. WavesMade program.now plan.now.turn.steps privates.now.items kernel (length r.1.items) r.1.items r.0) }
+    ensures count { IfOk result (λ r. length r.1.items ≡ length privates.now.items) }
 {
-    for i in 0..privates.len() {
-        kernel_turn(program, kernel, &mut privates[i], i + 1, turn);
+    let job = Turns {
+        program,
+        privates,
+        turn: plan.turn,
+    };
+    let mut kernel = kernel;
+    let mut next = Vec::with_capacity(alloc, privates.len())?;
+    let mut from = 0;
+    'wave: while next.len() < privates.len() {
+        let wave = plan.wave_from(next.len(), privates.len());
+        let workers = plan.workers as usize;
+        let made = Generation {
+            program,
+            turn: plan.turn,
+            kernel,
+            privates: next,
+            from,
+        };
+        let (results, turned) = whole_wave(rt, alloc, workers, wave, &job, gate, made)?;
+        kernel = turned.kernel;
+        next = turned.privates;
+        from = turned.from;
+        append(alloc, wave, results, &mut next)?;
+        reserve_from(&mut kernel, &next, from)?;
     }
+    Ok(kernel_turns(program, kernel, next, from, plan.turn, gate))
+}
+
+// The private turns of a round in one wave. The kernel is not touched, so a refusal leaves nothing to go back from.
+fn one_wave<R: Threads + Wait + Sync, G: TurnGate>(
+    rt: &R,
+    alloc: Global,
+    program: &Program,
+    privates: &Vec<Private>,
+    plan: &Plan,
+    gate: &G,
+) -> Result<Vec<Private>, AllocError>
+    requires one { length privates.now.items ≤ plan.now.wave }
+    ensures made { IfOk result (λ ys. MakesPrivateTurns program.now plan.now.turn.steps privates.now.items ys.items) }
+    ensures count { IfOk result (λ ys. length ys.items ≡ length privates.now.items) }
+{
+    let mut next = Vec::with_capacity(alloc, privates.len())?;
+    if privates.is_empty() {
+        return Ok(next);
+    }
+    let job = Turns {
+        program,
+        privates,
+        turn: plan.turn,
+    };
+    let wave = plan.wave_from(0, privates.len());
+    let workers = plan.workers as usize;
+    let (results, _idle) = whole_wave(rt, alloc, workers, wave, &job, gate, Idle)?;
+    append(alloc, wave, results, &mut next)?;
+    Ok(next)
 }
 
 // The private states at the start, one for each input.
@@ -147,15 +172,57 @@ impl Machine {
         })
     }
 
-    /// One round: the calling thread makes all private turns by number, then all kernel turns by number, and then those begin that
-    /// were started in it. The gate is told of each private turn.
+    // The turns of a round. A round of several waves makes kernel turns before the last private turns, so it works on a copy of the
+    // kernel, to go back to what was where memory is refused.
+    fn turns<R: Threads + Wait + Sync, G: TurnGate>(
+        &mut self,
+        rt: &R,
+        plan: &Plan,
+        gate: &G,
+    ) -> Result<(), AllocError>
+        ensures made { IfOk result (λ _. MakesRound plan.now.turn.steps self.old self.new) }
+        ensures kept { IfErr result (λ _. (setup : Setup) (s : State) → IsIn self.old setup s → IsIn self.new setup s) }
+        ensures count { length self.new.privates.items ≡ length self.old.privates.items }
+        ensures rounds { self.new.rounds ≡ self.old.rounds }
+    {
+        if self.privates.len() > plan.wave as usize {
+            let kernel = copy_kernel(self.alloc, &self.kernel)?;
+            let (kernel, next) = all_waves(
+                rt,
+                self.alloc,
+                &self.program,
+                &self.privates,
+                kernel,
+                plan,
+                gate,
+            )?;
+            self.kernel = kernel;
+            self.privates = next;
+            return Ok(());
+        }
+        let next = one_wave(rt, self.alloc, &self.program, &self.privates, plan, gate)?;
+        reserve_from(&mut self.kernel, &next, 0)?;
+        let none = Kernel {
+            stages: Vec::new(self.alloc),
+            transcripts: Vec::new(self.alloc),
+        };
+        let kernel = mem::replace(&mut self.kernel, none);
+        let (kernel, next) = kernel_turns(&self.program, kernel, next, 0, plan.turn, gate);
+        self.kernel = kernel;
+        self.privates = next;
+        Ok(())
+    }
+
+    /// One round. Workers make the private turns, wave by wave; the calling thread makes the kernel turns of a wave beside the private
+    /// turns of the next, by number, and is one of the workers between. Then those begin that were started in the round. The gate is
+    /// called before each turn.
     ///
     /// # Errors
     ///
-    /// `AllocError` where memory runs out. The machine is then in the state that it was in.
+    /// `AllocError` where memory runs out or a thread could not be started. The machine is then in the state that it was in.
     pub fn round<R: Threads + Wait + Sync, G: TurnGate>(
         &mut self,
-        _rt: &R,
+        rt: &R,
         plan: &Plan,
         gate: &G,
     ) -> Result<(), AllocError>
@@ -166,15 +233,7 @@ impl Machine {
         ensures processes { length self.new.privates.items ≡ length self.old.privates.items }
         ensures kept { IfErr result (λ _. (setup : Setup) (s : State) → IsIn self.old setup s → IsIn self.new setup s) }
     {
-        let next = all_turned(self.alloc, &self.program, &self.privates, plan.turn, gate)?;
-        reserve_all(&mut self.kernel, &next)?;
-        self.privates = next;
-        all_kernel_turns(
-            &self.program,
-            &mut self.kernel,
-            &mut self.privates,
-            plan.turn,
-        );
+        self.turns(rt, plan, gate)?;
         end_round(&self.program, &mut self.kernel, &mut self.privates);
         self.rounds += 1;
         Ok(())
@@ -184,7 +243,7 @@ impl Machine {
     ///
     /// # Errors
     ///
-    /// `MemoryAt` the first round for which memory was wanting.
+    /// `MemoryAt` the first round for which memory ran out or a thread could not be started.
     pub fn run<R: Threads + Wait + Sync, G: TurnGate>(
         &mut self,
         rt: &R,

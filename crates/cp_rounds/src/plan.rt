@@ -1,8 +1,9 @@
 //! Plans: how long a turn is, and how a round is cut among workers.
 
-ghost use Rattle.std.specs.Prelude.{◌≡◌, ◌≤◌, ◌↔◌, IfErr, IfOk, IsOk, IsTrue};
+ghost use Rattle.std.specs.Prelude.{◌≡◌, ◌<◌, ◌≤◌, ◌-◌, ◌↔◌, IfErr, IfOk, IsOk, IsTrue};
 ghost use Rattle.cp_rounds.specs.Plans.{AreInRange, IsFirstOut};
 
+use crate::wave::Wave;
 use cp_private::turn::Turn;
 
 /// How a round is made: a turn has at most so many steps; so many workers draw chunks of consecutive processes, wave by wave.
@@ -68,5 +69,15 @@ impl Plan {
             chunk,
             wave,
         })
+    }
+
+    /// The wave that begins at an index, of so many processes.
+    pub fn wave_from(&self, first: usize, processes: usize) -> Wave
+        requires first { first < processes }
+        ensures first { result.first ≡ first }
+        ensures end { (first < result.end) × (result.end ≤ processes) }
+        ensures whole { processes - first ≤ self.now.wave → result.end ≡ processes }
+    {
+        Wave::next(first, processes, self.wave as usize, self.chunk as usize)
     }
 }

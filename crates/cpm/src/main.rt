@@ -1,36 +1,22 @@
-//! cpm checks and runs texts of Concurrent Pascal: it reads its words, opens the files that they name, and prints what is due.
+//! cpm checks and runs texts of Concurrent Pascal: it parses its arguments, opens the files that they name, and prints what was asked for.
 #![tactic(auto)]
 
-pub mod checking;
-pub mod command;
-pub mod cutting;
-pub mod execute;
-pub mod files;
-pub mod numbers;
-pub mod reading;
-pub mod refusal;
-pub mod report;
-pub mod running;
-#[cfg(test)]
-mod tests;
-pub mod writing;
-
-use crate::command::{CommandError, read_command};
-use crate::files::perform;
-use crate::refusal::{Refusal, exit_of};
+use cp_command::command::{CommandError, read_command};
+use cp_command::files::perform;
+use cp_execute::refusal::{Refusal, exit_of};
 use std::process::ExitCode;
 use std::{env, io};
 
-/// The exit status where the words are those of no command, or ask for help.
+/// The exit status where the arguments are wrong or ask for help.
 const USAGE: u8 = 2;
 
-// The words that the program is started with.
-fn words(rt: &HostRuntime) -> io::Result<Vec<String>> {
-    let words: Vec<String> = env::args(rt)?.collect(rt.alloc())?;
-    Ok(words)
+// The arguments of the program, its own name first.
+fn arguments(rt: &HostRuntime) -> io::Result<Vec<String>> {
+    let arguments: Vec<String> = env::args(rt)?.collect(rt.alloc())?;
+    Ok(arguments)
 }
 
-// Where standard error can't be written, the status alone tells.
+// Where standard error can't be written, the exit status alone says what happened.
 fn refused(rt: &HostRuntime, refusal: Refusal) -> ExitCode {
     let _ = eprintln!(rt; "{refusal}");
     ExitCode::from(exit_of(&refusal))
@@ -45,16 +31,16 @@ fn unread(rt: &HostRuntime, error: &io::Error) -> ExitCode {
     if error.kind() == io::ErrorKind::OutOfMemory {
         return refused(rt, Refusal::Memory);
     }
-    let _ = eprintln!(rt; "error: a word is not UTF-8");
+    let _ = eprintln!(rt; "error: an argument is not UTF-8");
     ExitCode::from(USAGE)
 }
 
 fn main(rt: HostRuntime) -> ExitCode {
-    let words = match words(&rt) {
-        Ok(words) => words,
+    let arguments = match arguments(&rt) {
+        Ok(arguments) => arguments,
         Err(error) => return unread(&rt, &error),
     };
-    let command = match read_command(rt.alloc(), words.as_slice()) {
+    let command = match read_command(rt.alloc(), arguments.as_slice()) {
         Ok(command) => command,
         Err(CommandError::Memory) => return refused(&rt, Refusal::Memory),
         Err(error) => return misused(&rt, &error),

@@ -1,0 +1,30 @@
+-- The commands: the numbers of a run, and what is told where there is no command.
+use Rattle.std.specs.Prelude.{◌≡◌, ◌≢◌, ◌≤◌, ℕ, None}
+use Rattle.clap.specs.Words.{kind_of}
+use Rattle.clap.specs.declared.error.Error.{Error}
+use Rattle.clap.specs.declared.error.kind.ErrorKind.TheVariants as kind
+use Rattle.cp_command.specs.declared.command.CommandError.{CommandError}
+use Rattle.cp_command.specs.declared.command.CommandError.TheVariants as error
+use Rattle.cp_command.specs.declared.command.Command.{Command}
+use Rattle.cp_command.specs.declared.command.Command.TheVariants as command
+use Rattle.cp_execute.specs.declared.running.Run.{Run}
+
+-- The run has these numbers: rounds, turn, workers, chunk, wave, tick.
+abbrev pub Has : ℕ → ℕ → ℕ → ℕ → ℕ → ℕ → Run → Type 0
+Has rounds turn workers chunk wave tick run =
+    (run.rounds ≡ rounds) × (run.plan.turn.steps ≡ turn) × (run.plan.workers ≡ workers) × (run.plan.chunk ≡ chunk) × (run.plan.wave ≡ wave) × (run.tick.rounds ≡ tick)
+
+-- No run has more rounds than these.
+abbrev pub HasRounds : Command → Type 0
+HasRounds (command.Check file) = Unit {0}
+HasRounds (command.Run file run input) = run.rounds ≤ 1000000
+
+-- The command where there are no words.
+abbrev pub IsWithoutWords : Command → Type 0
+IsWithoutWords (command.Check file) = ⊥
+IsWithoutWords (command.Run file run input) = (file ≡ None) × Has 2 100 2 1 255 1 run × (input ≡ None)
+
+-- clap tells that memory was refused by the kind of its error.
+pub record ComesFrom (of : Error) (e : CommandError) : Type 0 where
+  pub memory : kind_of of ≡ kind.OutOfMemory → e ≡ error.Memory
+  pub usage : kind_of of ≢ kind.OutOfMemory → e ≡ error.Usage of

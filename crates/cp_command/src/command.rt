@@ -1,0 +1,234 @@
+//! The command line: which command is given, and with which numbers.
+
+ghost use Rattle.std.specs.Prelude.{◌≡◌, ◌≤◌, IfOk, IsOk, length};
+ghost use Rattle.cp_rounds.specs.Plans.{AreInRange};
+ghost use Rattle.cp_command.specs.Commands.{ComesFrom, Has, HasRounds, IsWithoutWords};
+ghost use Rattle.cp_command.specs.declared.command.CommandError.TheVariants as error;
+
+use crate::numbers::number;
+use clap::error::ErrorKind;
+use clap::{Arg, ArgMatches};
+use cp_execute::running::Run;
+use cp_rounds::plan::Plan;
+use cp_rounds::tick::Tick;
+use std::alloc::{AllocError, Global};
+use std::convert::AsStr;
+use thiserror::Error;
+
+/// What cpm is asked to do.
+#[derive(Clone, Copy, Debug)]
+pub enum Command<'a> {
+    /// `check FILE`: to judge the text of a file.
+    Check {
+        file: &'a str,
+    },
+    /// `run FILE`: to run the text of a file, or of standard input where there is no file. The input is that of a file, or empty.
+    Run {
+        file: Option<&'a str>,
+        run: Run,
+        input: Option<&'a str>,
+    },
+}
+
+/// Why there is no command.
+#[derive(Debug, Drop, Error)]
+pub enum CommandError {
+    /// The words aren't those of a command, or ask for help. The exit status is 2.
+    #[error("{0}")]
+    Usage(clap::Error),
+    /// M: memory was refused.
+    #[error("fault M")]
+    Memory,
+}
+
+impl From<AllocError> for CommandError {
+    ghost from_gives = { λ _ e. e ≡ error.Memory };
+
+    fn from(_error: AllocError) -> CommandError {
+        CommandError::Memory
+    }
+}
+
+impl From<clap::Error> for CommandError {
+    ghost from_gives = { λ error e. ComesFrom error e };
+
+    fn from(error: clap::Error) -> CommandError {
+        match error.kind() {
+            ErrorKind::OutOfMemory => CommandError::Memory,
+            _ => CommandError::Usage(error),
+        }
+    }
+}
+
+// An option whose number lies outside its range.
+#[derive(Clone, Copy, Debug, Error)]
+#[error("--{name} takes decimal digits, from {low} to {most}")]
+struct OutOfRange {
+    name: &'static str,
+    low: u32,
+    most: u32,
+}
+
+// The run of these numbers.
+fn run_of(rounds: u32, turn: u32, workers: u32, chunk: u32, wave: u32, tick: u32) -> Run
+    requires plan { AreInRange turn workers chunk wave }
+    requires tick { (1 ≤ tick) × (tick ≤ 1000000) }
+    ensures { Has rounds turn workers chunk wave tick result }
+{
+    match (Plan::new(turn, workers, chunk, wave), Tick::new(tick)) {
+        (Ok(plan), Ok(tick)) => Run { rounds, plan, tick },
+        _ => unreachable!(),
+    }
+}
+
+fn option<'a>(alloc: Global, name: &'a str, about: &'a str) -> Arg<'a> {
+    Arg::new(alloc, name).long(name).value_name("N").help(about)
+}
+
+fn file<'a>(alloc: Global) -> Arg<'a> {
+    Arg::new(alloc, "FILE").required(true).help("the text")
+}
+
+fn check_words<'a>(alloc: Global) -> Result<clap::Command<'a>, AllocError> {
+    clap::Command::new(alloc, "check")
+        .about("Judges a text by the rules of the language")
+        .arg(file(alloc))
+}
+
+fn run_words<'a>(alloc: Global) -> Result<clap::Command<'a>, AllocError> {
+    let rounds = option(alloc, "rounds", "how many rounds to run, up to 1000000");
+    let input = Arg::new(alloc, "input")
+        .long("input")
+        .value_name("FILE")
+        .help("the inputs of the processes");
+    clap::Command::new(alloc, "run")
+        .about("Runs a text and reports its state")
+        .arg(file(alloc))?
+        .arg(rounds.required(true))?
+        .arg(option(alloc, "turn", "steps in a turn, 1 to 10000 (default 100)"))?
+        .arg(option(
+            alloc,
+            "workers",
+            "threads that make private turns, 1 to 64 (default 2)",
+        ))?
+        .arg(option(
+            alloc,
+            "chunk",
+            "processes that a worker draws at once, 1 to 255 (default 1)",
+        ))?
+        .arg(option(alloc, "wave", "processes in a wave, 1 to 255 (default 255)"))?
+        .arg(option(
+            alloc,
+            "tick",
+            "rounds between two ticks of the clock, 1 to 1000000 (default 1)",
+        ))?
+        .arg(input)
+}
+
+fn grammar<'a>(alloc: Global) -> Result<clap::Command<'a>, AllocError> {
+    clap::Command::new(alloc, "cpm")
+        .about("Checks and runs texts of Concurrent Pascal")
+        .subcommand_required(true)
+        .subcommand(check_words(alloc)?)?
+        .subcommand(run_words(alloc)?)
+}
+
+// The number of an option, or its default.
+fn count(
+    matches: &ArgMatches<'_>,
+    name: &'static str,
+    low: u32,
+    most: u32,
+    otherwise: u32,
+) -> Result<u32, OutOfRange>
+    requires small { most ≤ 1000000 }
+    requires within { (low ≤ otherwise) × (otherwise ≤ most) }
+    ensures within { IfOk result (λ n. (low ≤ n) × (n ≤ most)) }
+{
+    let Some(text) = matches.get_str(name) else {
+        return Ok(otherwise);
+    };
+    match number(text.as_bytes(), low, most) {
+        Some(n) => Ok(n),
+        None => Err(OutOfRange { name, low, most }),
+    }
+}
+
+fn read_run(matches: &ArgMatches<'_>) -> Result<Run, OutOfRange>
+    ensures { IfOk result (λ run. run.rounds ≤ 1000000) }
+{
+    let rounds = count(matches, "rounds", 0, 1_000_000, 2)?;
+    let turn = count(matches, "turn", 1, 10_000, 100)?;
+    let workers = count(matches, "workers", 1, 64, 2)?;
+    let chunk = count(matches, "chunk", 1, 255, 1)?;
+    let wave = count(matches, "wave", 1, 255, 255)?;
+    let tick = count(matches, "tick", 1, 1_000_000, 1)?;
+    Ok(run_of(rounds, turn, workers, chunk, wave, tick))
+}
+
+fn misused(grammar: &mut clap::Command<'_>, kind: ErrorKind, text: &str) -> CommandError {
+    match grammar.error(kind, text) {
+        Ok(error) => CommandError::Usage(error),
+        Err(_) => CommandError::Memory,
+    }
+}
+
+fn out_of_range(alloc: Global, grammar: &mut clap::Command<'_>, range: OutOfRange) -> CommandError {
+    match format!(in alloc; "{range}") {
+        Ok(text) => misused(grammar, ErrorKind::ValueValidation, text.as_str()),
+        Err(_) => CommandError::Memory,
+    }
+}
+
+/// The command that words tell, of which the first is the program's name. No others mean to run the text of standard input for 2
+/// rounds.
+///
+/// # Errors
+///
+/// `Usage` where the words are those of no command, or ask for help, and `Memory` where memory runs out.
+pub fn read_command<'a, S: AsStr>(
+    alloc: Global,
+    words: &'a [S],
+) -> Result<Command<'a>, CommandError>
+    ensures rounds { IfOk result HasRounds }
+    ensures none { length words.entry.now ≤ 1 → IfOk result IsWithoutWords }
+    ensures some { length words.entry.now ≤ 1 → IsOk result }
+{
+    if words.len() <= 1 {
+        return Ok(Command::Run {
+            file: None,
+            run: run_of(2, 100, 2, 1, 255, 1),
+            input: None,
+        });
+    }
+    let mut grammar = grammar(alloc)?;
+    let matches = grammar.try_get_matches_from_mut(words)?;
+    read_matches(alloc, &mut grammar, &matches)
+}
+
+// The command that the matches tell. The grammar asks for a command and its file, so neither is missing.
+fn read_matches<'a>(
+    alloc: Global,
+    grammar: &mut clap::Command<'a>,
+    matches: &ArgMatches<'a>,
+) -> Result<Command<'a>, CommandError>
+    ensures { IfOk result HasRounds }
+{
+    let Some((name, matches)) = matches.subcommand() else {
+        return Err(misused(grammar, ErrorKind::MissingSubcommand, "no command"));
+    };
+    let Some(file) = matches.get_str("FILE") else {
+        return Err(misused(grammar, ErrorKind::MissingRequiredArgument, "no file"));
+    };
+    if name == "check" {
+        return Ok(Command::Check { file });
+    }
+    match read_run(matches) {
+        Ok(run) => Ok(Command::Run {
+            file: Some(file),
+            run,
+            input: matches.get_str("input"),
+        }),
+        Err(range) => Err(out_of_range(alloc, grammar, range)),
+    }
+}

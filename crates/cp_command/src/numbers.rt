@@ -1,0 +1,26 @@
+//! Numbers of the command line.
+
+ghost use Rattle.std.specs.Prelude.{◌≡◌, ◌≤◌, IfSome};
+ghost use Rattle.cp_command.specs.Numbers.{number_within};
+
+/// The number that decimal digits alone tell, where it lies from `low` to `most`.
+pub fn number(text: &[u8], low: u32, most: u32) -> Option<u32>
+    requires small { most ≤ 1000000 }
+    ensures value { result ≡ number_within low most text.now }
+    ensures within { IfSome result (λ n. (low ≤ n) × (n ≤ most)) }
+{
+    if text.is_empty() {
+        return None;
+    }
+    let mut n: u32 = 0;
+    for byte in text {
+        if *byte < b'0' || b'9' < *byte {
+            return None;
+        }
+        n = 10 * n + u32::from(*byte - b'0');
+        if most < n {
+            return None;
+        }
+    }
+    if n < low { None } else { Some(n) }
+}

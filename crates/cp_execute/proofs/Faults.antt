@@ -1,0 +1,159 @@
+-- An accepted text is refused for a fault alone.
+use Rattle.std.proofs.Common.{◌≡◌, ◌≤◌, ◌⊎◌, ℕ, true, false, List, length, Option, None, Some, Result, Ok, Err, IfErr, IfSome, OnErr, ap, sym, ◌∙◌, subst, arith, inl, inr}
+use Rattle.std.proofs.lemmas.List.{take_all}
+use Rattle.cp_model.specs.Syntax as s
+use Rattle.cp_model.specs.Grammar.{Reads, nesting_limit}
+use Rattle.cp_model.specs.Rules.{Accepted, told}
+use Rattle.cp_model.specs.RulesJudged.{least}
+use Rattle.cp_model.specs.Spelling.{Spells}
+use Rattle.cp_model.specs.declared.rules.Violation.{Violation}
+use Rattle.cp_model.specs.declared.token.Token.{Token}
+use Rattle.cp_scan.specs.Laws.{IsFirstCause, longest_text}
+use Rattle.cp_scan.specs.Pieces.{tokens_of}
+use Rattle.cp_scan.specs.declared.refusal.Cause.{Cause}
+use Rattle.cp_scan.specs.declared.refusal.Cause.TheVariants as cause
+use Rattle.cp_scan.proofs.Complete.{spelled_found, refusal_found}
+use Rattle.cp_grammar.proofs.TextComplete.{tree_is_unique}
+use Rattle.cp_fragment.specs.Fragment.{is_in_fragment}
+use Rattle.cp_syntax.specs.Refusals.{HasNoTree}
+use Rattle.cp_execute.specs.declared.refusal.Refusal.{Refusal}
+use Rattle.cp_execute.specs.declared.refusal.Refusal.TheVariants as refusal
+use Rattle.cp_execute.specs.Executed.{IsFault, IsFaultOfAccepted, IsFaultOrOfInput, RefusesInput, RefusesText, front}
+use Rattle.cp_execute.specs.Cutting.{judged}
+use Rattle.cp_execute.specs.Texts.{IsAccepted, IsRunnable, IsTextOf, LacksProgram, Refuses}
+use Rattle.cp_execute.proofs.TextRefusals.{of_known}
+
+-- ---- a text has one list of tokens and one tree
+
+one_list : (xs : List ℕ) (a b : List Token) → Spells xs a → Spells xs b → a ≡ b
+one_list xs a b h g = let e = spelled_found xs a h in let f = spelled_found xs b g in cc
+
+one_tree : (xs : List ℕ) (t u : s.Tree) → IsTextOf xs t → IsTextOf xs u → t ≡ u
+one_tree xs t u h g =
+    tree_is_unique nesting_limit h.tokens t u h.reads
+    (subst (λ (ts : List Token). Reads ts u) (one_list xs g.tokens h.tokens g.spelled h.spelled) g.reads)
+
+-- ---- none of the causes in a text stands in an accepted one
+
+not_found : (xs : List ℕ) (tokens : List Token) (c : Cause) (at : ℕ) → Spells xs tokens → tokens_of xs ≡ Err (c, at) → ⊥
+not_found xs tokens c at h f = let e = spelled_found xs tokens h in cc
+
+not_scanned : (xs : List ℕ) (tokens : List Token) (c : Cause) (at : ℕ) → length xs ≤ longest_text → Spells xs tokens → IsFirstCause c at xs → ⊥
+not_scanned xs tokens cause.Byte at le h f = not_found xs tokens cause.Byte at h (refusal_found xs cause.Byte at f.1.0 f.1.1 f.1.2)
+not_scanned xs tokens cause.Comment at le h f = not_found xs tokens cause.Comment at h (refusal_found xs cause.Comment at f.1.0 f.1.1 f.1.2)
+not_scanned xs tokens cause.Character at le h f = not_found xs tokens cause.Character at h (refusal_found xs cause.Character at f.1.0 f.1.1 f.1.2)
+not_scanned xs tokens cause.Number at le h f = not_found xs tokens cause.Number at h (refusal_found xs cause.Number at f.1.0 f.1.1 f.1.2)
+not_scanned xs tokens cause.Word at le h f = not_found xs tokens cause.Word at h (refusal_found xs cause.Word at f.1.0 f.1.1 f.1.2)
+not_scanned xs tokens cause.Size at le h f = Prim.omega (arith, le, f.0)
+
+not_parsed : (xs : List ℕ) (t : s.Tree) (tokens : List Token) → IsTextOf xs t → Spells xs tokens → HasNoTree tokens → ⊥
+not_parsed xs t tokens is h none = none t (subst (λ (ts : List Token). Reads ts t) (one_list xs is.tokens tokens is.spelled h) is.reads)
+
+not_told : (t : s.Tree) (v : Violation) → Accepted t → told t ≡ Some v → ⊥
+not_told t v accepted e = clash (sym (ap (λ (vs : List Violation). least None vs) accepted) ∙ e)
+  where
+    clash : None ≡ Some v → ⊥
+    clash e = Prim.grind (arith, e)
+
+not_outside : (t : s.Tree) → is_in_fragment t ≡ true → is_in_fragment t ≡ false → ⊥
+not_outside t h g = clash (sym h ∙ g)
+  where
+    clash : true ≡ false → ⊥
+    clash e = Prim.grind (arith, e)
+
+-- ---- refusals of an accepted text
+
+is_fault : (xs : List ℕ) (t : s.Tree) (e : Refusal) → IsAccepted xs t → Refuses xs e → IsFault e
+is_fault xs t refusal.Memory is h = tt
+is_fault xs t refusal.Read is h = tt
+is_fault xs t refusal.Write is h = tt
+is_fault xs t (refusal.Scan c at) is h = not_scanned xs is.text.tokens c at is.text.within is.text.spelled h
+is_fault xs t (refusal.Unexpected at) is h = not_parsed xs t h.0 is.text h.1 h.2.0
+is_fault xs t (refusal.Unfinished at) is h = not_parsed xs t h.0 is.text h.1 h.2.0
+is_fault xs t (refusal.TooDeep at) is h = not_parsed xs t h.0 is.text h.1 h.2.0
+is_fault xs t (refusal.Check rule at) is h =
+    not_told t (record { rule = rule; at = at }) is.accepted (subst (λ (u : s.Tree). told u ≡ Some (record { rule = rule; at = at })) (one_tree xs h.0 t h.1 is.text) h.2)
+is_fault xs t refusal.Fragment is h = h
+is_fault xs t (refusal.InputByte at) is h = h
+is_fault xs t refusal.InputSize is h = h
+
+-- What is read of a text within the limit is the text.
+front_of : (xs : List ℕ) → length xs ≤ longest_text → front xs ≡ xs
+front_of xs h = take_all 1048577 xs (Prim.omega (arith, h))
+
+front_fault : (xs : List ℕ) (t : s.Tree) (e : Refusal) → IsAccepted xs t → Refuses (front xs) e → IsFault e
+front_fault xs t e is h = is_fault (front xs) t e (subst (λ (ys : List ℕ). IsAccepted ys t) (sym (front_of xs is.text.within)) is) h
+
+-- A read that failed says nothing of the text, and is a fault.
+text_fault : (xs : List ℕ) (t : s.Tree) (e : Refusal) → IsAccepted xs t → RefusesText xs e → IsFault e
+text_fault xs t refusal.Read is h = tt
+text_fault xs t refusal.Write is h = tt
+text_fault xs t refusal.Memory is h = tt
+text_fault xs t (refusal.Scan c at) is h = front_fault xs t (refusal.Scan c at) is h
+text_fault xs t (refusal.Unexpected at) is h = front_fault xs t (refusal.Unexpected at) is h
+text_fault xs t (refusal.Unfinished at) is h = front_fault xs t (refusal.Unfinished at) is h
+text_fault xs t (refusal.TooDeep at) is h = front_fault xs t (refusal.TooDeep at) is h
+text_fault xs t (refusal.Check rule at) is h = front_fault xs t (refusal.Check rule at) is h
+text_fault xs t refusal.Fragment is h = h
+text_fault xs t (refusal.InputByte at) is h = h
+text_fault xs t refusal.InputSize is h = h
+
+-- ---- refusals of an input
+
+input_fault : (ys : List ℕ) (e : Refusal) → RefusesInput ys e → IsFault e ⊎ (judged (front ys) ≡ Err e)
+input_fault ys refusal.Read h = inl tt
+input_fault ys refusal.Memory h = inl tt
+input_fault ys (refusal.Scan c at) h = inr h
+input_fault ys (refusal.Unexpected at) h = inr h
+input_fault ys (refusal.Unfinished at) h = inr h
+input_fault ys (refusal.TooDeep at) h = inr h
+input_fault ys (refusal.Check rule at) h = inr h
+input_fault ys refusal.Fragment h = inr h
+input_fault ys (refusal.InputByte at) h = inr h
+input_fault ys refusal.InputSize h = inr h
+input_fault ys refusal.Write h = inr h
+
+-- ---- of known texts and inputs
+
+pub known_fault : (known : Option (List ℕ)) (e : Refusal) → IfSome known (λ xs. RefusesText xs e) → IsFaultOfAccepted known e
+known_fault known e h xs t same is = text_fault xs t e is (of_known (λ zs. RefusesText zs e) known xs h same)
+
+pub known_text_fault : (text input : Option (List ℕ)) (e : Refusal) → IfSome text (λ xs. RefusesText xs e) → IsFaultOrOfInput text input e
+known_text_fault text input e h xs ys t same known is = inl (known_fault text e h xs t same is.is)
+
+lacks_fault : (t : s.Tree) (e : Refusal) → is_in_fragment t ≡ true → LacksProgram t e → IsFault e
+lacks_fault t refusal.Fragment h l = not_outside t h l
+lacks_fault t refusal.Memory h l = tt
+lacks_fault t refusal.Read h l = tt
+lacks_fault t refusal.Write h l = tt
+lacks_fault t (refusal.Scan c at) h l = l
+lacks_fault t (refusal.Unexpected at) h l = l
+lacks_fault t (refusal.Unfinished at) h l = l
+lacks_fault t (refusal.TooDeep at) h l = l
+lacks_fault t (refusal.Check rule at) h l = l
+lacks_fault t (refusal.InputByte at) h l = l
+lacks_fault t refusal.InputSize h l = l
+
+pub known_program_fault : (text input : Option (List ℕ)) (t : s.Tree) (e : Refusal) → IfSome text (λ xs. IsAccepted xs t) → LacksProgram t e
+    → IsFaultOrOfInput text input e
+known_program_fault text input t e h l xs ys u same known is =
+    let accepted : IsAccepted xs t = of_known (λ zs. IsAccepted zs t) text xs h same in
+    inl (lacks_fault t e (subst (λ (w : s.Tree). is_in_fragment w ≡ true) (one_tree xs u t is.is.text accepted.text) is.fragment) l)
+
+pub known_input_fault : (text input : Option (List ℕ)) (e : Refusal) → IfSome input (λ ys. RefusesInput ys e) → IsFaultOrOfInput text input e
+known_input_fault text input e h xs ys t same known is = input_fault ys e (of_known (λ zs. RefusesInput zs e) input ys h known)
+
+pub write_fault : (e : Refusal) → e ≡ refusal.Write → IsFault e
+write_fault e w = subst (λ (r : Refusal). IsFault r) (sym w) tt
+
+pub memory_fault : (e : Refusal) → e ≡ refusal.Memory → IsFault e
+memory_fault e m = subst (λ (r : Refusal). IsFault r) (sym m) tt
+
+-- What follows of an error.
+pub on_err : {T E A : Type 0} {P : E → Type 0} (r : Result T E) → ((e : E) → A → P e) → OnErr r A → IfErr r P
+on_err (Ok x) f h = h
+on_err (Err e) f h = f e h
+
+pub of_err : {T E : Type 0} {Q P : E → Type 0} (r : Result T E) → ((e : E) → Q e → P e) → IfErr r Q → IfErr r P
+of_err (Ok x) f h = h
+of_err (Err e) f h = f e h

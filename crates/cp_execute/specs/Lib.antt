@@ -1,0 +1,5 @@
+pub mod Refusals
+pub mod Cutting
+pub mod Lines
+pub mod Texts
+pub mod Executed

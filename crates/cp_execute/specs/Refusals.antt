@@ -1,0 +1,71 @@
+-- The numbers of causes in the lines of the commands, and the exit statuses.
+use Rattle.std.specs.Prelude.{ℕ}
+use Rattle.cp_model.specs.declared.rules.Rule.{Rule}
+use Rattle.cp_model.specs.declared.rules.Rule.TheVariants as rule
+use Rattle.cp_scan.specs.declared.refusal.Cause.{Cause}
+use Rattle.cp_scan.specs.declared.refusal.Cause.TheVariants as cause
+use Rattle.cp_scan.specs.declared.refusal.ScanError.{ScanError}
+use Rattle.cp_scan.specs.declared.refusal.ScanError.TheVariants as scan
+use Rattle.cp_syntax.specs.declared.refusal.SyntaxError.{SyntaxError}
+use Rattle.cp_syntax.specs.declared.refusal.SyntaxError.TheVariants as syntax
+use Rattle.cp_check.specs.declared.checking.CheckError.{CheckError}
+use Rattle.cp_check.specs.declared.checking.CheckError.TheVariants as check
+use Rattle.cp_rules.specs.declared.text.Refusal.TheVariants as rules
+use Rattle.cp_rules.specs.declared.text.Refusal.{Refusal as RulesRefusal}
+use Rattle.cp_execute.specs.declared.reading.ReadError.{ReadError}
+use Rattle.cp_execute.specs.declared.reading.ReadError.TheVariants as read
+use Rattle.cp_execute.specs.declared.refusal.Refusal.{Refusal}
+use Rattle.cp_execute.specs.declared.refusal.Refusal.TheVariants as refusal
+
+abbrev pub scan_number : Cause → ℕ
+scan_number cause.Byte = 1
+scan_number cause.Comment = 2
+scan_number cause.Character = 3
+scan_number cause.Number = 4
+scan_number cause.Word = 5
+scan_number cause.Size = 6
+
+abbrev pub rule_number : Rule → ℕ
+rule_number rule.C1 = 1
+rule_number rule.C2 = 2
+rule_number rule.C3 = 3
+rule_number rule.C4 = 4
+rule_number rule.C5 = 5
+rule_number rule.C6 = 6
+rule_number rule.C7 = 7
+rule_number rule.C8 = 8
+rule_number rule.C9 = 9
+rule_number rule.C10 = 10
+rule_number rule.C11 = 11
+rule_number rule.C12 = 12
+rule_number rule.C13 = 13
+
+-- 1 where the text or the input is refused, 3 where memory is, 4 where reading or writing failed.
+abbrev pub exit_status : Refusal → ℕ
+exit_status refusal.Memory = 3
+exit_status refusal.Read = 4
+exit_status refusal.Write = 4
+exit_status _ = 1
+
+abbrev pub of_scan : ScanError → Refusal
+of_scan (scan.Refused c at) = refusal.Scan c at
+of_scan scan.Memory = refusal.Memory
+
+abbrev pub of_syntax : SyntaxError → Refusal
+of_syntax (syntax.Unexpected at) = refusal.Unexpected at
+of_syntax (syntax.Unfinished at) = refusal.Unfinished at
+of_syntax (syntax.TooDeep at) = refusal.TooDeep at
+of_syntax syntax.Memory = refusal.Memory
+
+abbrev pub of_rules : RulesRefusal → Refusal
+of_rules (rules.Broken v) = refusal.Check v.rule v.at
+of_rules rules.Memory = refusal.Memory
+
+abbrev pub of_check : CheckError → Refusal
+of_check (check.Broken v) = refusal.Check v.rule v.at
+of_check check.Outside = refusal.Fragment
+of_check check.Memory = refusal.Memory
+
+abbrev pub of_read : ReadError → Refusal
+of_read read.Read = refusal.Read
+of_read read.Memory = refusal.Memory

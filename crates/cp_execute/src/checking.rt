@@ -1,0 +1,100 @@
+//! From the bytes of a text to its tree and its program, or why it has none.
+
+ghost use Rattle.std.specs.Prelude.{◌≡◌, IfErr, IfOk};
+ghost use Rattle.cp_model.specs.Rules.{Accepted};
+ghost use Rattle.cp_model.specs.View as view;
+ghost use Rattle.cp_execute.specs.Refusals.{of_check, of_rules, of_syntax};
+ghost use Rattle.cp_execute.specs.Texts.{HasProgram, IsAccepted, IsTextOf, LacksProgram, Refuses};
+
+use crate::refusal::Refusal;
+use cp_check::checking::{CheckError, program};
+use cp_model::tree::Tree;
+use cp_program::program::Program;
+use cp_rules::text::{self, judge};
+use cp_scan::scan;
+use cp_syntax::{SyntaxError, parse};
+use std::alloc::Global;
+
+fn syntax_refusal(error: SyntaxError) -> Refusal
+    ensures { result ≡ of_syntax error }
+{
+    match error {
+        SyntaxError::Unexpected { at } => Refusal::Unexpected { at },
+        SyntaxError::Unfinished { at } => Refusal::Unfinished { at },
+        SyntaxError::TooDeep { at } => Refusal::TooDeep { at },
+        SyntaxError::Memory => Refusal::Memory,
+    }
+}
+
+fn rules_refusal(error: text::Refusal) -> Refusal
+    ensures { result ≡ of_rules error }
+{
+    match error {
+        text::Refusal::Broken(violation) => Refusal::Check {
+            rule: violation.rule,
+            at: violation.at,
+        },
+        text::Refusal::Memory => Refusal::Memory,
+    }
+}
+
+fn check_refusal(error: CheckError) -> Refusal
+    ensures { result ≡ of_check error }
+{
+    match error {
+        CheckError::Broken(violation) => Refusal::Check {
+            rule: violation.rule,
+            at: violation.at,
+        },
+        CheckError::Outside => Refusal::Fragment,
+        CheckError::Memory => Refusal::Memory,
+    }
+}
+
+// The tree of a text.
+fn tree_of(alloc: Global, text: &[u8]) -> Result<Tree, Refusal>
+    ensures tree { IfOk result (λ t. IsTextOf text.now (view.tree t)) }
+    ensures refused { IfErr result (Refuses text.now) }
+{
+    let tokens = match scan(alloc, text) {
+        Ok(tokens) => tokens,
+        Err(error) => return Err(Refusal::from(error)),
+    };
+    match parse(alloc, &tokens, text.len()) {
+        Ok(tree) => Ok(tree),
+        Err(error) => Err(syntax_refusal(error)),
+    }
+}
+
+/// The tree of an accepted text.
+///
+/// # Errors
+///
+/// S, Y and C where the text isn't accepted, in this order; M where memory runs out.
+pub fn accept(alloc: Global, text: &[u8]) -> Result<Tree, Refusal>
+    ensures accepted { IfOk result (λ t. IsAccepted text.now (view.tree t)) }
+    ensures refused { IfErr result (Refuses text.now) }
+{
+    let tree = tree_of(alloc, text)?;
+    match judge(alloc, &tree) {
+        Ok(_) => {}
+        Err(error) => return Err(rules_refusal(error)),
+    }
+    Ok(tree)
+}
+
+/// The program of an accepted text.
+///
+/// # Errors
+///
+/// F1 where the text isn't of the fragment that can be run; M where memory runs out.
+pub fn program_of(alloc: Global, tree: &Tree) -> Result<Program, Refusal>
+    requires accepted { Accepted (view.tree tree.now) }
+    ensures program { IfOk result (HasProgram (view.tree tree.now)) }
+    ensures refused { IfErr result (LacksProgram (view.tree tree.now)) }
+{
+    match program(alloc, tree) {
+        Ok(program) => Ok(program),
+        Err(error) => Err(check_refusal(error)),
+    }
+}

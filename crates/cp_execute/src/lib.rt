@@ -1,0 +1,14 @@
+//! `execute`: from the bytes of a text and of an input to the bytes of its report, or to a refusal.
+//!
+//! `checking` makes the program of a text, `running` runs it on its input, `report` writes what the machine is in then. What an answer
+//! means is defined in `specs/Executed.antt`, and what each refusal means in `specs/Refusals.antt` and `specs/Texts.antt`.
+#![tactic(auto)]
+
+pub mod checking;
+pub mod cutting;
+pub mod execute;
+pub mod reading;
+pub mod refusal;
+pub mod report;
+pub mod running;
+pub mod writing;

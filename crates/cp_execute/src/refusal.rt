@@ -1,0 +1,131 @@
+//! Why a command ends without its answer: the line that it writes then, and its exit status.
+
+ghost use Rattle.std.specs.Prelude.{◌≡◌};
+ghost use Rattle.cp_execute.specs.Refusals.{exit_status, of_scan};
+ghost use Rattle.cp_execute.specs.declared.refusal.Refusal.TheVariants as refusal;
+
+use cp_model::rules::{Rule, Violation};
+use cp_scan::{Cause, ScanError};
+use std::alloc::{AllocError, AllocFailed};
+use thiserror::Error;
+
+/// Why a command has no answer. A place is a byte of the text or of the input, counted from 0.
+#[derive(Clone, Copy, Debug, PartialEq, Eq, Error)]
+pub enum Refusal {
+    /// S1 to S6: the text has no tokens.
+    #[error("refused S{} at {at}", scan_number(*cause))]
+    Scan { cause: Cause, at: usize },
+    /// Y1: no text goes on like this.
+    #[error("refused Y1 at {at}")]
+    Unexpected { at: usize },
+    /// Y2: the text ends too early.
+    #[error("refused Y2 at {at}")]
+    Unfinished { at: usize },
+    /// Y3: the text is nested too deep.
+    #[error("refused Y3 at {at}")]
+    TooDeep { at: usize },
+    /// C1 to C13: a rule is broken.
+    #[error("refused C{} at {at}", rule_number(*rule))]
+    Check { rule: Rule, at: usize },
+    /// F1: the text is outside the fragment that can be run.
+    #[error("refused F1 at 0")]
+    Fragment,
+    /// I3: a byte of the input is above 127.
+    #[error("refused I3 at {at}")]
+    InputByte { at: usize },
+    /// I4: the input is longer than 1,048,576 bytes.
+    #[error("refused I4 at 1048576")]
+    InputSize,
+    /// M: memory was refused.
+    #[error("fault M")]
+    Memory,
+    /// I1: a read failed.
+    #[error("fault I1")]
+    Read,
+    /// I2: a write failed.
+    #[error("fault I2")]
+    Write,
+}
+
+fn scan_number(cause: Cause) -> u8
+    ensures { result ≡ Rattle.cp_execute.specs.Refusals.scan_number cause }
+{
+    match cause {
+        Cause::Byte => 1,
+        Cause::Comment => 2,
+        Cause::Character => 3,
+        Cause::Number => 4,
+        Cause::Word => 5,
+        Cause::Size => 6,
+    }
+}
+
+fn rule_number(rule: Rule) -> u8
+    ensures { result ≡ Rattle.cp_execute.specs.Refusals.rule_number rule }
+{
+    match rule {
+        Rule::C1 => 1,
+        Rule::C2 => 2,
+        Rule::C3 => 3,
+        Rule::C4 => 4,
+        Rule::C5 => 5,
+        Rule::C6 => 6,
+        Rule::C7 => 7,
+        Rule::C8 => 8,
+        Rule::C9 => 9,
+        Rule::C10 => 10,
+        Rule::C11 => 11,
+        Rule::C12 => 12,
+        Rule::C13 => 13,
+    }
+}
+
+/// The exit status of a command that ends so: 1 where the text or the input is refused, 3 where memory is, 4 where reading or
+/// writing failed.
+pub fn exit_of(refusal: &Refusal) -> u8
+    ensures { result ≡ exit_status refusal.now }
+{
+    match refusal {
+        Refusal::Memory => 3,
+        Refusal::Read | Refusal::Write => 4,
+        _ => 1,
+    }
+}
+
+impl From<AllocError> for Refusal {
+    ghost from_gives = { λ _ r. r ≡ refusal.Memory };
+
+    fn from(_error: AllocError) -> Refusal {
+        Refusal::Memory
+    }
+}
+
+impl<T: Drop> From<AllocFailed<T>> for Refusal {
+    ghost from_gives = { λ _ r. r ≡ refusal.Memory };
+
+    fn from(_error: AllocFailed<T>) -> Refusal {
+        Refusal::Memory
+    }
+}
+
+impl From<ScanError> for Refusal {
+    ghost from_gives = { λ error r. r ≡ of_scan error };
+
+    fn from(error: ScanError) -> Refusal {
+        match error {
+            ScanError::Refused { cause, at } => Refusal::Scan { cause, at },
+            ScanError::Memory => Refusal::Memory,
+        }
+    }
+}
+
+impl From<Violation> for Refusal {
+    ghost from_gives = { λ violation r. r ≡ refusal.Check violation.rule violation.at };
+
+    fn from(violation: Violation) -> Refusal {
+        Refusal::Check {
+            rule: violation.rule,
+            at: violation.at,
+        }
+    }
+}

@@ -1,0 +1,156 @@
+//! Command lines.
+
+use cp_command::command::{Command, CommandError, read_command};
+use cp_command::files::perform;
+use cp_command::numbers::number;
+use cp_execute::refusal::Refusal;
+use cp_execute::running::Run;
+use std::test::*;
+
+// The numbers of a run in the order rounds, turn, workers, chunk, wave, tick.
+fn numbers(run: Run) -> [u32; 6] {
+    [
+        run.rounds,
+        run.plan.turn.steps,
+        run.plan.workers,
+        run.plan.chunk,
+        run.plan.wave,
+        run.tick.rounds,
+    ]
+}
+
+#[test]
+fn numbers_are_digits_alone(rt: HostRuntime) {
+    assert!(rt; number(b"0", 0, 9) == Some(0));
+    assert!(rt; number(b"10000", 1, 10_000) == Some(10_000));
+    assert!(rt; number(b"10001", 1, 10_000) == None);
+    assert!(rt; number(b"99999999999999999999", 1, 10_000) == None);
+    assert!(rt; number(b"0", 1, 9) == None);
+    assert!(rt; number(b"", 0, 9) == None);
+    assert!(rt; number(b"+1", 0, 9) == None);
+    assert!(rt; number(b"1 ", 0, 9) == None);
+}
+
+#[test]
+fn no_words_run_standard_input(rt: HostRuntime) {
+    match read_command(rt.alloc(), &["cpm"]) {
+        Ok(Command::Run { file, run, input }) => {
+            assert!(rt; file == None && input == None);
+            assert!(rt; numbers(run) == [2, 100, 2, 1, 255, 1]);
+        }
+        _ => panic!(rt; "a run"),
+    }
+}
+
+#[test]
+fn check_takes_a_file(rt: HostRuntime) {
+    match read_command(rt.alloc(), &["cpm", "check", "a.cp"]) {
+        Ok(Command::Check { file }) => assert!(rt; file == "a.cp"),
+        _ => panic!(rt; "a check"),
+    }
+}
+
+#[test]
+fn run_takes_numbers(rt: HostRuntime) {
+    let words = [
+        "cpm",
+        "run",
+        "a.cp",
+        "--rounds",
+        "1000000",
+        "--turn=7",
+        "--workers",
+        "64",
+        "--chunk",
+        "3",
+        "--wave",
+        "4",
+        "--tick",
+        "5",
+        "--input",
+        "in.txt",
+    ];
+    match read_command(rt.alloc(), words.as_slice()) {
+        Ok(Command::Run { file, run, input }) => {
+            assert!(rt; file == Some("a.cp") && input == Some("in.txt"));
+            assert!(rt; numbers(run) == [1_000_000, 7, 64, 3, 4, 5]);
+        }
+        _ => panic!(rt; "a run"),
+    }
+}
+
+#[test]
+fn run_has_defaults(rt: HostRuntime) {
+    match read_command(rt.alloc(), &["cpm", "run", "a.cp", "--rounds", "9"]) {
+        Ok(Command::Run { run, input, .. }) => {
+            assert!(rt; numbers(run) == [9, 100, 2, 1, 255, 1] && input == None);
+        }
+        _ => panic!(rt; "a run"),
+    }
+}
+
+#[test]
+fn other_words_are_refused(rt: HostRuntime) {
+    for words in [
+        ["cpm", "--help", "", "", ""].as_slice(),
+        &["cpm", "walk"],
+        &["cpm", "check"],
+        &["cpm", "check", "a.cp", "b.cp"],
+        &["cpm", "check", "a.cp", "--rounds", "1"],
+        &["cpm", "run", "a.cp"],
+        &["cpm", "run", "--rounds", "1"],
+        &["cpm", "run", "a.cp", "--rounds", "1000001"],
+        &["cpm", "run", "a.cp", "--rounds", "-1"],
+        &["cpm", "run", "a.cp", "--rounds", "+1"],
+        &["cpm", "run", "a.cp", "--rounds", "x"],
+        &["cpm", "run", "a.cp", "--rounds", "0x1"],
+        &["cpm", "run", "a.cp", "--rounds", "1", "--rounds", "1"],
+        &["cpm", "run", "a.cp", "--rounds", "1", "--turn", "0"],
+        &["cpm", "run", "a.cp", "--rounds", "1", "--turn", "10001"],
+        &["cpm", "run", "a.cp", "--rounds", "1", "--workers", "0"],
+        &["cpm", "run", "a.cp", "--rounds", "1", "--workers", "65"],
+        &["cpm", "run", "a.cp", "--rounds", "1", "--chunk", "0"],
+        &["cpm", "run", "a.cp", "--rounds", "1", "--chunk", "256"],
+        &["cpm", "run", "a.cp", "--rounds", "1", "--wave", "0"],
+        &["cpm", "run", "a.cp", "--rounds", "1", "--wave", "256"],
+        &["cpm", "run", "a.cp", "--rounds", "1", "--tick", "0"],
+        &["cpm", "run", "a.cp", "--rounds", "1", "--tick", "1000001"],
+    ] {
+        match read_command(rt.alloc(), words) {
+            Err(CommandError::Usage(_)) => {}
+            _ => panic!(rt; "no command"),
+        }
+    }
+}
+
+#[test]
+fn files_are_opened_before_they_are_read(rt: HostRuntime) {
+    for (words, refusal) in [
+        (["cpm", "check", "nowhere.cp"].as_slice(), Refusal::Read),
+        (
+            &["cpm", "run", "nowhere.cp", "--rounds", "1"],
+            Refusal::Read,
+        ),
+        (
+            &[
+                "cpm",
+                "run",
+                "/dev/null",
+                "--rounds",
+                "1",
+                "--input",
+                "nowhere.txt",
+            ],
+            Refusal::Read,
+        ),
+        (
+            &["cpm", "check", "/dev/null"],
+            Refusal::Unfinished { at: 0 },
+        ),
+    ] {
+        match read_command(rt.alloc(), words) {
+            Ok(command) => assert!(rt; perform(&rt, rt.alloc(), &command) == Err(refusal)),
+            Err(_) => panic!(rt; "a command"),
+        }
+    }
+}

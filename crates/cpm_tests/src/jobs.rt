@@ -1,0 +1,64 @@
+//! Jobs on texts in memory, and long texts.
+
+use cp_execute::execute::{Job, execute};
+use cp_execute::refusal::Refusal;
+use cp_execute::running::Run;
+use cp_rounds::gate::Open;
+use cp_rounds::plan::Plan;
+use cp_rounds::tick::Tick;
+use std::alloc::{AllocError, Global};
+use std::sync::Wait;
+use std::thread::Threads;
+
+// A run of so many rounds with turns of so many steps.
+pub(crate) fn job(rounds: u32, turn: u32) -> Result<Job, AllocError> {
+    match (Plan::new(turn, 2, 1, 255), Tick::new(1)) {
+        (Ok(plan), Ok(tick)) => Ok(Job::Run(Run { rounds, plan, tick })),
+        _ => Err(AllocError),
+    }
+}
+
+// What is answered and written for a text and an input.
+pub(crate) fn done<H: Threads + Wait + Sync>(
+    rt: &H,
+    alloc: Global,
+    text: &[u8],
+    input: &[u8],
+    job: &Job,
+) -> (Result<(), Refusal>, Vec<u8>) {
+    let mut text = text;
+    let mut input = input;
+    let mut out = Vec::new(alloc);
+    let answer = execute(rt, alloc, &mut text, &mut input, job, &Open, &mut out);
+    (answer, out)
+}
+
+// One part between two others, so many times.
+pub(crate) fn repeated(
+    alloc: Global,
+    front: &[u8],
+    part: &[u8],
+    times: usize,
+    back: &[u8],
+) -> Result<Vec<u8>, AllocError> {
+    let mut text = Vec::new(alloc);
+    text.extend_from_slice(front)?;
+    for _i in 0..times {
+        text.extend_from_slice(part)?;
+    }
+    text.extend_from_slice(back)?;
+    Ok(text)
+}
+
+// `front` and so many of `open`, `inner`, and as many of `close` and `back`.
+pub(crate) fn nested(
+    alloc: Global,
+    parts: [&[u8]; 5],
+    times: usize,
+) -> Result<Vec<u8>, AllocError> {
+    let [front, open, inner, close, back] = parts;
+    let mut text = repeated(alloc, front, open, times, inner)?;
+    let end = repeated(alloc, b"", close, times, back)?;
+    text.extend_from_slice(&end)?;
+    Ok(text)
+}

@@ -1,0 +1,18 @@
+//! Tests of `execute` and of the command line: whole texts from their bytes to their reports or refusals, and streams that give or take
+//! little, or fail.
+#![tactic(auto)]
+
+#[cfg(test)]
+mod commands;
+#[cfg(test)]
+mod faults;
+#[cfg(test)]
+mod jobs;
+#[cfg(test)]
+mod refusals;
+#[cfg(test)]
+mod refused;
+#[cfg(test)]
+mod streams;
+#[cfg(test)]
+mod texts;

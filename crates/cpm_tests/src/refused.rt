@@ -1,0 +1,111 @@
+//! Texts and inputs that are refused: the cause, its place, and that nothing is written.
+
+use super::jobs::{done, job, repeated};
+use cp_execute::execute::Job;
+use cp_execute::refusal::Refusal;
+use cp_model::rules::Rule;
+use cp_scan::Cause;
+use std::alloc::{AllocError, Global};
+use std::test::Fail;
+
+const fn scan(cause: Cause, at: usize) -> Refusal {
+    Refusal::Scan { cause, at }
+}
+
+const fn check(rule: Rule, at: usize) -> Refusal {
+    Refusal::Check { rule, at }
+}
+
+#[test]
+fn texts_are_refused_at_their_places(rt: HostRuntime) {
+    let cases: [(&[u8], Refusal); 10] = [
+        (b"begin !", scan(Cause::Byte, 6)),
+        (b"begin \"x", scan(Cause::Comment, 6)),
+        (b"begin display('(:128:)') end.", scan(Cause::Character, 14)),
+        (b"begin display(32768) end.", scan(Cause::Number, 14)),
+        (b"begin display(-32768) end.", scan(Cause::Number, 15)),
+        (b"begin end. x", Refusal::Unexpected { at: 11 }),
+        (b"begin end", Refusal::Unfinished { at: 9 }),
+        (b"", Refusal::Unfinished { at: 0 }),
+        (b"begin a := 1 end.", check(Rule::C1, 6)),
+        (b"begin a := 1; b := 2 end.", check(Rule::C1, 6)),
+    ];
+    for (text, refusal) in cases {
+        let (answer, out) = done(&rt, rt.alloc(), text, b"", &Job::Check);
+        assert!(rt; answer == Err(refusal));
+        assert!(rt; out.is_empty());
+    }
+}
+
+#[test]
+fn a_text_outside_the_fragment_is_accepted_and_not_run(rt: HostRuntime) -> Result<(), Fail> {
+    let text = b"begin while true do end.".as_slice();
+    let (answer, out) = done(&rt, rt.alloc(), text, b"", &Job::Check);
+    assert!(rt; answer == Ok(()));
+    assert!(rt; out.as_slice() == b"accepted\n".as_slice());
+    let (answer, out) = done(&rt, rt.alloc(), text, b"", &job(1, 100)?);
+    assert!(rt; answer == Err(Refusal::Fragment));
+    assert!(rt; out.is_empty());
+    Ok(())
+}
+
+#[test]
+fn a_text_too_long_is_refused(rt: HostRuntime) -> Result<(), Fail> {
+    let text = repeated(rt.alloc(), b"begin end.", b" ", 1_048_567, b"")?;
+    let (answer, out) = done(&rt, rt.alloc(), &text, b"", &Job::Check);
+    assert!(rt; answer == Err(scan(Cause::Size, 1_048_576)));
+    assert!(rt; out.is_empty());
+    Ok(())
+}
+
+#[test]
+fn a_name_too_long_is_refused(rt: HostRuntime) -> Result<(), Fail> {
+    let text = repeated(rt.alloc(), b"var ", b"a", 65, b": integer; begin end.")?;
+    let (answer, _) = done(&rt, rt.alloc(), &text, b"", &Job::Check);
+    assert!(rt; answer == Err(scan(Cause::Word, 4)));
+    Ok(())
+}
+
+// So many processes beside the initial one: v2, v3 ..
+fn processes(alloc: Global, count: usize) -> Result<Vec<u8>, AllocError> {
+    let mut text = Vec::new(alloc);
+    text.extend_from_slice(b"type p = process; begin end; var ")?;
+    for i in 0..count {
+        let n = i.saturating_add(2);
+        let name = format!(in alloc; "v{n}")?;
+        if i != 0 {
+            text.extend_from_slice(b", ")?;
+        }
+        text.extend_from_slice(name.as_bytes())?;
+    }
+    text.extend_from_slice(b": p; begin end.")?;
+    Ok(text)
+}
+
+#[test]
+fn a_process_too_many_is_refused(rt: HostRuntime) -> Result<(), Fail> {
+    let text = processes(rt.alloc(), 254)?;
+    let (answer, _) = done(&rt, rt.alloc(), &text, b"", &Job::Check);
+    assert!(rt; answer == Ok(()));
+    let text = processes(rt.alloc(), 255)?;
+    let (answer, _) = done(&rt, rt.alloc(), &text, b"", &Job::Check);
+    assert!(rt; answer == Err(check(Rule::C13, 1451)));
+    Ok(())
+}
+
+#[test]
+fn inputs_are_refused_after_the_text(rt: HostRuntime) -> Result<(), Fail> {
+    let long: Vec<u8> = Vec::from_elem(rt.alloc(), 128, 1_048_577)?;
+    let last = repeated(rt.alloc(), b"", b"a", 1_048_575, b"\xff")?;
+    let cases: [(&[u8], &[u8], Refusal); 3] = [
+        (b"begin end.", &long, Refusal::InputSize),
+        (b"begin end.", &last, Refusal::InputByte { at: 1_048_575 }),
+        (b"begin end", b"\x80", Refusal::Unfinished { at: 9 }),
+    ];
+    for (text, input, refusal) in cases {
+        let (answer, out) = done(&rt, rt.alloc(), text, input, &job(1, 100)?);
+        assert!(rt; answer == Err(refusal));
+        assert!(rt; out.is_empty());
+    }
+    Ok(())
+}

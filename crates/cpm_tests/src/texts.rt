@@ -1,0 +1,148 @@
+//! Whole texts, from their bytes to their reports. The reports are worked by hand.
+
+use super::jobs::{done, job, nested, repeated};
+use cp_execute::execute::Job;
+use cp_execute::refusal::Refusal;
+use std::test::Fail;
+
+pub(crate) const COUNTERS: &[u8] = b"type p = process; var x: integer;
+  begin x := 2; cycle display(x); x := x * x end end;
+var a, b: p; y: integer;
+begin init a, b; y := 7 - 10;
+  display(y div 2); display(y mod 2); init a end.
+";
+
+pub(crate) const AFTER_THREE_ROUNDS: &[u8] = b"rounds 3
+process 1 initial fault 7
+out '-1-1'
+var y = -3
+process 2 a ready
+out '24'
+var x = 16
+process 3 b ready
+out '24'
+var x = 16
+";
+
+const AFTER_FIVE_ROUNDS: &[u8] = b"rounds 5
+process 1 initial fault 7
+out '-1-1'
+var y = -3
+process 2 a fault 3
+out '2416256'
+var x = 256
+process 3 b fault 3
+out '2416256'
+var x = 256
+";
+
+const SEVEN: &[u8] = b"type p = process; begin display(7) end;
+var a: p;
+begin init a end.
+";
+
+const UNSTARTED: &[u8] = b"rounds 0\nprocess 1 initial ready\nout ''\n";
+
+#[test]
+fn texts_have_their_reports(rt: HostRuntime) -> Result<(), Fail> {
+    let cases: [(&[u8], u32, u32, &[u8]); 8] = [
+        (b"begin end.", 0, 10, UNSTARTED),
+        (
+            b"begin end.",
+            1,
+            10,
+            b"rounds 1\nprocess 1 initial ended\nout ''\n",
+        ),
+        (
+            b"begin cycle end end.",
+            5,
+            1,
+            b"rounds 5\nprocess 1 initial ready\nout ''\n",
+        ),
+        (
+            b"begin cycle end end.",
+            5,
+            10_000,
+            b"rounds 5\nprocess 1 initial ready\nout ''\n",
+        ),
+        (
+            SEVEN,
+            1,
+            10,
+            b"rounds 1\nprocess 1 initial ready\nout ''\nprocess 2 a ready\nout ''\n",
+        ),
+        (
+            SEVEN,
+            2,
+            10,
+            b"rounds 2\nprocess 1 initial ended\nout ''\nprocess 2 a ended\nout '7'\n",
+        ),
+        (COUNTERS, 3, 4, AFTER_THREE_ROUNDS),
+        (COUNTERS, 5, 4, AFTER_FIVE_ROUNDS),
+    ];
+    for (text, rounds, turn, report) in cases {
+        let (answer, out) = done(&rt, rt.alloc(), text, b"", &job(rounds, turn)?);
+        assert!(rt; answer == Ok(()));
+        assert!(rt; out.as_slice() == report);
+    }
+    Ok(())
+}
+
+#[test]
+fn a_check_writes_a_line(rt: HostRuntime) {
+    let (answer, out) = done(&rt, rt.alloc(), COUNTERS, b"\xff", &Job::Check);
+    assert!(rt; answer == Ok(()));
+    assert!(rt; out.as_slice() == b"accepted\n".as_slice());
+}
+
+#[test]
+fn the_longest_text_runs(rt: HostRuntime) -> Result<(), Fail> {
+    let text = repeated(rt.alloc(), b"begin end.", b" ", 1_048_566, b"")?;
+    let (answer, out) = done(&rt, rt.alloc(), &text, b"", &job(0, 10)?);
+    assert!(rt; answer == Ok(()));
+    assert!(rt; out.as_slice() == UNSTARTED);
+    Ok(())
+}
+
+#[test]
+fn the_longest_name_is_accepted(rt: HostRuntime) -> Result<(), Fail> {
+    let text = repeated(rt.alloc(), b"var ", b"a", 64, b": integer; begin end.")?;
+    let (answer, out) = done(&rt, rt.alloc(), &text, b"", &Job::Check);
+    assert!(rt; answer == Ok(()));
+    assert!(rt; out.as_slice() == b"accepted\n".as_slice());
+    Ok(())
+}
+
+#[test]
+fn two_hundred_levels_are_accepted(rt: HostRuntime) -> Result<(), Fail> {
+    let text = nested(rt.alloc(), [b"", b"begin ", b"", b"end ", b"."], 200)?;
+    let (answer, out) = done(&rt, rt.alloc(), &text, b"", &job(0, 10)?);
+    assert!(rt; answer == Ok(()));
+    assert!(rt; out.as_slice() == UNSTARTED);
+    let text = nested(
+        rt.alloc(),
+        [b"begin display(", b"(", b"1", b")", b") end."],
+        198,
+    )?;
+    let (answer, _) = done(&rt, rt.alloc(), &text, b"", &Job::Check);
+    assert!(rt; answer == Ok(()));
+    Ok(())
+}
+
+#[test]
+fn a_level_more_is_refused(rt: HostRuntime) -> Result<(), Fail> {
+    let text = nested(rt.alloc(), [b"", b"begin ", b"", b"end ", b"."], 201)?;
+    let (answer, _) = done(&rt, rt.alloc(), &text, b"", &Job::Check);
+    assert!(rt; answer == Err(Refusal::TooDeep { at: 1200 }));
+    let (answer, out) = done(&rt, rt.alloc(), &text, b"", &job(0, 10)?);
+    assert!(rt; answer == Err(Refusal::TooDeep { at: 1200 }));
+    assert!(rt; out.is_empty());
+    let text = nested(
+        rt.alloc(),
+        [b"begin display(", b"(", b"1", b")", b") end."],
+        199,
+    )?;
+    let (answer, _) = done(&rt, rt.alloc(), &text, b"", &Job::Check);
+    assert!(rt; answer == Err(Refusal::TooDeep { at: 212 }));
+    Ok(())
+}
