@@ -7,6 +7,7 @@ use Rattle.cp_model.specs.Environments.{Environment}
 use Rattle.cp_model.specs.Locations.{Location, Owner}
 use Rattle.cp_model.specs.Report.{components_of}
 use Rattle.cp_model.specs.States.{Setup, monitor_count, process_count}
+use Rattle.cp_typing.specs.WellTyped.{WellTyped}
 use Rattle.cp_code.specs.Programs as code
 use Rattle.cp_code.specs.Programs.{CodeUnit, EndBody, End, Operation, Program, Return}
 use Rattle.cp_code.specs.Layout.{activation_words, component_words}
@@ -97,9 +98,10 @@ Apart a n b m = (a + n ≤ b) ⊎ (b + m ≤ a)
 
 -- ---- The whole
 
--- `texts` tells what each unit is the code of. The blocks of shared words are apart from one another, and the members of a component
+-- The text is well typed, and `texts` tells what each unit is the code of. The blocks of shared words are apart from one another, and the members of a component
 -- are the same wherever its type is named.
 pub record StandsFor (program : Program) (setup : Setup) : Type 0 where
+  pub typed : WellTyped setup
   pub texts : List UnitText
   pub units : (n : ℕ) (u : CodeUnit) (t : UnitText) → slice_get program.units n ≡ Some u → slice_get texts n ≡ Some t
       → UnitStands program texts (globals setup.tree) u t
