@@ -11,14 +11,15 @@ Each folder is a module of statements, each file a text with its answers:
     == consumed --rounds N [..]    how much of its input each process has taken, which no report tells: no command of the program
     the answer, up to the next line that begins with ==
 
-Lines before the first == say what the text shows. `make_rows.py` writes crates/cp_rows/specs, proofs and src/rows.rt;
-`make_rows.py --list` prints the cases as JSON, for the tests of the program; `make_rows.py --unchanged` fails where the crate's files
+Lines before the first == say what the text shows. `make_rows.py` writes crates/cp_rows/specs, proofs and src/rows.rt,
+and the cases as JSON, which the program cp_worked reads; `make_rows.py --list` prints them. `make_rows.py --unchanged` fails where the files
 aren't those that it would write.
 """
 import json, pathlib, re, sys
 
 HERE = pathlib.Path(__file__).resolve().parent
 CRATE = HERE.parent / 'crates' / 'cp_rows'
+CASES = HERE.parent / 'crates' / 'cp_worked' / 'stdin'
 WRITTEN = {}
 DEFAULTS = {'rounds': '0', 'turn': '100', 'tick': '1', 'input': '', 'order': ''}
 
@@ -149,18 +150,24 @@ def make_all():
     return sum(count for _, _, count in modules)
 
 
-def list_cases():
+def listed():
+    """All cases as JSON, a case a line."""
     found = []
     for path in sorted(HERE.glob('*/*.txt')):
         for k, (text, head, answer) in enumerate(cases_of(path), 1):
-            found.append({'name': f'{path.parent.name}/{path.stem}', 'number': k, 'text': text, 'words': head, 'answer': answer})
-    print(json.dumps(found, indent=1))
+            command, words = options(head)
+            case = {'name': f'{path.parent.name}/{path.stem} {k}', 'text': text, 'words': head, 'command': command, 'answer': answer}
+            case.update({name: int(words[name]) for name in ('rounds', 'turn', 'tick')})
+            case.update(input=words['input'], order=words['order'], chains='chains' in words)
+            found.append(json.dumps(case))
+    return '[\n' + ',\n'.join(found) + '\n]\n'
 
 
 def main():
     if '--list' in sys.argv:
-        return list_cases()
+        return sys.stdout.write(listed())
     count = make_all()
+    write(CASES, listed())
     changed = [path for path, text in WRITTEN.items() if not path.exists() or path.read_text() != text]
     if '--unchanged' in sys.argv:
         sys.exit(f'written anew by worked/make_rows.py: {changed}' if changed else 0)

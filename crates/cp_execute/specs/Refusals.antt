@@ -1,7 +1,5 @@
 -- The numbers of causes in the lines of the commands, and the exit statuses.
 use Rattle.std.specs.Prelude.{ℕ}
-use Rattle.cp_model.specs.declared.rules.Rule.{Rule}
-use Rattle.cp_model.specs.declared.rules.Rule.TheVariants as rule
 use Rattle.cp_scan.specs.declared.refusal.Cause.{Cause}
 use Rattle.cp_scan.specs.declared.refusal.Cause.TheVariants as cause
 use Rattle.cp_scan.specs.declared.refusal.ScanError.{ScanError}
@@ -24,21 +22,6 @@ scan_number cause.Character = 3
 scan_number cause.Number = 4
 scan_number cause.Word = 5
 scan_number cause.Size = 6
-
-abbrev pub rule_number : Rule → ℕ
-rule_number rule.C1 = 1
-rule_number rule.C2 = 2
-rule_number rule.C3 = 3
-rule_number rule.C4 = 4
-rule_number rule.C5 = 5
-rule_number rule.C6 = 6
-rule_number rule.C7 = 7
-rule_number rule.C8 = 8
-rule_number rule.C9 = 9
-rule_number rule.C10 = 10
-rule_number rule.C11 = 11
-rule_number rule.C12 = 12
-rule_number rule.C13 = 13
 
 -- 1 where the text or the input is refused, 3 where memory is, 4 where reading or writing failed.
 abbrev pub exit_status : Refusal → ℕ

@@ -25,7 +25,7 @@ pub enum Refusal {
     #[error("refused Y3 at {at}")]
     TooDeep { at: usize },
     /// C1 to C13: a rule is broken.
-    #[error("refused C{} at {at}", rule_number(*rule))]
+    #[error("refused C{} at {at}", rule.number())]
     Check { rule: Rule, at: usize },
     /// F1: the text is outside the fragment that can be run.
     #[error("refused F1 at 0")]
@@ -57,26 +57,6 @@ fn scan_number(cause: Cause) -> u8
         Cause::Number => 4,
         Cause::Word => 5,
         Cause::Size => 6,
-    }
-}
-
-fn rule_number(rule: Rule) -> u8
-    ensures { result ≡ Rattle.cp_execute.specs.Refusals.rule_number rule }
-{
-    match rule {
-        Rule::C1 => 1,
-        Rule::C2 => 2,
-        Rule::C3 => 3,
-        Rule::C4 => 4,
-        Rule::C5 => 5,
-        Rule::C6 => 6,
-        Rule::C7 => 7,
-        Rule::C8 => 8,
-        Rule::C9 => 9,
-        Rule::C10 => 10,
-        Rule::C11 => 11,
-        Rule::C12 => 12,
-        Rule::C13 => 13,
     }
 }
 

@@ -1,31 +1,11 @@
 //! The earliest violation so far: by its place in the text, and at one place by the number of its rule.
 
 ghost use Rattle.std.specs.Prelude.{◌≡◌};
-ghost use Rattle.cp_model.specs.RulesJudged.{earlier, least, number_of, unless};
+ghost use Rattle.cp_model.specs.RulesJudged.{earlier, least, unless};
 ghost use Rattle.cp_judge.specs.Tells.{Tells, TellsOf};
 ghost use Rattle.cp_model.specs.RulesJudged.{breaks, provided};
 
 use cp_model::rules::{Rule, Violation};
-
-fn number(rule: Rule) -> u8
-    ensures { result ≡ number_of rule }
-{
-    match rule {
-        Rule::C1 => 1,
-        Rule::C2 => 2,
-        Rule::C3 => 3,
-        Rule::C4 => 4,
-        Rule::C5 => 5,
-        Rule::C6 => 6,
-        Rule::C7 => 7,
-        Rule::C8 => 8,
-        Rule::C9 => 9,
-        Rule::C10 => 10,
-        Rule::C11 => 11,
-        Rule::C12 => 12,
-        Rule::C13 => 13,
-    }
-}
 
 /// Tells of a violation; the earliest is kept.
 pub fn tell(told: &mut Option<Violation>, violation: Violation)
@@ -34,7 +14,8 @@ pub fn tell(told: &mut Option<Violation>, violation: Violation)
     let is_earlier = match told {
         None => true,
         Some(w) => {
-            violation.at < w.at || (violation.at == w.at && number(violation.rule) < number(w.rule))
+            violation.at < w.at
+                || (violation.at == w.at && violation.rule.number() < w.rule.number())
         }
     };
     if is_earlier {
