@@ -9,4 +9,5 @@ pub mod InitTold
 pub mod LabelsTold
 pub mod StatementViews
 pub mod NeedsOfChains
+pub mod Covers
 pub mod Distinct

@@ -9,3 +9,4 @@ pub mod StatementParts
 pub mod Labels
 pub mod InitParts
 pub mod Needs
+pub mod EntitiesNamed

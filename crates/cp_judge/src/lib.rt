@@ -10,6 +10,7 @@ pub mod callees;
 mod conditions;
 pub mod constants;
 pub mod designators;
+mod entities;
 pub mod environment;
 pub mod expressions;
 mod initialisation;

@@ -12,6 +12,7 @@ ghost use Rattle.cp_model.specs.View.{designator, expression, selector, index, o
 ghost use Rattle.cp_judge.specs.Environments.{environment};
 ghost use Rattle.cp_judge.specs.Needs as parts;
 
+use crate::entities::{entity_named, is_routine};
 use crate::environment::{Environment, routine, system, system_row};
 use crate::expressions::designated;
 use crate::names::known;
@@ -65,7 +66,7 @@ fn need_of_expressions(env: &Environment, list: &[Expression]) -> usize
 fn need_of_designator(env: &Environment, d: &Designator) -> usize
     ensures { result ≡ n.need_designator (environment env.now) (designator d.now) }
 {
-    need_if_called(env, designation(env, d)).max(need_of_selectors(env, &d.selectors))
+    need_of_designated(env, d).max(need_of_selectors(env, &d.selectors))
 }
 
 #[cycle(need_in_expressions)]
@@ -98,6 +99,18 @@ fn need_of_indices(env: &Environment, indices: &[Index]) -> usize
         need = need.max(need_of_expression(env, &i.value));
     }
     need
+}
+
+// The need of the routine that a designator stands for, if it is one. What is in its indices is judged only where its names stand
+// for a routine: in a text they never do, since no array has components in it.
+fn need_of_designated(env: &Environment, d: &Designator) -> usize
+    ensures { result ≡ n.need_called (environment env.now) (x.designated (environment env.now) (designator d.now)) }
+{
+    if is_routine(entity_named(env, d)) {
+        need_if_called(env, designation(env, d))
+    } else {
+        0
+    }
 }
 
 // What a designator stands for, where nothing is broken in it.
