@@ -1,4 +1,3 @@
-pub mod Seen
 pub mod Lists
 pub mod Views
 pub mod Tells
@@ -10,4 +9,3 @@ pub mod LabelsTold
 pub mod StatementViews
 pub mod NeedsOfChains
 pub mod Covers
-pub mod Distinct

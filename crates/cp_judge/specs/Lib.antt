@@ -1,4 +1,3 @@
-pub mod Scopes
 pub mod Tells
 pub mod Environments
 pub mod Callees

@@ -5,7 +5,6 @@
 
 ghost use Rattle.std.specs.Prelude.{◌≡◌, map, Option, None, Some};
 ghost use Rattle.cp_model.specs.View.{designator, index, indices_of, selector, selectors_of};
-ghost use Rattle.cp_judge.specs.Environments.{environment};
 ghost use Rattle.cp_judge.specs.EntitiesNamed as spec;
 
 use crate::environment::Environment;
@@ -27,7 +26,7 @@ pub fn is_routine(entity: Option<Entity>) -> bool
 
 // An element of what is indexed, whatever the index is.
 fn element(env: &Environment, at: usize, entity: Option<Entity>) -> Option<Entity>
-    ensures { result ≡ spec.element (environment env.now) at entity }
+    ensures { result ≡ spec.element env.now at entity }
 {
     let mut told = None;
     let part = array(env, &mut told, at, entity?)?;
@@ -35,7 +34,7 @@ fn element(env: &Environment, at: usize, entity: Option<Entity>) -> Option<Entit
 }
 
 fn elements(env: &Environment, entity: Option<Entity>, indices: &[Index]) -> Option<Entity>
-    ensures { result ≡ spec.elements (environment env.now) entity (indices_of (map index indices.now)) }
+    ensures { result ≡ spec.elements env.now entity (indices_of (map index indices.now)) }
 {
     let mut entity = entity;
     for i in indices {
@@ -46,7 +45,7 @@ fn elements(env: &Environment, entity: Option<Entity>, indices: &[Index]) -> Opt
 
 // A part of what the names before it stand for.
 fn part(env: &Environment, entity: Option<Entity>, s: &Selector) -> Option<Entity>
-    ensures { result ≡ spec.part (environment env.now) entity (selector s.now) }
+    ensures { result ≡ spec.part env.now entity (selector s.now) }
 {
     match s {
         Selector::Field { at, name } => {
@@ -59,7 +58,7 @@ fn part(env: &Environment, entity: Option<Entity>, s: &Selector) -> Option<Entit
 
 /// What the names of a designator stand for, if that is known.
 pub fn entity_named(env: &Environment, d: &Designator) -> Option<Entity>
-    ensures { result ≡ spec.entity_named (environment env.now) (designator d.now) }
+    ensures { result ≡ spec.entity_named env.now (designator d.now) }
 {
     let mut entity = known(env, &d.root);
     for s in &d.selectors {

@@ -22,11 +22,9 @@ mod operands;
 mod places;
 mod procedures;
 mod roots;
-mod scope;
 mod standard;
 pub mod statements;
 pub mod telling;
 mod values;
 
 pub use environment::Environment;
-pub use scope::Scope;
