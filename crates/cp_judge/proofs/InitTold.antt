@@ -6,8 +6,11 @@ use Rattle.cp_model.specs.declared.tree.Selector.{Selector}
 use Rattle.cp_model.specs.declared.rules.ParameterRow.{ParameterRow}
 use Rattle.cp_model.specs.declared.rules.Rule.TheVariants.{C12}
 use Rattle.cp_model.specs.declared.rules.Mode.TheVariants as mode
-use Rattle.cp_model.specs.RulesJudged.{Judged, Sound, Broken, also, meaning_of, violation, violations_of}
-use Rattle.cp_model.specs.RulesEnvironment.{Environment}
+use Rattle.cp_model.specs.RulesJudged.{Judged, Sound, Broken, also, breaks, meaning_of, violation, violations_of}
+use Rattle.cp_model.specs.RulesEnvironment.{Environment, c4_c9_named}
+use Rattle.cp_model.specs.declared.rules.Access.{Access}
+use Rattle.cp_model.specs.declared.rules.Entity.{Entity}
+use Rattle.cp_model.specs.declared.rules.Entity.TheVariants as entity
 use Rattle.cp_model.specs.RulesNames.{first_token}
 use Rattle.cp_model.specs.RulesExpressions.{judge}
 use Rattle.cp_model.specs.RulesStatements as st
@@ -75,3 +78,16 @@ arguments_step env (p ∷ ps) (suc k) (suc m) e es next = arguments_step env ps 
 pub parameters_told : (env : Environment) (y : Option ℕ) (j : Judged ℕ) → y ≡ meaning_of j → parts.parameters_if env y ≡ st.parameters_in env j
 parameters_told env y (Sound x) h = ap (parts.parameters_if env) h
 parameters_told env y (Broken v vs) h = ap (parts.parameters_if env) h
+
+-- ---- what is no variable
+
+abbrev IsNoVariable : Entity → Type 0
+IsNoVariable e = (t : ℕ) (a : Access) → e ≡ entity.Variable t a → ⊥
+
+pub passed_other : (env : Environment) (u : ℕ) (x : Identifier) (e : Entity) → IsNoVariable e → st.c12_passed env u x e ≡ also (c4_c9_named env x e) (breaks C12 x.at)
+passed_other env u x (entity.Variable t a) h = absurd (h t a refl)
+passed_other env u x _ h = refl
+
+pub component_other : (env : Environment) (x : Identifier) (e : Entity) → IsNoVariable e → st.c12_component env x e ≡ also (c4_c9_named env x e) (breaks C12 x.at)
+component_other env x (entity.Variable t a) h = absurd (h t a refl)
+component_other env x _ h = refl

@@ -1,4 +1,3 @@
-pub mod Seen
 pub mod Lists
 pub mod Views
 pub mod Tells
@@ -9,4 +8,4 @@ pub mod InitTold
 pub mod LabelsTold
 pub mod StatementViews
 pub mod NeedsOfChains
-pub mod Distinct
+pub mod Covers

@@ -2,7 +2,7 @@
 use Rattle.std.proofs.Common.{Bool, ◌&&◌, ◌≡◌, [], ◌∷◌, ◌++◌, Option, Some, None, Result, Ok, Err, OnOk, refl, ap, sym, ◌∙◌, subst}
 use Rattle.cp_model.specs.declared.rules.Violation.{Violation}
 use Rattle.cp_model.specs.RulesJudged.{Judged, Sound, Broken, Violations, violations_of, earlier, least, then_judge, both, also}
-use Rattle.cp_judge.specs.Tells.{Tells, TellsOf, answer_if}
+use Rattle.cp_judge.specs.Tells.{Tells, TellsFirst, TellsOf, answer_if}
 
 pub least_append : (t : Option Violation) (vs ws : Violations) → least t (vs ++ ws) ≡ least (least t vs) ws
 least_append t [] ws = refl
@@ -15,6 +15,13 @@ some_injective {A} {x} {y} h = ap (λ o. or_x o) h
     or_x (Some z) = z
     or_x None = x
 
+ok_injective : {A E : Type 0} {x y : A} → ◌≡◌ {A = Result A E} (Ok x) (Ok y) → x ≡ y
+ok_injective {A} {E} {x} {y} h = ap or_x h
+  where
+    or_x : Result A E → A
+    or_x (Ok z) = z
+    or_x (Err e) = x
+
 module _ {A B : Type 0} (k : A → Judged B) (t0 t1 : Option Violation) where
   pub then_some : (j : Judged A) (t2 : Option Violation) (x : A) (r : Option B) → Tells t0 t1 (Some x) j → Tells t1 t2 r (k x) → Tells t0 t2 r (then_judge j k)
   then_some (Sound y) t2 x r h g =
@@ -25,6 +32,14 @@ module _ {A B : Type 0} (k : A → Judged B) (t0 t1 : Option Violation) where
   pub then_none : (j : Judged A) → Tells t0 t1 None j → Tells t0 t1 None (then_judge j k)
   then_none (Sound y) h = absurd (cc)
   then_none (Broken v vs) h = (h.0, refl)
+
+  -- the same, where what is broken first is answered
+  pub then_first : (j : Judged A) (t2 : Option Violation) (x : A) (r : Result B Violation)
+      → TellsFirst t0 t1 (Ok x) j → TellsFirst t1 t2 r (k x) → TellsFirst t0 t2 r (then_judge j k)
+  then_first (Sound y) t2 x r h g =
+      let same : x ≡ y = ok_injective h.1 in
+      subst (λ z. TellsFirst t0 t2 r (k z)) same (subst (λ t. TellsFirst t t2 r (k x)) h.0 g)
+  then_first (Broken v vs) t2 x r h g = absurd (let both : ◌≡◌ {A = Result A Violation} (Ok x) (Err v) = h.1 in cc)
 
 module _ {A B C : Type 0} (k : A → B → Judged C) (t0 t1 t2 : Option Violation) where
   pub both_some : (ja : Judged A) (jb : Judged B) (t3 : Option Violation) (x : A) (y : B) (r : Option C) → Tells t0 t1 (Some x) ja → Tells t1 t2 (Some y) jb → Tells t2 t3 r (k x y) → Tells t0 t3 r (both ja jb k)
@@ -49,6 +64,12 @@ also_told t0 t1 t2 sound [] m j h g =
     (g.0 ∙ ap (λ t. least t (violations_of j)) h.0, ap (λ b. answer_if b m) h.1 ∙ g.1)
 also_told t0 t1 t2 sound (v ∷ vs) m j h g =
     (g.0 ∙ ap (λ t. least t (violations_of j)) h.0 ∙ sym (least_append (earlier t0 v) vs (violations_of j)), ap (λ b. answer_if b m) h.1)
+
+-- what is judged whatever is broken inside, beside what is broken anyway
+pub beside_told : {A : Type 0} (t0 t1 t2 : Option Violation) (sound : Bool) (vs : Violations) (r : Option A) (v : Violation) (ws : Violations)
+    → TellsOf t0 t1 sound vs → Tells t1 t2 r (Broken v ws) → Tells t0 t2 r (also vs (Broken v ws))
+beside_told t0 t1 t2 sound [] r v ws h g = (g.0 ∙ ap (λ t. least t (v ∷ ws)) h.0, g.1)
+beside_told t0 t1 t2 sound (u ∷ us) r v ws h g = (g.0 ∙ ap (λ t. least t (v ∷ ws)) h.0 ∙ sym (least_append (earlier t0 u) us (v ∷ ws)), g.1)
 
 -- one list of violations behind another
 pub append_told : (t0 t1 t2 : Option Violation) (a b : Bool) (vs ws : Violations) → TellsOf t0 t1 a vs → TellsOf t1 t2 b ws → TellsOf t0 t2 (a && b) (vs ++ ws)

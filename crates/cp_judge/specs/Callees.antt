@@ -27,6 +27,10 @@ callee_if env (Some c) = Some (callee env c)
 abbrev pub TellsCallee : r.Environment → Option Violation → Option Violation → Option Callee → Judged n.Callee → Type 0
 TellsCallee env old new answer j = (new ≡ least old (violations_of j)) × (callee_if env answer ≡ meaning_of j)
 
+-- the same in every environment
+abbrev pub TellsWherever : Option Violation → Option Violation → Option Callee → (r.Environment → Judged n.Callee) → Type 0
+TellsWherever old new answer k = (env : r.Environment) → TellsCallee env old new answer (k env)
+
 -- what the arguments have to meet, where what stands before them is known
 abbrev pub wants_known : r.Environment → Option Entity → List Want
 wants_known env None = []

@@ -1,13 +1,17 @@
 -- The labels of a `case` so far.
-use Rattle.std.specs.Prelude.{ℕ, Option, Some, None, List, []}
+use Rattle.std.specs.Prelude.{◌≡◌, ℕ, Option, Some, None, List, []}
 use Rattle.cp_model.specs.RulesEnvironment.{Environment, base_of}
-use Rattle.cp_model.specs.RulesStatements.{Label}
+use Rattle.cp_model.specs.RulesStatements.{Label, is_among}
 
 abbrev pub Labels : Type 0
 Labels = List Label
 
 abbrev pub no_labels : Labels
 no_labels = []
+
+-- the same labels, in any order
+abbrev pub SameLabels : Labels → Labels → Type 0
+SameLabels as' bs = (c : Label) → is_among c as' ≡ is_among c bs
 
 -- the base of a selector's type, where that is known
 abbrev pub base_if : Environment → Option ℕ → Option ℕ

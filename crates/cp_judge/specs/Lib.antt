@@ -1,4 +1,3 @@
-pub mod Scopes
 pub mod Tells
 pub mod Environments
 pub mod Callees
@@ -9,3 +8,4 @@ pub mod StatementParts
 pub mod Labels
 pub mod InitParts
 pub mod Needs
+pub mod EntitiesNamed

@@ -1,11 +1,20 @@
 -- What a function of the code tells: the earliest violation so far, and a meaning.
-use Rattle.std.specs.Prelude.{◌≡◌, Bool, true, false, [], ◌∷◌, Option, None}
+use Rattle.std.specs.Prelude.{◌≡◌, Bool, true, false, [], ◌∷◌, Option, None, Result, Ok, Err}
 use Rattle.cp_model.specs.declared.rules.Violation.{Violation}
-use Rattle.cp_model.specs.RulesJudged.{Judged, Violations, least, violations_of, meaning_of, both}
+use Rattle.cp_model.specs.RulesJudged.{Judged, Sound, Broken, Violations, least, violations_of, meaning_of, both}
 
 -- the answer is the meaning, and of what is broken the earliest is kept
 abbrev pub Tells : {A : Type 0} → Option Violation → Option Violation → Option A → Judged A → Type 0
 Tells old new answer j = (new ≡ least old (violations_of j)) × (answer ≡ meaning_of j)
+
+-- the meaning, or what is broken first
+abbrev pub first_of : {A : Type 0} → Judged A → Result A Violation
+first_of (Sound x) = Ok x
+first_of (Broken v vs) = Err v
+
+-- the same, where the answer is the meaning or what is broken first
+abbrev pub TellsFirst : {A : Type 0} → Option Violation → Option Violation → Result A Violation → Judged A → Type 0
+TellsFirst old new answer j = (new ≡ least old (violations_of j)) × (answer ≡ first_of j)
 
 abbrev pub are_none : Violations → Bool
 are_none [] = true

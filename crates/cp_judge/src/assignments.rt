@@ -7,12 +7,11 @@ ghost use Rattle.cp_model.specs.RulesNames as n;
 ghost use Rattle.cp_model.specs.declared.rules.Mode.TheVariants as mode;
 ghost use Rattle.cp_model.specs.RulesStatements as st;
 ghost use Rattle.cp_model.specs.View.{designator, expression, selector, selectors_of};
-ghost use Rattle.cp_judge.specs.Environments.{environment};
 ghost use Rattle.cp_judge.specs.StatementParts as parts;
 ghost use Rattle.cp_judge.specs.Tells.{Tells, TellsOf, TellsBoth};
 
 use crate::designators::names_fit;
-use crate::environment::{Environment, agree, is_component};
+use crate::environment::Environment;
 use crate::expressions::{judge, typed};
 use crate::names::known;
 use crate::telling::{answer_if, broken, tell};
@@ -75,7 +74,7 @@ fn own_result(
 
 // What is judged of the names of a left side that is no function's own name. C10: it is no variable.
 fn names_changeable(env: &Environment, told: &mut Option<Violation>, d: &Designator) -> bool
-    ensures { TellsOf told.old told.new result (n.c2_c5_c8_named (environment env.now) mode.Variable (designator d.now) ++ n.c10_designator (environment env.now) (designator d.now)) }
+    ensures { TellsOf told.old told.new result (n.c2_c5_c8_named env.now mode.Variable (designator d.now) ++ n.c10_designator env.now (designator d.now)) }
 {
     let fits = names_fit(env, told, Mode::Variable, d);
     let is_variable = variable_designated(env, told, d);
@@ -83,7 +82,7 @@ fn names_changeable(env: &Environment, told: &mut Option<Violation>, d: &Designa
 }
 
 fn other_left(env: &Environment, told: &mut Option<Violation>, d: &Designator) -> Option<usize>
-    ensures { Tells told.old told.new result (st.other_left (environment env.now) (designator d.now)) }
+    ensures { Tells told.old told.new result (st.other_left env.now (designator d.now)) }
 {
     let fits = names_changeable(env, told, d);
     let t = typed(env, told, Mode::Variable, d);
@@ -92,7 +91,7 @@ fn other_left(env: &Environment, told: &mut Option<Violation>, d: &Designator) -
 
 // The type of a left side.
 fn left(env: &Environment, told: &mut Option<Violation>, d: &Designator) -> Option<usize>
-    ensures { Tells told.old told.new result (st.left (environment env.now) (designator d.now)) }
+    ensures { Tells told.old told.new result (st.left env.now (designator d.now)) }
 {
     match known(env, &d.root) {
         Some(Entity::UnfinishedRoutine(row)) => {
@@ -103,17 +102,17 @@ fn left(env: &Environment, told: &mut Option<Violation>, d: &Designator) -> Opti
 }
 
 fn component(env: &Environment, x: &Identifier) -> Option<usize>
-    ensures { result ≡ st.component_by (environment env.now) (r.c1_named (environment env.now) x.now) }
+    ensures { result ≡ st.component_by env.now (r.c1_named env.now x.now) }
 {
     match known(env, x) {
-        Some(Entity::Variable(t, _)) => { if is_component(env, t) { Some(t) } else { None } }
+        Some(Entity::Variable(t, _)) => { if env.is_component(t) { Some(t) } else { None } }
         _ => None,
     }
 }
 
 // The type of a component whose name is the whole designator.
 fn component_alone(env: &Environment, x: &Identifier, selectors: &[Selector]) -> Option<usize>
-    ensures { result ≡ parts.component_alone (environment env.now) x.now (selectors_of (map selector selectors.now)) }
+    ensures { result ≡ parts.component_alone env.now x.now (selectors_of (map selector selectors.now)) }
 {
     match selectors {
         [] => component(env, x),
@@ -122,7 +121,7 @@ fn component_alone(env: &Environment, x: &Identifier, selectors: &[Selector]) ->
 }
 
 fn lone_component(env: &Environment, e: &Expression) -> Option<usize>
-    ensures { result ≡ st.lone_component (environment env.now) (expression e.now) }
+    ensures { result ≡ st.lone_component env.now (expression e.now) }
 {
     let d = designated(e)?;
     component_alone(env, &d.root, &d.selectors)
@@ -135,7 +134,7 @@ fn right(
     to_component: bool,
     e: &Expression,
 ) -> Option<usize>
-    ensures { Tells told.old told.new result (parts.right (environment env.now) to_component (expression e.now)) }
+    ensures { Tells told.old told.new result (parts.right env.now to_component (expression e.now)) }
 {
     if to_component {
         if let Some(t) = lone_component(env, e) {
@@ -146,10 +145,10 @@ fn right(
 }
 
 fn is_component_type(env: &Environment, target: Option<usize>) -> bool
-    ensures { result ≡ parts.is_component_if (environment env.now) target }
+    ensures { result ≡ parts.is_component_if env.now target }
 {
     match target {
-        Some(t) => is_component(env, t),
+        Some(t) => env.is_component(t),
         None => false,
     }
 }
@@ -161,9 +160,9 @@ fn agreed(
     a: usize,
     b: usize,
 ) -> Option<usize>
-    ensures { Tells told.old told.new result (st.c2_sides (environment env.now) at a b) }
+    ensures { Tells told.old told.new result (st.c2_sides env.now at a b) }
 {
-    if agree(env, a, b) {
+    if env.agree(a, b) {
         return Some(a);
     }
     broken(told, Rule::C2, at)
@@ -177,7 +176,7 @@ fn sides(
     a: Option<usize>,
     b: Option<usize>,
 ) -> Option<usize>
-    ensures { TellsBoth told.old told.new a b result (st.c2_sides (environment env.now) at) }
+    ensures { TellsBoth told.old told.new a b result (st.c2_sides env.now at) }
 {
     agreed(env, told, at, a?, b?)
 }
@@ -190,7 +189,7 @@ pub fn assigned(
     at: usize,
     e: &Expression,
 )
-    ensures { told.new ≡ least told.old (st.assigned (environment env.now) (designator d.now) at (expression e.now)) }
+    ensures { told.new ≡ least told.old (st.assigned env.now (designator d.now) at (expression e.now)) }
 {
     let a = left(env, told, d);
     let b = right(env, told, is_component_type(env, a), e);

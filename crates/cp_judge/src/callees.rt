@@ -5,11 +5,10 @@ ghost use Rattle.cp_model.specs.RulesEnvironment as r;
 ghost use Rattle.cp_model.specs.RulesNames as n;
 ghost use Rattle.cp_model.specs.RulesJudged.{meaning_of, Sound};
 ghost use Rattle.cp_model.specs.View.{designator};
-ghost use Rattle.cp_judge.specs.Environments.{environment};
-ghost use Rattle.cp_judge.specs.Callees.{wants_of, wants_if, TellsCallee};
+ghost use Rattle.cp_judge.specs.Callees.{wants_of, wants_if, TellsCallee, TellsWherever};
 ghost use Rattle.cp_judge.specs.Tells.{Tells, TellsOf};
 
-use crate::environment::{Environment, routine};
+use crate::environment::Environment;
 use crate::names::{in_place, sort_rule, unfinished};
 use crate::places::last_name;
 use crate::standard::{standard_function_called, standard_procedure_called, standard_wants};
@@ -70,14 +69,13 @@ fn gives(
 
 // A routine as a function with so many arguments.
 fn function_called(
-    env: &Environment,
     told: &mut Option<Violation>,
     rule: Rule,
     x: &Identifier,
     count: usize,
     row: RoutineRow,
 ) -> Option<Callee>
-    ensures { TellsCallee (environment env.now) told.old told.new result (n.function_called (environment env.now) rule x.now count row) }
+    ensures { TellsWherever told.old told.new result (λ env. n.function_called env rule x.now count row) }
 {
     let gives = gives(told, rule, x, row.count == count, row.returns)?;
     Some(Callee {
@@ -97,13 +95,12 @@ fn is_procedure(returns: Returns) -> bool
 
 // A routine as a procedure with so many arguments.
 fn procedure_called(
-    env: &Environment,
     told: &mut Option<Violation>,
     x: &Identifier,
     count: usize,
     row: RoutineRow,
 ) -> Option<Callee>
-    ensures { TellsCallee (environment env.now) told.old told.new result (n.procedure_called (environment env.now) x.now count row) }
+    ensures { TellsWherever told.old told.new result (λ env. n.procedure_called env x.now count row) }
 {
     if is_procedure(row.returns) && row.count == count {
         return Some(Callee {
@@ -116,13 +113,12 @@ fn procedure_called(
 
 // A routine without `entry` after a `.`, which is not called. C2: a wrong number of arguments; else C5.
 fn counted(
-    env: &Environment,
     told: &mut Option<Violation>,
     x: &Identifier,
     count: usize,
     row: RoutineRow,
 ) -> Option<Callee>
-    ensures { TellsCallee (environment env.now) told.old told.new result (n.counted (environment env.now) x.now count row) }
+    ensures { TellsWherever told.old told.new result (λ env. n.counted env x.now count row) }
 {
     let rule = if row.count == count {
         Rule::C5
@@ -149,32 +145,32 @@ pub fn function(
     count: usize,
     entity: Entity,
 ) -> Option<Callee>
-    ensures { TellsCallee (environment env.now) told.old told.new result (n.function_of (environment env.now) mode (designator d.now) count entity) }
+    ensures { TellsCallee env.now told.old told.new result (n.function_of env.now mode (designator d.now) count entity) }
 {
     let x = last_name(d);
     let rule = sort_rule(mode, d);
     match entity {
         Entity::Routine(number) => {
-            let row = routine(env, number);
+            let row = env.routine(number);
             let by_name = by_name(told, x, row);
-            answer_if(by_name, function_called(env, told, rule, x, count, row))
+            answer_if(by_name, function_called(told, rule, x, count, row))
         }
         Entity::Entry(number) => {
-            let row = routine(env, number);
+            let row = env.routine(number);
             if row.entry {
-                return function_called(env, told, rule, x, count, row);
+                return function_called(told, rule, x, count, row);
             }
-            counted(env, told, x, count, row)
+            counted(told, x, count, row)
         }
         Entity::UnfinishedRoutine(row) => {
             let finished = unfinished(told, x, entity);
-            answer_if(finished, function_called(env, told, rule, x, count, row))
+            answer_if(finished, function_called(told, rule, x, count, row))
         }
         Entity::Standard(standard) => {
             let in_place = in_place(env, told, x, Entity::Standard(standard));
             answer_if(
                 in_place,
-                standard_function_called(env, told, rule, x, count, standard),
+                standard_function_called(told, rule, x, count, standard),
             )
         }
         _ => {
@@ -193,31 +189,31 @@ pub fn procedure(
     count: usize,
     entity: Entity,
 ) -> Option<Callee>
-    ensures { TellsCallee (environment env.now) told.old told.new result (n.procedure_of (environment env.now) (designator d.now) count entity) }
+    ensures { TellsCallee env.now told.old told.new result (n.procedure_of env.now (designator d.now) count entity) }
 {
     let x = last_name(d);
     match entity {
         Entity::Routine(number) => {
-            let row = routine(env, number);
+            let row = env.routine(number);
             let by_name = by_name(told, x, row);
-            answer_if(by_name, procedure_called(env, told, x, count, row))
+            answer_if(by_name, procedure_called(told, x, count, row))
         }
         Entity::Entry(number) => {
-            let row = routine(env, number);
+            let row = env.routine(number);
             if row.entry {
-                return procedure_called(env, told, x, count, row);
+                return procedure_called(told, x, count, row);
             }
-            counted(env, told, x, count, row)
+            counted(told, x, count, row)
         }
         Entity::UnfinishedRoutine(row) => {
             let finished = unfinished(told, x, entity);
-            answer_if(finished, procedure_called(env, told, x, count, row))
+            answer_if(finished, procedure_called(told, x, count, row))
         }
         Entity::Standard(standard) => {
             let in_place = in_place(env, told, x, Entity::Standard(standard));
             answer_if(
                 in_place,
-                standard_procedure_called(env, told, x, count, standard),
+                standard_procedure_called(told, x, count, standard),
             )
         }
         _ => {
@@ -227,28 +223,28 @@ pub fn procedure(
     }
 }
 
-fn parameters(env: &Environment, row: RoutineRow) -> Wants
-    ensures { wants_of (environment env.now) result ≡ n.wants_of (environment env.now) row }
+fn parameters(row: RoutineRow) -> Wants
+    ensures { (env : r.Environment) → wants_of env result ≡ n.wants_of env row }
 {
     Wants::Parameters(row.first, row.count)
 }
 
 // What the arguments have to meet of what is called, whatever is broken in the call.
 fn wants_named(env: &Environment, entity: Entity) -> Wants
-    ensures { wants_of (environment env.now) result ≡ n.wants_named (environment env.now) (Sound entity) }
+    ensures { wants_of env.now result ≡ n.wants_named env.now (Sound entity) }
 {
     match entity {
-        Entity::Routine(number) => parameters(env, routine(env, number)),
-        Entity::Entry(number) => parameters(env, routine(env, number)),
-        Entity::UnfinishedRoutine(row) => parameters(env, row),
-        Entity::Standard(standard) => standard_wants(env, standard),
+        Entity::Routine(number) => parameters(env.routine(number)),
+        Entity::Entry(number) => parameters(env.routine(number)),
+        Entity::UnfinishedRoutine(row) => parameters(row),
+        Entity::Standard(standard) => standard_wants(standard),
         _ => Wants::Nothing,
     }
 }
 
 /// What the arguments have to meet: nothing, where it isn't known what is called.
 pub fn wants_of_call(env: &Environment, entity: Option<Entity>, callee: Option<Callee>) -> Wants
-    ensures { wants_of (environment env.now) result ≡ wants_if (environment env.now) entity callee }
+    ensures { wants_of env.now result ≡ wants_if env.now entity callee }
 {
     match (callee, entity) {
         (Some(callee), _) => callee.wants,
@@ -264,11 +260,10 @@ pub fn parameter(
     count: usize,
     number: usize,
 ) -> Option<ParameterRow>
-    ensures { result ≡ slice_get (r.parameters_from (environment env.now) first count) number }
+    ensures { result ≡ slice_get (r.parameters_from env.now first count) number }
 {
     if number < count {
-        let at = first.checked_add(number)?;
-        env.parameters.get(at).copied()
+        env.parameter(first, number)
     } else {
         None
     }
@@ -276,7 +271,7 @@ pub fn parameter(
 
 /// What the argument of this number, counted from 0, has to meet.
 pub fn want(env: &Environment, wants: Wants, number: usize) -> Option<Want>
-    ensures { result ≡ slice_get (wants_of (environment env.now) wants) number }
+    ensures { result ≡ slice_get (wants_of env.now wants) number }
 {
     match wants {
         Wants::Nothing => None,

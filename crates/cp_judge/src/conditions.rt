@@ -8,11 +8,10 @@ ghost use Rattle.cp_model.specs.declared.rules.Rule.TheVariants.{C2};
 ghost use Rattle.cp_model.specs.declared.rules.Mode.TheVariants as mode;
 ghost use Rattle.cp_model.specs.RulesStatements as st;
 ghost use Rattle.cp_model.specs.View.{designator, expression, selector, selectors_of};
-ghost use Rattle.cp_judge.specs.Environments.{environment};
 ghost use Rattle.cp_judge.specs.StatementParts as parts;
 ghost use Rattle.cp_judge.specs.Tells.{Tells, TellsOf};
 
-use crate::environment::{BOOLEAN, Environment, agree, base, is_base, is_simple};
+use crate::environment::{BOOLEAN, Environment, is_base};
 use crate::expressions::judge;
 use crate::names::{anywhere, named, queue_named, unfinished};
 use crate::places::first_token;
@@ -33,18 +32,18 @@ fn wanted(told: &mut Option<Violation>, fits: bool, at: usize, t: usize) -> Opti
 
 /// C2: a condition isn't Boolean.
 pub fn condition(env: &Environment, told: &mut Option<Violation>, e: &Expression) -> Option<usize>
-    ensures { Tells told.old told.new result (st.c2_condition (environment env.now) (expression e.now)) }
+    ensures { Tells told.old told.new result (st.c2_condition env.now (expression e.now)) }
 {
     let t = judge(env, told, Mode::Value, e)?;
-    wanted(told, is_base(BOOLEAN, base(env, t)), first_token(e), t)
+    wanted(told, is_base(BOOLEAN, env.base(t)), first_token(e), t)
 }
 
 /// C2: the selector of a `case` isn't simple.
 pub fn selector(env: &Environment, told: &mut Option<Violation>, e: &Expression) -> Option<usize>
-    ensures { Tells told.old told.new result (st.c2_selector (environment env.now) (expression e.now)) }
+    ensures { Tells told.old told.new result (st.c2_selector env.now (expression e.now)) }
 {
     let t = judge(env, told, Mode::Value, e)?;
-    wanted(told, is_simple(env, t), first_token(e), t)
+    wanted(told, env.is_simple(t), first_token(e), t)
 }
 
 /// C2: a bound of a `for` doesn't agree with its variable, where the type of that is known.
@@ -54,11 +53,11 @@ pub fn bound(
     variable: Option<usize>,
     e: &Expression,
 ) -> Option<usize>
-    ensures { (j : Judged ℕ) → variable ≡ meaning_of j → Tells told.old told.new result (st.bound (environment env.now) j (expression e.now)) }
+    ensures { (j : Judged ℕ) → variable ≡ meaning_of j → Tells told.old told.new result (st.bound env.now j (expression e.now)) }
 {
     let u = judge(env, told, Mode::Value, e)?;
     match variable {
-        Some(t) => wanted(told, agree(env, t, u), first_token(e), u),
+        Some(t) => wanted(told, env.agree(t, u), first_token(e), u),
         None => Some(u),
     }
 }
@@ -70,7 +69,7 @@ fn plain_value(
     v: &Identifier,
     entity: Entity,
 ) -> Option<usize>
-    ensures { Tells told.old told.new result (n.value_of (environment env.now) mode.Variable (st.plain v.now) entity) }
+    ensures { Tells told.old told.new result (n.value_of env.now mode.Variable (st.plain v.now) entity) }
 {
     match entity {
         Entity::Constant(base, _) => Some(base),
@@ -92,14 +91,14 @@ fn plain_value(
 }
 
 fn plain_named(env: &Environment, told: &mut Option<Violation>, v: &Identifier) -> Option<usize>
-    ensures { Tells told.old told.new result (parts.plain_named (environment env.now) v.now) }
+    ensures { Tells told.old told.new result (parts.plain_named env.now v.now) }
 {
     let entity = named(env, told, v)?;
     plain_value(env, told, v, entity)
 }
 
 fn plain_judged(env: &Environment, told: &mut Option<Violation>, v: &Identifier) -> Option<usize>
-    ensures { Tells told.old told.new result (parts.plain_judged (environment env.now) v.now) }
+    ensures { Tells told.old told.new result (parts.plain_judged env.now v.now) }
 {
     let no_queue = queue_named(env, told, Mode::Variable, v);
     let t = plain_named(env, told, v);
@@ -107,15 +106,15 @@ fn plain_judged(env: &Environment, told: &mut Option<Violation>, v: &Identifier)
 }
 
 fn simple_variable(env: &Environment, told: &mut Option<Violation>, v: &Identifier) -> Option<usize>
-    ensures { Tells told.old told.new result (parts.simple_variable (environment env.now) v.now) }
+    ensures { Tells told.old told.new result (parts.simple_variable env.now v.now) }
 {
     let t = plain_judged(env, told, v)?;
-    wanted(told, is_simple(env, t), v.at, t)
+    wanted(told, env.is_simple(t), v.at, t)
 }
 
 // C10: the variable of a `for` isn't a variable. C2: it isn't simple.
 fn for_variable(env: &Environment, told: &mut Option<Violation>, v: &Identifier) -> Option<usize>
-    ensures { Tells told.old told.new result (st.for_variable (environment env.now) v.now) }
+    ensures { Tells told.old told.new result (st.for_variable env.now v.now) }
 {
     let changeable = unless_holds(told, is_variable(env, v, &[]), Rule::C10, v.at);
     let t = simple_variable(env, told, v);
@@ -130,7 +129,7 @@ pub fn for_header(
     from: &Expression,
     last: &Expression,
 )
-    ensures { told.new ≡ least told.old (parts.for_header (environment env.now) v.now (expression from.now) (expression last.now)) }
+    ensures { told.new ≡ least told.old (parts.for_header env.now v.now (expression from.now) (expression last.now)) }
 {
     let t = for_variable(env, told, v);
     bound(env, told, t, from);

@@ -2,12 +2,13 @@
 
 ghost use Rattle.std.specs.Prelude.{◌≡◌, ◌++◌, [], ◌∷◌, pos, neg_ℤ, Option, None, Some};
 ghost use Rattle.cp_model.specs.RulesTypes as types;
-ghost use Rattle.cp_judge.specs.Environments.{environment};
-ghost use Rattle.cp_judge.specs.Tells.{Tells, TellsOf};
+ghost use Rattle.cp_model.specs.RulesJudged.{also, breaks, violation};
+ghost use Rattle.cp_model.specs.declared.rules.Rule.TheVariants as rules;
+ghost use Rattle.cp_judge.specs.Tells.{TellsFirst};
 
 use crate::environment::{CHAR, Environment, INTEGER};
-use crate::names::{named, unfinished};
-use crate::telling::broken;
+use crate::names::resolve;
+use crate::telling::{unless_holds, violated};
 use cp_model::rules::{Entity, Rule, Violation};
 use cp_model::tree::{Constant, Identifier};
 
@@ -23,38 +24,46 @@ pub fn constant_at(c: &Constant) -> usize
     }
 }
 
-// C2: a constant is wanted, and the name is of another sort.
+/// C4, and C2 beside it: the name of something unfinished, where another sort is wanted.
+pub fn unfinished_of_other_sort<A>(told: &mut Option<Violation>, at: usize) -> Result<A, Violation>
+    ensures { TellsFirst told.old told.new result (also (violation rules.C4 at ∷ []) (breaks rules.C2 at)) }
+{
+    let first = violated(told, Rule::C4, at);
+    unless_holds(told, false, Rule::C2, at);
+    first
+}
+
+// C2: a constant is wanted, and the name is of another sort. C4: a constant inside its own definition.
 fn constant_named(
     told: &mut Option<Violation>,
     x: &Identifier,
     entity: Entity,
-) -> Option<(usize, i32)>
-    ensures { Tells told.old told.new result (types.c2_constant x.now entity) }
+) -> Result<(usize, i32), Violation>
+    ensures { TellsFirst told.old told.new result (types.c2_constant x.now entity) }
 {
     match entity {
-        Entity::Constant(base, ordinal) => Some((base, ordinal)),
-        Entity::UnfinishedConstant => broken(told, Rule::C4, x.at),
-        _ => {
-            unfinished(told, x, entity);
-            broken(told, Rule::C2, x.at)
-        }
+        Entity::Constant(base, ordinal) => Ok((base, ordinal)),
+        Entity::UnfinishedConstant => violated(told, Rule::C4, x.at),
+        Entity::UnfinishedType => unfinished_of_other_sort(told, x.at),
+        Entity::UnfinishedRoutine(_) => unfinished_of_other_sort(told, x.at),
+        _ => violated(told, Rule::C2, x.at),
     }
 }
 
-/// The base type of a constant and its ordinal.
+/// The base type of a constant and its ordinal, or what is broken first in it.
 pub fn constant(
     env: &Environment,
     told: &mut Option<Violation>,
     c: &Constant,
-) -> Option<(usize, i32)>
-    ensures { Tells told.old told.new result (types.constant (environment env.now) c.now) }
+) -> Result<(usize, i32), Violation>
+    ensures { TellsFirst told.old told.new result (types.constant env.now c.now) }
 {
     match c {
-        Constant::Number { value, .. } => Some((INTEGER, i32::from(*value))),
-        Constant::Negative { value, .. } => Some((INTEGER, -i32::from(*value))),
-        Constant::Character { ordinal, .. } => Some((CHAR, i32::from(*ordinal))),
+        Constant::Number { value, .. } => Ok((INTEGER, i32::from(*value))),
+        Constant::Negative { value, .. } => Ok((INTEGER, -i32::from(*value))),
+        Constant::Character { ordinal, .. } => Ok((CHAR, i32::from(*ordinal))),
         Constant::Named(x) => {
-            let entity = named(env, told, x)?;
+            let entity = resolve(env, told, x)?;
             constant_named(told, x, entity)
         }
     }

@@ -4,10 +4,9 @@ ghost use Rattle.std.specs.Prelude.{◌≡◌, ◌++◌, [], ◌∷◌, map, Opt
 ghost use Rattle.cp_model.specs.RulesEnvironment as r;
 ghost use Rattle.cp_model.specs.RulesNames as n;
 ghost use Rattle.cp_model.specs.View.{designator, index, indices_of, selector, selectors_of};
-ghost use Rattle.cp_judge.specs.Environments.{environment};
 ghost use Rattle.cp_judge.specs.Tells.{TellsOf};
 
-use crate::environment::{Environment, routine, structure};
+use crate::environment::Environment;
 use crate::members::member_of_type;
 use crate::names::{known, queue_named, sort_rule};
 use crate::places::{first_name, last_name};
@@ -27,7 +26,7 @@ fn first_rule(mode: Mode) -> Rule
 }
 
 fn is_type(env: &Environment, x: &Identifier) -> bool
-    ensures { result ≡ n.is_type (r.c1_named (environment env.now) x.now) }
+    ensures { result ≡ n.is_type (r.c1_named env.now x.now) }
 {
     match known(env, x) {
         Some(Entity::Type(_)) => true,
@@ -52,7 +51,7 @@ fn no_indexed_type(
     mode: Mode,
     d: &Designator,
 ) -> bool
-    ensures { TellsOf told.old told.new result (n.c2_before_index (environment env.now) mode (designator d.now)) }
+    ensures { TellsOf told.old told.new result (n.c2_before_index env.now mode (designator d.now)) }
 {
     let wrong = is_indexed_first(&d.selectors) && is_type(env, &d.root);
     unless_holds(told, !wrong, first_rule(mode), d.root.at)
@@ -60,7 +59,7 @@ fn no_indexed_type(
 
 // The member of this name that the first name has, if it has one.
 fn member_selected(env: &Environment, x: &Identifier, y: &Identifier) -> Option<Member>
-    ensures { result ≡ n.member_selected (environment env.now) y.now.name (r.c1_named (environment env.now) x.now) }
+    ensures { result ≡ n.member_selected env.now y.now.name (r.c1_named env.now x.now) }
 {
     match known(env, x) {
         Some(Entity::Variable(t, _)) => member_of_type(env, t, y),
@@ -75,11 +74,11 @@ fn has_entry(
     x: &Identifier,
     y: &Identifier,
 ) -> bool
-    ensures { TellsOf told.old told.new result (n.c5_member (environment env.now) y.now (n.member_selected (environment env.now) y.now.name (r.c1_named (environment env.now) x.now))) }
+    ensures { TellsOf told.old told.new result (n.c5_member env.now y.now (n.member_selected env.now y.now.name (r.c1_named env.now x.now))) }
 {
     match member_selected(env, x, y) {
         Some(Member::Routine(number)) => {
-            unless_holds(told, routine(env, number).entry, Rule::C5, y.at)
+            unless_holds(told, env.routine(number).entry, Rule::C5, y.at)
         }
         _ => true,
     }
@@ -92,7 +91,7 @@ fn selected_has_entry(
     x: &Identifier,
     selectors: &[Selector],
 ) -> bool
-    ensures { TellsOf told.old told.new result (n.c5_selected (environment env.now) x.now (selectors_of (map selector selectors.now))) }
+    ensures { TellsOf told.old told.new result (n.c5_selected env.now x.now (selectors_of (map selector selectors.now))) }
 {
     match selectors {
         [Selector::Field { name, .. }, ..] => has_entry(env, told, x, name),
@@ -102,7 +101,7 @@ fn selected_has_entry(
 
 // C5 of a designator: a routine after a component's `.` lacks `entry`.
 fn entry_after_point(env: &Environment, told: &mut Option<Violation>, d: &Designator) -> bool
-    ensures { TellsOf told.old told.new result (n.c5_after_point (environment env.now) (designator d.now)) }
+    ensures { TellsOf told.old told.new result (n.c5_after_point env.now (designator d.now)) }
 {
     selected_has_entry(env, told, &d.root, &d.selectors)
 }
@@ -114,7 +113,7 @@ pub fn names_fit(
     mode: Mode,
     d: &Designator,
 ) -> bool
-    ensures { TellsOf told.old told.new result (n.c2_c5_c8_named (environment env.now) mode (designator d.now)) }
+    ensures { TellsOf told.old told.new result (n.c2_c5_c8_named env.now mode (designator d.now)) }
 {
     let no_type = no_indexed_type(env, told, mode, d);
     let entry = entry_after_point(env, told, d);
@@ -125,7 +124,7 @@ pub fn names_fit(
 // ---- what isn't a routine, where one is wanted
 
 fn first_part(env: &Environment, x: &Identifier) -> NamedPart
-    ensures { result ≡ n.first_part (r.c1_named (environment env.now) x.now) }
+    ensures { result ≡ n.first_part (r.c1_named env.now x.now) }
 {
     let (is_value, of) = match known(env, x) {
         Some(Entity::Constant(_, _)) => (true, None),
@@ -140,7 +139,7 @@ fn first_part(env: &Environment, x: &Identifier) -> NamedPart
 }
 
 fn field_type(env: &Environment, x: &Identifier, of: Option<usize>) -> Option<usize>
-    ensures { result ≡ n.field_type (environment env.now) x.now.name of }
+    ensures { result ≡ n.field_type env.now x.now.name of }
 {
     match member_of_type(env, of?, x) {
         Some(Member::Field(t)) => Some(t),
@@ -149,16 +148,16 @@ fn field_type(env: &Environment, x: &Identifier, of: Option<usize>) -> Option<us
 }
 
 fn element_type(env: &Environment, of: Option<usize>) -> Option<usize>
-    ensures { result ≡ n.element_type (environment env.now) of }
+    ensures { result ≡ n.element_type env.now of }
 {
-    match structure(env, of?) {
+    match env.structure(of?) {
         Structure::Array(_, element) => Some(element),
         _ => None,
     }
 }
 
 fn indexed_type(env: &Environment, of: Option<usize>, indices: &[Index]) -> Option<usize>
-    ensures { result ≡ n.indexed_type (environment env.now) of (indices_of (map index indices.now)) }
+    ensures { result ≡ n.indexed_type env.now of (indices_of (map index indices.now)) }
 {
     let mut of = of;
     for _ in indices {
@@ -168,7 +167,7 @@ fn indexed_type(env: &Environment, of: Option<usize>, indices: &[Index]) -> Opti
 }
 
 fn next_part(env: &Environment, part: NamedPart, s: &Selector) -> NamedPart
-    ensures { result ≡ n.next_part (environment env.now) part (selector s.now) }
+    ensures { result ≡ n.next_part env.now part (selector s.now) }
 {
     match s {
         Selector::Field { name, .. } => {
@@ -189,7 +188,7 @@ fn next_part(env: &Environment, part: NamedPart, s: &Selector) -> NamedPart
 
 // The last name of a designator and the indices after it.
 fn last_part(env: &Environment, d: &Designator) -> NamedPart
-    ensures { result ≡ n.last_part_of (environment env.now) (designator d.now) }
+    ensures { result ≡ n.last_part_of env.now (designator d.now) }
 {
     let mut part = first_part(env, &d.root);
     for s in &d.selectors {
@@ -205,7 +204,7 @@ pub fn no_indexed_value(
     mode: Mode,
     d: &Designator,
 ) -> bool
-    ensures { TellsOf told.old told.new result (n.c2_indexed (environment env.now) mode (designator d.now)) }
+    ensures { TellsOf told.old told.new result (n.c2_indexed env.now mode (designator d.now)) }
 {
     let part = last_part(env, d);
     unless_holds(

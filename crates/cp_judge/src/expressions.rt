@@ -10,7 +10,6 @@ ghost use Rattle.cp_model.specs.RulesExpressions as x;
 ghost use Rattle.cp_model.specs.RulesNames as n;
 ghost use Rattle.cp_model.specs.View.{designator, expression, selector, index, operation, indices_of, expressions_of, selectors_of};
 ghost use Rattle.cp_model.specs.declared.rules.Entity.{Entity as EntityValue};
-ghost use Rattle.cp_judge.specs.Environments.{environment};
 ghost use Rattle.cp_judge.specs.Callees.{wants_of, result_if, TellsCallee};
 ghost use Rattle.cp_judge.specs.ExpressionParts as parts;
 ghost use Rattle.cp_judge.specs.Tells.{Tells, TellsOf, TellsBoth};
@@ -36,7 +35,7 @@ pub fn judge(
     mode: Mode,
     e: &Expression,
 ) -> Option<usize>
-    ensures { Tells told.old told.new result (x.judge (environment env.now) mode (expression e.now)) }
+    ensures { Tells told.old told.new result (x.judge env.now mode (expression e.now)) }
 {
     match e {
         Expression::Number { .. } => Some(INTEGER),
@@ -75,7 +74,7 @@ fn chain(
     left: Option<usize>,
     rest: &[Operation],
 ) -> Option<usize>
-    ensures { parts.TellsChain (environment env.now) told.old told.new left result (map operation rest.now) }
+    ensures { parts.TellsChain env.now told.old told.new left result (map operation rest.now) }
 {
     let mut left = left;
     for o in rest {
@@ -94,7 +93,7 @@ fn operated(
     left: Option<usize>,
     right: Option<usize>,
 ) -> Option<usize>
-    ensures { TellsBoth told.old told.new left right result (x.c2_operands (environment env.now) operator at) }
+    ensures { TellsBoth told.old told.new left right result (x.c2_operands env.now operator at) }
 {
     operands(env, told, operator, at, left?, right?)
 }
@@ -107,7 +106,7 @@ fn used(
     mode: Mode,
     d: &Designator,
 ) -> Option<usize>
-    ensures { Tells told.old told.new result (parts.used (environment env.now) mode (designator d.now)) }
+    ensures { Tells told.old told.new result (parts.used env.now mode (designator d.now)) }
 {
     let fits = names_fit(env, told, mode, d);
     let t = typed(env, told, mode, d);
@@ -122,7 +121,7 @@ pub fn typed(
     mode: Mode,
     d: &Designator,
 ) -> Option<usize>
-    ensures { Tells told.old told.new result (parts.typed (environment env.now) mode (designator d.now)) }
+    ensures { Tells told.old told.new result (parts.typed env.now mode (designator d.now)) }
 {
     let entity = designated(env, told, d)?;
     value(env, told, mode, d, entity)
@@ -131,7 +130,7 @@ pub fn typed(
 /// What a designator stands for.
 #[cycle(judge)]
 pub fn designated(env: &Environment, told: &mut Option<Violation>, d: &Designator) -> Option<Entity>
-    ensures { Tells told.old told.new result (x.designated (environment env.now) (designator d.now)) }
+    ensures { Tells told.old told.new result (x.designated env.now (designator d.now)) }
 {
     let mut part = root(env, told, d);
     for s in &d.selectors {
@@ -148,7 +147,7 @@ fn select(
     part: Option<Entity>,
     s: &Selector,
 ) -> Option<Entity>
-    ensures { (t : Option Violation) (j : Judged EntityValue) → Tells t told.old part j → Tells t told.new result (x.select (environment env.now) j (selector s.now)) }
+    ensures { (t : Option Violation) (j : Judged EntityValue) → Tells t told.old part j → Tells t told.new result (x.select env.now j (selector s.now)) }
 {
     match s {
         Selector::Field { at, name } => {
@@ -166,7 +165,7 @@ fn indexed(
     part: Option<Entity>,
     indices: &[Index],
 ) -> Option<Entity>
-    ensures { (t : Option Violation) (j : Judged EntityValue) → Tells t told.old part j → Tells t told.new result (x.indexed (environment env.now) j (indices_of (map index indices.now))) }
+    ensures { (t : Option Violation) (j : Judged EntityValue) → Tells t told.old part j → Tells t told.new result (x.indexed env.now j (indices_of (map index indices.now))) }
 {
     let mut part = part;
     for i in indices {
@@ -184,7 +183,7 @@ fn array_if(
     at: usize,
     part: Option<Entity>,
 ) -> Option<ArrayPart>
-    ensures { (t : Option Violation) (j : Judged EntityValue) → Tells t told.old part j → Tells t told.new result (parts.array_of (environment env.now) at j) }
+    ensures { (t : Option Violation) (j : Judged EntityValue) → Tells t told.old part j → Tells t told.new result (parts.array_of env.now at j) }
 {
     let entity = part?;
     array(env, told, at, entity)
@@ -198,14 +197,14 @@ fn element_if(
     of: Option<ArrayPart>,
     t: Option<usize>,
 ) -> Option<Entity>
-    ensures { TellsBoth told.old told.new of t result (n.c2_index (environment env.now) at) }
+    ensures { TellsBoth told.old told.new of t result (n.c2_index env.now at) }
 {
     element(env, told, at, of?, t?)
 }
 
 // The type of what a call gives, where what is called and the type of the first argument are known.
 fn result(env: &Environment, callee: Option<Callee>, t: Option<usize>) -> Option<usize>
-    ensures { result ≡ result_if (environment env.now) callee t }
+    ensures { result ≡ result_if env.now callee t }
 {
     match (callee, t) {
         (Some(callee), Some(t)) => Some(given(env, t, callee.gives)),
@@ -222,7 +221,7 @@ fn function_if(
     count: usize,
     entity: Option<Entity>,
 ) -> Option<Callee>
-    ensures { (t : Option Violation) (j : Judged EntityValue) → Tells t told.old entity j → TellsCallee (environment env.now) t told.new result (parts.function_if (environment env.now) mode (designator d.now) count j) }
+    ensures { (t : Option Violation) (j : Judged EntityValue) → Tells t told.old entity j → TellsCallee env.now t told.new result (parts.function_if env.now mode (designator d.now) count j) }
 {
     let entity = entity?;
     function(env, told, mode, d, count, entity)
@@ -236,8 +235,8 @@ fn called(
     d: &Designator,
     count: usize,
 ) -> Called
-    ensures callee { TellsCallee (environment env.now) told.old told.new result.callee (parts.callee_of (environment env.now) mode (designator d.now) count) }
-    ensures wants { wants_of (environment env.now) result.wants ≡ x.wants_in (environment env.now) (x.designated (environment env.now) (designator d.now)) (parts.callee_of (environment env.now) mode (designator d.now) count) }
+    ensures callee { TellsCallee env.now told.old told.new result.callee (parts.callee_of env.now mode (designator d.now) count) }
+    ensures wants { wants_of env.now result.wants ≡ x.wants_in env.now (x.designated env.now (designator d.now)) (parts.callee_of env.now mode (designator d.now) count) }
 {
     let no_value = no_indexed_value(env, told, mode, d);
     let entity = designated(env, told, d);
@@ -257,7 +256,7 @@ pub fn arguments(
     wants: Wants,
     list: &[Expression],
 ) -> Option<usize>
-    ensures { Tells told.old told.new result (x.arguments (environment env.now) (wants_of (environment env.now) wants) (expressions_of (map expression list.now))) }
+    ensures { Tells told.old told.new result (x.arguments env.now (wants_of env.now wants) (expressions_of (map expression list.now))) }
 {
     let [first, rest @ ..] = list else {
         return Some(INTEGER);
@@ -277,7 +276,7 @@ fn argument(
     want: Option<Want>,
     e: &Expression,
 ) -> Option<usize>
-    ensures { Tells told.old told.new result (parts.argument_for (environment env.now) want (expression e.now)) }
+    ensures { Tells told.old told.new result (parts.argument_for env.now want (expression e.now)) }
 {
     let Some(want) = want else {
         return judge(env, told, Mode::Value, e);
@@ -294,7 +293,7 @@ fn argument_typed(
     want: Want,
     e: &Expression,
 ) -> Option<usize>
-    ensures { Tells told.old told.new result (parts.argument_typed (environment env.now) want (expression e.now)) }
+    ensures { Tells told.old told.new result (parts.argument_typed env.now want (expression e.now)) }
 {
     let t = judge(env, told, mode_of(want), e)?;
     has_type(env, told, want, e, t)

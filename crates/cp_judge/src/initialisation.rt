@@ -6,13 +6,12 @@ ghost use Rattle.cp_model.specs.RulesExpressions as x;
 ghost use Rattle.cp_model.specs.RulesJudged.{least, meaning_of, then_judge, violations_of};
 ghost use Rattle.cp_model.specs.RulesStatements as st;
 ghost use Rattle.cp_model.specs.View.{designator, expression, expressions_of, init_item};
-ghost use Rattle.cp_judge.specs.Environments.{environment};
 ghost use Rattle.cp_judge.specs.InitParts as parts;
 ghost use Rattle.cp_judge.specs.Tells.{Tells};
 
 use crate::callees::parameter;
 use crate::designators::names_fit;
-use crate::environment::{Environment, INTEGER, agree, is_component, system, system_row};
+use crate::environment::{Environment, INTEGER};
 use crate::expressions::{self, judge};
 use crate::names::{anywhere, is_in_routine, named, queue_named};
 use crate::places::{first_token, last_name};
@@ -45,10 +44,10 @@ fn own_component(
     x: &Identifier,
     entity: Entity,
 ) -> Option<usize>
-    ensures { Tells told.old told.new result (st.c12_component (environment env.now) x.now entity) }
+    ensures { Tells told.old told.new result (st.c12_component env.now x.now entity) }
 {
     match entity {
-        Entity::Variable(t, access) => own_system(told, x, access, system(env, t)),
+        Entity::Variable(t, access) => own_system(told, x, access, env.system(t)),
         _ => {
             anywhere(env, told, x, entity);
             broken(told, Rule::C12, x.at)
@@ -57,7 +56,7 @@ fn own_component(
 }
 
 fn component_named(env: &Environment, told: &mut Option<Violation>, x: &Identifier) -> Option<usize>
-    ensures { Tells told.old told.new result (then_judge (r.c1_named (environment env.now) x.now) (st.c12_component (environment env.now) x.now)) }
+    ensures { Tells told.old told.new result (then_judge (r.c1_named env.now x.now) (st.c12_component env.now x.now)) }
 {
     let entity = named(env, told, x)?;
     own_component(env, told, x, entity)
@@ -71,9 +70,9 @@ fn counted(
     count: usize,
     y: usize,
 ) -> Option<SystemRow>
-    ensures { Tells told.old told.new result (st.c12_count (environment env.now) x.now count y) }
+    ensures { Tells told.old told.new result (st.c12_count env.now x.now count y) }
 {
-    let row = system_row(env, y);
+    let row = env.system_row(y);
     if row.count == count {
         return Some(row);
     }
@@ -87,8 +86,8 @@ fn component(
     x: &Identifier,
     count: usize,
 ) -> Option<usize>
-    ensures told { told.new ≡ least told.old (violations_of (parts.component (environment env.now) x.now count)) }
-    ensures system { result ≡ meaning_of (parts.system (environment env.now) x.now) }
+    ensures told { told.new ≡ least told.old (violations_of (parts.component env.now x.now count)) }
+    ensures system { result ≡ meaning_of (parts.system env.now x.now) }
 {
     let y = component_named(env, told, x)?;
     counted(env, told, x, count, y);
@@ -103,7 +102,7 @@ fn unused(
     d: &Designator,
     entity: Entity,
 ) -> Option<usize>
-    ensures { Tells told.old told.new result (st.unused (environment env.now) (designator d.now) entity) }
+    ensures { Tells told.old told.new result (st.unused env.now (designator d.now) entity) }
 {
     let in_place = anywhere(env, told, last_name(d), entity);
     answer_if(in_place, Some(INTEGER))
@@ -114,7 +113,7 @@ fn unused_designator(
     told: &mut Option<Violation>,
     d: &Designator,
 ) -> Option<usize>
-    ensures { Tells told.old told.new result (then_judge (x.designated (environment env.now) (designator d.now)) (st.unused (environment env.now) (designator d.now))) }
+    ensures { Tells told.old told.new result (then_judge (x.designated env.now (designator d.now)) (st.unused env.now (designator d.now))) }
 {
     let entity = expressions::designated(env, told, d)?;
     unused(env, told, d, entity)
@@ -125,7 +124,7 @@ fn unwanted_designator(
     told: &mut Option<Violation>,
     d: &Designator,
 ) -> Option<usize>
-    ensures { Tells told.old told.new result (parts.unwanted_designator (environment env.now) (designator d.now)) }
+    ensures { Tells told.old told.new result (parts.unwanted_designator env.now (designator d.now)) }
 {
     let fits = names_fit(env, told, Mode::Value, d);
     let t = unused_designator(env, told, d);
@@ -134,7 +133,7 @@ fn unwanted_designator(
 
 // An argument of which nothing is wanted: what a designator stands for isn't judged as a value.
 fn unwanted(env: &Environment, told: &mut Option<Violation>, e: &Expression) -> Option<usize>
-    ensures { Tells told.old told.new result (st.unwanted (environment env.now) (expression e.now)) }
+    ensures { Tells told.old told.new result (st.unwanted env.now (expression e.now)) }
 {
     match designated(e) {
         Some(d) => unwanted_designator(env, told, d),
@@ -150,7 +149,7 @@ fn passed(
     x: &Identifier,
     entity: Entity,
 ) -> Option<usize>
-    ensures { Tells told.old told.new result (st.c12_passed (environment env.now) wanted x.now entity) }
+    ensures { Tells told.old told.new result (st.c12_passed env.now wanted x.now entity) }
 {
     match entity {
         Entity::Variable(t, _) => {
@@ -172,7 +171,7 @@ fn passed_named(
     wanted: usize,
     x: &Identifier,
 ) -> Option<usize>
-    ensures { Tells told.old told.new result (then_judge (r.c1_named (environment env.now) x.now) (st.c12_passed (environment env.now) wanted x.now)) }
+    ensures { Tells told.old told.new result (then_judge (r.c1_named env.now x.now) (st.c12_passed env.now wanted x.now)) }
 {
     let entity = named(env, told, x)?;
     passed(env, told, wanted, x, entity)
@@ -184,7 +183,7 @@ fn passed_alone(
     wanted: usize,
     x: &Identifier,
 ) -> Option<usize>
-    ensures { Tells told.old told.new result (parts.passed_alone (environment env.now) wanted x.now) }
+    ensures { Tells told.old told.new result (parts.passed_alone env.now wanted x.now) }
 {
     let no_queue = queue_named(env, told, Mode::Value, x);
     let t = passed_named(env, told, wanted, x);
@@ -216,7 +215,7 @@ fn component_argument(
     wanted: usize,
     e: &Expression,
 ) -> Option<usize>
-    ensures { Tells told.old told.new result (st.component_argument (environment env.now) wanted (expression e.now)) }
+    ensures { Tells told.old told.new result (st.component_argument env.now wanted (expression e.now)) }
 {
     match name_alone(e) {
         Some(x) => passed_alone(env, told, wanted, x),
@@ -241,9 +240,9 @@ fn simple_agrees(
     e: &Expression,
     t: usize,
 ) -> Option<usize>
-    ensures { Tells told.old told.new result (parts.simple_agrees (environment env.now) wanted (expression e.now) t) }
+    ensures { Tells told.old told.new result (parts.simple_agrees env.now wanted (expression e.now) t) }
 {
-    if agree(env, wanted, t) {
+    if env.agree(wanted, t) {
         return Some(t);
     }
     broken(told, Rule::C12, first_token(e))
@@ -256,7 +255,7 @@ fn simple_argument(
     wanted: usize,
     e: &Expression,
 ) -> Option<usize>
-    ensures { Tells told.old told.new result (parts.simple_argument (environment env.now) wanted (expression e.now)) }
+    ensures { Tells told.old told.new result (parts.simple_argument env.now wanted (expression e.now)) }
 {
     let t = judge(env, told, Mode::Value, e)?;
     simple_agrees(env, told, wanted, e, t)
@@ -268,12 +267,12 @@ fn argument(
     wanted: Option<usize>,
     e: &Expression,
 ) -> Option<usize>
-    ensures { Tells told.old told.new result (st.init_argument (environment env.now) wanted (expression e.now)) }
+    ensures { Tells told.old told.new result (st.init_argument env.now wanted (expression e.now)) }
 {
     match wanted {
         None => unwanted(env, told, e),
         Some(wanted) => {
-            if is_component(env, wanted) {
+            if env.is_component(wanted) {
                 component_argument(env, told, wanted, e)
             } else {
                 simple_argument(env, told, wanted, e)
@@ -284,9 +283,9 @@ fn argument(
 
 // The type of the parameter of this number, where it is known.
 fn parameter_type(env: &Environment, system: Option<usize>, number: usize) -> Option<usize>
-    ensures { result ≡ parts.type_if (slice_get (parts.parameters_if (environment env.now) system) number) }
+    ensures { result ≡ parts.type_if (slice_get (parts.parameters_if env.now system) number) }
 {
-    let row = system_row(env, system?);
+    let row = env.system_row(system?);
     let p = parameter(env, row.first, row.count, number)?;
     p.of
 }
@@ -297,7 +296,7 @@ fn arguments(
     system: Option<usize>,
     list: &[Expression],
 )
-    ensures { told.new ≡ least told.old (st.init_arguments (environment env.now) (parts.parameters_if (environment env.now) system) (expressions_of (map expression list.now))) }
+    ensures { told.new ≡ least told.old (st.init_arguments env.now (parts.parameters_if env.now system) (expressions_of (map expression list.now))) }
 {
     for (number, e) in list.iter().enumerate() {
         argument(env, told, parameter_type(env, system, number), e);
@@ -305,7 +304,7 @@ fn arguments(
 }
 
 fn item(env: &Environment, told: &mut Option<Violation>, item: &InitItem)
-    ensures { told.new ≡ least told.old (st.init_item (environment env.now) (init_item item.now)) }
+    ensures { told.new ≡ least told.old (st.init_item env.now (init_item item.now)) }
 {
     queue_named(env, told, Mode::Value, &item.component);
     let system = component(env, told, &item.component, item.arguments.len());
@@ -314,9 +313,9 @@ fn item(env: &Environment, told: &mut Option<Violation>, item: &InitItem)
 
 /// An `init`, whose word stands at the place. C12: it stands in a routine, or an item is wrong.
 pub fn initialised(env: &Environment, told: &mut Option<Violation>, at: usize, items: &[InitItem])
-    ensures { told.new ≡ least told.old (parts.initialised (environment env.now) at (map init_item items.now)) }
+    ensures { told.new ≡ least told.old (parts.initialised env.now at (map init_item items.now)) }
 {
-    unless_holds(told, !is_in_routine(env.region.part), Rule::C12, at);
+    unless_holds(told, !is_in_routine(env.region().part), Rule::C12, at);
     for i in items {
         item(env, told, i);
     }

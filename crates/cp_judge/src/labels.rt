@@ -5,23 +5,22 @@ ghost use Rattle.cp_model.specs.RulesJudged.{least, then_judge, provided, violat
 ghost use Rattle.cp_model.specs.RulesStatements as st;
 ghost use Rattle.cp_model.specs.RulesTypes as types;
 ghost use Rattle.cp_model.specs.declared.rules.Rule.TheVariants as rules;
-ghost use Rattle.cp_judge.specs.Environments.{environment};
 ghost use Rattle.cp_judge.specs.Labels as spec;
 ghost use Rattle.cp_judge.specs.Tells.{Tells, TellsOf};
 
 use crate::constants::{constant, constant_at};
-use crate::environment::{Environment, base};
+use crate::environment::Environment;
 use crate::telling::{answer_if, broken, unless_holds};
 use cp_model::rules::{Rule, Violation};
 use cp_model::tree::Constant;
-use indexmap::IndexSet;
 use std::alloc::{AllocError, Global};
+use std::collections::BTreeSet;
 use std::marker::Model;
 
-/// The labels of one `case` so far: the base type and the ordinal of each. Contracts see them in the order of the text.
+/// The labels of one `case` so far: the base type and the ordinal of each. Contracts see them in any order.
 #[derive(Drop)]
 pub struct Labels {
-    seen: IndexSet<(usize, i32)>,
+    seen: BTreeSet<(usize, i32)>,
 }
 
 impl Model for Labels {
@@ -36,7 +35,7 @@ impl Labels {
         ensures { result ≡ spec.no_labels }
     {
         Labels {
-            seen: IndexSet::new(alloc),
+            seen: BTreeSet::new(alloc),
         }
     }
 
@@ -49,7 +48,7 @@ impl Labels {
 
     /// One more, if it is new. It fails only for want of memory.
     fn add(&mut self, label: (usize, i32)) -> Result<(), AllocError>
-        ensures { OnOk result (self.new ≡ st.with_label self.old label) }
+        ensures { OnOk result (spec.SameLabels self.new (st.with_label self.old label)) }
     {
         self.seen.insert(label)?;
         Ok(())
@@ -103,8 +102,8 @@ pub fn labelled(
     seen: &mut Labels,
     list: &[Constant],
 ) -> Result<(), AllocError>
-    ensures told { OnOk result (told.new ≡ least told.old (st.labels (environment env.now) base seen.old list.now).violations) }
-    ensures seen { OnOk result (seen.new ≡ (st.labels (environment env.now) base seen.old list.now).seen) }
+    ensures told { OnOk result (told.new ≡ least told.old (st.labels env.now base seen.old list.now).violations) }
+    ensures seen { OnOk result (spec.SameLabels seen.new (st.labels env.now base seen.old list.now).seen) }
 {
     for c in list {
         label(env, told, base, seen, c)?;
@@ -120,12 +119,12 @@ fn label(
     seen: &mut Labels,
     c: &Constant,
 ) -> Result<(), AllocError>
-    ensures told { OnOk result (told.new ≡ least told.old (violations_of (then_judge (types.constant (environment env.now) c.now) (st.c2_c3_label base seen.old (types.constant_at c.now))))) }
-    ensures seen { OnOk result (seen.new ≡ st.more_seen seen.old (types.constant (environment env.now) c.now)) }
+    ensures told { OnOk result (told.new ≡ least told.old (violations_of (then_judge (types.constant env.now c.now) (st.c2_c3_label base seen.old (types.constant_at c.now))))) }
+    ensures seen { OnOk result (spec.SameLabels seen.new (st.more_seen seen.old (types.constant env.now c.now))) }
 {
     match constant(env, told, c) {
-        None => Ok(()),
-        Some(label) => {
+        Err(_) => Ok(()),
+        Ok(label) => {
             fitting(told, base, seen, constant_at(c), label);
             seen.add(label)
         }
@@ -134,7 +133,7 @@ fn label(
 
 /// The base of a selector's type, where that is known.
 pub fn selector_base(env: &Environment, selector: Option<usize>) -> Option<usize>
-    ensures { result ≡ spec.base_if (environment env.now) selector }
+    ensures { result ≡ spec.base_if env.now selector }
 {
-    base(env, selector?)
+    env.base(selector?)
 }

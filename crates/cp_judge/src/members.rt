@@ -4,21 +4,13 @@ ghost use Rattle.std.specs.Prelude.{◌≡◌, ◌∷◌, [], map, Option, None,
 ghost use Rattle.cp_model.specs.RulesEnvironment as r;
 ghost use Rattle.cp_model.specs.Names.{lookup};
 ghost use Rattle.cp_model.specs.RulesNames as n;
-ghost use Rattle.cp_judge.specs.Environments.{environment};
 ghost use Rattle.cp_judge.specs.Tells.{Tells, TellsOf};
 
-use crate::environment::{self, Environment};
+use crate::environment::Environment;
 use crate::names::member_named;
 use crate::telling::broken;
 use cp_model::rules::{Entity, Member, Rule, Structure, Violation};
 use cp_model::tree::Identifier;
-
-// A member of a table of members, by its name.
-fn find(env: &Environment, table: usize, x: &Identifier) -> Option<Member>
-    ensures { result ≡ lookup x.now.name (get_or (environment env.now).members table []) }
-{
-    env.members.get(table)?.get(x.name.as_bytes()).copied()
-}
 
 /// What a name after a `.` stands for. C2: `.` after what is neither a record nor a component.
 pub fn member(
@@ -28,16 +20,16 @@ pub fn member(
     x: &Identifier,
     entity: Entity,
 ) -> Option<Entity>
-    ensures { Tells told.old told.new result (n.member_of (environment env.now) at x.now entity) }
+    ensures { Tells told.old told.new result (n.member_of env.now at x.now entity) }
 {
     let Entity::Variable(t, access) = entity else {
         return broken(told, Rule::C2, at);
     };
-    match environment::structure(env, t) {
-        Structure::Record(k) => member_named(env, told, x, access, find(env, k, x)),
+    match env.structure(t) {
+        Structure::Record(k) => member_named(told, x, access, env.member(k, x)),
         Structure::System(y) => {
-            let k = environment::system_row(env, y).members;
-            member_named(env, told, x, access, find(env, k, x))
+            let k = env.system_row(y).members;
+            member_named(told, x, access, env.member(k, x))
         }
         _ => broken(told, Rule::C2, at),
     }
@@ -45,11 +37,11 @@ pub fn member(
 
 /// The member of this name that a type has, if it has one.
 pub fn member_of_type(env: &Environment, t: usize, x: &Identifier) -> Option<Member>
-    ensures { result ≡ n.member_in x.now.name (r.members_in (environment env.now) (r.row_of (environment env.now) t).structure) }
+    ensures { result ≡ n.member_in x.now.name (r.members_in env.now (r.row_of env.now t).structure) }
 {
-    match environment::structure(env, t) {
-        Structure::Record(k) => find(env, k, x),
-        Structure::System(y) => find(env, environment::system_row(env, y).members, x),
+    match env.structure(t) {
+        Structure::Record(k) => env.member(k, x),
+        Structure::System(y) => env.member(env.system_row(y).members, x),
         _ => None,
     }
 }

@@ -5,37 +5,47 @@ ghost use Rattle.cp_model.specs.RulesEnvironment as r;
 ghost use Rattle.cp_model.specs.RulesNames as n;
 ghost use Rattle.cp_model.specs.RulesJudged.{meaning_of, unless};
 ghost use Rattle.cp_model.specs.View.{designator, selector, selectors_of};
-ghost use Rattle.cp_judge.specs.Environments.{environment};
-ghost use Rattle.cp_judge.specs.Tells.{Tells, TellsOf};
+ghost use Rattle.cp_judge.specs.Tells.{Tells, TellsFirst, TellsOf};
 
-use crate::environment::{self, Environment};
+use crate::environment::Environment;
 use crate::places::{first_name, has_field, last_name};
-use crate::telling::{broken, tell, unless_holds};
+use crate::telling::{broken, tell, unless_holds, violated};
 use cp_model::rules::{
     Access, ArrayPart, Entity, Member, Mode, Part, Region, Rule, Standard, Structure, Violation,
 };
 use cp_model::tree::{Designator, Identifier, Selector, Sort};
 
-/// What a name stands for, told where it isn't visible, and nothing where its declaration is broken.
-pub fn named(env: &Environment, told: &mut Option<Violation>, x: &Identifier) -> Option<Entity>
-    ensures { Tells told.old told.new result (r.c1_named (environment env.now) x.now) }
+/// What a name stands for, or what is broken. C1: it isn't visible. What is broken in its declaration is told again.
+pub fn resolve(
+    env: &Environment,
+    told: &mut Option<Violation>,
+    x: &Identifier,
+) -> Result<Entity, Violation>
+    ensures { TellsFirst told.old told.new result (r.c1_named env.now x.now) }
 {
-    match env.names.find(x.name.as_bytes()) {
-        None => broken(told, Rule::C1, x.at),
-        Some(Entity::Hidden) => broken(told, Rule::C1, x.at),
+    match env.find(x.name.as_bytes()) {
+        None => violated(told, Rule::C1, x.at),
+        Some(Entity::Hidden) => violated(told, Rule::C1, x.at),
         Some(Entity::Broken(violation)) => {
             tell(told, violation);
-            None
+            Err(violation)
         }
-        Some(entity) => Some(entity),
+        Some(entity) => Ok(entity),
     }
+}
+
+/// What a name stands for, if nothing is broken in it, which is told.
+pub fn named(env: &Environment, told: &mut Option<Violation>, x: &Identifier) -> Option<Entity>
+    ensures { Tells told.old told.new result (r.c1_named env.now x.now) }
+{
+    resolve(env, told, x).ok()
 }
 
 /// What a name stands for, if that is known.
 pub fn known(env: &Environment, x: &Identifier) -> Option<Entity>
-    ensures { result ≡ meaning_of (r.c1_named (environment env.now) x.now) }
+    ensures { result ≡ meaning_of (r.c1_named env.now x.now) }
 {
-    match env.names.find(x.name.as_bytes()) {
+    match env.find(x.name.as_bytes()) {
         None => None,
         Some(Entity::Hidden) => None,
         Some(Entity::Broken(_)) => None,
@@ -112,11 +122,11 @@ pub fn in_place(
     x: &Identifier,
     entity: Entity,
 ) -> bool
-    ensures { TellsOf told.old told.new result (r.c9_standard (environment env.now) x.now entity) }
+    ensures { TellsOf told.old told.new result (r.c9_standard env.now x.now entity) }
 {
     match entity {
         Entity::Standard(standard) => {
-            unless_holds(told, is_allowed(env.region, standard), Rule::C9, x.at)
+            unless_holds(told, is_allowed(env.region(), standard), Rule::C9, x.at)
         }
         _ => true,
     }
@@ -129,7 +139,7 @@ pub fn anywhere(
     x: &Identifier,
     entity: Entity,
 ) -> bool
-    ensures { TellsOf told.old told.new result (r.c4_c9_named (environment env.now) x.now entity) }
+    ensures { TellsOf told.old told.new result (r.c4_c9_named env.now x.now entity) }
 {
     let finished = unfinished(told, x, entity);
     let in_place = in_place(env, told, x, entity);
@@ -138,13 +148,12 @@ pub fn anywhere(
 
 /// What a member of a record or a component stands for. C1: there is none of this name.
 pub fn member_named(
-    env: &Environment,
     told: &mut Option<Violation>,
     x: &Identifier,
     access: Access,
     member: Option<Member>,
 ) -> Option<Entity>
-    ensures { Tells told.old told.new result (n.member_named (environment env.now) x.now access member) }
+    ensures { (env : r.Environment) → Tells told.old told.new result (n.member_named env x.now access member) }
 {
     match member {
         None => broken(told, Rule::C1, x.at),
@@ -160,10 +169,10 @@ pub fn array(
     at: usize,
     entity: Entity,
 ) -> Option<ArrayPart>
-    ensures { Tells told.old told.new result (n.c2_array (environment env.now) at entity) }
+    ensures { Tells told.old told.new result (n.c2_array env.now at entity) }
 {
     if let Entity::Variable(t, access) = entity {
-        if let Structure::Array(index, element) = environment::structure(env, t) {
+        if let Structure::Array(index, element) = env.structure(t) {
             return Some(ArrayPart {
                 index,
                 element,
@@ -182,19 +191,19 @@ pub fn element(
     part: ArrayPart,
     t: usize,
 ) -> Option<Entity>
-    ensures { Tells told.old told.new result (n.c2_index (environment env.now) at part t) }
+    ensures { Tells told.old told.new result (n.c2_index env.now at part t) }
 {
-    if environment::agree(env, part.index, t) {
+    if env.agree(part.index, t) {
         return Some(Entity::Variable(part.element, part.access));
     }
     broken(told, Rule::C2, at)
 }
 
 fn is_queue_variable(env: &Environment, x: &Identifier) -> bool
-    ensures { result ≡ n.has_queues (environment env.now) (r.c1_named (environment env.now) x.now) }
+    ensures { result ≡ n.has_queues env.now (r.c1_named env.now x.now) }
 {
     match known(env, x) {
-        Some(Entity::Variable(t, _)) => environment::has_queues(env, t),
+        Some(Entity::Variable(t, _)) => env.has_queues(t),
         _ => false,
     }
 }
@@ -206,7 +215,7 @@ pub fn queue_named(
     mode: Mode,
     x: &Identifier,
 ) -> bool
-    ensures { TellsOf told.old told.new result (n.c8_named (environment env.now) mode x.now) }
+    ensures { TellsOf told.old told.new result (n.c8_named env.now mode x.now) }
 {
     match mode {
         Mode::Queue => true,

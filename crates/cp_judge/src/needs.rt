@@ -9,10 +9,10 @@ ghost use Rattle.cp_model.specs.RulesExpressions as x;
 ghost use Rattle.cp_model.specs.RulesJudged.{meaning_of};
 ghost use Rattle.cp_model.specs.RulesNeeds as n;
 ghost use Rattle.cp_model.specs.View.{designator, expression, selector, index, operation, statement, arm, init_item, indices_of, expressions_of, selectors_of, statements_of, arms_of};
-ghost use Rattle.cp_judge.specs.Environments.{environment};
 ghost use Rattle.cp_judge.specs.Needs as parts;
 
-use crate::environment::{Environment, routine, system, system_row};
+use crate::entities::{entity_named, is_routine};
+use crate::environment::Environment;
 use crate::expressions::designated;
 use crate::names::known;
 use cp_model::rules::{Entity, SystemRow};
@@ -23,7 +23,7 @@ use cp_model::tree::{
 /// The need of an expression, in words: the greatest need among the routines that are called in it, or 0.
 #[cycle(need_in_expressions)]
 pub fn need_of_expression(env: &Environment, e: &Expression) -> usize
-    ensures { result ≡ n.need_expression (environment env.now) (expression e.now) }
+    ensures { result ≡ n.need_expression env.now (expression e.now) }
 {
     match e {
         Expression::Number { .. } => 0,
@@ -41,7 +41,7 @@ pub fn need_of_expression(env: &Environment, e: &Expression) -> usize
 
 #[cycle(need_in_expressions)]
 fn need_of_operations(env: &Environment, rest: &[Operation]) -> usize
-    ensures { result ≡ parts.need_operations (environment env.now) (map operation rest.now) }
+    ensures { result ≡ parts.need_operations env.now (map operation rest.now) }
 {
     let mut need = 0;
     for o in rest {
@@ -52,7 +52,7 @@ fn need_of_operations(env: &Environment, rest: &[Operation]) -> usize
 
 #[cycle(need_in_expressions)]
 fn need_of_expressions(env: &Environment, list: &[Expression]) -> usize
-    ensures { result ≡ n.need_expressions (environment env.now) (expressions_of (map expression list.now)) }
+    ensures { result ≡ n.need_expressions env.now (expressions_of (map expression list.now)) }
 {
     let mut need = 0;
     for e in list {
@@ -63,14 +63,14 @@ fn need_of_expressions(env: &Environment, list: &[Expression]) -> usize
 
 #[cycle(need_in_expressions)]
 fn need_of_designator(env: &Environment, d: &Designator) -> usize
-    ensures { result ≡ n.need_designator (environment env.now) (designator d.now) }
+    ensures { result ≡ n.need_designator env.now (designator d.now) }
 {
-    need_if_called(env, designation(env, d)).max(need_of_selectors(env, &d.selectors))
+    need_of_designated(env, d).max(need_of_selectors(env, &d.selectors))
 }
 
 #[cycle(need_in_expressions)]
 fn need_of_selectors(env: &Environment, selectors: &[Selector]) -> usize
-    ensures { result ≡ n.need_selectors (environment env.now) (selectors_of (map selector selectors.now)) }
+    ensures { result ≡ n.need_selectors env.now (selectors_of (map selector selectors.now)) }
 {
     let mut need = 0;
     for s in selectors {
@@ -81,7 +81,7 @@ fn need_of_selectors(env: &Environment, selectors: &[Selector]) -> usize
 
 #[cycle(need_in_expressions)]
 fn need_of_selector(env: &Environment, s: &Selector) -> usize
-    ensures { result ≡ n.need_selector (environment env.now) (selector s.now) }
+    ensures { result ≡ n.need_selector env.now (selector s.now) }
 {
     match s {
         Selector::Field { .. } => 0,
@@ -91,7 +91,7 @@ fn need_of_selector(env: &Environment, s: &Selector) -> usize
 
 #[cycle(need_in_expressions)]
 fn need_of_indices(env: &Environment, indices: &[Index]) -> usize
-    ensures { result ≡ n.need_indices (environment env.now) (indices_of (map index indices.now)) }
+    ensures { result ≡ n.need_indices env.now (indices_of (map index indices.now)) }
 {
     let mut need = 0;
     for i in indices {
@@ -100,9 +100,21 @@ fn need_of_indices(env: &Environment, indices: &[Index]) -> usize
     need
 }
 
+// The need of the routine that a designator stands for, if it is one. What is in its indices is judged only where its names stand
+// for a routine: in a text they never do, since no array has components in it.
+fn need_of_designated(env: &Environment, d: &Designator) -> usize
+    ensures { result ≡ n.need_called env.now (x.designated env.now (designator d.now)) }
+{
+    if is_routine(entity_named(env, d)) {
+        need_if_called(env, designation(env, d))
+    } else {
+        0
+    }
+}
+
 // What a designator stands for, where nothing is broken in it.
 fn designation(env: &Environment, d: &Designator) -> Option<Entity>
-    ensures { result ≡ meaning_of (x.designated (environment env.now) (designator d.now)) }
+    ensures { result ≡ meaning_of (x.designated env.now (designator d.now)) }
 {
     let mut told = None;
     designated(env, &mut told, d)
@@ -110,11 +122,11 @@ fn designation(env: &Environment, d: &Designator) -> Option<Entity>
 
 // The need of the routine that is called, if it is one.
 fn need_if_called(env: &Environment, entity: Option<Entity>) -> usize
-    ensures { result ≡ parts.need_if_called (environment env.now) entity }
+    ensures { result ≡ parts.need_if_called env.now entity }
 {
     match entity {
-        Some(Entity::Routine(r)) => routine(env, r).need,
-        Some(Entity::Entry(r)) => routine(env, r).need,
+        Some(Entity::Routine(r)) => env.routine(r).need,
+        Some(Entity::Entry(r)) => env.routine(r).need,
         _ => 0,
     }
 }
@@ -123,7 +135,7 @@ fn need_if_called(env: &Environment, entity: Option<Entity>) -> usize
 /// and monitors that it initialises, or 0.
 #[cycle(need_in_statements)]
 pub fn need_of_statement(env: &Environment, s: &Statement) -> usize
-    ensures { result ≡ n.need_statement (environment env.now) (statement s.now) }
+    ensures { result ≡ n.need_statement env.now (statement s.now) }
 {
     match s {
         Statement::Empty => 0,
@@ -169,7 +181,7 @@ pub fn need_of_statement(env: &Environment, s: &Statement) -> usize
 /// The need of statements, in words: the greatest need among them, or 0.
 #[cycle(need_in_statements)]
 pub fn need_of_statements(env: &Environment, list: &[Statement]) -> usize
-    ensures { result ≡ n.need_statements (environment env.now) (statements_of (map statement list.now)) }
+    ensures { result ≡ n.need_statements env.now (statements_of (map statement list.now)) }
 {
     let mut need = 0;
     for s in list {
@@ -180,7 +192,7 @@ pub fn need_of_statements(env: &Environment, list: &[Statement]) -> usize
 
 #[cycle(need_in_statements)]
 fn need_of_arms(env: &Environment, arms: &[Arm]) -> usize
-    ensures { result ≡ n.need_arms (environment env.now) (arms_of (map arm arms.now)) }
+    ensures { result ≡ n.need_arms env.now (arms_of (map arm arms.now)) }
 {
     let mut need = 0;
     for a in arms {
@@ -190,7 +202,7 @@ fn need_of_arms(env: &Environment, arms: &[Arm]) -> usize
 }
 
 fn need_of_items(env: &Environment, items: &[InitItem]) -> usize
-    ensures { result ≡ n.need_items (environment env.now) (map init_item items.now) }
+    ensures { result ≡ n.need_items env.now (map init_item items.now) }
 {
     let mut need = 0;
     for i in items {
@@ -200,26 +212,26 @@ fn need_of_items(env: &Environment, items: &[InitItem]) -> usize
 }
 
 fn need_of_item(env: &Environment, i: &InitItem) -> usize
-    ensures { result ≡ parts.need_item (environment env.now) (init_item i.now) }
+    ensures { result ≡ parts.need_item env.now (init_item i.now) }
 {
     need_if_initialised(env, &i.component).max(need_of_expressions(env, &i.arguments))
 }
 
 // The need of the body of the component that is initialised, if it is one.
 fn need_if_initialised(env: &Environment, component: &Identifier) -> usize
-    ensures { result ≡ n.need_initialised (environment env.now) (r.c1_named (environment env.now) component.now) }
+    ensures { result ≡ n.need_initialised env.now (r.c1_named env.now component.now) }
 {
     match known(env, component) {
-        Some(Entity::Variable(t, _)) => need_of_system(env, system(env, t)),
+        Some(Entity::Variable(t, _)) => need_of_system(env, env.system(t)),
         _ => 0,
     }
 }
 
 fn need_of_system(env: &Environment, number: Option<usize>) -> usize
-    ensures { result ≡ n.need_system (environment env.now) number }
+    ensures { result ≡ n.need_system env.now number }
 {
     match number {
-        Some(number) => need_of_body(system_row(env, number)),
+        Some(number) => need_of_body(env.system_row(number)),
         None => 0,
     }
 }

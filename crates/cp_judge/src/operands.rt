@@ -5,13 +5,10 @@ ghost use Rattle.cp_model.specs.RulesEnvironment as r;
 ghost use Rattle.cp_model.specs.RulesNames as n;
 ghost use Rattle.cp_model.specs.RulesExpressions as x;
 ghost use Rattle.cp_model.specs.View.{expression};
-ghost use Rattle.cp_judge.specs.Environments.{environment};
 ghost use Rattle.cp_judge.specs.Arguments.{form_rules, type_rule, is_standard_type};
 ghost use Rattle.cp_judge.specs.Tells.{Tells, TellsOf};
 
-use crate::environment::{
-    BOOLEAN, CHAR, Environment, INTEGER, QUEUE, agree, base, is_base, is_simple,
-};
+use crate::environment::{BOOLEAN, CHAR, Environment, INTEGER, QUEUE, is_base};
 use crate::places::first_token;
 use crate::telling::broken;
 use crate::values::variable;
@@ -64,9 +61,9 @@ pub fn operands(
     a: usize,
     b: usize,
 ) -> Option<usize>
-    ensures { Tells told.old told.new result (x.c2_operands (environment env.now) operator at a b) }
+    ensures { Tells told.old told.new result (x.c2_operands env.now operator at a b) }
 {
-    if operands_fit(operator, base(env, a), base(env, b)) {
+    if operands_fit(operator, env.base(a), env.base(b)) {
         return Some(operator_gives(operator));
     }
     broken(told, Rule::C2, at)
@@ -80,9 +77,9 @@ pub fn operand(
     at: usize,
     t: usize,
 ) -> Option<usize>
-    ensures { Tells told.old told.new result (x.c2_operand (environment env.now) wanted at t) }
+    ensures { Tells told.old told.new result (x.c2_operand env.now wanted at t) }
 {
-    if is_base(wanted, base(env, t)) {
+    if is_base(wanted, env.base(t)) {
         return Some(wanted);
     }
     broken(told, Rule::C2, at)
@@ -126,7 +123,7 @@ fn fits_type(
     e: &Expression,
     t: usize,
 ) -> Option<usize>
-    ensures { Tells told.old told.new result (x.fits_type (environment env.now) by_reference of (expression e.now) t) }
+    ensures { Tells told.old told.new result (x.fits_type env.now by_reference of (expression e.now) t) }
 {
     let Some(u) = of else {
         return Some(t);
@@ -134,7 +131,7 @@ fn fits_type(
     let (fits, rule) = if by_reference {
         (t == u, Rule::C10)
     } else {
-        (agree(env, u, t), Rule::C2)
+        (env.agree(u, t), Rule::C2)
     };
     if fits {
         return Some(t);
@@ -144,7 +141,7 @@ fn fits_type(
 
 /// C10 of an argument that should be a variable, whatever is broken in it.
 pub fn has_form(env: &Environment, told: &mut Option<Violation>, want: Want, e: &Expression) -> bool
-    ensures { TellsOf told.old told.new result (form_rules (environment env.now) want (expression e.now)) }
+    ensures { TellsOf told.old told.new result (form_rules env.now want (expression e.now)) }
 {
     match want {
         Want::Parameter(p) => {
@@ -161,13 +158,13 @@ pub fn has_form(env: &Environment, told: &mut Option<Violation>, want: Want, e: 
 
 // Whether a type is wanted of a standard call's argument.
 fn is_wanted(env: &Environment, want: Want, t: usize) -> bool
-    ensures { result ≡ is_standard_type (environment env.now) want t }
+    ensures { result ≡ is_standard_type env.now want t }
 {
     match want {
         Want::Parameter(_) => true,
-        Want::Simple => is_simple(env, t),
-        Want::Integer => is_base(INTEGER, base(env, t)),
-        Want::CharVariable => is_base(CHAR, base(env, t)),
+        Want::Simple => env.is_simple(t),
+        Want::Integer => is_base(INTEGER, env.base(t)),
+        Want::CharVariable => is_base(CHAR, env.base(t)),
         Want::QueueVariable => t == QUEUE,
     }
 }
@@ -180,7 +177,7 @@ pub fn has_type(
     e: &Expression,
     t: usize,
 ) -> Option<usize>
-    ensures { Tells told.old told.new result (type_rule (environment env.now) want (expression e.now) t) }
+    ensures { Tells told.old told.new result (type_rule env.now want (expression e.now) t) }
 {
     if let Want::Parameter(p) = want {
         return fits_type(env, told, p.by_reference, p.of, e, t);

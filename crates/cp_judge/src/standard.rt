@@ -1,19 +1,19 @@
 //! Standard functions and procedures that are called.
 
 ghost use Rattle.std.specs.Prelude.{◌≡◌, ◌∷◌, [], Option, None, Some, length, nat_eq};
+ghost use Rattle.cp_model.specs.RulesEnvironment as r;
 ghost use Rattle.cp_model.specs.RulesNames as n;
-ghost use Rattle.cp_judge.specs.Environments.{environment};
-ghost use Rattle.cp_judge.specs.Callees.{wants_of, callee_if, TellsCallee};
+ghost use Rattle.cp_judge.specs.Callees.{wants_of, callee_if, TellsWherever};
 
 use crate::callees::{Callee, Wants};
-use crate::environment::{BOOLEAN, CHAR, Environment, INTEGER};
+use crate::environment::{BOOLEAN, CHAR, INTEGER};
 use crate::telling::broken;
 use cp_model::rules::{Gives, Rule, Standard, Violation, Want};
 use cp_model::tree::Identifier;
 
 /// What the arguments of a standard routine have to meet.
-pub fn standard_wants(env: &Environment, standard: Standard) -> Wants
-    ensures { wants_of (environment env.now) result ≡ n.standard_wants standard }
+pub fn standard_wants(standard: Standard) -> Wants
+    ensures { (env : r.Environment) → wants_of env result ≡ n.standard_wants standard }
 {
     match standard {
         Standard::Abs => Wants::One(Want::Integer),
@@ -43,8 +43,8 @@ fn standard_fits(standard: Standard, count: usize) -> bool
 }
 
 // What a standard function wants and gives.
-fn standard_function(env: &Environment, standard: Standard) -> Option<Callee>
-    ensures { callee_if (environment env.now) result ≡ n.standard_function standard }
+fn standard_function(standard: Standard) -> Option<Callee>
+    ensures { (env : r.Environment) → callee_if env result ≡ n.standard_function standard }
 {
     let gives = match standard {
         Standard::Abs => Gives::Value(INTEGER),
@@ -56,13 +56,13 @@ fn standard_function(env: &Environment, standard: Standard) -> Option<Callee>
         Standard::Realtime => Gives::Value(INTEGER),
         _ => return None,
     };
-    let wants = standard_wants(env, standard);
+    let wants = standard_wants(standard);
     Some(Callee { wants, gives })
 }
 
 // What a standard procedure wants.
-fn standard_procedure(env: &Environment, standard: Standard) -> Option<Callee>
-    ensures { callee_if (environment env.now) result ≡ n.standard_procedure standard }
+fn standard_procedure(standard: Standard) -> Option<Callee>
+    ensures { (env : r.Environment) → callee_if env result ≡ n.standard_procedure standard }
 {
     let is_procedure = match standard {
         Standard::Delay => true,
@@ -73,7 +73,7 @@ fn standard_procedure(env: &Environment, standard: Standard) -> Option<Callee>
         _ => false,
     };
     if is_procedure {
-        let wants = standard_wants(env, standard);
+        let wants = standard_wants(standard);
         let gives = Gives::Nothing;
         Some(Callee { wants, gives })
     } else {
@@ -83,14 +83,13 @@ fn standard_procedure(env: &Environment, standard: Standard) -> Option<Callee>
 
 // A standard routine that is called. C2: a wrong number of arguments.
 fn standard_called(
-    env: &Environment,
     told: &mut Option<Violation>,
     rule: Rule,
     x: &Identifier,
     fits: bool,
     callee: Option<Callee>,
 ) -> Option<Callee>
-    ensures { TellsCallee (environment env.now) told.old told.new result (n.standard_called rule x.now fits (callee_if (environment env.now) callee)) }
+    ensures { TellsWherever told.old told.new result (λ env. n.standard_called rule x.now fits (callee_if env callee)) }
 {
     if !fits {
         return broken(told, Rule::C2, x.at);
@@ -103,31 +102,29 @@ fn standard_called(
 
 /// A standard function that is called with so many arguments.
 pub fn standard_function_called(
-    env: &Environment,
     told: &mut Option<Violation>,
     rule: Rule,
     x: &Identifier,
     count: usize,
     standard: Standard,
 ) -> Option<Callee>
-    ensures { TellsCallee (environment env.now) told.old told.new result (n.standard_called rule x.now (n.standard_fits standard count) (n.standard_function standard)) }
+    ensures { TellsWherever told.old told.new result (λ env. n.standard_called rule x.now (n.standard_fits standard count) (n.standard_function standard)) }
 {
     let fits = standard_fits(standard, count);
-    let callee = standard_function(env, standard);
-    standard_called(env, told, rule, x, fits, callee)
+    let callee = standard_function(standard);
+    standard_called(told, rule, x, fits, callee)
 }
 
 /// A standard procedure that is called with so many arguments.
 pub fn standard_procedure_called(
-    env: &Environment,
     told: &mut Option<Violation>,
     x: &Identifier,
     count: usize,
     standard: Standard,
 ) -> Option<Callee>
-    ensures { TellsCallee (environment env.now) told.old told.new result (n.standard_called Rule.C2 x.now (n.standard_fits standard count) (n.standard_procedure standard)) }
+    ensures { TellsWherever told.old told.new result (λ env. n.standard_called Rule.C2 x.now (n.standard_fits standard count) (n.standard_procedure standard)) }
 {
     let fits = standard_fits(standard, count);
-    let callee = standard_procedure(env, standard);
-    standard_called(env, told, Rule::C2, x, fits, callee)
+    let callee = standard_procedure(standard);
+    standard_called(told, Rule::C2, x, fits, callee)
 }

@@ -4,7 +4,6 @@ ghost use Rattle.std.specs.Prelude.{◌≡◌, ◌++◌, [], ◌∷◌, OnOk, ma
 ghost use Rattle.cp_model.specs.RulesJudged.{least};
 ghost use Rattle.cp_model.specs.RulesStatements as st;
 ghost use Rattle.cp_model.specs.View as view;
-ghost use Rattle.cp_judge.specs.Environments.{environment};
 
 use crate::assignments::assigned;
 use crate::conditions::{condition, for_header, selector};
@@ -24,7 +23,7 @@ pub fn statement(
     told: &mut Option<Violation>,
     s: &Statement,
 ) -> Result<(), AllocError>
-    ensures { OnOk result (told.new ≡ least told.old (st.statement (environment env.now) (view.statement s.now))) }
+    ensures { OnOk result (told.new ≡ least told.old (st.statement env.now (view.statement s.now))) }
 {
     match s {
         Statement::Empty => Ok(()),
@@ -89,7 +88,7 @@ pub fn statements(
     told: &mut Option<Violation>,
     list: &[Statement],
 ) -> Result<(), AllocError>
-    ensures { OnOk result (told.new ≡ least told.old (st.statements (environment env.now) (view.statements_of (map view.statement list.now)))) }
+    ensures { OnOk result (told.new ≡ least told.old (st.statements env.now (view.statements_of (map view.statement list.now)))) }
 {
     for s in list {
         statement(env, alloc, told, s)?;
@@ -106,7 +105,7 @@ fn labelled_arms(
     base: Option<usize>,
     list: &[Arm],
 ) -> Result<(), AllocError>
-    ensures { OnOk result (told.new ≡ least told.old (st.arms (environment env.now) base [] (view.arms_of (map view.arm list.now)))) }
+    ensures { OnOk result (told.new ≡ least told.old (st.arms env.now base [] (view.arms_of (map view.arm list.now)))) }
 {
     let mut seen = Labels::new(alloc);
     for a in list {

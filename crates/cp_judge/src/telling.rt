@@ -2,7 +2,7 @@
 
 ghost use Rattle.std.specs.Prelude.{◌≡◌};
 ghost use Rattle.cp_model.specs.RulesJudged.{earlier, least, unless};
-ghost use Rattle.cp_judge.specs.Tells.{Tells, TellsOf};
+ghost use Rattle.cp_judge.specs.Tells.{Tells, TellsFirst, TellsOf};
 ghost use Rattle.cp_model.specs.RulesJudged.{breaks, provided};
 
 use cp_model::rules::{Rule, Violation};
@@ -29,6 +29,15 @@ pub fn broken<A>(told: &mut Option<Violation>, rule: Rule, at: usize) -> Option<
 {
     tell(told, Violation { rule, at });
     None
+}
+
+/// Tells that a rule is broken at a place, and answers that violation.
+pub fn violated<A>(told: &mut Option<Violation>, rule: Rule, at: usize) -> Result<A, Violation>
+    ensures { TellsFirst told.old told.new result (breaks rule at) }
+{
+    let violation = Violation { rule, at };
+    tell(told, violation);
+    Err(violation)
 }
 
 /// Tells that a rule is broken at a place unless the test holds, and answers whether it does.

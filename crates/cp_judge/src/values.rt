@@ -4,12 +4,11 @@ ghost use Rattle.std.specs.Prelude.{◌≡◌, ◌++◌, [], ◌∷◌, map, Opt
 ghost use Rattle.cp_model.specs.RulesEnvironment as r;
 ghost use Rattle.cp_model.specs.RulesNames as n;
 ghost use Rattle.cp_model.specs.View.{designator, expression, selector, selectors_of};
-ghost use Rattle.cp_judge.specs.Environments.{environment};
 ghost use Rattle.cp_judge.specs.Tells.{Tells, TellsOf};
 ghost use Rattle.cp_judge.specs.Designated.{designator_if, designator_in};
 
 use crate::callees::function;
-use crate::environment::{Environment, INTEGER, base, is_component};
+use crate::environment::{Environment, INTEGER};
 use crate::names::{anywhere, known, sort_rule, unfinished};
 use crate::places::{first_name, first_token, last_name};
 use crate::telling::{broken, unless_holds};
@@ -18,11 +17,11 @@ use cp_model::tree::{Designator, Expression, Identifier, Selector};
 
 /// The type of what a call gives, whose first argument is of a type.
 pub fn given(env: &Environment, argument: usize, gives: Gives) -> usize
-    ensures { result ≡ n.given (environment env.now) argument gives }
+    ensures { result ≡ n.given env.now argument gives }
 {
     match gives {
         Gives::Value(t) => t,
-        Gives::ArgumentBase => base(env, argument).unwrap_or(argument),
+        Gives::ArgumentBase => env.base(argument).unwrap_or(argument),
         Gives::Nothing => argument,
     }
 }
@@ -35,7 +34,7 @@ fn function_alone(
     d: &Designator,
     entity: Entity,
 ) -> Option<Gives>
-    ensures { Tells told.old told.new result (n.function_alone (environment env.now) mode (designator d.now) entity) }
+    ensures { Tells told.old told.new result (n.function_alone env.now mode (designator d.now) entity) }
 {
     match mode {
         Mode::Variable => {
@@ -50,11 +49,11 @@ fn function_alone(
 }
 
 fn is_no_component(env: &Environment, mode: Mode, t: usize) -> bool
-    ensures { result ≡ n.is_used_as_component mode (environment env.now) t }
+    ensures { result ≡ n.is_used_as_component mode env.now t }
 {
     match mode {
         Mode::Variable => true,
-        _ => !is_component(env, t),
+        _ => !env.is_component(t),
     }
 }
 
@@ -66,7 +65,7 @@ pub fn value(
     d: &Designator,
     entity: Entity,
 ) -> Option<usize>
-    ensures { Tells told.old told.new result (n.value_of (environment env.now) mode (designator d.now) entity) }
+    ensures { Tells told.old told.new result (n.value_of env.now mode (designator d.now) entity) }
 {
     match entity {
         Entity::Constant(base, _) => Some(base),
@@ -112,11 +111,11 @@ fn selects_field_first(selectors: &[Selector]) -> bool
 
 /// Whether a name with these selectors after it is a variable or a part of one. A name that is unknown is told of elsewhere.
 pub fn is_variable(env: &Environment, x: &Identifier, selectors: &[Selector]) -> bool
-    ensures { result ≡ n.is_variable (environment env.now) (selectors_of (map selector selectors.now)) (r.c1_named (environment env.now) x.now) }
+    ensures { result ≡ n.is_variable env.now (selectors_of (map selector selectors.now)) (r.c1_named env.now x.now) }
 {
     match known(env, x) {
         Some(Entity::Variable(t, access)) => {
-            is_changeable(access) && !(is_component(env, t) && selects_field_first(selectors))
+            is_changeable(access) && !(env.is_component(t) && selects_field_first(selectors))
         }
         Some(_) => false,
         None => true,
@@ -125,7 +124,7 @@ pub fn is_variable(env: &Environment, x: &Identifier, selectors: &[Selector]) ->
 
 /// C10: not a variable or `var` parameter or a part of one.
 pub fn variable_designated(env: &Environment, told: &mut Option<Violation>, d: &Designator) -> bool
-    ensures { TellsOf told.old told.new result (n.c10_designator (environment env.now) (designator d.now)) }
+    ensures { TellsOf told.old told.new result (n.c10_designator env.now (designator d.now)) }
 {
     unless_holds(
         told,
@@ -151,7 +150,7 @@ pub fn designated(e: &Expression) -> Option<&Designator>
 
 /// C10: an expression that should be a variable.
 pub fn variable(env: &Environment, told: &mut Option<Violation>, e: &Expression) -> bool
-    ensures { TellsOf told.old told.new result (n.c10_variable (environment env.now) (expression e.now)) }
+    ensures { TellsOf told.old told.new result (n.c10_variable env.now (expression e.now)) }
 {
     match designated(e) {
         Some(d) => variable_designated(env, told, d),

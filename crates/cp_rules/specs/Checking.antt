@@ -1,13 +1,13 @@
 -- What the code knows where a part of a text is judged, and what it answers.
-use Rattle.std.specs.Prelude.{◌≡◌, Option, Result, Ok, Err}
+use Rattle.std.specs.Prelude.{◌≡◌, Option, Result}
 use Rattle.cp_model.specs.declared.tree.Identifier.{Identifier}
 use Rattle.cp_model.specs.declared.rules.Entity.{Entity}
 use Rattle.cp_model.specs.declared.rules.Violation.{Violation}
-use Rattle.cp_model.specs.RulesJudged.{Judged, Sound, Broken, Violations, least, violations_of}
+use Rattle.cp_model.specs.RulesJudged.{Judged, Violations, least, violations_of}
 use Rattle.cp_model.specs.RulesEnvironment.{Environment, c1_declared, declare}
 use Rattle.cp_model.specs.RulesTypes.{Made}
 use Rattle.cp_model.specs.RulesDeclarations.{Declared}
-use Rattle.cp_judge.specs.Environments.{environment}
+pub use Rattle.cp_judge.specs.Tells.{first_of}
 use Rattle.cp_rules.specs.declared.checker.Checker.{Checker}
 
 -- the environment so far, and the earliest violation
@@ -16,7 +16,7 @@ pub record State : Type 0 where
   pub told : Option Violation
 
 abbrev pub state : Checker → State
-state c = record { env = environment c.environment; told = c.earliest }
+state c = record { env = c.environment; told = c.earliest }
 
 -- ---- what is told
 
@@ -33,11 +33,6 @@ abbrev pub declared_name : Environment → Identifier → Entity → Declared
 declared_name env x e = record { env = declare x e env; violations = c1_declared env x }
 
 -- ---- what is judged
-
--- the meaning, or what is broken first
-abbrev pub first_of : {A : Type 0} → Judged A → Result A Violation
-first_of (Sound x) = Ok x
-first_of (Broken v vs) = Err v
 
 -- the answer is the meaning or what is broken first, and all that is broken is told
 abbrev pub Judges : {A : Type 0} → State → State → Result A Violation → Judged A → Type 0

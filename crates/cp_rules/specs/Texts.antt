@@ -9,7 +9,6 @@ use Rattle.cp_model.specs.RulesStatements.{statements}
 use Rattle.cp_model.specs.RulesNeeds.{need_statements}
 use Rattle.cp_model.specs.RulesDeclarations as d
 use Rattle.cp_model.specs.Rules.{Accepted, c13_initial, told}
-use Rattle.cp_judge.specs.Environments.{environment}
 use Rattle.cp_judge.specs.declared.environment.Environment as code
 use Rattle.cp_rules.specs.Checking.{State}
 use Rattle.cp_rules.specs.Definitions.{define_sections}
@@ -34,6 +33,6 @@ judged_text t = record { env = environment_of t; told = told t }
 
 -- an accepted text, and what is known at its end; or what is told of it
 abbrev pub Judges : s.Tree → Result code.Environment Refusal → Type 0
-Judges t (Ok env) = Accepted t × (environment env ≡ environment_of t)
+Judges t (Ok env) = Accepted t × (env ≡ environment_of t)
 Judges t (Err (refused.Broken v)) = told t ≡ Some v
 Judges t (Err refused.Memory) = Unit {0}

@@ -5,16 +5,13 @@ ghost use Rattle.cp_model.specs.Integers.{count_between};
 ghost use Rattle.cp_model.specs.RulesEnvironment as r;
 ghost use Rattle.cp_model.specs.RulesJudged.{both};
 ghost use Rattle.cp_model.specs.RulesTypes as types;
-ghost use Rattle.cp_judge.specs.Environments.{environment};
 ghost use Rattle.cp_rules.specs.Checking.{Judges, state};
 ghost use Rattle.cp_rules.specs.Outer.{Knows, TellsOuter, around_both, array, arrays, made};
 
 use crate::checker::{Checker, Judged};
-use crate::variables::words_of_row;
 use crate::words::{is_within, product};
 use cp_judge::Environment;
 use cp_judge::constants::constant_at;
-use cp_judge::environment::{has_queues, structure};
 use cp_model::rules::{Rule, Structure, TypeRow};
 use cp_model::tree::Constant;
 use std::alloc::AllocError;
@@ -41,13 +38,13 @@ fn values_in(structure: Structure) -> usize
 }
 
 fn array_row(env: &Environment, index: usize, element: usize) -> TypeRow
-    ensures { result ≡ types.array_row (environment env.now) index element }
+    ensures { result ≡ types.array_row env.now index element }
 {
-    let count = values_in(structure(env, index));
+    let count = values_in(env.structure(index));
     TypeRow {
         structure: Structure::Array(index, element),
-        words: product(count, words_of_row(env, element)),
-        has_queues: has_queues(env, element),
+        words: product(count, env.words(element)),
+        has_queues: env.has_queues(element),
     }
 }
 
@@ -99,8 +96,8 @@ impl<'t> Checker<'t> {
     pub fn add_type(&mut self, row: TypeRow) -> Result<usize, AllocError>
         ensures { IfOk result (λ t. (t ≡ length (state self.old).env.types) × (state self.new ≡ record (state self.old) { env = types.add_type (state self.old).env row })) }
     {
-        let t = self.environment.types.len();
-        self.environment.types.push(row)?;
+        let t = self.environment.type_count();
+        self.environment.add_type(row)?;
         Ok(t)
     }
 

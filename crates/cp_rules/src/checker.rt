@@ -7,7 +7,7 @@ ghost use Rattle.cp_rules.specs.Checking.{Judges, after, declared_name, state, t
 
 use crate::standard::standard_environment;
 use cp_judge::Environment;
-use cp_judge::telling::{tell, unless_holds};
+use cp_judge::telling::{unless_holds, violated};
 use cp_model::rules::{Entity, Rule, Violation};
 use cp_model::tree::Identifier;
 use std::alloc::{AllocError, Global};
@@ -36,21 +36,11 @@ impl<'t> Checker<'t> {
         })
     }
 
-    /// Tells a violation that was told where it stands.
-    pub fn broken<A>(&mut self, violation: Violation) -> Judged<A>
-        ensures { Judges (state self.old) (state self.new) result (j.Broken violation []) }
-    {
-        tell(&mut self.earliest, violation);
-        Err(violation)
-    }
-
     /// Tells that a rule is broken at a place.
     pub fn breaks<A>(&mut self, rule: Rule, at: usize) -> Judged<A>
         ensures { Judges (state self.old) (state self.new) result (j.breaks rule at) }
     {
-        let violation = Violation { rule, at };
-        tell(&mut self.earliest, violation);
-        Err(violation)
+        violated(&mut self.earliest, rule, at)
     }
 
     /// Tells that a rule is broken at a place unless the test holds.
@@ -65,8 +55,8 @@ impl<'t> Checker<'t> {
         ensures { OnOk result (state self.new ≡ record (state self.old) { env = r.declare x.now entity (state self.old).env }) }
     {
         let name = x.name.as_bytes();
-        if self.environment.names.find(name).is_none() {
-            self.environment.names.declare(name, entity)?;
+        if self.environment.find(name).is_none() {
+            self.environment.declare(name, entity)?;
         }
         Ok(())
     }
@@ -75,7 +65,7 @@ impl<'t> Checker<'t> {
     pub fn declare(&mut self, x: &'t Identifier, entity: Entity) -> Result<(), AllocError>
         ensures { OnOk result (state self.new ≡ after (state self.old) (declared_name (state self.old).env x.now entity)) }
     {
-        let is_new = self.environment.names.find(x.name.as_bytes()).is_none();
+        let is_new = self.environment.find(x.name.as_bytes()).is_none();
         self.unless(is_new, Rule::C1, x.at);
         self.add(x, entity)
     }
@@ -84,13 +74,13 @@ impl<'t> Checker<'t> {
     pub fn mark(&self) -> usize
         ensures { result ≡ length (state self.now).env.names }
     {
-        self.environment.names.mark()
+        self.environment.name_count()
     }
 
     /// Forgets the names that were declared since there were so many.
     pub fn leave(&mut self, mark: usize)
         ensures { state self.new ≡ record (state self.old) { env = r.with_names (take mark (state self.old).env.names) (state self.old).env } }
     {
-        self.environment.names.leave(mark);
+        self.environment.leave(mark);
     }
 }

@@ -89,7 +89,7 @@ impl<'t> Checker<'t> {
     ) -> Result<(), AllocError>
         ensures { OnOk result (state self.new ≡ after (state self.old) (rules.define_enumeration (state self.old).env x.now names.now)) }
     {
-        let t = self.environment.types.len();
+        let t = self.environment.type_count();
         let row = enumeration(t, names.len())?;
         self.add_type(row)?;
         let values = values(self.alloc, t, names)?;

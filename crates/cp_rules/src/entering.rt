@@ -21,8 +21,8 @@ impl<'t> Checker<'t> {
     pub fn enter(&mut self, rows: &[ParameterRow], region: Region) -> Result<(), AllocError>
         ensures { OnOk result (state self.new ≡ record (state self.old) { env = entered (state self.old).env rows.now region }) }
     {
-        self.environment.parameters.extend_from_slice(rows)?;
-        self.environment.region = region;
+        self.environment.add_parameters(rows)?;
+        self.environment.stand_in(region);
         Ok(())
     }
 

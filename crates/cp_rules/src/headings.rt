@@ -7,7 +7,6 @@ ghost use Rattle.cp_model.specs.RulesDeclarations as d;
 ghost use Rattle.cp_model.specs.RulesJudged.{then_judge};
 ghost use Rattle.cp_model.specs.RulesTypes.{named_type};
 ghost use Rattle.cp_model.specs.View as view;
-ghost use Rattle.cp_judge.specs.Environments.{environment};
 ghost use Rattle.cp_rules.specs.Checking.{Judges, first_of, state, telling};
 ghost use Rattle.cp_rules.specs.Declaring.{entity_of_type, words_of_type};
 ghost use Rattle.cp_rules.specs.Headings.{Heads, collected, hidden_group, is_by_reference, nothing, parameter_judged, row_of_type, with_heading, with_names, with_part, words_of_parameter};
@@ -16,7 +15,6 @@ use crate::checker::{Checker, Judged};
 use crate::variables::{UNFINISHED, words};
 use crate::words::{product, sum};
 use cp_judge::Environment;
-use cp_judge::environment::{has_queues, structure, system_row};
 use cp_model::rules::{Access, Entity, ParameterRow, Rule, Structure};
 use cp_model::tree::{Identifier, Parameters, Sort};
 use std::alloc::{AllocError, Global};
@@ -42,11 +40,11 @@ fn allows_component(of: Sort, sort: Sort) -> bool
 }
 
 fn allows_parameter(env: &Environment, of: Option<Sort>, structure: Structure) -> bool
-    ensures { result ≡ d.allows_parameter (environment env.now) of structure }
+    ensures { result ≡ d.allows_parameter env.now of structure }
 {
     match (of, structure) {
         (Some(_), Structure::Simple(_, _, _)) => true,
-        (Some(of), Structure::System(y)) => allows_component(of, system_row(env, y).sort),
+        (Some(of), Structure::System(y)) => allows_component(of, env.system_row(y).sort),
         (Some(_), _) => false,
         (None, Structure::System(_)) => false,
         (None, _) => true,
@@ -101,7 +99,7 @@ fn is_by_reference(of: Option<Sort>, group: &Parameters) -> bool
 
 // The words of one parameter in an activation.
 fn parameter_words(env: &Environment, by_reference: bool, of: Judged<usize>) -> usize
-    ensures { result ≡ words_of_parameter (environment env.now) by_reference of }
+    ensures { result ≡ words_of_parameter env.now by_reference of }
 {
     if by_reference { 1 } else { words(env, of) }
 }
@@ -141,8 +139,8 @@ impl<'t> Checker<'t> {
         ensures { Judges (state self.old) (state self.new) result (d.c7_c8_parameter (state self.old).env of at t) }
     {
         let env = &self.environment;
-        let allowed = allows_parameter(env, of, structure(env, t));
-        if has_queues(env, t) {
+        let allowed = allows_parameter(env, of, env.structure(t));
+        if env.has_queues(t) {
             return self.breaks(Rule::C8, at);
         }
         if !allowed {

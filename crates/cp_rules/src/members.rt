@@ -3,13 +3,11 @@
 ghost use Rattle.std.specs.Prelude.{◌≡◌, ◌≤◌, ◌++◌, None, IfOk, OnOk, drop, length, map};
 ghost use Rattle.cp_model.specs.Names.{lookup};
 ghost use Rattle.cp_model.specs.Rules.{routine_member, routine_members};
-ghost use Rattle.cp_judge.specs.Scopes.{seen};
 ghost use Rattle.cp_rules.specs.Checking.{state};
 
 use crate::checker::Checker;
 use cp_judge::environment::Members;
 use cp_model::rules::{Entity, Member};
-use indexmap::IndexMap;
 use std::alloc::AllocError;
 
 // Adds what a name stands for, where that is a routine.
@@ -18,11 +16,11 @@ fn add_member<'t>(
     name: &'t [u8],
     entity: Entity,
 ) -> Result<(), AllocError>
-    requires { lookup name.now (map seen members.old.entries) ≡ None }
-    ensures { OnOk result (map seen members.new.entries ≡ map seen members.old.entries ++ routine_member name.now entity) }
+    requires { lookup name.now members.old ≡ None }
+    ensures { OnOk result (members.new ≡ members.old ++ routine_member name.now entity) }
 {
     if let Entity::Routine(number) = entity {
-        members.insert(name, Member::Routine(number))?;
+        members.add(name, Member::Routine(number))?;
     }
     Ok(())
 }
@@ -30,13 +28,12 @@ fn add_member<'t>(
 impl<'t> Checker<'t> {
     /// The routines among the names that were declared since there were so many. It fails only when memory runs out.
     pub fn routine_members(&self, mark: usize) -> Result<Members<'t>, AllocError>
-        ensures { IfOk result (λ members. map seen members.entries ≡ routine_members (drop mark (state self.now).env.names)) }
+        ensures { IfOk result (λ members. members ≡ routine_members (drop mark (state self.now).env.names)) }
     {
-        let names = &self.environment.names;
-        let mut members = IndexMap::new(self.alloc);
-        let count = names.mark();
+        let mut members = Members::new(self.alloc);
+        let count = self.environment.name_count();
         for number in mark..count {
-            match names.get(number) {
+            match self.environment.name(number) {
                 Some((name, entity)) => add_member(&mut members, name, entity)?,
                 None => {}
             }

@@ -8,7 +8,6 @@ ghost use Rattle.cp_rules.specs.Declaring.{counted_owner, owners_of_type};
 
 use crate::checker::{Checker, Judged};
 use crate::words::is_within;
-use cp_judge::environment::{structure, system_row};
 use cp_model::rules::{Position, Rule, Structure, SystemRow};
 use cp_model::tree::{Identifier, Sort};
 
@@ -36,14 +35,14 @@ impl<'t> Checker<'t> {
     {
         match y.sort {
             Sort::Process => {
-                let count = self.environment.processes;
+                let count = self.environment.process_count();
                 self.unless(!is_full(count) && is_within(y.words), Rule::C13, x.at);
-                self.environment.processes = one_more(count);
+                self.environment.count_processes(one_more(count));
             }
             Sort::Monitor => {
-                let count = self.environment.monitors;
+                let count = self.environment.monitor_count();
                 self.unless(!is_full(count) && is_within(y.words), Rule::C13, x.at);
-                self.environment.monitors = one_more(count);
+                self.environment.count_monitors(one_more(count));
             }
             Sort::Class => {}
         }
@@ -63,8 +62,8 @@ impl<'t> Checker<'t> {
         ensures { state self.new ≡ after (state self.old) (owners_of_type (state self.old).env position of names.now) }
     {
         if let (Position::InitialVariable, Ok(t)) = (position, of) {
-            if let Structure::System(y) = structure(&self.environment, t) {
-                let row = system_row(&self.environment, y);
+            if let Structure::System(y) = self.environment.structure(t) {
+                let row = self.environment.system_row(y);
                 self.owners_of(names, row);
             }
         }

@@ -7,13 +7,11 @@ ghost use Rattle.cp_model.specs.RulesTypes as types;
 ghost use Rattle.cp_model.specs.View as view;
 ghost use Rattle.cp_model.specs.declared.rules.Rule.TheVariants.{C2};
 ghost use Rattle.cp_rules.specs.Checking.{Judges, state};
-ghost use Rattle.cp_judge.specs.Environments.{environment};
 ghost use Rattle.cp_rules.specs.Outer.{TellsOuter, index_type, is_written_structure, misplaces_queues, placed};
 
 use crate::checker::{Checker, Judged};
 use cp_judge::Environment;
 use cp_judge::constants::constant_at;
-use cp_judge::environment::{has_queues, is_simple, structure, system_row};
 use cp_judge::names::known;
 use cp_model::rules::{Entity, Position, Rule, Structure};
 use cp_model::tree::{Identifier, Sort, TypeExpression};
@@ -39,10 +37,10 @@ fn allows_system(position: Position, sort: Sort) -> bool
 }
 
 fn allows_structure(env: &Environment, position: Position, structure: Structure) -> bool
-    ensures { result ≡ types.allows_structure (environment env.now) position structure }
+    ensures { result ≡ types.allows_structure env.now position structure }
 {
     match structure {
-        Structure::System(y) => allows_system(position, system_row(env, y).sort),
+        Structure::System(y) => allows_system(position, env.system_row(y).sort),
         _ => true,
     }
 }
@@ -82,7 +80,7 @@ fn is_written_structure(t: &TypeExpression) -> bool
 
 // What a name of a type stands for, if that is known.
 fn known_type(env: &Environment, x: &Identifier) -> Option<usize>
-    ensures { result ≡ meaning_of (types.named_type (environment env.now) x.now) }
+    ensures { result ≡ meaning_of (types.named_type env.now x.now) }
 {
     match known(env, x)? {
         Entity::Type(t) => Some(t),
@@ -91,17 +89,17 @@ fn known_type(env: &Environment, x: &Identifier) -> Option<usize>
 }
 
 fn names_queues(env: &Environment, x: &Identifier) -> bool
-    ensures { result ≡ types.has_queues (environment env.now) (types.named_type (environment env.now) x.now) }
+    ensures { result ≡ types.has_queues env.now (types.named_type env.now x.now) }
 {
     match known_type(env, x) {
-        Some(t) => has_queues(env, t),
+        Some(t) => env.has_queues(t),
         None => false,
     }
 }
 
 // Whether a written type has queues, as far as that is known where something is broken inside it.
 fn holds_queues(env: &Environment, t: &TypeExpression) -> bool
-    ensures { result ≡ types.holds_queues (environment env.now) (view.type_expression t.now) }
+    ensures { result ≡ types.holds_queues env.now (view.type_expression t.now) }
 {
     match t {
         TypeExpression::Named(x) => names_queues(env, x),
@@ -112,7 +110,7 @@ fn holds_queues(env: &Environment, t: &TypeExpression) -> bool
 
 // Whether an array with queues is written where none may stand.
 fn misplaces_queues(env: &Environment, position: Position, t: &TypeExpression) -> bool
-    ensures { result ≡ misplaces_queues (environment env.now) position (view.type_expression t.now) }
+    ensures { result ≡ misplaces_queues env.now position (view.type_expression t.now) }
 {
     match t {
         TypeExpression::Array { element, .. } => {
@@ -128,8 +126,8 @@ impl<'t> Checker<'t> {
         ensures { Judges (state self.old) (state self.new) result (types.c6_c8_placed (state self.old).env position at t) }
     {
         let env = &self.environment;
-        let has_place = allows_structure(env, position, structure(env, t));
-        let queues_have = allows_queues(position) || !has_queues(env, t);
+        let has_place = allows_structure(env, position, env.structure(t));
+        let queues_have = allows_queues(position) || !env.has_queues(t);
         match (has_place, queues_have) {
             (true, true) => Ok(t),
             (true, false) => self.breaks(Rule::C8, at),
@@ -168,7 +166,7 @@ impl<'t> Checker<'t> {
     fn simple(&mut self, at: usize, t: usize) -> Judged<usize>
         ensures { Judges (state self.old) (state self.new) result (provided (is_simple (state self.old).env t) C2 at t) }
     {
-        if is_simple(&self.environment, t) {
+        if self.environment.is_simple(t) {
             Ok(t)
         } else {
             self.breaks(Rule::C2, at)

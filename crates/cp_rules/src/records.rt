@@ -1,8 +1,6 @@
 //! Records: the names of their fields, and the types that are made of them.
 
 ghost use Rattle.std.specs.Prelude.{◌≡◌, ◌∷◌, [], None, IfOk, OnOk, map, slice_get};
-ghost use Rattle.cp_judge.specs.Environments.{environment};
-ghost use Rattle.cp_judge.specs.Scopes.{seen};
 ghost use Rattle.cp_model.specs.RulesJudged.{unless};
 ghost use Rattle.cp_model.specs.RulesTypes.{capped};
 ghost use Rattle.cp_model.specs.declared.rules.Rule.TheVariants.{C1};
@@ -11,13 +9,11 @@ ghost use Rattle.cp_rules.specs.Outer.{Knows};
 ghost use Rattle.cp_rules.specs.Records.{broken_in, is_new, or_first, record_of, with_field, with_fields, words_if, words_of_member, words_of_members};
 
 use crate::checker::{Checker, Judged};
-use crate::variables::words_of_row;
 use crate::words::{capped, is_within, sum};
 use cp_judge::Environment;
 use cp_judge::environment::Members;
 use cp_model::rules::{Member, Rule, Structure, TypeRow, Violation};
 use cp_model::tree::Identifier;
-use indexmap::IndexMap;
 use std::alloc::{AllocError, Global};
 
 /// The fields of a record so far, and what is broken first in them.
@@ -29,13 +25,13 @@ pub struct FieldList<'t> {
 
 // Adds a field, and answers whether its name is new. It fails only when memory runs out.
 fn add_field<'t>(members: &mut Members<'t>, x: &'t Identifier, t: usize) -> Result<bool, AllocError>
-    ensures new { IfOk result (λ n. n ≡ is_new (map seen members.old.entries) x.now) }
-    ensures members { OnOk result (map seen members.new.entries ≡ with_field (map seen members.old.entries) x.now t) }
+    ensures new { IfOk result (λ n. n ≡ is_new members.old x.now) }
+    ensures members { OnOk result (members.new ≡ with_field members.old x.now t) }
 {
     let name = x.name.as_bytes();
-    let is_new = members.get(name).is_none();
+    let is_new = members.find(name).is_none();
     if is_new {
-        members.insert(name, Member::Field(t))?;
+        members.add(name, Member::Field(t))?;
     }
     Ok(is_new)
 }
@@ -43,11 +39,11 @@ fn add_field<'t>(members: &mut Members<'t>, x: &'t Identifier, t: usize) -> Resu
 impl<'t> FieldList<'t> {
     /// No fields.
     pub fn new(alloc: Global) -> FieldList<'t>
-        ensures members { map seen result.members.entries ≡ [] }
+        ensures members { result.members ≡ [] }
         ensures first { result.first ≡ None }
     {
         FieldList {
-            members: IndexMap::new(alloc),
+            members: Members::new(alloc),
             first: None,
         }
     }
@@ -64,26 +60,26 @@ impl<'t> FieldList<'t> {
 
 // The words of a field.
 fn words_of_member(env: &Environment, member: Member) -> usize
-    ensures { result ≡ words_of_member (environment env.now) member }
+    ensures { result ≡ words_of_member env.now member }
 {
     match member {
-        Member::Field(t) => words_of_row(env, t),
+        Member::Field(t) => env.words(t),
         Member::Routine(_) => 0,
     }
 }
 
 fn words_at(env: &Environment, members: &Members, number: usize) -> usize
-    ensures { result ≡ words_if (environment env.now) (slice_get (map seen members.now.entries) number) }
+    ensures { result ≡ words_if env.now (slice_get members.now number) }
 {
-    match members.get_index(number) {
-        Some((_, member)) => words_of_member(env, *member),
+    match members.get(number) {
+        Some((_, member)) => words_of_member(env, member),
         None => 0,
     }
 }
 
 // The words of fields, counted to one above the limit.
 fn words_of_members(env: &Environment, members: &Members) -> usize
-    ensures { result ≡ capped (words_of_members (environment env.now) (map seen members.now.entries)) }
+    ensures { result ≡ capped (words_of_members env.now members.now) }
 {
     let mut words = 0;
     for number in 0..members.len() {
@@ -100,9 +96,9 @@ impl<'t> Checker<'t> {
         x: &'t Identifier,
         t: usize,
     ) -> Result<(), AllocError>
-        ensures told { OnOk result (state self.new ≡ telling (state self.old) (unless (is_new (map seen fields.old.members.entries) x.now) C1 x.now.at)) }
-        ensures members { OnOk result (map seen fields.new.members.entries ≡ with_field (map seen fields.old.members.entries) x.now t) }
-        ensures first { OnOk result (fields.new.first ≡ or_first fields.old.first (unless (is_new (map seen fields.old.members.entries) x.now) C1 x.now.at)) }
+        ensures told { OnOk result (state self.new ≡ telling (state self.old) (unless (is_new fields.old.members x.now) C1 x.now.at)) }
+        ensures members { OnOk result (fields.new.members ≡ with_field fields.old.members x.now t) }
+        ensures first { OnOk result (fields.new.first ≡ or_first fields.old.first (unless (is_new fields.old.members x.now) C1 x.now.at)) }
     {
         if !add_field(&mut fields.members, x, t)? {
             let broken = self.breaks(Rule::C1, x.at);
@@ -118,9 +114,9 @@ impl<'t> Checker<'t> {
         names: &'t [Identifier],
         t: usize,
     ) -> Result<(), AllocError>
-        ensures told { OnOk result (state self.new ≡ telling (state self.old) (with_fields (map seen fields.old.members.entries) t names.now).violations) }
-        ensures members { OnOk result (map seen fields.new.members.entries ≡ (with_fields (map seen fields.old.members.entries) t names.now).members) }
-        ensures first { OnOk result (fields.new.first ≡ or_first fields.old.first (with_fields (map seen fields.old.members.entries) t names.now).violations) }
+        ensures told { OnOk result (state self.new ≡ telling (state self.old) (with_fields fields.old.members t names.now).violations) }
+        ensures members { OnOk result (fields.new.members ≡ (with_fields fields.old.members t names.now).members) }
+        ensures first { OnOk result (fields.new.first ≡ or_first fields.old.first (with_fields fields.old.members t names.now).violations) }
     {
         for x in names {
             self.add_field(fields, x, t)?;
@@ -135,7 +131,7 @@ impl<'t> Checker<'t> {
         at: usize,
         fields: FieldList<'t>,
     ) -> Result<Judged<usize>, AllocError>
-        ensures { IfOk result (λ answer. Knows (state self.old) (state self.new) answer (record_of (state self.old).env at (map seen fields.entry.members.entries) fields.entry.first)) }
+        ensures { IfOk result (λ answer. Knows (state self.old) (state self.new) answer (record_of (state self.old).env at fields.entry.members fields.entry.first)) }
     {
         if let Some(violation) = fields.first {
             return Ok(Err(violation));
@@ -144,14 +140,14 @@ impl<'t> Checker<'t> {
         if !is_within(words) {
             return Ok(self.breaks(Rule::C13, at));
         }
-        let t = self.environment.types.len();
-        let structure = Structure::Record(self.environment.members.len());
-        self.environment.types.push(TypeRow {
+        let t = self.environment.type_count();
+        let structure = Structure::Record(self.environment.table_count());
+        self.environment.add_type(TypeRow {
             structure,
             words,
             has_queues: false,
         })?;
-        self.environment.members.push(fields.members)?;
+        self.environment.add_members(fields.members)?;
         Ok(Ok(t))
     }
 }

@@ -7,7 +7,6 @@ ghost use Rattle.cp_rules.specs.Checking.{Judges, state, telling};
 ghost use Rattle.cp_rules.specs.Routines.{JudgesResult, result_judged, returns_of_result, result_words};
 
 use crate::checker::{Checker, Judged};
-use cp_judge::environment::{has_queues, is_simple};
 use cp_model::rules::{Part, Returns, Rule};
 use cp_model::tree::{Identifier, Sort};
 
@@ -65,8 +64,8 @@ impl<'t> Checker<'t> {
     fn result(&mut self, at: usize, t: usize) -> Judged<usize>
         ensures { Judges (state self.old) (state self.new) result (d.c8_c11_result (state self.old).env at t) }
     {
-        let is_without_queues = !has_queues(&self.environment, t);
-        let is_simple = is_simple(&self.environment, t);
+        let is_without_queues = !self.environment.has_queues(t);
+        let is_simple = self.environment.is_simple(t);
         match (is_without_queues, is_simple) {
             (true, true) => Ok(t),
             (true, false) => self.breaks(Rule::C11, at),

@@ -96,9 +96,8 @@ impl<'t> Checker<'t> {
         ensures { OnOk result (state self.new ≡ left_routine (state self.old) outside region name.now row) }
     {
         self.leave(outside);
-        self.environment.region = region;
-        let number = self.environment.routines.len();
-        self.environment.routines.push(row)?;
+        self.environment.stand_in(region);
+        let number = self.environment.add_routine(row)?;
         self.add(name, Entity::Routine(number))
     }
 
@@ -107,9 +106,9 @@ impl<'t> Checker<'t> {
         ensures { OnOk result (state self.new ≡ after (state self.old) (d.routine (state self.old).env sort (view.routine routine.now))) }
     {
         let outside = self.mark();
-        let region = self.environment.region;
+        let region = self.environment.region();
         let (heading, answer) = self.routine_heading(sort, routine)?;
-        let first = self.environment.parameters.len();
+        let first = self.environment.parameter_count();
         let mut row = row(first, heading.rows.len(), routine.entry, answer);
         let inside = self.routine_body(sort, routine, row, &heading)?;
         row.need = sum(sum(1 + words(answer), heading.words), inside);

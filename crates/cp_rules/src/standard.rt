@@ -2,21 +2,18 @@
 
 ghost use Rattle.std.specs.Prelude.{◌≡◌, IfOk, OnOk, true};
 ghost use Rattle.cp_model.specs.RulesEnvironment as r;
-ghost use Rattle.cp_judge.specs.Environments.{environment};
 ghost use Rattle.cp_rules.specs.StandardNames as standard_names;
 
-use cp_judge::Scope;
-use cp_judge::environment::{BOOLEAN, CHAR, Environment, INTEGER, QUEUE};
-use cp_model::rules::{Entity, Part, Region, Standard, Structure, TypeRow};
-use cp_model::tree::Sort;
+use cp_judge::environment::{BOOLEAN, CHAR, Environment, INTEGER, QUEUE, Scope};
+use cp_model::rules::{Entity, Standard, Structure, TypeRow};
 use std::alloc::{AllocError, Global};
 
-// Declares a standard name, unless it is declared already: `Scope::declare` wants a name that isn't visible.
+// Declares a standard name, unless it is declared already: `add` wants a name that isn't visible.
 fn add<'t>(names: &mut Scope<'t>, name: &'t [u8], entity: Entity) -> Result<(), AllocError>
     ensures { OnOk result (names.new ≡ standard_names.with_name name.now entity names.old) }
 {
     if names.find(name).is_none() {
-        names.declare(name, entity)?;
+        names.add(name, entity)?;
     }
     Ok(())
 }
@@ -121,20 +118,7 @@ fn types(alloc: Global) -> Result<Vec<TypeRow>, AllocError>
 
 /// The environment of a text before its first definition. It fails only when memory runs out.
 pub fn standard_environment<'t>(alloc: Global) -> Result<Environment<'t>, AllocError>
-    ensures { IfOk result (λ env. environment env ≡ r.standard_environment) }
+    ensures { IfOk result (λ env. env ≡ r.standard_environment) }
 {
-    Ok(Environment {
-        names: names(alloc)?,
-        types: types(alloc)?,
-        members: Vec::new(alloc),
-        routines: Vec::new(alloc),
-        parameters: Vec::new(alloc),
-        systems: Vec::new(alloc),
-        processes: 1,
-        monitors: 0,
-        region: Region {
-            sort: Sort::Process,
-            part: Part::Body,
-        },
-    })
+    Ok(Environment::new(alloc, names(alloc)?, types(alloc)?))
 }

@@ -4,7 +4,6 @@ ghost use Rattle.std.specs.Prelude.{◌≡◌, ◌+◌, ◌++◌, IfOk, OnOk, le
 ghost use Rattle.cp_model.specs.Rules as rules;
 ghost use Rattle.cp_model.specs.RulesDeclarations as d;
 ghost use Rattle.cp_model.specs.View as view;
-ghost use Rattle.cp_judge.specs.Scopes.{seen};
 ghost use Rattle.cp_rules.specs.Checking.{after, state, telling};
 ghost use Rattle.cp_rules.specs.Headings.{collected};
 ghost use Rattle.cp_rules.specs.Systems.{HeadsSystem, JudgesParts, added_system, left_system, parts, row_as, words_of};
@@ -66,17 +65,17 @@ impl<'t> Checker<'t> {
 
     // Adds a system type, and answers the number of the type.
     fn add_system(&mut self, row: SystemRow, members: Members<'t>) -> Result<usize, AllocError>
-        ensures { IfOk result (λ t. (t ≡ length (state self.old).env.types) × (state self.new ≡ record (state self.old) { env = added_system (state self.old).env row (map seen members.entry.entries) })) }
+        ensures { IfOk result (λ t. (t ≡ length (state self.old).env.types) × (state self.new ≡ record (state self.old) { env = added_system (state self.old).env row members.entry })) }
     {
-        let t = self.environment.types.len();
-        let structure = Structure::System(self.environment.systems.len());
-        self.environment.types.push(TypeRow {
+        let t = self.environment.type_count();
+        let structure = Structure::System(self.environment.system_count());
+        self.environment.add_type(TypeRow {
             structure,
             words: row.words,
             has_queues: false,
         })?;
-        self.environment.members.push(members)?;
-        self.environment.systems.push(row)?;
+        self.environment.add_members(members)?;
+        self.environment.add_system(row)?;
         Ok(t)
     }
 
@@ -89,10 +88,10 @@ impl<'t> Checker<'t> {
         row: SystemRow,
         members: Members<'t>,
     ) -> Result<(), AllocError>
-        ensures { OnOk result (state self.new ≡ left_system (state self.old) outside region name.now row (map seen members.entry.entries)) }
+        ensures { OnOk result (state self.new ≡ left_system (state self.old) outside region name.now row members.entry) }
     {
         self.leave(outside);
-        self.environment.region = region;
+        self.environment.stand_in(region);
         let t = self.add_system(row, members)?;
         self.add(name, Entity::Type(t))
     }
@@ -108,7 +107,7 @@ impl<'t> Checker<'t> {
             count,
             words: words_of(y.sort, count, words, need),
             body_need: need,
-            members: self.environment.members.len(),
+            members: self.environment.table_count(),
         }
     }
 
@@ -117,11 +116,11 @@ impl<'t> Checker<'t> {
         ensures { OnOk result (state self.new ≡ after (state self.old) (rules.define_system (state self.old).env x.now (view.system y.now))) }
     {
         let outside = self.mark();
-        let region = self.environment.region;
+        let region = self.environment.region();
         self.declare(x, Entity::UnfinishedType)?;
         let inside = self.mark();
         let heading = self.system_heading(y)?;
-        let first = self.environment.parameters.len();
+        let first = self.environment.parameter_count();
         let words = self.system_parts(y, &heading)?;
         let row = self.system_row(y, first, heading.rows.len(), words);
         let members = self.routine_members(inside)?;

@@ -1,7 +1,6 @@
 //! Types where they are written: what they stand for, and the rules inside them.
 
 ghost use Rattle.std.specs.Prelude.{◌≡◌, IfOk, OnOk, map};
-ghost use Rattle.cp_judge.specs.Scopes.{seen};
 ghost use Rattle.cp_model.specs.Syntax as s;
 ghost use Rattle.cp_model.specs.RulesTypes as ty;
 ghost use Rattle.cp_model.specs.View as view;
@@ -82,9 +81,9 @@ impl<'t> Checker<'t> {
         fields: &mut FieldList<'t>,
         group: &'t Fields,
     ) -> Result<(), AllocError>
-        ensures state { OnOk result (state self.new ≡ with_groups (state self.old) (records.group (state self.old).env (map seen fields.old.members.entries) (view.variables group.now))) }
-        ensures members { OnOk result (map seen fields.new.members.entries ≡ (records.group (state self.old).env (map seen fields.old.members.entries) (view.variables group.now)).members) }
-        ensures first { OnOk result (fields.new.first ≡ or_first fields.old.first (records.group (state self.old).env (map seen fields.old.members.entries) (view.variables group.now)).violations) }
+        ensures state { OnOk result (state self.new ≡ with_groups (state self.old) (records.group (state self.old).env fields.old.members (view.variables group.now))) }
+        ensures members { OnOk result (fields.new.members ≡ (records.group (state self.old).env fields.old.members (view.variables group.now)).members) }
+        ensures first { OnOk result (fields.new.first ≡ or_first fields.old.first (records.group (state self.old).env fields.old.members (view.variables group.now)).violations) }
     {
         let of = self.type_of(&group.of)?;
         let of = self.placed(Position::Field, &group.of, of);

@@ -5,14 +5,13 @@ ghost use Rattle.cp_model.specs.RulesEnvironment as r;
 ghost use Rattle.cp_model.specs.RulesTypes.{capped};
 ghost use Rattle.cp_model.specs.RulesDeclarations as d;
 ghost use Rattle.cp_model.specs.View as view;
-ghost use Rattle.cp_judge.specs.Environments.{environment};
 ghost use Rattle.cp_rules.specs.Checking.{after, state};
 ghost use Rattle.cp_rules.specs.Declaring.{Declares, entity_of_type, group_type, left_group, words_of_type};
 
 use crate::checker::{Checker, Judged};
 use crate::words::{product, sum};
 use cp_judge::Environment;
-use cp_judge::environment::{INTEGER, structure, system_row};
+use cp_judge::environment::INTEGER;
 use cp_model::rules::{Access, Entity, Position, Structure};
 use cp_model::tree::{Fields, Sort};
 use std::alloc::AllocError;
@@ -30,16 +29,6 @@ fn entity(of: Judged<usize>) -> Entity
     }
 }
 
-/// The words of a variable of the type.
-pub fn words_of_row(env: &Environment, t: usize) -> usize
-    ensures { result ≡ (r.row_of (environment env.now) t).words }
-{
-    match env.types.get(t) {
-        Some(row) => row.words,
-        None => 1,
-    }
-}
-
 // A process or a monitor is an owner itself: it takes no words of another.
 fn is_owner(sort: Sort) -> bool
     ensures { result ≡ d.is_owner sort }
@@ -51,10 +40,10 @@ fn is_owner(sort: Sort) -> bool
 }
 
 fn words_in(env: &Environment, words: usize, structure: Structure) -> usize
-    ensures { result ≡ d.words_in (environment env.now) words structure }
+    ensures { result ≡ d.words_in env.now words structure }
 {
     match structure {
-        Structure::System(y) => if is_owner(system_row(env, y).sort) {
+        Structure::System(y) => if is_owner(env.system_row(y).sort) {
             0
         } else {
             words
@@ -65,10 +54,10 @@ fn words_in(env: &Environment, words: usize, structure: Structure) -> usize
 
 /// The words that one variable of a type takes of its owner.
 pub fn words(env: &Environment, of: Judged<usize>) -> usize
-    ensures { result ≡ words_of_type (environment env.now) of }
+    ensures { result ≡ words_of_type env.now of }
 {
     match of {
-        Ok(t) => words_in(env, words_of_row(env, t), structure(env, t)),
+        Ok(t) => words_in(env, env.words(t), env.structure(t)),
         Err(_) => 0,
     }
 }

@@ -2,13 +2,12 @@ use Rattle.std.proofs.Common.{◌∙◌}
 use Rattle.cp_model.specs.declared.rules.Mode.TheVariants as mode
 use Rattle.cp_model.specs.RulesNames as n
 use Rattle.cp_model.specs.View.{designator}
-use Rattle.cp_judge.specs.Environments.{environment}
 use Rattle.cp_judge.proofs.Tells.{append_told}
 use Rattle.cp_judge.proofs.assignments.names_changeable.Goals as goal
 
 pub returns-then-fits : goal.returns-then-fits
 returns-then-fits c =
-    let env = environment c.args.env.now in
+    let env = c.args.env.now in
     let d = designator c.args.d.now in
     let told = append_told c.args.told.now c.names_fit-fits.new.told c.variable_designated-is_variable.new.told c.names_fit-fits.result c.variable_designated-is_variable.result
     (n.c2_c5_c8_named env mode.Variable d) (n.c10_designator env d) c.names_fit-fits.ensures c.variable_designated-is_variable.ensures in
@@ -16,7 +15,7 @@ returns-then-fits c =
 
 pub returns-else-fits : goal.returns-else-fits
 returns-else-fits c =
-    let env = environment c.args.env.now in
+    let env = c.args.env.now in
     let d = designator c.args.d.now in
     let told = append_told c.args.told.now c.names_fit-fits.new.told c.variable_designated-is_variable.new.told c.names_fit-fits.result c.variable_designated-is_variable.result
     (n.c2_c5_c8_named env mode.Variable d) (n.c10_designator env d) c.names_fit-fits.ensures c.variable_designated-is_variable.ensures in

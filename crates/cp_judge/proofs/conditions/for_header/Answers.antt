@@ -2,13 +2,12 @@ use Rattle.std.proofs.Common.{◌++◌}
 use Rattle.cp_model.specs.RulesJudged.{violations_of}
 use Rattle.cp_model.specs.RulesStatements as st
 use Rattle.cp_model.specs.View.{expression}
-use Rattle.cp_judge.specs.Environments.{environment}
 use Rattle.cp_judge.proofs.Tells.{more_told}
 use Rattle.cp_judge.proofs.conditions.for_header.Goals as goal
 
 pub returns : goal.returns
 returns c =
-    let env = environment c.args.env.now in
+    let env = c.args.env.now in
     let j = st.for_variable env c.args.v.now in
     let first = violations_of (st.bound env j (expression c.args.from.now)) in
     let last = violations_of (st.bound env j (expression c.args.last.now)) in

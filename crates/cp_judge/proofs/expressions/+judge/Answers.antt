@@ -10,7 +10,6 @@ use Rattle.cp_model.specs.RulesNames as n
 use Rattle.cp_model.specs.View.{designator, expression, index, operation, indices_of, expressions_of}
 use Rattle.cp_judge.specs.Arguments.{form_rules}
 use Rattle.cp_judge.specs.Callees.{wants_of, result_if}
-use Rattle.cp_judge.specs.Environments.{environment}
 use Rattle.cp_judge.specs.ExpressionParts as parts
 use Rattle.cp_judge.proofs.ExpressionsTold.{argument_parts, first_operand_again, judge_chain, more_step, first_told, count_expressions, wants_told, result_told}
 use Rattle.cp_judge.proofs.CalleesTold.{also_callee}
@@ -20,7 +19,7 @@ use Rattle.cp_judge.proofs.expressions.+judge.Goals as goal
 
 pub argument-returns : goal.argument-returns
 argument-returns t c =
-    let env = environment c.args.env.now in
+    let env = c.args.env.now in
     let e = expression c.args.e.now in
     let w = c.in-Some.want in
     rw (c.in-Some.is, argument_parts env w e (x.judge env (x.mode_of w) e), c.answer_if.ensures)
@@ -29,7 +28,7 @@ argument-returns t c =
 
 pub chain-loop-o-preserved : goal.chain-loop-o-preserved
 chain-loop-o-preserved t c = λ t0 m e told.
-    let env = environment c.args.env.now in
+    let env = c.args.env.now in
     let so_far = c.loop-o.invariant t0 m e told in
     let f = so_far.0 in
     let o = c.o-item.result in
@@ -45,7 +44,7 @@ chain-loop-o-preserved t c = λ t0 m e told.
 
 pub indexed-loop-i-preserved : goal.indexed-loop-i-preserved
 indexed-loop-i-preserved t c = λ t0 j told.
-    let env = environment c.args.env.now in
+    let env = c.args.env.now in
     let so_far = c.loop-i.invariant t0 j told in
     let k = so_far.0 in
     let o = c.i-item.result in
@@ -63,7 +62,7 @@ indexed-loop-i-preserved t c = λ t0 j told.
 
 pub arguments-loop-number-preserved : goal.arguments-loop-number-preserved
 arguments-loop-number-preserved t c =
-    let env = environment c.args.env.now in
+    let env = c.args.env.now in
     let ws = wants_of env c.args.wants in
     let all = c.args.list.now in
     let rest = take (length all - 1) (drop 1 all) in
@@ -85,7 +84,7 @@ arguments-loop-number-preserved t c =
 
 pub judge-returns-else-is_empty : goal.judge-returns-else-is_empty
 judge-returns-else-is_empty t c =
-    let env = environment c.args.env.now in
+    let env = c.args.env.now in
     let e = expression c.in-Chain.first.value in
     let rest = c.in-Chain.rest.items in
     let v : expression c.args.e.now ≡ chain_of e (map operation rest) = rw c.in-Chain.is (view_chain c.in-Chain.first c.in-Chain.rest) in
@@ -95,7 +94,7 @@ judge-returns-else-is_empty t c =
 
 pub judge-returns-in-Call : goal.judge-returns-in-Call
 judge-returns-in-Call t c =
-    let env = environment c.args.env.now in
+    let env = c.args.env.now in
     let d = designator c.in-Call.d in
     let list = c.in-Call.list.items in
     let es = expressions_of (map expression list) in
@@ -113,14 +112,14 @@ judge-returns-in-Call t c =
 
 pub used-returns : goal.used-returns
 used-returns t c =
-    let env = environment c.args.env.now in
+    let env = c.args.env.now in
     let d = designator c.args.d.now in
     rw c.answer_if.ensures (also_told c.args.told.now c.names_fit-fits.new.told c.typed-t.new.told c.names_fit-fits.result (n.c2_c5_c8_named env c.args.mode d)
     c.typed-t.result (parts.typed env c.args.mode d) c.names_fit-fits.ensures c.typed-t.ensures)
 
 pub called-returns-clause-callee : goal.called-returns-clause-callee
 called-returns-clause-callee t c =
-    let env = environment c.args.env.now in
+    let env = c.args.env.now in
     let d = designator c.args.d.now in
     let je = x.designated env d in
     let t1 = c.no_indexed_value-no_value.new.told in
@@ -130,7 +129,7 @@ called-returns-clause-callee t c =
 
 pub called-returns-clause-wants : goal.called-returns-clause-wants
 called-returns-clause-wants t c =
-    let env = environment c.args.env.now in
+    let env = c.args.env.now in
     let d = designator c.args.d.now in
     let je = x.designated env d in
     c.wants_of_call.ensures ∙ wants_told env c.designated-entity.result je c.answer_if-callee.result (parts.callee_of env c.args.mode d c.args.count) c.designated-entity.ensures.1

@@ -7,7 +7,6 @@ use Rattle.cp_model.specs.View.{designator, expression, selector, index, operati
 use Rattle.cp_model.specs.declared.rules.Entity.{Entity}
 use Rattle.cp_model.specs.declared.rules.Mode.{Mode}
 use Rattle.cp_model.specs.declared.rules.Violation.{Violation}
-use Rattle.cp_judge.specs.Environments.{environment}
 use Rattle.cp_judge.specs.Callees.{wants_of}
 use Rattle.cp_judge.specs.Tells.{Tells}
 use Rattle.cp_judge.proofs.expressions.+judge.Given as goal
@@ -15,7 +14,7 @@ use Rattle.cp_judge.proofs.expressions.+judge.Given as goal
 -- what is told so far is told of the arguments so far
 abbrev pub invariant-arguments-loop-number : goal.invariant-arguments-loop-number
 invariant-arguments-loop-number l =
-    let env = environment l.env in
+    let env = l.env in
     (j : Judged ℕ) × Tells l.fn.told l.told l.t j
     × (x.more_arguments env j (drop (l.number + 1) (wants_of env l.wants)) (expressions_of (map expression (drop l.number l.rest)))
     ≡ x.arguments env (wants_of env l.fn.wants) (expressions_of (map expression l.fn.list)))
@@ -23,19 +22,19 @@ invariant-arguments-loop-number l =
 -- what is told so far is told of the operands so far
 abbrev pub invariant-chain-loop-o : goal.invariant-chain-loop-o
 invariant-chain-loop-o l =
-    (t : Option Violation) (m : Mode) (e : s.Expression) → Tells t l.fn.told l.fn.left (x.judge (environment l.fn.env) (x.first_operand m) e)
-    → (f : s.Expression) × Tells t l.told l.left (x.judge (environment l.env) (x.first_operand m) f)
+    (t : Option Violation) (m : Mode) (e : s.Expression) → Tells t l.fn.told l.fn.left (x.judge l.fn.env (x.first_operand m) e)
+    → (f : s.Expression) × Tells t l.told l.left (x.judge l.env (x.first_operand m) f)
     × (chain_of f (map operation (drop l.o-index l.rest)) ≡ chain_of e (map operation l.fn.rest))
 
 -- what is told so far is told of the selectors so far
 abbrev pub invariant-designated-loop-s : goal.invariant-designated-loop-s
 invariant-designated-loop-s l =
     (j : Judged Entity) × Tells l.fn.told l.told l.part j
-    × (x.selected (environment l.env) j (selectors_of (map selector (drop l.s-index l.s-items))) ≡ x.designated (environment l.fn.env) (designator l.fn.d))
+    × (x.selected l.env j (selectors_of (map selector (drop l.s-index l.s-items))) ≡ x.designated l.fn.env (designator l.fn.d))
 
 -- what is told so far is told of the indices so far
 abbrev pub invariant-indexed-loop-i : goal.invariant-indexed-loop-i
 invariant-indexed-loop-i l =
     (t : Option Violation) (j : Judged Entity) → Tells t l.fn.told l.fn.part j
     → (k : Judged Entity) × Tells t l.told l.part k
-    × (x.indexed (environment l.env) k (indices_of (map index (drop l.i-index l.indices))) ≡ x.indexed (environment l.fn.env) j (indices_of (map index l.fn.indices)))
+    × (x.indexed l.env k (indices_of (map index (drop l.i-index l.indices))) ≡ x.indexed l.fn.env j (indices_of (map index l.fn.indices)))

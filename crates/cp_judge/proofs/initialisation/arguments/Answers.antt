@@ -3,7 +3,6 @@ use Rattle.std.proofs.lemmas.List.{at_drop_more}
 use Rattle.cp_model.specs.RulesJudged.{violations_of}
 use Rattle.cp_model.specs.RulesStatements as st
 use Rattle.cp_model.specs.View.{expression, expressions_of}
-use Rattle.cp_judge.specs.Environments.{environment}
 use Rattle.cp_judge.specs.InitParts as parts
 use Rattle.cp_judge.proofs.InitTold.{arguments_step}
 use Rattle.cp_judge.proofs.Tells.{rest_told}
@@ -11,7 +10,7 @@ use Rattle.cp_judge.proofs.initialisation.arguments.Goals as goal
 
 pub loop-number-preserved : goal.loop-number-preserved
 loop-number-preserved c =
-    let env = environment c.args.env.now in
+    let env = c.args.env.now in
     let ps = parts.parameters_if env c.args.system in
     let all = c.args.list.now in
     let i = c.loop-number.number in

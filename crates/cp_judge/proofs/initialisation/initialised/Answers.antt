@@ -2,13 +2,12 @@ use Rattle.std.proofs.Common.{◌≡◌, ◌+◌, ◌∷◌, map, drop, ap, sym,
 use Rattle.std.proofs.lemmas.List.{at_drop_more}
 use Rattle.cp_model.specs.RulesStatements as st
 use Rattle.cp_model.specs.View.{init_item}
-use Rattle.cp_judge.specs.Environments.{environment}
 use Rattle.cp_judge.proofs.Tells.{rest_told}
 use Rattle.cp_judge.proofs.initialisation.initialised.Goals as goal
 
 pub loop-i-preserved : goal.loop-i-preserved
 loop-i-preserved c =
-    let env = environment c.args.env.now in
+    let env = c.args.env.now in
     let all = c.args.items.now in
     let i = c.loop-i.i-index in
     let o = c.i-item.result in

@@ -4,7 +4,6 @@ use Rattle.cp_model.specs.RulesJudged.{violations_of}
 use Rattle.cp_model.specs.RulesNames as n
 use Rattle.cp_model.specs.RulesStatements as st
 use Rattle.cp_model.specs.View.{expression, expressions_of}
-use Rattle.cp_judge.specs.Environments.{environment}
 use Rattle.cp_judge.specs.InitParts as parts
 use Rattle.cp_judge.proofs.ExpressionsTold.{count_expressions}
 use Rattle.cp_judge.proofs.InitTold.{parameters_told}
@@ -13,7 +12,7 @@ use Rattle.cp_judge.proofs.initialisation.item.Goals as goal
 
 pub returns : goal.returns
 returns c =
-    let env = environment c.args.env.now in
+    let env = c.args.env.now in
     let x = c.args.item.now.component in
     let list = c.args.item.now.arguments.items in
     let es = expressions_of (map expression list) in

@@ -1,16 +1,15 @@
 use Rattle.std.proofs.Common.{◌≡◌, map, max, drop}
 use Rattle.cp_model.specs.RulesNeeds as n
 use Rattle.cp_model.specs.View.{statement, arm, statements_of, arms_of}
-use Rattle.cp_judge.specs.Environments.{environment}
 use Rattle.cp_judge.proofs.needs.+need_in_statements.Given as goal
 
 -- the greatest need so far and that of what is left are the need of all
 abbrev pub invariant-need_of_statements-loop-s : goal.invariant-need_of_statements-loop-s
 invariant-need_of_statements-loop-s l =
-    max l.need (n.need_statements (environment l.env) (statements_of (map statement (drop l.s-index l.list))))
-    ≡ n.need_statements (environment l.fn.env) (statements_of (map statement l.fn.list))
+    max l.need (n.need_statements l.env (statements_of (map statement (drop l.s-index l.list))))
+    ≡ n.need_statements l.fn.env (statements_of (map statement l.fn.list))
 
 abbrev pub invariant-need_of_arms-loop-a : goal.invariant-need_of_arms-loop-a
 invariant-need_of_arms-loop-a l =
-    max l.need (n.need_arms (environment l.env) (arms_of (map arm (drop l.a-index l.arms))))
-    ≡ n.need_arms (environment l.fn.env) (arms_of (map arm l.fn.arms))
+    max l.need (n.need_arms l.env (arms_of (map arm (drop l.a-index l.arms))))
+    ≡ n.need_arms l.fn.env (arms_of (map arm l.fn.arms))

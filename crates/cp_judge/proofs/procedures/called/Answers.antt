@@ -3,7 +3,6 @@ use Rattle.cp_model.specs.declared.rules.Mode.TheVariants as mode
 use Rattle.cp_model.specs.RulesExpressions as x
 use Rattle.cp_model.specs.RulesNames as n
 use Rattle.cp_model.specs.View.{designator}
-use Rattle.cp_judge.specs.Environments.{environment}
 use Rattle.cp_judge.specs.StatementParts as parts
 use Rattle.cp_judge.proofs.CalleesTold.{also_callee}
 use Rattle.cp_judge.proofs.ExpressionsTold.{wants_told}
@@ -11,7 +10,7 @@ use Rattle.cp_judge.proofs.procedures.called.Goals as goal
 
 pub returns-clause-callee : goal.returns-clause-callee
 returns-clause-callee c =
-    let env = environment c.args.env.now in
+    let env = c.args.env.now in
     let d = designator c.args.d.now in
     let je = x.designated env d in
     let t1 = c.no_indexed_value-no_value.new.told in
@@ -21,7 +20,7 @@ returns-clause-callee c =
 
 pub returns-clause-wants : goal.returns-clause-wants
 returns-clause-wants c =
-    let env = environment c.args.env.now in
+    let env = c.args.env.now in
     let d = designator c.args.d.now in
     let je = x.designated env d in
     c.wants_of_call.ensures ∙ wants_told env c.designated-entity.result je c.answer_if-callee.result (parts.procedure_called env d c.args.count) c.designated-entity.ensures.1

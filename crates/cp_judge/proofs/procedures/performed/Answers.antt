@@ -4,7 +4,6 @@ use Rattle.cp_model.specs.RulesExpressions as x
 use Rattle.cp_model.specs.RulesJudged.{both, violations_of}
 use Rattle.cp_model.specs.RulesNames as n
 use Rattle.cp_model.specs.View.{designator, expression, expressions_of}
-use Rattle.cp_judge.specs.Environments.{environment}
 use Rattle.cp_judge.specs.StatementParts as parts
 use Rattle.cp_judge.proofs.ExpressionsTold.{count_expressions, result_told}
 use Rattle.cp_judge.proofs.Tells.{more_told}
@@ -12,7 +11,7 @@ use Rattle.cp_judge.proofs.procedures.performed.Goals as goal
 
 pub returns : goal.returns
 returns c =
-    let env = environment c.args.env.now in
+    let env = c.args.env.now in
     let d = designator c.args.d.now in
     let list = c.args.list.now in
     let es = expressions_of (map expression list) in

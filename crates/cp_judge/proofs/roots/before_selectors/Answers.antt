@@ -6,7 +6,6 @@ use Rattle.cp_model.specs.View.{selector, selectors_of}
 use Rattle.cp_model.specs.declared.tree.Identifier.{Identifier}
 use Rattle.cp_model.specs.declared.tree.Selector.{Selector}
 use Rattle.cp_model.specs.declared.rules.Entity.{Entity}
-use Rattle.cp_judge.specs.Environments.{environment}
 use Rattle.cp_judge.proofs.Tells.{also_told}
 use Rattle.cp_judge.proofs.roots.before_selectors.Goals as goal
 
@@ -17,7 +16,7 @@ of_some env x e (y ∷ ys) some = refl
 
 pub returns-in_default : goal.returns-in_default
 returns-in_default c =
-    let env = environment c.args.env.now in
+    let env = c.args.env.now in
     let x = c.args.x.now in
     let e = c.args.entity in
     let t1 = c.anywhere-in_place.new.told in

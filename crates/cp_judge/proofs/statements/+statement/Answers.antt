@@ -4,16 +4,15 @@ use Rattle.cp_model.specs.Syntax as s
 use Rattle.cp_model.specs.RulesJudged.{violations_of}
 use Rattle.cp_model.specs.RulesStatements as st
 use Rattle.cp_model.specs.View.{expression, statement, statements_of, arm, arms_of}
-use Rattle.cp_judge.specs.Environments.{environment}
 use Rattle.cp_judge.specs.StatementParts as parts
-use Rattle.cp_judge.proofs.LabelsTold.{base_told}
+use Rattle.cp_judge.proofs.LabelsTold.{arms_told, base_told}
 use Rattle.cp_judge.proofs.StatementViews.{view_if, view_if_else, view_case, view_while, view_repeat, view_for, view_arm}
 use Rattle.cp_judge.proofs.Tells.{more_told, then_told, rest_told, on_ok}
 use Rattle.cp_judge.proofs.statements.+statement.Goals as goal
 
 pub statement-returns-in-If : goal.statement-returns-in-If
 statement-returns-in-If t c =
-    let env = environment c.args.env.now in
+    let env = c.args.env.now in
     let e = expression c.in-If.e in
     let x = statement c.in-If.then.value in
     let v : statement c.args.s.now ≡ s.If e x = rw c.in-If.is (view_if c.in-If.e c.in-If.then) in
@@ -24,7 +23,7 @@ statement-returns-in-If t c =
 
 pub statement-returns-in-While : goal.statement-returns-in-While
 statement-returns-in-While t c =
-    let env = environment c.args.env.now in
+    let env = c.args.env.now in
     let e = expression c.in-While.e in
     let x = statement c.in-While.body.value in
     let v : statement c.args.s.now ≡ s.While e x = rw c.in-While.is (view_while c.in-While.e c.in-While.body) in
@@ -35,7 +34,7 @@ statement-returns-in-While t c =
 
 pub statement-returns-in_ok-statement-in-IfElse : goal.statement-returns-in_ok-statement-in-IfElse
 statement-returns-in_ok-statement-in-IfElse t c =
-    let env = environment c.args.env.now in
+    let env = c.args.env.now in
     let e = expression c.in-IfElse.e in
     let x = statement c.in-IfElse.then.value in
     let y = statement c.in-IfElse.otherwise.value in
@@ -50,7 +49,7 @@ statement-returns-in_ok-statement-in-IfElse t c =
 
 pub statement-returns-in-Case : goal.statement-returns-in-Case
 statement-returns-in-Case t c =
-    let env = environment c.args.env.now in
+    let env = c.args.env.now in
     let e = expression c.in-Case.e in
     let as' = arms_of (map arm c.in-Case.arms.items) in
     let v : statement c.args.s.now ≡ s.Case e as' = rw c.in-Case.is (view_case c.in-Case.e c.in-Case.arms) in
@@ -63,7 +62,7 @@ statement-returns-in-Case t c =
 
 pub statement-returns-in_ok-statements-in-Repeat : goal.statement-returns-in_ok-statements-in-Repeat
 statement-returns-in_ok-statements-in-Repeat t c =
-    let env = environment c.args.env.now in
+    let env = c.args.env.now in
     let e = expression c.in-Repeat.e in
     let l = statements_of (map statement c.in-Repeat.body.items) in
     let v : statement c.args.s.now ≡ s.Repeat l e = rw c.in-Repeat.is (view_repeat c.in-Repeat.body c.in-Repeat.e) in
@@ -73,7 +72,7 @@ statement-returns-in_ok-statements-in-Repeat t c =
 
 pub statement-returns-in-For : goal.statement-returns-in-For
 statement-returns-in-For t c =
-    let env = environment c.args.env.now in
+    let env = c.args.env.now in
     let a = expression c.in-For.from in
     let b = expression c.in-For.last in
     let x = statement c.in-For.body.value in
@@ -86,7 +85,7 @@ statement-returns-in-For t c =
 
 pub statements-loop-s-preserved : goal.statements-loop-s-preserved
 statements-loop-s-preserved t c =
-    let env = environment c.args.env.now in
+    let env = c.args.env.now in
     let all = c.args.list.now in
     let i = c.loop-s.s-index in
     let o = c.s-item.result in
@@ -98,7 +97,7 @@ statements-loop-s-preserved t c =
 
 pub labelled_arms-loop-a-preserved : goal.labelled_arms-loop-a-preserved
 labelled_arms-loop-a-preserved t c =
-    let env = environment c.args.env.now in
+    let env = c.args.env.now in
     let base = c.args.base in
     let all = c.args.list.now in
     let i = c.loop-a.a-index in
@@ -113,7 +112,7 @@ labelled_arms-loop-a-preserved t c =
     let view = ap (λ p. st.arms env base seen (arms_of (p ∷ map arm (drop (i + 1) all)))) (view_arm o) in
     let told = rw c.deref.ensures.value at c.in_ok-labelled.ensures.told in
     let seen_then = rw c.deref.ensures.value at c.in_ok-labelled.ensures.seen in
-    let behind = ap (λ ls. (one.violations ++ body) ++ st.arms env base ls rest) (sym seen_then) in
+    let behind = ap (λ vs. (one.violations ++ body) ++ vs) (sym (arms_told env base c.labelled.new.seen one.seen rest seen_then)) in
     rest_told c.loop-a.told c.statement.new.told (one.violations ++ body) (st.arms env base c.labelled.new.seen rest) _
     (more_told c.loop-a.told c.labelled.new.told c.statement.new.told one.violations body told c.in_ok-statement.ensures)
     (step ∙ view ∙ behind)

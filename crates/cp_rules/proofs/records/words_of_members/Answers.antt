@@ -1,7 +1,5 @@
 use Rattle.std.proofs.Common.{◌+◌, ℕ, drop, map, slice_get, refl, ap, sym, ◌∙◌}
 use Rattle.cp_model.specs.RulesTypes.{capped}
-use Rattle.cp_judge.specs.Environments.{environment}
-use Rattle.cp_judge.specs.Scopes.{seen}
 use Rattle.cp_rules.specs.Records.{words_if, words_of_members}
 use Rattle.cp_rules.proofs.CappedWords.{capped_most, capped_next}
 use Rattle.cp_rules.proofs.Fields.{words_step}
@@ -9,8 +7,8 @@ use Rattle.cp_rules.proofs.records.words_of_members.Goals as goal
 
 pub loop-number-preserved : goal.loop-number-preserved
 loop-number-preserved c =
-    let env = environment c.args.env.now in
-    let ms = map seen c.args.members.now.entries in
+    let env = c.args.env.now in
+    let ms = c.args.members.now in
     let k = c.loop-number.number in
     let rest = words_of_members env (drop (k + 1) ms) in
     let step = words_step env ms k (k + 1) refl in

@@ -5,7 +5,6 @@ use Rattle.cp_model.specs.RulesJudged.{both}
 use Rattle.cp_model.specs.RulesTypes as ty
 use Rattle.cp_model.specs.View as view
 use Rattle.cp_model.specs.declared.tree.Fields.{Fields}
-use Rattle.cp_judge.specs.Scopes.{seen}
 use Rattle.cp_rules.specs.Checking.{first_of, state}
 use Rattle.cp_rules.specs.Records as records
 use Rattle.cp_rules.specs.Records.{or_first}
@@ -64,15 +63,15 @@ index_types-loop-t-preserved t c =
 
 added : (t : ℕ) (c : goal.field_group-After-note t)
     → let g : s.Variables = record { names = c.args.group.now.names.items; of = view.type_expression c.args.group.now.of } in
-    Added (state c.args.self.now) (state c.add_fields.new.self) g (map seen c.args.fields.now.members.entries) (map seen c.note.new.self.members.entries)
+    Added (state c.args.self.now) (state c.add_fields.new.self) g c.args.fields.now.members c.note.new.self.members
     c.args.fields.now.first c.note.new.self.first
 added t c =
     let g : s.Variables = record { names = c.args.group.now.names.items; of = view.type_expression c.args.group.now.of } in
     group_added (state c.args.self.now) (state c.type_of.new.self) (state c.placed-of.new.self) (state c.add_fields.new.self) g
-    (map seen c.args.fields.now.members.entries) (map seen c.note.new.self.members.entries) c.args.fields.now.first c.add_fields.new.fields.first c.note.new.self.first
+    c.args.fields.now.members c.note.new.self.members c.args.fields.now.first c.add_fields.new.fields.first c.note.new.self.first
     c.in_ok-of.of c.placed-of.result c.number_or_any.result c.in_ok-of.ensures c.placed-of.ensures c.number_or_any.ensures
     (rw c.deref.ensures.value at c.in_ok-add_fields.ensures.told)
-    (ap (λ f. map seen f.members.entries) c.note.ensures ∙ (rw c.deref.ensures.value at c.in_ok-add_fields.ensures.members))
+    (ap (λ f. f.members) c.note.ensures ∙ (rw c.deref.ensures.value at c.in_ok-add_fields.ensures.members))
     (rw c.deref.ensures.value at c.in_ok-add_fields.ensures.first) (ap (λ f. f.first) c.note.ensures)
 
 pub field_group-returns-clause-state : goal.field_group-returns-clause-state
@@ -90,8 +89,8 @@ record_type-loop-group-preserved t c =
     let i = c.loop-group.group-index in
     let old = state c.loop-group.self in
     let new = state c.field_group.new.self in
-    let ms = map seen c.loop-group.fields.members.entries in
-    let ns = map seen c.field_group.new.fields.members.entries in
+    let ms = c.loop-group.fields.members in
+    let ns = c.field_group.new.fields.members in
     let g = view.variables c.group-item.result in
     let gs = map view.variables (drop (i + 1) all) in
     let step : map view.variables (drop i all) ≡ g ∷ gs =
@@ -115,7 +114,7 @@ record_type-returns t c =
     let all = c.args.groups.now in
     let i = c.loop-group.group-index in
     let old = state c.loop-group.self in
-    let ms = map seen c.loop-group.fields.members.entries in
+    let ms = c.loop-group.fields.members in
     let none = drop_all i all c.loop-group-test.false in
     let rest = λ (gs : List Fields). records.groups old.env ms (map view.variables gs) in
     if_ok c.made_record.result

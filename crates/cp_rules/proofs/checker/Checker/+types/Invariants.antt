@@ -1,7 +1,6 @@
 use Rattle.std.proofs.Common.{◌≡◌, ◌++◌, [], None, drop, map}
 use Rattle.cp_model.specs.RulesTypes as ty
 use Rattle.cp_model.specs.View as view
-use Rattle.cp_judge.specs.Scopes.{seen}
 use Rattle.cp_rules.specs.Checking.{first_of, state}
 use Rattle.cp_rules.specs.Records as records
 use Rattle.cp_rules.specs.Records.{or_first}
@@ -25,7 +24,7 @@ abbrev pub invariant-record_type-loop-group : goal.invariant-record_type-loop-gr
 invariant-record_type-loop-group l =
     let now = state l.self in
     let before = state l.fn.self in
-    let rest = records.groups now.env (map seen l.fields.members.entries) (map view.variables (drop l.group-index l.groups)) in
+    let rest = records.groups now.env l.fields.members (map view.variables (drop l.group-index l.groups)) in
     let all = records.groups before.env [] (map view.variables l.fn.groups) in
     record {
       made : with_groups now rest ≡ with_groups before all;

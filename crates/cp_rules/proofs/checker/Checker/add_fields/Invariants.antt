@@ -1,5 +1,4 @@
 use Rattle.std.proofs.Common.{◌≡◌, drop, map}
-use Rattle.cp_judge.specs.Scopes.{seen}
 use Rattle.cp_rules.specs.Checking.{state, telling}
 use Rattle.cp_rules.specs.Records.{or_first, with_fields}
 use Rattle.cp_rules.proofs.checker.Checker.add_fields.Given as goal
@@ -7,8 +6,8 @@ use Rattle.cp_rules.proofs.checker.Checker.add_fields.Given as goal
 -- what the rest adds and tells, is what all do
 abbrev pub invariant-loop-x : goal.invariant-loop-x
 invariant-loop-x l =
-    let rest = with_fields (map seen l.fields.members.entries) l.t (drop l.x-index l.names) in
-    let all = with_fields (map seen l.fn.fields.members.entries) l.fn.t l.fn.names in
+    let rest = with_fields l.fields.members l.t (drop l.x-index l.names) in
+    let all = with_fields l.fn.fields.members l.fn.t l.fn.names in
     record {
       told : telling (state l.self) rest.violations ≡ telling (state l.fn.self) all.violations;
       members : rest.members ≡ all.members;

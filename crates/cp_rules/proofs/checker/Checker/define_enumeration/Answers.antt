@@ -9,7 +9,7 @@ use Rattle.cp_rules.proofs.checker.Checker.define_enumeration.Goals as goal
 pub returns : goal.returns
 returns c =
     let old = state c.args.self.now in
-    let t = c.len-t.result in
+    let t = c.type_count-t.result in
     let number : t ≡ length old.env.types = search rules in
     let made : state c.add_type.new.self ≡ record old { env = add_type old.env (simple_row t (pos 0) (pos (length c.args.names.now - 1))) } =
     c.in_ok-add_type.ensures.1

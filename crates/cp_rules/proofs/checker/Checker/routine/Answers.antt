@@ -10,11 +10,11 @@ pub returns : goal.returns
 returns c =
     let old = state c.args.self.now in
     let routine = view.routine c.args.routine.now in
-    let first : c.len-first.result ≡ length c.routine_heading.new.self.environment.parameters.items = search rules in
+    let first : c.parameter_count-first.result ≡ length c.routine_heading.new.self.environment.parameters = search rules in
     let count : c.len.result ≡ length c.in_ok-heading.heading.rows.items = search rules in
     let needed = c.sum-2.ensures ∙ ap (λ (n : ℕ). capped (n + c.in_ok-inside.inside)) c.sum.ensures in
     on_ok c.leave_routine.result
     (λ left. routine_declared old c.args.sort routine (state c.routine_heading.new.self) (state c.routine_body.new.self) (state c.leave_routine.new.self)
-    c.in_ok-heading.heading c.in_ok-heading.answer c.row-row.result c.mark-outside.result c.len-first.result c.len.result c.words.result c.in_ok-inside.inside c.sum-2.result
+    c.in_ok-heading.heading c.in_ok-heading.answer c.row-row.result c.mark-outside.result c.parameter_count-first.result c.len.result c.words.result c.in_ok-inside.inside c.sum-2.result
     c.mark-outside.ensures c.in_ok-heading.ensures first count c.row-row.ensures c.in_ok-inside.ensures c.words.ensures needed left)
-    c.leave_routine.ensures
+    (rw c.region-region.ensures at c.leave_routine.ensures)

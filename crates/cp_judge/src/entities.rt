@@ -1,0 +1,68 @@
+//! What the names of a designator stand for, whatever stands in its indices.
+//!
+//! A designator in which nothing is broken stands for the same (`proofs/Covers.antt`), so what needs to know only whether that is
+//! a routine needs not judge the indices.
+
+ghost use Rattle.std.specs.Prelude.{◌≡◌, map, Option, None, Some};
+ghost use Rattle.cp_model.specs.View.{designator, index, indices_of, selector, selectors_of};
+ghost use Rattle.cp_judge.specs.EntitiesNamed as spec;
+
+use crate::environment::Environment;
+use crate::members::member;
+use crate::names::{array, known};
+use cp_model::rules::Entity;
+use cp_model::tree::{Designator, Index, Selector};
+
+/// Whether it is a routine that can be called from here.
+pub fn is_routine(entity: Option<Entity>) -> bool
+    ensures { result ≡ spec.is_routine entity }
+{
+    match entity {
+        Some(Entity::Routine(_)) => true,
+        Some(Entity::Entry(_)) => true,
+        _ => false,
+    }
+}
+
+// An element of what is indexed, whatever the index is.
+fn element(env: &Environment, at: usize, entity: Option<Entity>) -> Option<Entity>
+    ensures { result ≡ spec.element env.now at entity }
+{
+    let mut told = None;
+    let part = array(env, &mut told, at, entity?)?;
+    Some(Entity::Variable(part.element, part.access))
+}
+
+fn elements(env: &Environment, entity: Option<Entity>, indices: &[Index]) -> Option<Entity>
+    ensures { result ≡ spec.elements env.now entity (indices_of (map index indices.now)) }
+{
+    let mut entity = entity;
+    for i in indices {
+        entity = element(env, i.at, entity);
+    }
+    entity
+}
+
+// A part of what the names before it stand for.
+fn part(env: &Environment, entity: Option<Entity>, s: &Selector) -> Option<Entity>
+    ensures { result ≡ spec.part env.now entity (selector s.now) }
+{
+    match s {
+        Selector::Field { at, name } => {
+            let mut told = None;
+            member(env, &mut told, *at, name, entity?)
+        }
+        Selector::Indexed(indices) => elements(env, entity, indices),
+    }
+}
+
+/// What the names of a designator stand for, if that is known.
+pub fn entity_named(env: &Environment, d: &Designator) -> Option<Entity>
+    ensures { result ≡ spec.entity_named env.now (designator d.now) }
+{
+    let mut entity = known(env, &d.root);
+    for s in &d.selectors {
+        entity = part(env, entity, s);
+    }
+    entity
+}

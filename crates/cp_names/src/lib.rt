@@ -1,0 +1,9 @@
+//! Tables of names: what the names of a text stand for, in the order of their declarations.
+//!
+//! A name is found by comparison, in a time that grows as the logarithm of the number of names. A table of hashes would be faster, but
+//! a text could be written whose names all collide.
+#![tactic(auto)]
+
+mod table;
+
+pub use table::NameTable;

@@ -1,0 +1,101 @@
+//! A table of names.
+
+ghost use Rattle.std.specs.Prelude.{◌≡◌, ◌++◌, ◌-◌, ◌∷◌, [], List, None, OnOk, length, map, option_map, slice_get, take};
+ghost use Rattle.cp_model.specs.Names.{lookup};
+ghost use Rattle.cp_model.specs.RulesEnvironment.{Text};
+ghost use Rattle.cp_names.specs.Tables.{AreDistinct, IsIndex, seen, value_at};
+
+use std::alloc::{AllocError, Global};
+use std::collections::BTreeMap;
+use std::marker::Model;
+
+/// Names and what they stand for. Contracts see the list of them, in the order in which they were added. No name stands twice.
+#[derive(Drop)]
+pub struct NameTable<'t, A: Copy> {
+    entries: Vec<(&'t [u8], A)>,
+    numbers: BTreeMap<&'t [u8], usize>,
+}
+
+impl<'t, A: Copy> Model for NameTable<'t, A> {
+    ghost Value = { List (Text × A) };
+
+    ghost view = { λ t. map seen t.entries.items };
+
+    ghost invariant = { λ t. IsIndex t.numbers (map seen t.entries.items) × AreDistinct (map seen t.entries.items) };
+}
+
+impl<'t, A: Copy> NameTable<'t, A> {
+    /// No names.
+    pub fn new(alloc: Global) -> NameTable<'t, A>
+        ensures { result ≡ [] }
+    {
+        NameTable {
+            entries: Vec::new(alloc),
+            numbers: BTreeMap::new(alloc),
+        }
+    }
+
+    /// How many names there are.
+    pub fn len(&self) -> usize
+        ensures count { result ≡ length self.now }
+        ensures distinct { AreDistinct self.now }
+    {
+        self.entries.len()
+    }
+
+    // What the name of a number stands for, if there is one.
+    fn value_at(&self, number: Option<usize>) -> Option<A>
+        ensures { result ≡ value_at self.now number }
+    {
+        let (_, value) = self.entries.get(number?)?;
+        Some(*value)
+    }
+
+    /// What a name stands for, if it is in the table.
+    pub fn find(&self, name: &[u8]) -> Option<A>
+        ensures { result ≡ lookup name.now self.now }
+    {
+        self.value_at(self.numbers.get(name).copied())
+    }
+
+    /// A name by its number, and what it stands for.
+    pub fn get(&self, number: usize) -> Option<(&'t [u8], A)>
+        ensures { option_map seen result ≡ slice_get self.now number }
+    {
+        self.entries.get(number).copied()
+    }
+
+    /// Adds a name that isn't in the table. It fails only for want of memory.
+    pub fn add(&mut self, name: &'t [u8], value: A) -> Result<(), AllocError>
+        requires { lookup name.now self.old ≡ None }
+        ensures { OnOk result (self.new ≡ self.old ++ (name.now, value) ∷ []) }
+    {
+        let number = self.len();
+        self.entries.push((name, value))?;
+        match self.numbers.insert(name, number) {
+            Ok(_) => Ok(()),
+            Err(_) => {
+                self.entries.pop();
+                Err(AllocError)
+            }
+        }
+    }
+
+    /// Forgets the names from this number on.
+    pub fn truncate(&mut self, len: usize)
+        ensures { self.new ≡ take len self.old }
+    {
+        while len < self.len() {
+            self.remove_last();
+        }
+    }
+
+    // Forgets the last name, if there is one.
+    fn remove_last(&mut self)
+        ensures { self.new ≡ take (length self.old - 1) self.old }
+    {
+        if let Some((name, _)) = self.entries.pop() {
+            self.numbers.remove(name);
+        }
+    }
+}
