@@ -59,9 +59,25 @@ impl<'a, C: Course> Desk<'a, C> {
         })
     }
 
-    /// Opens the places below a number, and wakes who sleeps.
-    pub fn open(&self, below: u64) {
-        self.open.store(below, Ordering::SeqCst);
+    /// How many processes it is for.
+    pub fn processes(&self) -> usize
+        ensures { result ≡ length self.now.tasks.items }
+    {
+        self.tasks.len()
+    }
+
+    /// Opens the places of the processes of a round whose indices are below `end`.
+    pub fn open(&self, round: usize, end: usize) {
+        let processes = self.tasks.len();
+        let before = (round as u64).saturating_mul(processes as u64);
+        self.open_below(before.saturating_add(end.min(processes) as u64));
+    }
+
+    // Opens the places below a number, and wakes who sleeps.
+    fn open_below(&self, below: u64) {
+        if self.open.swap(below, Ordering::SeqCst) == below {
+            return;
+        }
         if self.asleep.load(Ordering::SeqCst) > 0 {
             self.open.wake_all();
         }
@@ -69,7 +85,7 @@ impl<'a, C: Course> Desk<'a, C> {
 
     /// Sends all threads home that serve at the desk.
     pub fn close(&self) {
-        self.open(END);
+        self.open_below(END);
     }
 
     // Draws at most so many of the open places.

@@ -9,6 +9,7 @@ pub mod generation;
 pub mod machine;
 pub mod plan;
 pub mod reading;
+pub mod run;
 pub mod task;
 pub mod team;
 pub mod tick;
