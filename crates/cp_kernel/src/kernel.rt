@@ -91,8 +91,19 @@ impl Kernel {
         ensures others { (i : ℕ) (x : Private) → i ≢ p - 1 → HasRoom self.old i x → HasRoom self.new i x }
         ensures room { IfOk result (λ _. HasRoom self.new (p - 1) private.now) }
     {
+        self.reserve_bytes(private.output.len(), p)?;
+        Ok(())
+    }
+
+    /// Makes room in the transcript of process p for so many bytes. It fails only for want of memory, and changes nothing else.
+    pub fn reserve_bytes(&mut self, bytes: usize, p: usize) -> Result<(), AllocError>
+        ensures same { (setup : Setup) (s : State) → KernelOf setup s self.old → KernelOf setup s self.new }
+        ensures moved { (i : ℕ) → moved self.new i ≡ moved self.old i }
+        ensures others { (i : ℕ) (x : Private) → i ≢ p - 1 → HasRoom self.old i x → HasRoom self.new i x }
+        ensures room { IfOk result (λ _. (x : Private) → vec_len x.output ≤ bytes → HasRoom self.new (p - 1) x) }
+    {
         match self.transcripts.get_mut(p.saturating_sub(1)) {
-            Some(transcript) => transcript.reserve(private.output.len()),
+            Some(transcript) => transcript.reserve(bytes),
             None => Ok(()),
         }
     }

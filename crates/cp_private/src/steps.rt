@@ -1,6 +1,6 @@
 //! The private steps of a process.
 
-ghost use Rattle.std.specs.Prelude.{◌≡◌, ◌≤◌, false, vec_capacity};
+ghost use Rattle.std.specs.Prelude.{◌≡◌, ◌≤◌, ◌+◌, ◌*◌, false, vec_capacity, vec_len};
 ghost use Rattle.cp_private.specs.Steps as plain;
 ghost use Rattle.cp_private.specs.Promises.{MakesStep, MakesTurn};
 ghost use Rattle.cp_private.specs.Steps.{HasRoom, HasRoomFor, KeepsRoom, own_of};
@@ -90,6 +90,7 @@ fn step(program: &Program, private: &mut Private) -> bool
 fn take_steps(program: &Program, private: &mut Private, count: u32)
     requires room { HasRoomFor private.old count }
     ensures steps { own_of private.new ≡ plain.steps program.now count (own_of private.old) }
+    ensures length { vec_len private.new.output ≤ vec_len private.old.output + 6 * count }
     ensures capacity { vec_capacity private.old.output ≤ vec_capacity private.new.output }
 {
     for _i in 0..count {
@@ -108,10 +109,13 @@ pub fn private_step(program: &Program, private: &mut Private)
     step(program, private);
 }
 
-/// As many steps as the turn has, while the next one is private. It takes no memory: `Private::reserve` makes the room.
+/// As many steps as the turn has, while the next one is private. It takes no memory: `Private::reserve` makes the room. A step
+/// writes at most 6 bytes.
 pub fn private_turn(program: &Program, private: &mut Private, turn: Turn)
     requires room { HasRoom private.old turn }
+    ensures own { own_of private.new ≡ plain.steps program.now turn.steps (own_of private.old) }
     ensures turn { MakesTurn program.now turn.steps private.old private.new }
+    ensures length { vec_len private.new.output ≤ vec_len private.old.output + 6 * turn.steps }
     ensures capacity { vec_capacity private.old.output ≤ vec_capacity private.new.output }
 {
     take_steps(program, private, turn.steps());

@@ -3,11 +3,14 @@
 //! `specs/Holds.antt` says when a machine is in a state of the system; each round leaves the state that one processor leaves.
 #![tactic(auto)]
 
+pub mod desk;
 pub mod gate;
 pub mod generation;
 pub mod machine;
 pub mod plan;
 pub mod reading;
+pub mod run;
+pub mod task;
 pub mod team;
 pub mod tick;
 pub mod turns;

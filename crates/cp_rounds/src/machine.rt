@@ -9,10 +9,12 @@ ghost use Rattle.cp_program.specs.StandsFor.{StandsFor};
 ghost use Rattle.cp_kernel.specs.KernelOf.{KernelOf, moved};
 ghost use Rattle.cp_kernel.specs.Stand.{Stand};
 ghost use Rattle.cp_rounds.specs.Holds.{AllReady, AreInputs, AreStarts, IsIn, MakesPrivateTurns, MakesRound, WavesMade};
+ghost use Rattle.cp_rounds.specs.Runs.{IsAfter};
 
 use crate::gate::TurnGate;
 use crate::generation::{Generation, copy_kernel, kernel_turns};
 use crate::plan::Plan;
+use crate::run::{Parts, make_rounds_of};
 use crate::team::Idle;
 use crate::tick::Tick;
 use crate::turns::Turns;
@@ -26,6 +28,9 @@ use std::alloc::{AllocError, Global};
 use std::mem;
 use std::sync::Wait;
 use std::thread::Threads;
+
+// So many rounds share their threads: each round takes a cell.
+const ROUNDS_AT_ONCE: u32 = 4_096;
 
 /// A machine. The processes stand in it by number: process 1 comes first. `reading` has the calls that read it.
 #[derive(Drop)]
@@ -239,6 +244,50 @@ impl Machine {
         Ok(())
     }
 
+    // So many rounds, by threads that are started once. At Err, so many were made.
+    fn make_rounds<R: Threads + Wait + Sync, G: TurnGate>(
+        &mut self,
+        rt: &R,
+        rounds: usize,
+        plan: &Plan,
+        gate: &G,
+    ) -> Result<(), usize>
+        requires some { 0 < rounds }
+        requires count { self.old.rounds + rounds < 2 ^ 64 }
+        ensures made { IfOk result (λ _. IsAfter plan.now.turn.steps rounds self.old self.new) }
+        ensures partly { IfErr result (λ n. (n < rounds) × IsAfter plan.now.turn.steps n self.old self.new) }
+    {
+        let none = Kernel {
+            stages: Vec::new(self.alloc),
+            transcripts: Vec::new(self.alloc),
+        };
+        let parts = Parts {
+            privates: mem::replace(&mut self.privates, Vec::new(self.alloc)),
+            kernel: mem::replace(&mut self.kernel, none),
+        };
+        let (parts, made) = make_rounds_of(
+            rt,
+            self.alloc,
+            rounds,
+            &self.program,
+            plan,
+            gate,
+            parts,
+        );
+        self.privates = parts.privates;
+        self.kernel = parts.kernel;
+        match made {
+            Ok(()) => {
+                self.rounds += rounds as u64;
+                Ok(())
+            }
+            Err(n) => {
+                self.rounds += n as u64;
+                Err(n)
+            }
+        }
+    }
+
     /// So many rounds.
     ///
     /// # Errors
@@ -256,9 +305,12 @@ impl Machine {
         ensures partly { IfErr result (λ e. (1 ≤ e.0) × (e.0 ≤ rounds) × ((setup : Setup) (s : State) → IsIn self.old setup s → IsIn self.new setup (r.run setup plan.now.turn.steps (e.0 - 1) s))) }
         ensures processes { length self.new.privates.items ≡ length self.old.privates.items }
     {
-        for done in 0..rounds {
-            if self.round(rt, plan, gate).is_err() {
-                return Err(MemoryAt(done + 1));
+        let mut done = 0;
+        'part: while done < rounds {
+            let count = (rounds - done).min(ROUNDS_AT_ONCE);
+            match self.make_rounds(rt, count as usize, plan, gate) {
+                Ok(()) => done += count,
+                Err(made) => return Err(MemoryAt(done + made as u32 + 1)),
             }
         }
         Ok(())

@@ -80,4 +80,14 @@ impl Plan {
     {
         Wave::next(first, processes, self.wave as usize, self.chunk as usize)
     }
+
+    /// How many threads make the rounds of so many processes: no more than there are chunks to draw at once, and the calling thread
+    /// where it makes the kernel turns of a wave beside the next one.
+    pub fn threads(&self, processes: usize) -> usize {
+        let wave = (self.wave as usize).min(processes);
+        let chunk = self.chunk as usize;
+        let chunks = (wave + chunk - 1) / chunk;
+        let beside = if wave < processes { 1 } else { 0 };
+        (self.workers as usize).min(chunks + beside)
+    }
 }

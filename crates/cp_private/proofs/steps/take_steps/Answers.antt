@@ -19,6 +19,7 @@ loop-i-preserved c =
     let room = c.step.ensures.room in
     record {
       room = omega (arith, room.length, room.capacity, c.loop-i.invariant.room);
+      length = omega (arith, room.length, c.loop-i.invariant.length);
       capacity = omega (arith, room.capacity, c.loop-i.invariant.capacity);
       steps = ap (plain.steps program left) c.step.ensures.step ∙ (sym (steps_more program (c.args.count - c.loop-i._i) left (own_of c.loop-i.private) more) ∙ c.loop-i.invariant.steps);
     }
