@@ -1,0 +1,17 @@
+pub mod Terms
+pub mod Programs
+pub mod Functions
+pub mod Layout
+pub mod Tables
+pub mod Sites
+pub mod TermsFor
+pub mod StatementsFor
+pub mod Starts
+pub mod StandsFor
+pub mod Scopes
+pub mod CodedTerms
+pub mod CodedStatements
+pub mod Plans
+pub mod CodeNeeds
+pub mod Compile
+pub mod Example

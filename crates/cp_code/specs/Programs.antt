@@ -1,0 +1,102 @@
+-- Programs as plain data: threaded code, one operation a step of the meaning.
+--
+-- The place of an operation is its index in the program's list. An operation names the place to which it leads, so lists of statements,
+-- `begin` and `end` need none of their own.
+use Rattle.std.specs.Prelude.{ℕ, ℤ, Bool, List, Option}
+use Rattle.cp_code.specs.Terms.{Argument, Root, Spot, Target, Term}
+
+-- ---- Operations
+
+-- A call of a unit. The new activation lies `words` words behind the caller's first, where the arguments are put; its temps lie behind
+-- the caller's first `temps`, which hold the values that the caller still needs.
+pub record Call : Type 0 where
+  pub routine : ℕ
+  pub target : Target
+  pub arguments : List Argument
+  pub words : ℕ
+  pub temps : ℕ
+
+pub record Arm : Type 0 where
+  pub label : ℤ
+  pub place : ℕ
+
+-- Where a `case` leads: by a place for each number from the lowest label to the highest, or by the list of labels.
+pub data Table : Type 0 where
+  Dense : (low : ℤ) (places : List (Option ℕ)) → Table
+  Sparse : (arms : List Arm) → Table
+
+-- A `for`. Its counter and its last value are in two temps.
+pub record Counting : Type 0 where
+  pub variable : Root
+  pub low : ℤ
+  pub high : ℤ
+  pub down : Bool
+  pub temp : ℕ
+  pub body : ℕ
+  pub next : ℕ
+
+-- Bounds are those of the type of the variable that is written. `Function` puts the value of the call into a temp, and `Return` and
+-- `Continue` say whether the routine is a function.
+pub data Operation : Type 0 where
+  Set : (to : Spot) (low high : ℤ) (value : Term) (next : ℕ) → Operation
+  SetResult : (low high : ℤ) (value : Term) (next : ℕ) → Operation
+  CopyWords : (to from : Spot) (size next : ℕ) → Operation
+  Test : (value : Term) (yes no : ℕ) → Operation
+  Case : (value : Term) (table : Table) → Operation
+  For : (counting : Counting) (first last : Term) → Operation
+  ForNext : (counting : Counting) → Operation
+  Cycle : (body : ℕ) → Operation
+  Procedure : (call : Call) (next : ℕ) → Operation
+  Function : (call : Call) (into next : ℕ) → Operation
+  Return : (function : Bool) → Operation
+  InitClass : (call : Call) (next : ℕ) → Operation
+  InitMonitor : (call : Call) (next : ℕ) → Operation
+  InitProcess : (process : ℕ) (arguments : List Argument) (words next : ℕ) → Operation
+  EndBody : Operation
+  End : Operation
+  Display : (value : Term) (as_byte : Bool) (next : ℕ) → Operation
+  Accept : (to : Spot) (low high : ℤ) (next : ℕ) → Operation
+  Delay : (queue : Spot) (next : ℕ) → Operation
+  Continue : (queue : Spot) (function : Bool) → Operation
+  Wait : (next : ℕ) → Operation
+
+-- ---- Units
+
+-- How words start: so many of one value; or so many blocks like the first one of this size.
+pub data Start : Type 0 where
+  Fill : (at count : ℕ) (value : ℤ) → Start
+  Repeat : (at size count : ℕ) → Start
+
+-- The code of a routine, or of the body of a system type: the place of its first operation, how the words of an activation start, and
+-- how many words, temps and frames one needs with all that it calls.
+pub record CodeUnit : Type 0 where
+  pub start : ℕ
+  pub starts : List Start
+  pub words : ℕ
+  pub temps : ℕ
+  pub frames : ℕ
+
+-- ---- Components
+
+-- A monitor has its words among the shared ones, from `start` on. The words that `starts` doesn't write start as 0.
+pub record Monitor : Type 0 where
+  pub start : ℕ
+  pub body : ℕ
+  pub words : ℕ
+  pub starts : List Start
+
+-- A process has words of its own. What is passed to it waits among the shared words, from `parameters` on, until it begins.
+pub record Process : Type 0 where
+  pub body : ℕ
+  pub words : ℕ
+  pub parameters : ℕ
+  pub waiting : ℕ
+  pub starts : List Start
+
+-- Monitors are numbered from 1 and processes from 1, the initial one first.
+pub record Program : Type 0 where
+  pub operations : List Operation
+  pub units : List CodeUnit
+  pub monitors : List Monitor
+  pub processes : List Process
+  pub shared : ℕ
