@@ -20,7 +20,7 @@ use crate::task::{Course, Start};
 use cp_kernel::closing::end_round;
 use cp_kernel::kernel::Kernel;
 use cp_kernel::turns::kernel_turn;
-use cp_private::private::Private;
+use cp_private::private::{Activity, Private};
 use cp_private::turn::Turn;
 use cp_program::program::Program;
 use std::alloc::{AllocError, Global};
@@ -153,6 +153,19 @@ fn finish_all<'a, C: Course, R: Wait, G: TurnGate>(
     }
 }
 
+// A thread is worth its waking for so many steps.
+const STEPS_A_THREAD: u64 = 5_000;
+
+// How many threads are worth their waking beside the calling one: at least one.
+fn helpers(privates: &[Private], turn: Turn) -> u64 {
+    let running = privates
+        .iter()
+        .filter(|private| private.activity == Activity::Running)
+        .count();
+    let steps = (running as u64).saturating_mul(u64::from(turn.steps()));
+    (steps / STEPS_A_THREAD).max(1)
+}
+
 // A round. At Err nothing is changed but room.
 fn make_round<'a, C: Course, R: Wait, G: TurnGate>(
     rt: &R,
@@ -175,6 +188,7 @@ fn make_round<'a, C: Course, R: Wait, G: TurnGate>(
     let Ok(start) = cell.set(rt, Snapshot::of(&parts.privates)) else {
         return Err(AllocError);
     };
+    desk.want(helpers(&parts.privates, plan.turn));
     desk.put_all(rt, &start, round, &mut parts.privates);
     finish_all(rt, desk, &start, round, program, plan, gate, parts);
     end_round(program, &mut parts.kernel, &mut parts.privates);
@@ -219,10 +233,10 @@ fn start_threads<'s, 'a, E, C: Course + Send + Sync, R: Threads + Wait + Sync, G
     requires turn { IsTurnOf C.turned C.most program.now plan.now.turn.steps }
 {
     let Plan { turn, chunk, .. } = *plan;
-    for _thread in 1..plan.threads(desk.processes()) {
+    for number in 1..plan.threads(desk.processes()) {
         let served = move ||
             requires { IsTurnOf C.turned C.most program.now turn.steps }
-        { desk.serve(rt, u64::from(chunk), program, turn, gate) };
+        { desk.serve(rt, number as u64, u64::from(chunk), program, turn, gate) };
         if scope.spawn(served).is_err() {
             return Err(AllocError);
         }
@@ -262,7 +276,6 @@ fn make_rounds_at<'s, 'a, E, C: Course + Send + Sync, R: Threads + Wait + Sync, 
 ///
 /// What a scope promises of its result is known outside where the type of the result is a parameter.
 pub trait Holder: Drop {
-
     ghost holds: { Self → Parts };
 
     fn of(parts: Parts) -> Self
@@ -285,7 +298,14 @@ impl Holder for Parts {
 }
 
 // A round for each cell, by threads that are kept through all of them.
-fn make_rounds_kept<'x, 'a, C: Course + Send + Sync, R: Threads + Wait + Sync, G: TurnGate, H: Holder>(
+fn make_rounds_kept<
+    'x,
+    'a,
+    C: Course + Send + Sync,
+    R: Threads + Wait + Sync,
+    G: TurnGate,
+    H: Holder,
+>(
     rt: &'x R,
     desk: &'x Desk<'a, C>,
     cells: &'a [OnceLock<Start>],
