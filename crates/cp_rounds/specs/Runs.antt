@@ -1,5 +1,5 @@
 -- Rounds of a run, as far as they change the private states and the kernel.
-use Rattle.std.specs.Prelude.{◌≡◌, ◌+◌, ◌<◌, ℕ, List, Option, None, Some, length, slice_get}
+use Rattle.std.specs.Prelude.{◌≡◌, ◌+◌, ℕ, List, Option, None, Some, length, slice_get}
 use Rattle.std.specs.Sync.OnceLock.{Named}
 use Rattle.cp_model.specs.States.{Setup, State}
 use Rattle.cp_model.specs.Rounds.{run}
