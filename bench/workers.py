@@ -12,7 +12,7 @@ import time
 ROOT = pathlib.Path(__file__).resolve().parent.parent
 PROGRAM = ROOT / 'crates' / 'cpm' / 'out' / 'cpm'
 TRIALS = 3
-PROCESSES = 64
+PROCESSES = 253
 COUNTING = 'var x: integer; begin cycle x := (x + 1) mod 30000 end end'
 
 
@@ -65,7 +65,7 @@ def main():
         counting, ended = pathlib.Path(folder) / 'counting.cp', pathlib.Path(folder) / 'ended.cp'
         counting.write_text(counting_text())
         ended.write_text(ended_text())
-        measure_turns(counting, 10_000, 100)
+        measure_turns(counting, 10_000, 30)
         measure_turns(counting, 100, 2_000)
         times = best({workers: (command(ended, 5_000, 100, workers), 1) for workers in (1, 2, 4)})
         for workers, took in times.items():

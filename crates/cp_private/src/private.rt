@@ -38,11 +38,15 @@ pub struct Private {
     pub consumed: usize,
 }
 
+// So many words are left free behind those of a process: no cache line then holds words of two processes, which may run at once.
+const WORDS_APART: usize = 32;
+
 // The private state of process p at the start.
 fn begin(alloc: Global, program: &Program, p: usize, input: Vec<u8>) -> Result<Private, AllocError>
     ensures { IfOk result (λ x. own_of x ≡ start_part program.now p input.items) }
 {
-    let words = Vec::from_elem(alloc, 0, program.variables(p).len())?;
+    let mut words = Vec::from_elem(alloc, 0, program.variables(p).len())?;
+    words.reserve(WORDS_APART)?;
     Ok(Private {
         number: p,
         activity: if p == 1 {

@@ -1,9 +1,8 @@
 -- A round whose turns are made in place: the private turn of a process is taken, and its kernel turn made, one after another.
-use Rattle.std.specs.Prelude.{◌≡◌, ◌≢◌, ◌≤◌, ◌<◌, refl, ℕ, zero, suc, ◌+◌, ◌-◌, List, [], ◌∷◌, ◌++◌, length, Some, slice_get}
-use Rattle.std.proofs.Common.{sym, ◌∙◌, ap, subst, arith, ⊎_elim, inl, inr, ◌⊎◌, set}
+use Rattle.std.specs.Prelude.{◌≡◌, ◌≢◌, ◌≤◌, ◌<◌, refl, ℕ, zero, suc, ◌+◌, List, [], ◌∷◌, ◌++◌, length, Some, slice_get}
+use Rattle.std.proofs.Common.{sym, ◌∙◌, ap, subst, arith, ⊎_elim, inl, inr, set}
 use Rattle.cp_model.specs.States.{Setup, State, numbers_from, process_count}
 use Rattle.cp_model.specs.Rounds.{close_round, kernel_turns, own_parts, run, sequential_round, wake}
-use Rattle.cp_model.specs.Invariant.{Invariant}
 use Rattle.cp_model.proofs.PhasedRounds.{own_parts_keep}
 use Rattle.cp_model.proofs.StateInvariant.{wake_keeps}
 use Rattle.cp_program.specs.declared.program.Program.{Program}

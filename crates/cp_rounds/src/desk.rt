@@ -26,6 +26,7 @@ pub struct Desk<'a, C: Course> {
     tasks: Vec<Mutex<Option<Task<'a, C>>>>,
     open: AtomicU64,
     drawn: AtomicU64,
+    wanted: AtomicU64,
     asleep: AtomicU64,
 }
 
@@ -55,6 +56,7 @@ impl<'a, C: Course> Desk<'a, C> {
             tasks,
             open: AtomicU64::new(0),
             drawn: AtomicU64::new(0),
+            wanted: AtomicU64::new(0),
             asleep: AtomicU64::new(0),
         })
     }
@@ -83,9 +85,17 @@ impl<'a, C: Course> Desk<'a, C> {
         }
     }
 
+    /// So many threads are to serve from now on; those with higher numbers sleep.
+    pub fn want(&self, threads: u64) {
+        if self.wanted.swap(threads, Ordering::SeqCst) != threads {
+            self.wanted.wake_all();
+        }
+    }
+
     /// Sends all threads home that serve at the desk.
     pub fn close(&self) {
         self.open_below(END);
+        self.want(END);
     }
 
     // Draws at most so many of the open places.
@@ -128,9 +138,11 @@ impl<'a, C: Course> Desk<'a, C> {
             return;
         }
         for place in from..to {
-            let mut task = self.tasks[(place % processes as u64) as usize].lock(rt);
-            if let Some(task) = &mut *task {
+            let mut shared = self.tasks[(place % processes as u64) as usize].lock(rt);
+            // Turned apart from its neighbours, so that threads don't write to one cache line.
+            if let Some(mut task) = shared.take() {
                 task.make(program, turn, gate);
+                *shared = Some(task);
             }
         }
     }
@@ -154,10 +166,11 @@ impl<'a, C: Course> Desk<'a, C> {
         }
     }
 
-    /// Makes turns until the desk is closed.
+    /// Makes turns until the desk is closed, whenever so many threads are wanted as its number says.
     pub fn serve<R: Wait, G: TurnGate>(
         &self,
         rt: &R,
+        number: u64,
         chunk: u64,
         program: &Program,
         turn: Turn,
@@ -167,6 +180,11 @@ impl<'a, C: Course> Desk<'a, C> {
     {
         let mut looks = 0;
         for _ in rt.forever() {
+            let wanted = self.wanted.load(Ordering::SeqCst);
+            if wanted < number {
+                self.wanted.park(rt, (wanted % 4_294_967_296) as u32);
+                continue;
+            }
             match self.draw(rt, chunk) {
                 Draw::Places { from, to } => {
                     self.make_turns(rt, from, to, program, turn, gate);

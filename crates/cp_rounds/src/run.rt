@@ -9,7 +9,7 @@ ghost use Rattle.cp_model.specs.States.{Setup, State};
 ghost use Rattle.cp_private.specs.Promises.{KeepsPart};
 ghost use Rattle.cp_kernel.specs.KernelOf.{HasRoom, KernelOf, moved};
 ghost use Rattle.cp_rounds.specs.Holds.{Holds, WavesMade};
-ghost use Rattle.cp_rounds.specs.Runs.{RoundsMade, name_of};
+ghost use Rattle.cp_rounds.specs.Runs.{AreNamed, PartsAfter};
 ghost use Rattle.cp_rounds.specs.declared.run.Parts.{Parts};
 ghost use Rattle.cp_rounds.specs.Tasks.{AllFree, AllRoom, IsTurnOf};
 
@@ -20,7 +20,7 @@ use crate::task::{Course, Start};
 use cp_kernel::closing::end_round;
 use cp_kernel::kernel::Kernel;
 use cp_kernel::turns::kernel_turn;
-use cp_private::private::Private;
+use cp_private::private::{Activity, Private};
 use cp_private::turn::Turn;
 use cp_program::program::Program;
 use std::alloc::{AllocError, Global};
@@ -153,6 +153,19 @@ fn finish_all<'a, C: Course, R: Wait, G: TurnGate>(
     }
 }
 
+// A thread is worth its waking for so many steps.
+const STEPS_A_THREAD: u64 = 5_000;
+
+// How many threads are worth their waking beside the calling one: at least one.
+fn helpers(privates: &[Private], turn: Turn) -> u64 {
+    let running = privates
+        .iter()
+        .filter(|private| private.activity == Activity::Running)
+        .count();
+    let steps = (running as u64).saturating_mul(u64::from(turn.steps()));
+    (steps / STEPS_A_THREAD).max(1)
+}
+
 // A round. At Err nothing is changed but room.
 fn make_round<'a, C: Course, R: Wait, G: TurnGate>(
     rt: &R,
@@ -167,14 +180,15 @@ fn make_round<'a, C: Course, R: Wait, G: TurnGate>(
     requires count { length desk.now.tasks.items ≡ length parts.old.privates.items }
     requires cell { cell.now.id ≡ C.cell round }
     requires turn { IsTurnOf C.turned C.most program.now plan.now.turn.steps }
-    ensures made { IfOk result (λ _. RoundsMade program.now plan.now.turn.steps 1 parts.old.privates.items parts.old.kernel parts.new.privates.items parts.new.kernel) }
-    ensures kept { IfErr result (λ _. RoundsMade program.now plan.now.turn.steps 0 parts.old.privates.items parts.old.kernel parts.new.privates.items parts.new.kernel) }
+    ensures made { IfOk result (λ _. PartsAfter program.now plan.now.turn.steps 1 parts.old parts.new) }
+    ensures kept { IfErr result (λ _. PartsAfter program.now plan.now.turn.steps 0 parts.old parts.new) }
     ensures count { length parts.new.privates.items ≡ length parts.old.privates.items }
 {
     reserve_turns(&mut parts.privates, &mut parts.kernel, plan.turn)?;
     let Ok(start) = cell.set(rt, Snapshot::of(&parts.privates)) else {
         return Err(AllocError);
     };
+    desk.want(helpers(&parts.privates, plan.turn));
     desk.put_all(rt, &start, round, &mut parts.privates);
     finish_all(rt, desk, &start, round, program, plan, gate, parts);
     end_round(program, &mut parts.kernel, &mut parts.privates);
@@ -192,10 +206,10 @@ fn make_rounds<'a, C: Course, R: Wait, G: TurnGate>(
     parts: &mut Parts,
 ) -> Result<(), usize>
     requires count { length desk.now.tasks.items ≡ length parts.old.privates.items }
-    requires cells { (i : ℕ) → C.cell i ≡ name_of (slice_get cells.now i) }
+    requires cells { AreNamed C.cell cells.now }
     requires turn { IsTurnOf C.turned C.most program.now plan.now.turn.steps }
-    ensures made { IfOk result (λ _. RoundsMade program.now plan.now.turn.steps (length cells.now) parts.old.privates.items parts.old.kernel parts.new.privates.items parts.new.kernel) }
-    ensures partly { IfErr result (λ n. (n < length cells.now) × RoundsMade program.now plan.now.turn.steps n parts.old.privates.items parts.old.kernel parts.new.privates.items parts.new.kernel) }
+    ensures made { IfOk result (λ _. PartsAfter program.now plan.now.turn.steps (length cells.now) parts.old parts.new) }
+    ensures partly { IfErr result (λ n. (n < length cells.now) × PartsAfter program.now plan.now.turn.steps n parts.old parts.new) }
     ensures count { length parts.new.privates.items ≡ length parts.old.privates.items }
 {
     for round in 0..cells.len() {
@@ -219,10 +233,10 @@ fn start_threads<'s, 'a, E, C: Course + Send + Sync, R: Threads + Wait + Sync, G
     requires turn { IsTurnOf C.turned C.most program.now plan.now.turn.steps }
 {
     let Plan { turn, chunk, .. } = *plan;
-    for _thread in 1..plan.threads(desk.processes()) {
+    for number in 1..plan.threads(desk.processes()) {
         let served = move ||
             requires { IsTurnOf C.turned C.most program.now turn.steps }
-        { desk.serve(rt, u64::from(chunk), program, turn, gate) };
+        { desk.serve(rt, number as u64, u64::from(chunk), program, turn, gate) };
         if scope.spawn(served).is_err() {
             return Err(AllocError);
         }
@@ -243,10 +257,10 @@ fn make_rounds_at<'s, 'a, E, C: Course + Send + Sync, R: Threads + Wait + Sync, 
 ) -> (Parts, Result<(), usize>)
     requires some { 0 < length cells.now }
     requires count { length desk.now.tasks.items ≡ length parts.privates.items }
-    requires cells { (i : ℕ) → C.cell i ≡ name_of (slice_get cells.now i) }
+    requires cells { AreNamed C.cell cells.now }
     requires turn { IsTurnOf C.turned C.most program.now plan.now.turn.steps }
-    ensures made { IfOk result.1 (λ _. RoundsMade program.now plan.now.turn.steps (length cells.now) parts.privates.items parts.kernel result.0.privates.items result.0.kernel) }
-    ensures partly { IfErr result.1 (λ n. (n < length cells.now) × RoundsMade program.now plan.now.turn.steps n parts.privates.items parts.kernel result.0.privates.items result.0.kernel) }
+    ensures made { IfOk result.1 (λ _. PartsAfter program.now plan.now.turn.steps (length cells.now) parts result.0) }
+    ensures partly { IfErr result.1 (λ n. (n < length cells.now) × PartsAfter program.now plan.now.turn.steps n parts result.0) }
     ensures count { length result.0.privates.items ≡ length parts.privates.items }
 {
     if start_threads(rt, scope, desk, program, plan, gate).is_err() {
@@ -262,7 +276,6 @@ fn make_rounds_at<'s, 'a, E, C: Course + Send + Sync, R: Threads + Wait + Sync, 
 ///
 /// What a scope promises of its result is known outside where the type of the result is a parameter.
 pub trait Holder: Drop {
-
     ghost holds: { Self → Parts };
 
     fn of(parts: Parts) -> Self
@@ -285,7 +298,14 @@ impl Holder for Parts {
 }
 
 // A round for each cell, by threads that are kept through all of them.
-fn make_rounds_kept<'x, 'a, C: Course + Send + Sync, R: Threads + Wait + Sync, G: TurnGate, H: Holder>(
+fn make_rounds_kept<
+    'x,
+    'a,
+    C: Course + Send + Sync,
+    R: Threads + Wait + Sync,
+    G: TurnGate,
+    H: Holder,
+>(
     rt: &'x R,
     desk: &'x Desk<'a, C>,
     cells: &'a [OnceLock<Start>],
@@ -296,19 +316,19 @@ fn make_rounds_kept<'x, 'a, C: Course + Send + Sync, R: Threads + Wait + Sync, G
 ) -> (H, Result<(), usize>)
     requires some { 0 < length cells.now }
     requires count { length desk.now.tasks.items ≡ length (H.holds held).privates.items }
-    requires cells { (i : ℕ) → C.cell i ≡ name_of (slice_get cells.now i) }
+    requires cells { AreNamed C.cell cells.now }
     requires turn { IsTurnOf C.turned C.most program.now plan.now.turn.steps }
-    ensures made { IfOk result.1 (λ _. RoundsMade program.now plan.now.turn.steps (length cells.now) (H.holds held).privates.items (H.holds held).kernel (H.holds result.0).privates.items (H.holds result.0).kernel) }
-    ensures partly { IfErr result.1 (λ n. (n < length cells.now) × RoundsMade program.now plan.now.turn.steps n (H.holds held).privates.items (H.holds held).kernel (H.holds result.0).privates.items (H.holds result.0).kernel) }
+    ensures made { IfOk result.1 (λ _. PartsAfter program.now plan.now.turn.steps (length cells.now) (H.holds held) (H.holds result.0)) }
+    ensures partly { IfErr result.1 (λ n. (n < length cells.now) × PartsAfter program.now plan.now.turn.steps n (H.holds held) (H.holds result.0)) }
     ensures count { length (H.holds result.0).privates.items ≡ length (H.holds held).privates.items }
 {
     thread::scope(
         thread::scope_env(),
         rt,
         move |scope| -> (H, Result<(), usize>)
-            requires { (0 < length cells.now) × (length desk.now.tasks.items ≡ length (H.holds held).privates.items) × ((i : ℕ) → C.cell i ≡ name_of (slice_get cells.now i)) × IsTurnOf C.turned C.most program.now plan.now.turn.steps }
-            ensures made { IfOk result.1 (λ _. RoundsMade program.entry.now plan.entry.now.turn.steps (length cells.entry.now) (H.holds held).privates.items (H.holds held).kernel (H.holds result.0).privates.items (H.holds result.0).kernel) }
-            ensures partly { IfErr result.1 (λ n. (n < length cells.entry.now) × RoundsMade program.entry.now plan.entry.now.turn.steps n (H.holds held).privates.items (H.holds held).kernel (H.holds result.0).privates.items (H.holds result.0).kernel) }
+            requires { (0 < length cells.now) × (length desk.now.tasks.items ≡ length (H.holds held).privates.items) × AreNamed C.cell cells.now × IsTurnOf C.turned C.most program.now plan.now.turn.steps }
+            ensures made { IfOk result.1 (λ _. PartsAfter program.entry.now plan.entry.now.turn.steps (length cells.entry.now) (H.holds held) (H.holds result.0)) }
+            ensures partly { IfErr result.1 (λ n. (n < length cells.entry.now) × PartsAfter program.entry.now plan.entry.now.turn.steps n (H.holds held) (H.holds result.0)) }
             ensures count { length (H.holds result.0).privates.items ≡ length (H.holds held).privates.items }
         {
             let parts = held.into_parts();
@@ -329,10 +349,10 @@ fn make_rounds_by_threads<C: Course + Send + Sync, R: Threads + Wait + Sync, G: 
     parts: Parts,
 ) -> (Parts, Result<(), usize>)
     requires some { 0 < length cells.now }
-    requires cells { (i : ℕ) → C.cell i ≡ name_of (slice_get cells.now i) }
+    requires cells { AreNamed C.cell cells.now }
     requires turn { IsTurnOf C.turned C.most program.now plan.now.turn.steps }
-    ensures made { IfOk result.1 (λ _. RoundsMade program.now plan.now.turn.steps (length cells.now) parts.privates.items parts.kernel result.0.privates.items result.0.kernel) }
-    ensures partly { IfErr result.1 (λ n. (n < length cells.now) × RoundsMade program.now plan.now.turn.steps n parts.privates.items parts.kernel result.0.privates.items result.0.kernel) }
+    ensures made { IfOk result.1 (λ _. PartsAfter program.now plan.now.turn.steps (length cells.now) parts result.0) }
+    ensures partly { IfErr result.1 (λ n. (n < length cells.now) × PartsAfter program.now plan.now.turn.steps n parts result.0) }
     ensures count { length result.0.privates.items ≡ length parts.privates.items }
 {
     let Ok(desk) = Desk::<C>::new(alloc, parts.privates.len()) else {
@@ -367,8 +387,8 @@ pub fn make_rounds_of<R: Threads + Wait + Sync, G: TurnGate>(
     parts: Parts,
 ) -> (Parts, Result<(), usize>)
     requires some { 0 < rounds }
-    ensures made { IfOk result.1 (λ _. RoundsMade program.now plan.now.turn.steps rounds parts.privates.items parts.kernel result.0.privates.items result.0.kernel) }
-    ensures partly { IfErr result.1 (λ n. (n < rounds) × RoundsMade program.now plan.now.turn.steps n parts.privates.items parts.kernel result.0.privates.items result.0.kernel) }
+    ensures made { IfOk result.1 (λ _. PartsAfter program.now plan.now.turn.steps rounds parts result.0) }
+    ensures partly { IfErr result.1 (λ n. (n < rounds) × PartsAfter program.now plan.now.turn.steps n parts result.0) }
     ensures count { length result.0.privates.items ≡ length parts.privates.items }
 {
     let Ok(cells) = empty_cells(alloc, rounds) else {

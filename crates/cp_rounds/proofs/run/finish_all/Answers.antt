@@ -1,4 +1,4 @@
-use Rattle.std.proofs.Common.{rules, ◌≡◌, ◌+◌, ℕ, List, length, sym, subst, ◌∙◌, arith}
+use Rattle.std.proofs.Common.{◌≡◌, ◌+◌, ℕ, List, length, sym, subst, arith}
 use Rattle.cp_private.specs.declared.private.Private.{Private}
 use Rattle.cp_rounds.specs.Holds.{WavesMade}
 use Rattle.cp_rounds.specs.Tasks.{AllRoom}

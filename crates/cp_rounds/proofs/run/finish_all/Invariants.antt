@@ -1,4 +1,4 @@
-use Rattle.std.proofs.Common.{◌≡◌, ◌≤◌, ℕ, length, vec_capacity}
+use Rattle.std.proofs.Common.{◌≡◌, ◌≤◌, length, vec_capacity}
 use Rattle.cp_rounds.specs.Holds.{WavesMade}
 use Rattle.cp_rounds.specs.Tasks.{AllRoom}
 use Rattle.cp_rounds.proofs.run.finish_all.Given as goal

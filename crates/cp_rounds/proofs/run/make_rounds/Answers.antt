@@ -1,4 +1,4 @@
-use Rattle.std.proofs.Common.{rules, ◌≡◌, ◌+◌, ◌<◌, ℕ, Some, slice_get, length, sym, ap, ◌∙◌, subst, arith}
+use Rattle.std.proofs.Common.{◌≡◌, ◌+◌, ℕ, Some, slice_get, length, sym, ap, ◌∙◌, subst, arith}
 use Rattle.cp_kernel.proofs.Lists.{got_or}
 use Rattle.cp_rounds.specs.Runs.{RoundsMade, name_of}
 use Rattle.cp_rounds.proofs.Kept.{more_rounds_made, no_rounds_made}

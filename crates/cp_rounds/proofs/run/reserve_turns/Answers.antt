@@ -1,4 +1,4 @@
-use Rattle.std.proofs.Common.{rules, ◌≡◌, ◌≢◌, ◌≤◌, ◌+◌, ◌-◌, ◌*◌, ℕ, Some, slice_get, slice_set, length, length-set, vec_len, vec_capacity, sym, ap, ◌∙◌, subst, arith, ⊎_elim}
+use Rattle.std.proofs.Common.{rules, ◌≡◌, ◌≢◌, ◌≤◌, ◌+◌, ◌-◌, ◌*◌, ℕ, Some, slice_get, length, length-set, vec_len, vec_capacity, sym, ap, ◌∙◌, subst, arith, ⊎_elim}
 use Rattle.cp_private.specs.declared.private.Private.{Private}
 use Rattle.cp_kernel.specs.KernelOf.{HasRoom}
 use Rattle.cp_kernel.proofs.Lists.{got_below, got_or, got_set}

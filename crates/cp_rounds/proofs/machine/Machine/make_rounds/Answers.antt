@@ -1,4 +1,4 @@
-use Rattle.std.proofs.Common.{◌≡◌, ◌<◌, ℕ, refl, length, subst}
+use Rattle.std.proofs.Common.{◌<◌, refl, subst}
 use Rattle.std.specs.Prelude.{IfErr, IfOk}
 use Rattle.cp_rounds.specs.Runs.{RoundsMade}
 use Rattle.cp_rounds.proofs.machine.Machine.make_rounds.Goals as goal

@@ -1,4 +1,4 @@
-use Rattle.std.proofs.Common.{◌≡◌, ◌<◌, ℕ, length, sym, subst}
+use Rattle.std.proofs.Common.{◌≡◌, ◌<◌, length, sym, subst}
 use Rattle.std.specs.Prelude.{IfErr, IfOk}
 use Rattle.cp_rounds.specs.declared.run.Parts.{Parts}
 use Rattle.cp_rounds.specs.Runs.{RoundsMade}
