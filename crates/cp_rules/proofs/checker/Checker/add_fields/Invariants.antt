@@ -1,4 +1,4 @@
-use Rattle.std.proofs.Common.{◌≡◌, drop, map}
+use Rattle.std.proofs.Common.{◌≡◌, drop}
 use Rattle.cp_rules.specs.Checking.{telling}
 use Rattle.cp_rules.specs.Records.{or_first, with_fields}
 use Rattle.cp_rules.proofs.checker.Checker.add_fields.Given as goal

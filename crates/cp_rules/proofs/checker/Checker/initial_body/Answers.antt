@@ -1,6 +1,5 @@
-use Rattle.std.proofs.Common.{◌+◌, Bool, Option, ap, sym, ◌∙◌}
+use Rattle.std.proofs.Common.{◌+◌, Bool, ap, sym, ◌∙◌}
 use Rattle.cp_model.specs.declared.rules.Rule.TheVariants.{C13}
-use Rattle.cp_model.specs.declared.rules.Violation.{Violation}
 use Rattle.cp_model.specs.RulesJudged.{Violations, earlier, unless}
 use Rattle.cp_model.specs.RulesTypes.{capped}
 use Rattle.cp_model.specs.View as view

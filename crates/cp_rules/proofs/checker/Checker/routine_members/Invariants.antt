@@ -1,4 +1,4 @@
-use Rattle.std.proofs.Common.{◌≡◌, ◌≤◌, ◌++◌, ℕ, None, Some, drop, map, slice_get}
+use Rattle.std.proofs.Common.{◌≡◌, ◌≤◌, ◌++◌, ℕ, None, Some, drop, slice_get}
 use Rattle.cp_model.specs.Names.{lookup}
 use Rattle.cp_model.specs.Rules.{routine_members}
 use Rattle.cp_model.specs.RulesEnvironment.{Text}
