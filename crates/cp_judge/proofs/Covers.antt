@@ -2,7 +2,7 @@
 --
 -- A part of what is covered is covered, by its selector: a field is found by its name alone, and of an index only its place in the
 -- text and its type count, which are broken or not.
-use Rattle.std.proofs.Common.{◌≡◌, ℕ, Bool, true, false, Option, Some, None, [], ◌∷◌, refl, sym, subst}
+use Rattle.std.proofs.Common.{◌≡◌, ℕ, Bool, true, false, Option, Some, [], ◌∷◌, refl, sym, subst}
 use Rattle.std.specs.Bool.{⊤}
 use Rattle.cp_model.specs.Syntax as s
 use Rattle.cp_model.specs.declared.rules.Entity.{Entity}

@@ -1,5 +1,5 @@
 -- Names that are distinct: one more, and one less.
-use Rattle.std.proofs.Common.{◌≡◌, ◌++◌, ◌<◌, ◌∷◌, ◌∙◌, ◌⊎◌, [], inl, inr, ⊎_elim, ℕ, zero, suc, Bool, true, false, List, Option, Some, None, ap, length, refl, slice_get, subst, sym, arith}
+use Rattle.std.proofs.Common.{◌≡◌, ◌++◌, ◌∷◌, ◌∙◌, ◌⊎◌, [], inl, inr, ⊎_elim, ℕ, zero, suc, true, false, List, Option, Some, None, ap, length, refl, slice_get, sym, arith}
 use Rattle.std.proofs.lemmas.Option.{same_Some, slice_get_within}
 use Rattle.std.specs.Str.{bytes_eq}
 use Rattle.cp_model.specs.RulesEnvironment.{Text}

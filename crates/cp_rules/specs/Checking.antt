@@ -8,15 +8,11 @@ use Rattle.cp_model.specs.RulesEnvironment.{Environment, c1_declared, declare}
 use Rattle.cp_model.specs.RulesTypes.{Made}
 use Rattle.cp_model.specs.RulesDeclarations.{Declared}
 pub use Rattle.cp_judge.specs.Tells.{first_of}
-use Rattle.cp_rules.specs.declared.checker.Checker.{Checker}
 
 -- the environment so far, and the earliest violation
 pub record State : Type 0 where
   pub env : Environment
   pub told : Option Violation
-
-abbrev pub state : Checker → State
-state c = record { env = c.environment; told = c.earliest }
 
 -- ---- what is told
 

@@ -5,7 +5,7 @@ ghost use Rattle.cp_model.specs.Integers.{count_between};
 ghost use Rattle.cp_model.specs.RulesEnvironment as r;
 ghost use Rattle.cp_model.specs.RulesJudged.{both};
 ghost use Rattle.cp_model.specs.RulesTypes as types;
-ghost use Rattle.cp_rules.specs.Checking.{Judges, state};
+ghost use Rattle.cp_rules.specs.Checking.{Judges};
 ghost use Rattle.cp_rules.specs.Outer.{Knows, TellsOuter, around_both, array, arrays, made};
 
 use crate::checker::{Checker, Judged};
@@ -57,7 +57,7 @@ fn is_at_most(a: i32, b: i32) -> bool
 impl<'t> Checker<'t> {
     // C2: the constants are of different base types. C3: the lower bound is above the upper.
     fn bounds(&mut self, at: usize, low: (usize, i32), high: (usize, i32)) -> Judged<TypeRow>
-        ensures { Judges (state self.old) (state self.new) result (types.c2_c3_subrange at low high) }
+        ensures { Judges self.old self.new result (types.c2_c3_subrange at low high) }
     {
         if low.0 != high.0 {
             return self.breaks(Rule::C2, at);
@@ -78,14 +78,14 @@ impl<'t> Checker<'t> {
         low: Judged<(usize, i32)>,
         high: Judged<(usize, i32)>,
     ) -> Judged<TypeRow>
-        ensures { TellsOuter (state self.old) (state self.new) result (around_both low high (types.c2_c3_subrange at)) }
+        ensures { TellsOuter self.old self.new result (around_both low high (types.c2_c3_subrange at)) }
     {
         self.bounds(at, low?, high?)
     }
 
     /// The row of a subrange.
     pub fn subrange(&mut self, low: &Constant, high: &Constant) -> Judged<TypeRow>
-        ensures { Judges (state self.old) (state self.new) result (both (types.constant (state self.old).env low.now) (types.constant (state self.old).env high.now) (types.c2_c3_subrange (types.constant_at high.now))) }
+        ensures { Judges self.old self.new result (both (types.constant self.old.env low.now) (types.constant self.old.env high.now) (types.c2_c3_subrange (types.constant_at high.now))) }
     {
         let first = self.constant(low);
         let last = self.constant(high);
@@ -94,7 +94,7 @@ impl<'t> Checker<'t> {
 
     /// Adds a type, and answers its number. It fails only when memory runs out.
     pub fn add_type(&mut self, row: TypeRow) -> Result<usize, AllocError>
-        ensures { IfOk result (λ t. (t ≡ length (state self.old).env.types) × (state self.new ≡ record (state self.old) { env = types.add_type (state self.old).env row })) }
+        ensures { IfOk result (λ t. (t ≡ length self.old.env.types) × (self.new ≡ record self.old { env = types.add_type self.old.env row })) }
     {
         let t = self.environment.type_count();
         self.environment.add_type(row)?;
@@ -103,7 +103,7 @@ impl<'t> Checker<'t> {
 
     /// Makes a type of a row, where that is known. It fails only when memory runs out.
     pub fn made(&mut self, row: Judged<TypeRow>) -> Result<Judged<usize>, AllocError>
-        ensures { IfOk result (λ answer. Knows (state self.old) (state self.new) answer (made (state self.old).env [] row)) }
+        ensures { IfOk result (λ answer. Knows self.old self.new answer (made self.old.env [] row)) }
     {
         match row {
             Err(violation) => Ok(Err(violation)),
@@ -118,7 +118,7 @@ impl<'t> Checker<'t> {
         index: Judged<usize>,
         element: Judged<usize>,
     ) -> Judged<TypeRow>
-        ensures { TellsOuter (state self.old) (state self.new) result (around_both index element (λ a b. types.c13_type at (types.array_row (state self.old).env a b))) }
+        ensures { TellsOuter self.old self.new result (around_both index element (λ a b. types.c13_type at (types.array_row self.old.env a b))) }
     {
         let row = array_row(&self.environment, index?, element?);
         if is_within(row.words) {
@@ -135,7 +135,7 @@ impl<'t> Checker<'t> {
         index: Judged<usize>,
         element: Judged<usize>,
     ) -> Result<Judged<usize>, AllocError>
-        ensures { IfOk result (λ answer. Knows (state self.old) (state self.new) answer (array (state self.old).env at index element)) }
+        ensures { IfOk result (λ answer. Knows self.old self.new answer (array self.old.env at index element)) }
     {
         let row = self.array_known(at, index, element);
         self.made(row)
@@ -148,7 +148,7 @@ impl<'t> Checker<'t> {
         mut indices: Vec<Judged<usize>>,
         element: Judged<usize>,
     ) -> Result<Judged<usize>, AllocError>
-        ensures { IfOk result (λ answer. Knows (state self.old) (state self.new) answer (arrays (state self.old).env at indices.items element)) }
+        ensures { IfOk result (λ answer. Knows self.old self.new answer (arrays self.old.env at indices.items element)) }
     {
         let mut of = element;
         while let Some(index) = indices.pop() {

@@ -3,7 +3,7 @@
 ghost use Rattle.std.specs.Prelude.{◌≡◌, [], None, IfOk, OnOk, length, take};
 ghost use Rattle.cp_model.specs.RulesEnvironment as r;
 ghost use Rattle.cp_model.specs.RulesJudged as j;
-ghost use Rattle.cp_rules.specs.Checking.{Judges, after, declared_name, state, telling};
+ghost use Rattle.cp_rules.specs.Checking.{State, Judges, after, declared_name, telling};
 
 use crate::standard::standard_environment;
 use cp_judge::Environment;
@@ -11,12 +11,13 @@ use cp_judge::telling::{unless_holds, violated};
 use cp_model::rules::{Entity, Rule, Violation};
 use cp_model::tree::Identifier;
 use std::alloc::{AllocError, Global};
+use std::marker::Model;
 
 /// What is judged of a part of a text: its meaning, or what is broken first in it.
 pub type Judged<A> = Result<A, Violation>;
 
 /// Judges a text: it has the environment of the part that is judged, and keeps the earliest violation, and at its place the lowest
-/// rule.
+/// rule. Contracts see both.
 #[derive(Drop)]
 pub struct Checker<'t> {
     pub(crate) environment: Environment<'t>,
@@ -24,10 +25,16 @@ pub struct Checker<'t> {
     pub(crate) alloc: Global,
 }
 
+impl<'t> Model for Checker<'t> {
+    ghost Value = { State };
+
+    ghost view = { λ c. record { env = c.environment; told = c.earliest } };
+}
+
 impl<'t> Checker<'t> {
     /// Judges a text from its beginning. It fails only when memory runs out.
     pub fn new(alloc: Global) -> Result<Checker<'t>, AllocError>
-        ensures { IfOk result (λ c. state c ≡ record { env = r.standard_environment; told = None }) }
+        ensures { IfOk result (λ c. c ≡ record { env = r.standard_environment; told = None }) }
     {
         Ok(Checker {
             environment: standard_environment(alloc)?,
@@ -38,21 +45,21 @@ impl<'t> Checker<'t> {
 
     /// Tells that a rule is broken at a place.
     pub fn breaks<A>(&mut self, rule: Rule, at: usize) -> Judged<A>
-        ensures { Judges (state self.old) (state self.new) result (j.breaks rule at) }
+        ensures { Judges self.old self.new result (j.breaks rule at) }
     {
         violated(&mut self.earliest, rule, at)
     }
 
     /// Tells that a rule is broken at a place unless the test holds.
     pub fn unless(&mut self, holds: bool, rule: Rule, at: usize)
-        ensures { state self.new ≡ telling (state self.old) (j.unless holds rule at) }
+        ensures { self.new ≡ telling self.old (j.unless holds rule at) }
     {
         unless_holds(&mut self.earliest, holds, rule, at);
     }
 
     /// Declares a name, unless it is visible: the first declaration stands. It fails only when memory runs out.
     pub fn add(&mut self, x: &'t Identifier, entity: Entity) -> Result<(), AllocError>
-        ensures { OnOk result (state self.new ≡ record (state self.old) { env = r.declare x.now entity (state self.old).env }) }
+        ensures { OnOk result (self.new ≡ record self.old { env = r.declare x.now entity self.old.env }) }
     {
         let name = x.name.as_bytes();
         if self.environment.find(name).is_none() {
@@ -63,7 +70,7 @@ impl<'t> Checker<'t> {
 
     /// Declares a name. C1: it is visible. It fails only when memory runs out.
     pub fn declare(&mut self, x: &'t Identifier, entity: Entity) -> Result<(), AllocError>
-        ensures { OnOk result (state self.new ≡ after (state self.old) (declared_name (state self.old).env x.now entity)) }
+        ensures { OnOk result (self.new ≡ after self.old (declared_name self.old.env x.now entity)) }
     {
         let is_new = self.environment.find(x.name.as_bytes()).is_none();
         self.unless(is_new, Rule::C1, x.at);
@@ -72,14 +79,14 @@ impl<'t> Checker<'t> {
 
     /// How many names are visible: a mark to leave to.
     pub fn mark(&self) -> usize
-        ensures { result ≡ length (state self.now).env.names }
+        ensures { result ≡ length self.now.env.names }
     {
         self.environment.name_count()
     }
 
     /// Forgets the names that were declared since there were so many.
     pub fn leave(&mut self, mark: usize)
-        ensures { state self.new ≡ record (state self.old) { env = r.with_names (take mark (state self.old).env.names) (state self.old).env } }
+        ensures { self.new ≡ record self.old { env = r.with_names (take mark self.old.env.names) self.old.env } }
     {
         self.environment.leave(mark);
     }

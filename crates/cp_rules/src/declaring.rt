@@ -2,7 +2,7 @@
 
 ghost use Rattle.std.specs.Prelude.{◌≡◌, OnOk};
 ghost use Rattle.cp_model.specs.RulesDeclarations as d;
-ghost use Rattle.cp_rules.specs.Checking.{after, state};
+ghost use Rattle.cp_rules.specs.Checking.{after};
 
 use crate::checker::Checker;
 use cp_model::rules::Entity;
@@ -12,7 +12,7 @@ use std::alloc::AllocError;
 impl<'t> Checker<'t> {
     /// Declares each of these names, in their order. C1: one is visible. It fails only when memory runs out.
     pub fn declare_all(&mut self, names: &'t [Identifier], entity: Entity) -> Result<(), AllocError>
-        ensures { OnOk result (state self.new ≡ after (state self.old) (d.declare_all (state self.old).env entity names.now)) }
+        ensures { OnOk result (self.new ≡ after self.old (d.declare_all self.old.env entity names.now)) }
     {
         for x in names {
             self.declare(x, entity)?;
@@ -22,7 +22,7 @@ impl<'t> Checker<'t> {
 
     /// Declares each of these names, unless it is visible. It fails only when memory runs out.
     pub fn add_all(&mut self, names: &'t [Identifier], entity: Entity) -> Result<(), AllocError>
-        ensures { OnOk result (state self.new ≡ record (state self.old) { env = (d.declare_all (state self.old).env entity names.now).env }) }
+        ensures { OnOk result (self.new ≡ record self.old { env = (d.declare_all self.old.env entity names.now).env }) }
     {
         for x in names {
             self.add(x, entity)?;

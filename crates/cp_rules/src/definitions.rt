@@ -4,7 +4,7 @@ ghost use Rattle.std.specs.Prelude.{◌≡◌, ℕ, IfOk, OnOk, length, map, pos
 ghost use Rattle.cp_model.specs.Rules as rules;
 ghost use Rattle.cp_model.specs.RulesEnvironment as r;
 ghost use Rattle.cp_model.specs.View as view;
-ghost use Rattle.cp_rules.specs.Checking.{after, state};
+ghost use Rattle.cp_rules.specs.Checking.{after};
 ghost use Rattle.cp_rules.specs.Definitions.{constant_entity, define_constants, define_sections, define_types, type_entity};
 ghost use Rattle.cp_rules.specs.Headings.{lent};
 
@@ -72,7 +72,7 @@ fn values<'t>(
 
 impl<'t> Checker<'t> {
     fn define_constant(&mut self, d: &'t ConstantDefinition) -> Result<(), AllocError>
-        ensures { OnOk result (state self.new ≡ after (state self.old) (rules.define_constant (state self.old).env d.now)) }
+        ensures { OnOk result (self.new ≡ after self.old (rules.define_constant self.old.env d.now)) }
     {
         let outside = self.mark();
         self.declare(&d.name, Entity::UnfinishedConstant)?;
@@ -87,7 +87,7 @@ impl<'t> Checker<'t> {
         x: &'t Identifier,
         names: &'t [Identifier],
     ) -> Result<(), AllocError>
-        ensures { OnOk result (state self.new ≡ after (state self.old) (rules.define_enumeration (state self.old).env x.now names.now)) }
+        ensures { OnOk result (self.new ≡ after self.old (rules.define_enumeration self.old.env x.now names.now)) }
     {
         let t = self.environment.type_count();
         let row = enumeration(t, names.len())?;
@@ -102,7 +102,7 @@ impl<'t> Checker<'t> {
     }
 
     fn define_type(&mut self, x: &'t Identifier, t: &'t TypeExpression) -> Result<(), AllocError>
-        ensures { OnOk result (state self.new ≡ after (state self.old) (rules.define_type (state self.old).env x.now (view.type_expression t.now))) }
+        ensures { OnOk result (self.new ≡ after self.old (rules.define_type self.old.env x.now (view.type_expression t.now))) }
     {
         let outside = self.mark();
         self.declare(x, Entity::UnfinishedType)?;
@@ -112,7 +112,7 @@ impl<'t> Checker<'t> {
     }
 
     fn define(&mut self, d: &'t TypeDefinition) -> Result<(), AllocError>
-        ensures { OnOk result (state self.new ≡ after (state self.old) (rules.define_as (state self.old).env d.now.name (view.defined_type d.now.defined))) }
+        ensures { OnOk result (self.new ≡ after self.old (rules.define_as self.old.env d.now.name (view.defined_type d.now.defined))) }
     {
         match &d.defined {
             Defined::Written(t) => self.define_type(&d.name, t),
@@ -122,7 +122,7 @@ impl<'t> Checker<'t> {
     }
 
     fn define_constants(&mut self, list: &'t [ConstantDefinition]) -> Result<(), AllocError>
-        ensures { OnOk result (state self.new ≡ after (state self.old) (define_constants (state self.old).env list.now)) }
+        ensures { OnOk result (self.new ≡ after self.old (define_constants self.old.env list.now)) }
     {
         for d in list {
             self.define_constant(d)?;
@@ -131,7 +131,7 @@ impl<'t> Checker<'t> {
     }
 
     fn define_types(&mut self, list: &'t [TypeDefinition]) -> Result<(), AllocError>
-        ensures { OnOk result (state self.new ≡ after (state self.old) (define_types (state self.old).env (map view.type_definition list.now))) }
+        ensures { OnOk result (self.new ≡ after self.old (define_types self.old.env (map view.type_definition list.now))) }
     {
         for d in list {
             self.define(d)?;
@@ -140,7 +140,7 @@ impl<'t> Checker<'t> {
     }
 
     fn define_section(&mut self, section: &'t Section) -> Result<(), AllocError>
-        ensures { OnOk result (state self.new ≡ after (state self.old) (rules.define_section (state self.old).env (view.section_of section.now))) }
+        ensures { OnOk result (self.new ≡ after self.old (rules.define_section self.old.env (view.section_of section.now))) }
     {
         match section {
             Section::Constants(list) => self.define_constants(list),
@@ -150,7 +150,7 @@ impl<'t> Checker<'t> {
 
     /// Judges the definitions of a text in their order. It fails only when memory runs out.
     pub fn define_sections(&mut self, sections: &'t [Section]) -> Result<(), AllocError>
-        ensures { OnOk result (state self.new ≡ after (state self.old) (define_sections (state self.old).env (map view.section_of sections.now))) }
+        ensures { OnOk result (self.new ≡ after self.old (define_sections self.old.env (map view.section_of sections.now))) }
     {
         for section in sections {
             self.define_section(section)?;

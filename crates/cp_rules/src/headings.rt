@@ -7,7 +7,7 @@ ghost use Rattle.cp_model.specs.RulesDeclarations as d;
 ghost use Rattle.cp_model.specs.RulesJudged.{then_judge};
 ghost use Rattle.cp_model.specs.RulesTypes.{named_type};
 ghost use Rattle.cp_model.specs.View as view;
-ghost use Rattle.cp_rules.specs.Checking.{Judges, first_of, state, telling};
+ghost use Rattle.cp_rules.specs.Checking.{Judges, first_of, telling};
 ghost use Rattle.cp_rules.specs.Declaring.{entity_of_type, words_of_type};
 ghost use Rattle.cp_rules.specs.Headings.{Heads, collected, hidden_group, is_by_reference, nothing, parameter_judged, row_of_type, with_heading, with_names, with_part, words_of_parameter};
 
@@ -136,7 +136,7 @@ impl<'t> Heading<'t> {
 impl<'t> Checker<'t> {
     // C7, C8: the type of a parameter.
     fn parameter(&mut self, of: Option<Sort>, at: usize, t: usize) -> Judged<usize>
-        ensures { Judges (state self.old) (state self.new) result (d.c7_c8_parameter (state self.old).env of at t) }
+        ensures { Judges self.old self.new result (d.c7_c8_parameter self.old.env of at t) }
     {
         let env = &self.environment;
         let allowed = allows_parameter(env, of, env.structure(t));
@@ -150,7 +150,7 @@ impl<'t> Checker<'t> {
     }
 
     fn parameter_type(&mut self, of: Option<Sort>, x: &Identifier) -> Judged<usize>
-        ensures { Judges (state self.old) (state self.new) result (then_judge (named_type (state self.old).env x.now) (d.c7_c8_parameter (state self.old).env of x.now.at)) }
+        ensures { Judges self.old self.new result (then_judge (named_type self.old.env x.now) (d.c7_c8_parameter self.old.env of x.now.at)) }
     {
         let t = self.named_type(x)?;
         self.parameter(of, x.at, t)
@@ -158,7 +158,7 @@ impl<'t> Checker<'t> {
 
     // C7, C11: the word `var`.
     fn judge_var(&mut self, rule: Option<Rule>, at: Option<usize>)
-        ensures { state self.new ≡ telling (state self.old) (d.c7_c11_var rule at) }
+        ensures { self.new ≡ telling self.old (d.c7_c11_var rule at) }
     {
         if let (Some(rule), Some(at)) = (rule, at) {
             self.unless(false, rule, at);
@@ -172,7 +172,7 @@ impl<'t> Checker<'t> {
         is_function: bool,
         group: &'t Parameters,
     ) -> Result<Judged<usize>, AllocError>
-        ensures { IfOk result (λ t. (state self.new ≡ hidden_group (state self.old) of is_function (view.parameters group.now)) × (t ≡ first_of (parameter_judged (state self.old).env of (view.parameters group.now)))) }
+        ensures { IfOk result (λ t. (self.new ≡ hidden_group self.old of is_function (view.parameters group.now)) × (t ≡ first_of (parameter_judged self.old.env of (view.parameters group.now)))) }
     {
         let mark = self.mark();
         self.declare_all(&group.names, UNFINISHED)?;
@@ -191,8 +191,8 @@ impl<'t> Checker<'t> {
         heading: &mut Heading<'t>,
         group: &'t Parameters,
     ) -> Result<(), AllocError>
-        ensures state { OnOk result (state self.new ≡ hidden_group (state self.old) of is_function (view.parameters group.now)) }
-        ensures heading { OnOk result (collected heading.new ≡ with_part (collected heading.old) (d.parameter_group (state self.old).env of is_function (view.parameters group.now))) }
+        ensures state { OnOk result (self.new ≡ hidden_group self.old of is_function (view.parameters group.now)) }
+        ensures heading { OnOk result (collected heading.new ≡ with_part (collected heading.old) (d.parameter_group self.old.env of is_function (view.parameters group.now))) }
     {
         let t = self.group_of_parameters(of, is_function, group)?;
         let by_reference = is_by_reference(of, group);
@@ -210,7 +210,7 @@ impl<'t> Checker<'t> {
         is_function: bool,
         groups: &'t [Parameters],
     ) -> Result<Heading<'t>, AllocError>
-        ensures { IfOk result (λ h. Heads (state self.old) (state self.new) h (d.heading (state self.old).env of is_function (map view.parameters groups.now))) }
+        ensures { IfOk result (λ h. Heads self.old self.new h (d.heading self.old.env of is_function (map view.parameters groups.now))) }
     {
         let mut heading = Heading::new(self.alloc);
         for group in groups {

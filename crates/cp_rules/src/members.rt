@@ -3,7 +3,6 @@
 ghost use Rattle.std.specs.Prelude.{◌≡◌, ◌≤◌, ◌++◌, None, IfOk, OnOk, drop, length, map};
 ghost use Rattle.cp_model.specs.Names.{lookup};
 ghost use Rattle.cp_model.specs.Rules.{routine_member, routine_members};
-ghost use Rattle.cp_rules.specs.Checking.{state};
 
 use crate::checker::Checker;
 use cp_judge::environment::Members;
@@ -28,7 +27,7 @@ fn add_member<'t>(
 impl<'t> Checker<'t> {
     /// The routines among the names that were declared since there were so many. It fails only when memory runs out.
     pub fn routine_members(&self, mark: usize) -> Result<Members<'t>, AllocError>
-        ensures { IfOk result (λ members. members ≡ routine_members (drop mark (state self.now).env.names)) }
+        ensures { IfOk result (λ members. members ≡ routine_members (drop mark self.now.env.names)) }
     {
         let mut members = Members::new(self.alloc);
         let count = self.environment.name_count();

@@ -3,7 +3,7 @@
 ghost use Rattle.std.specs.Prelude.{◌≡◌, [], ◌∷◌};
 ghost use Rattle.cp_model.specs.RulesEnvironment as r;
 ghost use Rattle.cp_model.specs.RulesTypes as types;
-ghost use Rattle.cp_rules.specs.Checking.{Judges, state};
+ghost use Rattle.cp_rules.specs.Checking.{Judges};
 
 use crate::checker::{Checker, Judged};
 use cp_judge::constants::{constant, unfinished_of_other_sort};
@@ -14,21 +14,21 @@ use cp_model::tree::{Constant, Identifier};
 impl<'t> Checker<'t> {
     /// What a name stands for. C1: it isn't visible; what is broken in its declaration was told there.
     pub fn named(&mut self, x: &Identifier) -> Judged<Entity>
-        ensures { Judges (state self.old) (state self.new) result (r.c1_named (state self.old).env x.now) }
+        ensures { Judges self.old self.new result (r.c1_named self.old.env x.now) }
     {
         resolve(&self.environment, &mut self.earliest, x)
     }
 
     /// The base type of a constant and its ordinal.
     pub fn constant(&mut self, c: &Constant) -> Judged<(usize, i32)>
-        ensures { Judges (state self.old) (state self.new) result (types.constant (state self.old).env c.now) }
+        ensures { Judges self.old self.new result (types.constant self.old.env c.now) }
     {
         constant(&self.environment, &mut self.earliest, c)
     }
 
     // C2: a type is wanted, and the name is of another sort. C4: a type inside its own definition.
     fn type_named(&mut self, x: &Identifier, entity: Entity) -> Judged<usize>
-        ensures { Judges (state self.old) (state self.new) result (types.c2_type x.now entity) }
+        ensures { Judges self.old self.new result (types.c2_type x.now entity) }
     {
         match entity {
             Entity::Type(t) => Ok(t),
@@ -41,7 +41,7 @@ impl<'t> Checker<'t> {
 
     /// The type that a name stands for.
     pub fn named_type(&mut self, x: &Identifier) -> Judged<usize>
-        ensures { Judges (state self.old) (state self.new) result (types.named_type (state self.old).env x.now) }
+        ensures { Judges self.old self.new result (types.named_type self.old.env x.now) }
     {
         let entity = self.named(x)?;
         self.type_named(x, entity)

@@ -3,7 +3,7 @@
 ghost use Rattle.std.specs.Prelude.{◌≡◌, suc, nat_eq};
 ghost use Rattle.cp_model.specs.RulesEnvironment as r;
 ghost use Rattle.cp_model.specs.RulesDeclarations as d;
-ghost use Rattle.cp_rules.specs.Checking.{after, state};
+ghost use Rattle.cp_rules.specs.Checking.{after};
 ghost use Rattle.cp_rules.specs.Declaring.{counted_owner, owners_of_type};
 
 use crate::checker::{Checker, Judged};
@@ -31,7 +31,7 @@ fn one_more(count: usize) -> usize
 impl<'t> Checker<'t> {
     // Counts an owner. C13: it is process 256 or monitor 256, or has too many words.
     fn owner(&mut self, x: &Identifier, y: SystemRow)
-        ensures { state self.new ≡ after (state self.old) (counted_owner (state self.old).env y x.now) }
+        ensures { self.new ≡ after self.old (counted_owner self.old.env y x.now) }
     {
         match y.sort {
             Sort::Process => {
@@ -49,7 +49,7 @@ impl<'t> Checker<'t> {
     }
 
     fn owners_of(&mut self, names: &[Identifier], y: SystemRow)
-        ensures { state self.new ≡ after (state self.old) (d.owners_of (state self.old).env y names.now) }
+        ensures { self.new ≡ after self.old (d.owners_of self.old.env y names.now) }
     {
         for x in names {
             self.owner(x, y);
@@ -59,7 +59,7 @@ impl<'t> Checker<'t> {
     /// Counts the processes or monitors that these variables of a type are, where the initial process declares them. C13: one is too
     /// many, or has too many words.
     pub fn owners(&mut self, position: Position, of: Judged<usize>, names: &[Identifier])
-        ensures { state self.new ≡ after (state self.old) (owners_of_type (state self.old).env position of names.now) }
+        ensures { self.new ≡ after self.old (owners_of_type self.old.env position of names.now) }
     {
         if let (Position::InitialVariable, Ok(t)) = (position, of) {
             if let Structure::System(y) = self.environment.structure(t) {

@@ -6,7 +6,7 @@ ghost use Rattle.cp_model.specs.RulesJudged.{meaning_of, provided};
 ghost use Rattle.cp_model.specs.RulesTypes as types;
 ghost use Rattle.cp_model.specs.View as view;
 ghost use Rattle.cp_model.specs.declared.rules.Rule.TheVariants.{C2};
-ghost use Rattle.cp_rules.specs.Checking.{Judges, state};
+ghost use Rattle.cp_rules.specs.Checking.{Judges};
 ghost use Rattle.cp_rules.specs.Outer.{TellsOuter, index_type, is_written_structure, misplaces_queues, placed};
 
 use crate::checker::{Checker, Judged};
@@ -123,7 +123,7 @@ fn misplaces_queues(env: &Environment, position: Position, t: &TypeExpression) -
 impl<'t> Checker<'t> {
     // C6: a system type where none may stand. C8: a type with queues where none may stand.
     fn placed_at(&mut self, position: Position, at: usize, t: usize) -> Judged<usize>
-        ensures { Judges (state self.old) (state self.new) result (types.c6_c8_placed (state self.old).env position at t) }
+        ensures { Judges self.old self.new result (types.c6_c8_placed self.old.env position at t) }
     {
         let env = &self.environment;
         let has_place = allows_structure(env, position, env.structure(t));
@@ -148,7 +148,7 @@ impl<'t> Checker<'t> {
         t: &TypeExpression,
         of: Judged<usize>,
     ) -> Judged<usize>
-        ensures { TellsOuter (state self.old) (state self.new) result (placed (state self.old).env position (view.type_expression t.now) of) }
+        ensures { TellsOuter self.old self.new result (placed self.old.env position (view.type_expression t.now) of) }
     {
         match of {
             Ok(number) => self.placed_at(position, type_at(t), number),
@@ -164,7 +164,7 @@ impl<'t> Checker<'t> {
 
     // C2: an index type isn't simple.
     fn simple(&mut self, at: usize, t: usize) -> Judged<usize>
-        ensures { Judges (state self.old) (state self.new) result (provided (is_simple (state self.old).env t) C2 at t) }
+        ensures { Judges self.old self.new result (provided (is_simple self.old.env t) C2 at t) }
     {
         if self.environment.is_simple(t) {
             Ok(t)
@@ -175,7 +175,7 @@ impl<'t> Checker<'t> {
 
     /// Judges a written index type, which was judged in itself. C2: it isn't simple, also where something is broken inside it.
     pub fn index_type(&mut self, t: &TypeExpression, of: Judged<usize>) -> Judged<usize>
-        ensures { TellsOuter (state self.old) (state self.new) result (index_type (state self.old).env (view.type_expression t.now) of) }
+        ensures { TellsOuter self.old self.new result (index_type self.old.env (view.type_expression t.now) of) }
     {
         match of {
             Ok(number) => self.simple(type_at(t), number),

@@ -4,7 +4,7 @@ ghost use Rattle.std.specs.Prelude.{◌≡◌, ◌∷◌, [], None, IfOk, OnOk, 
 ghost use Rattle.cp_model.specs.RulesJudged.{unless};
 ghost use Rattle.cp_model.specs.RulesTypes.{capped};
 ghost use Rattle.cp_model.specs.declared.rules.Rule.TheVariants.{C1};
-ghost use Rattle.cp_rules.specs.Checking.{state, telling};
+ghost use Rattle.cp_rules.specs.Checking.{telling};
 ghost use Rattle.cp_rules.specs.Outer.{Knows};
 ghost use Rattle.cp_rules.specs.Records.{broken_in, is_new, or_first, record_of, with_field, with_fields, words_if, words_of_member, words_of_members};
 
@@ -96,7 +96,7 @@ impl<'t> Checker<'t> {
         x: &'t Identifier,
         t: usize,
     ) -> Result<(), AllocError>
-        ensures told { OnOk result (state self.new ≡ telling (state self.old) (unless (is_new fields.old.members x.now) C1 x.now.at)) }
+        ensures told { OnOk result (self.new ≡ telling self.old (unless (is_new fields.old.members x.now) C1 x.now.at)) }
         ensures members { OnOk result (fields.new.members ≡ with_field fields.old.members x.now t) }
         ensures first { OnOk result (fields.new.first ≡ or_first fields.old.first (unless (is_new fields.old.members x.now) C1 x.now.at)) }
     {
@@ -114,7 +114,7 @@ impl<'t> Checker<'t> {
         names: &'t [Identifier],
         t: usize,
     ) -> Result<(), AllocError>
-        ensures told { OnOk result (state self.new ≡ telling (state self.old) (with_fields fields.old.members t names.now).violations) }
+        ensures told { OnOk result (self.new ≡ telling self.old (with_fields fields.old.members t names.now).violations) }
         ensures members { OnOk result (fields.new.members ≡ (with_fields fields.old.members t names.now).members) }
         ensures first { OnOk result (fields.new.first ≡ or_first fields.old.first (with_fields fields.old.members t names.now).violations) }
     {
@@ -131,7 +131,7 @@ impl<'t> Checker<'t> {
         at: usize,
         fields: FieldList<'t>,
     ) -> Result<Judged<usize>, AllocError>
-        ensures { IfOk result (λ answer. Knows (state self.old) (state self.new) answer (record_of (state self.old).env at fields.entry.members fields.entry.first)) }
+        ensures { IfOk result (λ answer. Knows self.old self.new answer (record_of self.old.env at fields.entry.members fields.entry.first)) }
     {
         if let Some(violation) = fields.first {
             return Ok(Err(violation));

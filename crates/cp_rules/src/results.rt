@@ -3,7 +3,7 @@
 ghost use Rattle.std.specs.Prelude.{◌≡◌};
 ghost use Rattle.cp_model.specs.RulesDeclarations as d;
 ghost use Rattle.cp_model.specs.RulesEnvironment as r;
-ghost use Rattle.cp_rules.specs.Checking.{Judges, state, telling};
+ghost use Rattle.cp_rules.specs.Checking.{Judges, telling};
 ghost use Rattle.cp_rules.specs.Routines.{JudgesResult, result_judged, returns_of_result, result_words};
 
 use crate::checker::{Checker, Judged};
@@ -53,7 +53,7 @@ pub fn words(answer: Option<Judged<usize>>) -> usize
 impl<'t> Checker<'t> {
     /// C5: the word `entry` in a process type or the initial process.
     pub fn judge_entry(&mut self, sort: Sort, entry: Option<usize>)
-        ensures { state self.new ≡ telling (state self.old) (d.c5_entry sort entry) }
+        ensures { self.new ≡ telling self.old (d.c5_entry sort entry) }
     {
         if let Some(at) = entry {
             self.unless(!is_process(sort), Rule::C5, at);
@@ -62,7 +62,7 @@ impl<'t> Checker<'t> {
 
     // C8: a result with queues. C11: a result that isn't simple.
     fn result(&mut self, at: usize, t: usize) -> Judged<usize>
-        ensures { Judges (state self.old) (state self.new) result (d.c8_c11_result (state self.old).env at t) }
+        ensures { Judges self.old self.new result (d.c8_c11_result self.old.env at t) }
     {
         let is_without_queues = !self.environment.has_queues(t);
         let is_simple = self.environment.is_simple(t);
@@ -79,7 +79,7 @@ impl<'t> Checker<'t> {
     }
 
     fn result_named(&mut self, x: &Identifier) -> Judged<usize>
-        ensures { Judges (state self.old) (state self.new) result (result_judged (state self.old).env x.now) }
+        ensures { Judges self.old self.new result (result_judged self.old.env x.now) }
     {
         let t = self.named_type(x)?;
         self.result(x.at, t)
@@ -87,7 +87,7 @@ impl<'t> Checker<'t> {
 
     /// The result type of a function.
     pub fn result_type(&mut self, name: &Option<Identifier>) -> Option<Judged<usize>>
-        ensures { JudgesResult (state self.old) (state self.new) result (d.result_type (state self.old).env name.now) }
+        ensures { JudgesResult self.old self.new result (d.result_type self.old.env name.now) }
     {
         match name {
             None => None,

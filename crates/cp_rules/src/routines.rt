@@ -5,7 +5,7 @@ ghost use Rattle.cp_model.specs.RulesDeclarations as d;
 ghost use Rattle.cp_model.specs.RulesEnvironment as r;
 ghost use Rattle.cp_model.specs.View as view;
 ghost use Rattle.cp_model.specs.declared.rules.Entity.TheVariants as entities;
-ghost use Rattle.cp_rules.specs.Checking.{after, state};
+ghost use Rattle.cp_rules.specs.Checking.{after};
 ghost use Rattle.cp_rules.specs.Headings.{collected};
 ghost use Rattle.cp_rules.specs.Routines.{HeadsRoutine, JudgesBody, inside, left_routine, locals, row_as};
 
@@ -51,7 +51,7 @@ impl<'t> Checker<'t> {
         sort: Sort,
         routine: &'t Routine,
     ) -> Result<(Heading<'t>, Option<Judged<usize>>), AllocError>
-        ensures { IfOk result (λ p. HeadsRoutine (state self.old) (state self.new) p.0 p.1 sort (view.routine routine.now)) }
+        ensures { IfOk result (λ p. HeadsRoutine self.old self.new p.0 p.1 sort (view.routine routine.now)) }
     {
         let outside = self.mark();
         self.declare(&routine.name, Entity::UnfinishedRoutine(NO_ROUTINE))?;
@@ -71,7 +71,7 @@ impl<'t> Checker<'t> {
         row: RoutineRow,
         heading: &Heading<'t>,
     ) -> Result<usize, AllocError>
-        ensures { IfOk result (λ n. JudgesBody (state self.old) (state self.new) n (locals (inside (state self.old).env sort (view.routine routine.now) row (collected heading.now)) (view.routine routine.now)) (view.body routine.now.body)) }
+        ensures { IfOk result (λ n. JudgesBody self.old self.new n (locals (inside self.old.env sort (view.routine routine.now) row (collected heading.now)) (view.routine routine.now)) (view.body routine.now.body)) }
     {
         let region = Region {
             sort,
@@ -93,7 +93,7 @@ impl<'t> Checker<'t> {
         name: &'t Identifier,
         row: RoutineRow,
     ) -> Result<(), AllocError>
-        ensures { OnOk result (state self.new ≡ left_routine (state self.old) outside region name.now row) }
+        ensures { OnOk result (self.new ≡ left_routine self.old outside region name.now row) }
     {
         self.leave(outside);
         self.environment.stand_in(region);
@@ -103,7 +103,7 @@ impl<'t> Checker<'t> {
 
     /// Declares a routine of a component of this sort, and judges it. It fails only when memory runs out.
     pub fn routine(&mut self, sort: Sort, routine: &'t Routine) -> Result<(), AllocError>
-        ensures { OnOk result (state self.new ≡ after (state self.old) (d.routine (state self.old).env sort (view.routine routine.now))) }
+        ensures { OnOk result (self.new ≡ after self.old (d.routine self.old.env sort (view.routine routine.now))) }
     {
         let outside = self.mark();
         let region = self.environment.region();
@@ -117,7 +117,7 @@ impl<'t> Checker<'t> {
 
     /// Declares routines of a component of this sort, one after another. It fails only when memory runs out.
     pub fn routines(&mut self, sort: Sort, list: &'t [Routine]) -> Result<(), AllocError>
-        ensures { OnOk result (state self.new ≡ after (state self.old) (d.routines (state self.old).env sort (map view.routine list.now))) }
+        ensures { OnOk result (self.new ≡ after self.old (d.routines self.old.env sort (map view.routine list.now))) }
     {
         for routine in list {
             self.routine(sort, routine)?;

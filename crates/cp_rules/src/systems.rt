@@ -4,7 +4,7 @@ ghost use Rattle.std.specs.Prelude.{◌≡◌, ◌+◌, ◌++◌, IfOk, OnOk, le
 ghost use Rattle.cp_model.specs.Rules as rules;
 ghost use Rattle.cp_model.specs.RulesDeclarations as d;
 ghost use Rattle.cp_model.specs.View as view;
-ghost use Rattle.cp_rules.specs.Checking.{after, state, telling};
+ghost use Rattle.cp_rules.specs.Checking.{after, telling};
 ghost use Rattle.cp_rules.specs.Headings.{collected};
 ghost use Rattle.cp_rules.specs.Systems.{HeadsSystem, JudgesParts, added_system, left_system, parts, row_as, words_of};
 
@@ -39,7 +39,7 @@ fn words_of(sort: Sort, count: usize, words: usize, need: usize) -> usize
 impl<'t> Checker<'t> {
     // The heading of a system type, whose name is declared.
     fn system_heading(&mut self, y: &'t System) -> Result<Heading<'t>, AllocError>
-        ensures { IfOk result (λ h. HeadsSystem (state self.old) (state self.new) h (view.system y.now)) }
+        ensures { IfOk result (λ h. HeadsSystem self.old self.new h (view.system y.now)) }
     {
         let outside = self.mark();
         let heading = self.heading(Some(y.sort), false, &y.parameters)?;
@@ -49,7 +49,7 @@ impl<'t> Checker<'t> {
 
     // The variables, the routines and the body of a system type, and the words of its variables.
     fn system_parts(&mut self, y: &'t System, heading: &Heading<'t>) -> Result<usize, AllocError>
-        ensures { IfOk result (λ n. JudgesParts (state self.old) (state self.new) n (parts (state self.old).env (view.system y.now) (collected heading.now))) }
+        ensures { IfOk result (λ n. JudgesParts self.old self.new n (parts self.old.env (view.system y.now) (collected heading.now))) }
     {
         let region = Region {
             sort: y.sort,
@@ -65,7 +65,7 @@ impl<'t> Checker<'t> {
 
     // Adds a system type, and answers the number of the type.
     fn add_system(&mut self, row: SystemRow, members: Members<'t>) -> Result<usize, AllocError>
-        ensures { IfOk result (λ t. (t ≡ length (state self.old).env.types) × (state self.new ≡ record (state self.old) { env = added_system (state self.old).env row members.entry })) }
+        ensures { IfOk result (λ t. (t ≡ length self.old.env.types) × (self.new ≡ record self.old { env = added_system self.old.env row members.entry })) }
     {
         let t = self.environment.type_count();
         let structure = Structure::System(self.environment.system_count());
@@ -88,7 +88,7 @@ impl<'t> Checker<'t> {
         row: SystemRow,
         members: Members<'t>,
     ) -> Result<(), AllocError>
-        ensures { OnOk result (state self.new ≡ left_system (state self.old) outside region name.now row members.entry) }
+        ensures { OnOk result (self.new ≡ left_system self.old outside region name.now row members.entry) }
     {
         self.leave(outside);
         self.environment.stand_in(region);
@@ -98,7 +98,7 @@ impl<'t> Checker<'t> {
 
     // The row of a system type whose parts were judged.
     fn system_row(&self, y: &System, first: usize, count: usize, words: usize) -> SystemRow
-        ensures { result ≡ row_as (state self.now).env (view.system y.now) first count words }
+        ensures { result ≡ row_as self.now.env (view.system y.now) first count words }
     {
         let need = self.need(&y.body.statements);
         SystemRow {
@@ -113,7 +113,7 @@ impl<'t> Checker<'t> {
 
     /// Defines a system type, and judges its parts. It fails only when memory runs out.
     pub fn define_system(&mut self, x: &'t Identifier, y: &'t System) -> Result<(), AllocError>
-        ensures { OnOk result (state self.new ≡ after (state self.old) (rules.define_system (state self.old).env x.now (view.system y.now))) }
+        ensures { OnOk result (self.new ≡ after self.old (rules.define_system self.old.env x.now (view.system y.now))) }
     {
         let outside = self.mark();
         let region = self.environment.region();

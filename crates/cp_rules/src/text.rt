@@ -5,7 +5,6 @@ ghost use Rattle.cp_model.specs.RulesJudged.{least};
 ghost use Rattle.cp_model.specs.RulesStatements as st;
 ghost use Rattle.cp_model.specs.RulesTypes as ty;
 ghost use Rattle.cp_model.specs.View as view;
-ghost use Rattle.cp_rules.specs.Checking.{state};
 ghost use Rattle.cp_rules.specs.Texts.{Judges, body_violations, judged_text};
 ghost use Rattle.cp_rules.specs.Checking.{telling};
 
@@ -30,7 +29,7 @@ pub enum Refusal {
 impl<'t> Checker<'t> {
     // The earliest violation in statements alone.
     fn violation_in(&self, list: &[Statement]) -> Result<Option<Violation>, AllocError>
-        ensures { IfOk result (λ v. v ≡ least None (st.statements (state self.now).env (view.statements_of (map view.statement list.now)))) }
+        ensures { IfOk result (λ v. v ≡ least None (st.statements self.now.env (view.statements_of (map view.statement list.now)))) }
     {
         let mut inside = None;
         statements(&self.environment, self.alloc, &mut inside, list)?;
@@ -40,7 +39,7 @@ impl<'t> Checker<'t> {
     // The body of the initial process, whose variables have so many words. C13, that it has too many words, is judged only where
     // nothing is broken in the body.
     fn initial_body(&mut self, words: usize, body: &Body) -> Result<(), AllocError>
-        ensures { (n : ℕ) → words ≡ ty.capped n → OnOk result (state self.new ≡ telling (state self.old) (body_violations (state self.old).env n (view.body body.now))) }
+        ensures { (n : ℕ) → words ≡ ty.capped n → OnOk result (self.new ≡ telling self.old (body_violations self.old.env n (view.body body.now))) }
     {
         match self.violation_in(&body.statements)? {
             Some(violation) => tell(&mut self.earliest, violation),
@@ -54,7 +53,7 @@ impl<'t> Checker<'t> {
     }
 
     fn text(alloc: Global, tree: &'t Tree) -> Result<Checker<'t>, AllocError>
-        ensures { IfOk result (λ c. state c ≡ judged_text (view.tree tree.now)) }
+        ensures { IfOk result (λ c. c ≡ judged_text (view.tree tree.now)) }
     {
         let mut checker = Checker::new(alloc)?;
         checker.define_sections(&tree.sections)?;

@@ -5,7 +5,7 @@ ghost use Rattle.cp_model.specs.RulesEnvironment as r;
 ghost use Rattle.cp_model.specs.RulesTypes.{capped};
 ghost use Rattle.cp_model.specs.RulesDeclarations as d;
 ghost use Rattle.cp_model.specs.View as view;
-ghost use Rattle.cp_rules.specs.Checking.{after, state};
+ghost use Rattle.cp_rules.specs.Checking.{after};
 ghost use Rattle.cp_rules.specs.Declaring.{Declares, entity_of_type, group_type, left_group, words_of_type};
 
 use crate::checker::{Checker, Judged};
@@ -69,7 +69,7 @@ impl<'t> Checker<'t> {
         position: Position,
         group: &'t Fields,
     ) -> Result<Judged<usize>, AllocError>
-        ensures { IfOk result (λ of. (state self.new ≡ left_group (state self.old) position (view.variables group.now)) × (of ≡ group_type (state self.old).env position (view.variables group.now))) }
+        ensures { IfOk result (λ of. (self.new ≡ left_group self.old position (view.variables group.now)) × (of ≡ group_type self.old.env position (view.variables group.now))) }
     {
         let mark = self.mark();
         self.declare_all(&group.names, UNFINISHED)?;
@@ -80,7 +80,7 @@ impl<'t> Checker<'t> {
 
     // Variables of one type, and their words.
     fn variable_group(&mut self, position: Position, group: &'t Fields) -> Result<usize, AllocError>
-        ensures { IfOk result (λ n. Declares (state self.old) (state self.new) n (d.variable_group (state self.old).env position (view.variables group.now))) }
+        ensures { IfOk result (λ n. Declares self.old self.new n (d.variable_group self.old.env position (view.variables group.now))) }
     {
         let of = self.group_type(position, group)?;
         let each = words(&self.environment, of);
@@ -96,7 +96,7 @@ impl<'t> Checker<'t> {
         position: Position,
         groups: &'t [Fields],
     ) -> Result<usize, AllocError>
-        ensures { IfOk result (λ n. Declares (state self.old) (state self.new) n (d.variables (state self.old).env position (map view.variables groups.now))) }
+        ensures { IfOk result (λ n. Declares self.old self.new n (d.variables self.old.env position (map view.variables groups.now))) }
     {
         let mut words = 0;
         for group in groups {

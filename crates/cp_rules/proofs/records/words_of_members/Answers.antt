@@ -1,4 +1,4 @@
-use Rattle.std.proofs.Common.{◌+◌, ℕ, drop, map, slice_get, refl, ap, sym, ◌∙◌}
+use Rattle.std.proofs.Common.{◌+◌, ℕ, drop, slice_get, refl, ap, sym, ◌∙◌}
 use Rattle.cp_model.specs.RulesTypes.{capped}
 use Rattle.cp_rules.specs.Records.{words_if, words_of_members}
 use Rattle.cp_rules.proofs.CappedWords.{capped_most, capped_next}

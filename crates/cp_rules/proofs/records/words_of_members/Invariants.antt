@@ -1,4 +1,4 @@
-use Rattle.std.proofs.Common.{◌≡◌, ◌≤◌, ◌+◌, drop, map}
+use Rattle.std.proofs.Common.{◌≡◌, ◌≤◌, ◌+◌, drop}
 use Rattle.cp_model.specs.RulesTypes.{capped}
 use Rattle.cp_rules.specs.Records.{words_of_members}
 use Rattle.cp_rules.proofs.records.words_of_members.Given as goal

@@ -6,4 +6,6 @@ use Rattle.cp_rules.proofs.text.judge.Goals as goal
 
 pub returns : goal.returns
 returns c =
-    (none_told (view.tree c.args.tree.now) (sym (ap (λ (z : State). z.told) c.in-Ok.ensures) ∙ c.in-None.is), ap (λ (z : State). z.env) c.in-Ok.ensures)
+    let told = ap (λ (z : State). z.told) (c.checker.view_is ∙ c.in-Ok.ensures) in
+    let env = ap (λ (z : State). z.env) (c.checker.view_is ∙ c.in-Ok.ensures) in
+    (none_told (view.tree c.args.tree.now) (sym told ∙ c.in-None.is), env)

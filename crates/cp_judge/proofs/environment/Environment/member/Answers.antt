@@ -1,4 +1,4 @@
-use Rattle.std.proofs.Common.{◌≡◌, get_or, [], ◌∙◌, sym, ap}
+use Rattle.std.proofs.Common.{get_or, [], ◌∙◌, ap}
 use Rattle.cp_model.specs.Names.{lookup}
 use Rattle.cp_model.specs.RulesEnvironment as r
 use Rattle.cp_judge.proofs.environment.Environment.member.Goals as goal

@@ -1,9 +1,9 @@
-use Rattle.std.proofs.Common.{◌≡◌, ◌++◌, ◌∷◌, [], ℕ, None, Some, length, map, ap, sym, subst, ◌∙◌}
+use Rattle.std.proofs.Common.{◌≡◌, ◌++◌, ◌∷◌, [], None, Some, length, map, ap, sym, subst, ◌∙◌}
 use Rattle.std.proofs.lemmas.List.{map-append}
 use Rattle.std.proofs.lemmas.Map.Text.{btree_map_updates_str}
 use Rattle.cp_model.specs.Names.{lookup}
 use Rattle.cp_model.specs.RulesEnvironment.{Text}
-use Rattle.cp_names.specs.Tables.{AreDistinct, IsIndex, number_of, seen}
+use Rattle.cp_names.specs.Tables.{AreDistinct, IsIndex, seen}
 use Rattle.cp_names.proofs.Numbers.{no_number}
 use Rattle.cp_names.proofs.Index.{ChangesAt, index_more}
 use Rattle.cp_names.proofs.Distinct.{distinct_more}

@@ -1,5 +1,4 @@
 use Rattle.std.proofs.Common.{map, ap, sym, ◌∙◌}
-use Rattle.cp_model.specs.Names.{lookup}
 use Rattle.cp_names.specs.Tables.{number_of, seen, value_at}
 use Rattle.cp_names.proofs.Numbers.{lookup_by_number}
 use Rattle.cp_names.proofs.table.NameTable.find.Goals as goal

@@ -1,8 +1,8 @@
-use Rattle.std.proofs.Common.{◌≡◌, ◌++◌, ◌∷◌, [], None, Some, length, map, ap, sym, subst, ◌∙◌}
+use Rattle.std.proofs.Common.{◌≡◌, ◌++◌, ◌∷◌, [], None, map, ap, subst, ◌∙◌}
 use Rattle.std.proofs.lemmas.List.{map-append}
 use Rattle.std.proofs.lemmas.Map.Text.{btree_map_updates_str}
 use Rattle.cp_model.specs.RulesEnvironment.{Text}
-use Rattle.cp_names.specs.Tables.{AreDistinct, IsIndex, number_of, seen}
+use Rattle.cp_names.specs.Tables.{AreDistinct, IsIndex, seen}
 use Rattle.cp_names.proofs.Index.{ChangesAt, index_less}
 use Rattle.cp_names.proofs.Distinct.{distinct_less}
 use Rattle.cp_names.proofs.table.NameTable.remove_last.Goals as goal

@@ -5,7 +5,7 @@ use Rattle.cp_model.specs.RulesJudged.{both}
 use Rattle.cp_model.specs.RulesTypes as ty
 use Rattle.cp_model.specs.View as view
 use Rattle.cp_model.specs.declared.tree.Fields.{Fields}
-use Rattle.cp_rules.specs.Checking.{first_of, state}
+use Rattle.cp_rules.specs.Checking.{first_of}
 use Rattle.cp_rules.specs.Records as records
 use Rattle.cp_rules.specs.Records.{or_first}
 use Rattle.cp_rules.specs.Types.{with_groups, with_indices}
@@ -19,12 +19,12 @@ use Rattle.cp_rules.proofs.checker.Checker.+types.Goals as goal
 
 pub type_of-returns-in-Subrange : goal.type_of-returns-in-Subrange
 type_of-returns-in-Subrange t c =
-    let old = state c.args.self.now in
+    let old = c.args.self.now in
     let low = c.in-Subrange.low in
     let high = c.in-Subrange.high in
     let v : view.type_expression c.args.t.now ≡ s.Subrange low high = rw c.in-Subrange.is (view_subrange low high) in
     if_ok c.made.result
-    (λ of known. rw v (row_made old (state c.subrange-row.new.self) (state c.made.new.self)
+    (λ of known. rw v (row_made old c.subrange-row.new.self c.made.new.self
     (both (ty.constant old.env low) (ty.constant old.env high) (ty.c2_c3_subrange (ty.constant_at high))) c.subrange-row.result of c.subrange-row.ensures known))
     c.made.ensures
 
@@ -38,7 +38,7 @@ type_of-returns-in_ok-of-in-Array t c =
     let element = rw c.deref-in-Array.ensures at c.in_ok-of-in-Array.ensures in
     let placed = rw c.deref-in-Array-2.ensures at c.placed-of.ensures in
     if_ok c.arrays.result
-    (λ answer known. rw v (array_made (state c.args.self.now) (state c.index_types.new.self) (state c.type_of.new.self) (state c.placed-of.new.self) (state c.arrays.new.self)
+    (λ answer known. rw v (array_made c.args.self.now c.index_types.new.self c.type_of.new.self c.placed-of.new.self c.arrays.new.self
     at is e c.in_ok-indices-in-Array.indices.items c.in_ok-of-in-Array.of c.placed-of.result answer indices element placed known))
     c.arrays.ensures
 
@@ -46,28 +46,28 @@ pub index_types-loop-t-preserved : goal.index_types-loop-t-preserved
 index_types-loop-t-preserved t c =
     let all = c.args.list.now in
     let i = c.loop-t.t-index in
-    let old = state c.loop-t.self in
+    let old = c.loop-t.self in
     let one = view.type_expression c.t-item.result in
     let rest = view.types_of (map view.type_expression (drop (i + 1) all)) in
     let step : view.types_of (map view.type_expression (drop i all)) ≡ s.MoreTypes one rest =
     at_drop_more (λ ts. view.types_of (map view.type_expression ts)) all i c.t-item.result c.loop-t-test.true
     ∙ ap (λ f. view.types_of (map view.type_expression (f ∷ drop (i + 1) all))) (sym c.t-item.is) in
-    let made = indices_made old (state c.type_of.new.self) (state c.index_type.new.self) one rest c.in_ok-of.of c.index_type.result c.in_ok-of.ensures c.index_type.ensures in
-    let answers = indices_answers old (state c.type_of.new.self) (state c.index_type.new.self) one rest c.in_ok-of.of c.index_type.result c.in_ok-of.ensures c.index_type.ensures in
+    let made = indices_made old c.type_of.new.self c.index_type.new.self one rest c.in_ok-of.of c.index_type.result c.in_ok-of.ensures c.index_type.ensures in
+    let answers = indices_answers old c.type_of.new.self c.index_type.new.self one rest c.in_ok-of.of c.index_type.result c.in_ok-of.ensures c.index_type.ensures in
     record {
       made = made ∙ sym (ap (λ ts. with_indices old (ty.index_types old.env ts)) step) ∙ c.loop-t.invariant.made;
-      answers = ap (λ rs. rs ++ map first_of (ty.index_types (state c.index_type.new.self).env rest).of) c.in_ok-push.ensures.items
+      answers = ap (λ rs. rs ++ map first_of (ty.index_types c.index_type.new.self.env rest).of) c.in_ok-push.ensures.items
           ∙ answers c.loop-t.answers.items ∙ sym (ap (λ ts. c.loop-t.answers.items ++ map first_of (ty.index_types old.env ts).of) step)
           ∙ c.loop-t.invariant.answers;
     }
 
 added : (t : ℕ) (c : goal.field_group-After-note t)
     → let g : s.Variables = record { names = c.args.group.now.names.items; of = view.type_expression c.args.group.now.of } in
-    Added (state c.args.self.now) (state c.add_fields.new.self) g c.args.fields.now.members c.note.new.self.members
+    Added c.args.self.now c.add_fields.new.self g c.args.fields.now.members c.note.new.self.members
     c.args.fields.now.first c.note.new.self.first
 added t c =
     let g : s.Variables = record { names = c.args.group.now.names.items; of = view.type_expression c.args.group.now.of } in
-    group_added (state c.args.self.now) (state c.type_of.new.self) (state c.placed-of.new.self) (state c.add_fields.new.self) g
+    group_added c.args.self.now c.type_of.new.self c.placed-of.new.self c.add_fields.new.self g
     c.args.fields.now.members c.note.new.self.members c.args.fields.now.first c.add_fields.new.fields.first c.note.new.self.first
     c.in_ok-of.of c.placed-of.result c.number_or_any.result c.in_ok-of.ensures c.placed-of.ensures c.number_or_any.ensures
     (rw c.deref.ensures.value at c.in_ok-add_fields.ensures.told)
@@ -87,8 +87,8 @@ pub record_type-loop-group-preserved : goal.record_type-loop-group-preserved
 record_type-loop-group-preserved t c =
     let all = c.args.groups.now in
     let i = c.loop-group.group-index in
-    let old = state c.loop-group.self in
-    let new = state c.field_group.new.self in
+    let old = c.loop-group.self in
+    let new = c.field_group.new.self in
     let ms = c.loop-group.fields.members in
     let ns = c.field_group.new.fields.members in
     let g = view.variables c.group-item.result in
@@ -113,12 +113,12 @@ pub record_type-returns : goal.record_type-returns
 record_type-returns t c =
     let all = c.args.groups.now in
     let i = c.loop-group.group-index in
-    let old = state c.loop-group.self in
+    let old = c.loop-group.self in
     let ms = c.loop-group.fields.members in
     let none = drop_all i all c.loop-group-test.false in
     let rest = λ (gs : List Fields). records.groups old.env ms (map view.variables gs) in
     if_ok c.made_record.result
-    (λ answer known. record_made (state c.args.self.now) old (state c.made_record.new.self) c.args.at (map view.variables all) ms c.loop-group.fields.first answer
+    (λ answer known. record_made c.args.self.now old c.made_record.new.self c.args.at (map view.variables all) ms c.loop-group.fields.first answer
     (sym (ap (λ (gs : List Fields). with_groups old (rest gs)) none) ∙ c.loop-group.invariant.made)
     (sym (ap (λ (gs : List Fields). (rest gs).members) none) ∙ c.loop-group.invariant.members)
     (sym (ap (λ (gs : List Fields). or_first c.loop-group.fields.first (rest gs).violations) none ∙ or_nothing c.loop-group.fields.first) ∙ c.loop-group.invariant.first) known)

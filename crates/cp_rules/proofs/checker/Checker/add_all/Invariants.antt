@@ -1,13 +1,12 @@
 use Rattle.std.proofs.Common.{◌≡◌, drop}
 use Rattle.cp_model.specs.RulesDeclarations as d
-use Rattle.cp_rules.specs.Checking.{state}
 use Rattle.cp_rules.proofs.checker.Checker.add_all.Given as goal
 
 -- what the rest adds, is what all do
 abbrev pub invariant-loop-x : goal.invariant-loop-x
 invariant-loop-x l =
-    let now = state l.self in
-    let before = state l.fn.self in
+    let now = l.self in
+    let before = l.fn.self in
     record {
       env : (d.declare_all now.env l.entity (drop l.x-index l.names)).env ≡ (d.declare_all before.env l.fn.entity l.fn.names).env;
       told : now.told ≡ before.told;

@@ -1,11 +1,11 @@
 use Rattle.std.proofs.Common.{◌≡◌, drop}
-use Rattle.cp_rules.specs.Checking.{after, state}
+use Rattle.cp_rules.specs.Checking.{after}
 use Rattle.cp_rules.specs.Definitions.{define_constants}
 use Rattle.cp_rules.proofs.checker.Checker.define_constants.Given as goal
 
 -- what the rest defines and tells, is what all do
 abbrev pub invariant-loop-d : goal.invariant-loop-d
 invariant-loop-d l =
-    let now = state l.self in
-    let before = state l.fn.self in
+    let now = l.self in
+    let before = l.fn.self in
     after now (define_constants now.env (drop l.d-index l.list)) ≡ after before (define_constants before.env l.fn.list)

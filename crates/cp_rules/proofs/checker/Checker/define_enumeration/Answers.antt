@@ -2,23 +2,23 @@ use Rattle.std.proofs.Common.{◌≡◌, ◌-◌, length, pos, rules, ap, ◌∙
 use Rattle.cp_model.specs.RulesEnvironment.{simple_row}
 use Rattle.cp_model.specs.RulesTypes.{add_type}
 use Rattle.cp_judge.proofs.Tells.{on_ok}
-use Rattle.cp_rules.specs.Checking.{State, state}
+use Rattle.cp_rules.specs.Checking.{State}
 use Rattle.cp_rules.proofs.Defining.{enumeration_defined}
 use Rattle.cp_rules.proofs.checker.Checker.define_enumeration.Goals as goal
 
 pub returns : goal.returns
 returns c =
-    let old = state c.args.self.now in
+    let old = c.args.self.now in
     let t = c.type_count-t.result in
     let number : t ≡ length old.env.types = search rules in
-    let made : state c.add_type.new.self ≡ record old { env = add_type old.env (simple_row t (pos 0) (pos (length c.args.names.now - 1))) } =
+    let made : c.add_type.new.self ≡ record old { env = add_type old.env (simple_row t (pos 0) (pos (length c.args.names.now - 1))) } =
     c.in_ok-add_type.ensures.1
     ∙ ap (λ row. let st : State = record old { env = add_type old.env row } in st)
     c.in_ok-row.ensures in
     let valued = rw (c.deref.ensures.value, c.in_ok-values.ensures) at c.in_ok-declare_each.ensures in
     let shown = rw (c.deref-2.ensures.value, c.in_ok-values.ensures) at c.add_each.ensures in
     on_ok c.add_each.result
-    (λ shown. enumeration_defined old (state c.add_type.new.self) (state c.declare.new.self) (state c.declare_each.new.self) (state c.leave.new.self)
-    (state c.add.new.self) (state c.add_each.new.self) c.args.x.now c.args.names.now t c.mark-outside.result
+    (λ shown. enumeration_defined old c.add_type.new.self c.declare.new.self c.declare_each.new.self c.leave.new.self
+    c.add.new.self c.add_each.new.self c.args.x.now c.args.names.now t c.mark-outside.result
     number made c.mark-outside.ensures c.in_ok-declare.ensures valued c.leave.ensures c.in_ok-add.ensures shown)
     shown

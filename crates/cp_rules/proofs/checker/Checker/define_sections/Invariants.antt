@@ -1,12 +1,12 @@
 use Rattle.std.proofs.Common.{◌≡◌, drop, map}
 use Rattle.cp_model.specs.View as view
-use Rattle.cp_rules.specs.Checking.{after, state}
+use Rattle.cp_rules.specs.Checking.{after}
 use Rattle.cp_rules.specs.Definitions.{define_sections}
 use Rattle.cp_rules.proofs.checker.Checker.define_sections.Given as goal
 
 -- what the rest defines and tells, is what all do
 abbrev pub invariant-loop-section : goal.invariant-loop-section
 invariant-loop-section l =
-    let now = state l.self in
-    let before = state l.fn.self in
+    let now = l.self in
+    let before = l.fn.self in
     after now (define_sections now.env (map view.section_of (drop l.section-index l.sections))) ≡ after before (define_sections before.env (map view.section_of l.fn.sections))

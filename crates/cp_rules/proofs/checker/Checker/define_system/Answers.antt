@@ -1,20 +1,21 @@
-use Rattle.std.proofs.Common.{◌≡◌, length, map, rules}
+use Rattle.std.proofs.Common.{◌≡◌, ap, length, rules}
 use Rattle.cp_model.specs.View as view
 use Rattle.cp_judge.proofs.Tells.{on_ok}
-use Rattle.cp_rules.specs.Checking.{state}
+use Rattle.cp_rules.specs.Checking.{State}
 use Rattle.cp_rules.proofs.SystemParts.{system_defined}
 use Rattle.cp_rules.proofs.checker.Checker.define_system.Goals as goal
 
 pub returns : goal.returns
 returns c =
     let y = view.system c.args.y.now in
-    let first : c.parameter_count-first.result ≡ length c.system_heading.new.self.environment.parameters = search rules in
+    let first : c.parameter_count-first.result ≡ length c.system_heading.new.self.env.parameters = search rules in
     let count : c.len.result ≡ length c.in_ok-heading.heading.rows.items = search rules in
+    let opened = ap (λ (z : State). z.env) c.self.view_is in
     on_ok c.leave_system.result
-    (λ left. system_defined (state c.args.self.now) c.args.x.now y
-    (state c.declare.new.self) (state c.system_heading.new.self) (state c.system_parts.new.self) (state c.leave_system.new.self)
+    (λ left. system_defined c.args.self.now c.args.x.now y
+    c.declare.new.self c.system_heading.new.self c.system_parts.new.self c.leave_system.new.self
     c.in_ok-heading.heading c.system_row-row.result c.in_ok-members.members
     c.mark-outside.result c.mark-inside.result c.parameter_count-first.result c.len.result c.in_ok-words.words
     c.mark-outside.ensures c.in_ok-declare.ensures c.mark-inside.ensures c.in_ok-heading.ensures first count c.in_ok-words.ensures
     c.system_row-row.ensures c.in_ok-members.ensures left)
-    (rw c.region-region.ensures at c.leave_system.ensures)
+    (rw (c.region-region.ensures, opened) at c.leave_system.ensures)

@@ -1,12 +1,12 @@
 use Rattle.std.proofs.Common.{◌≡◌, drop, map}
 use Rattle.cp_model.specs.View as view
-use Rattle.cp_rules.specs.Checking.{after, state}
+use Rattle.cp_rules.specs.Checking.{after}
 use Rattle.cp_rules.specs.Definitions.{define_types}
 use Rattle.cp_rules.proofs.checker.Checker.define_types.Given as goal
 
 -- what the rest defines and tells, is what all do
 abbrev pub invariant-loop-d : goal.invariant-loop-d
 invariant-loop-d l =
-    let now = state l.self in
-    let before = state l.fn.self in
+    let now = l.self in
+    let before = l.fn.self in
     after now (define_types now.env (map view.type_definition (drop l.d-index l.list))) ≡ after before (define_types before.env (map view.type_definition l.fn.list))

@@ -2,7 +2,6 @@ use Rattle.std.proofs.Common.{◌≡◌, ◌+◌, ◌∷◌, List, drop, map, ap
 use Rattle.std.proofs.lemmas.List.{at_drop_more, drop_all}
 use Rattle.cp_model.specs.RulesDeclarations as d
 use Rattle.cp_model.specs.View as view
-use Rattle.cp_rules.specs.Checking.{state}
 use Rattle.cp_rules.specs.Headings.{Collected, collected, with_heading, with_part}
 use Rattle.cp_rules.proofs.HeadingGroups.{end_collected, rest_collected, rest_judged}
 use Rattle.cp_rules.proofs.checker.Checker.heading.Goals as goal
@@ -11,8 +10,8 @@ pub loop-group-preserved : goal.loop-group-preserved
 loop-group-preserved c =
     let all = c.args.groups.now in
     let i = c.loop-group.group-index in
-    let old = state c.loop-group.self in
-    let new = state c.parameter_group.new.self in
+    let old = c.loop-group.self in
+    let new = c.parameter_group.new.self in
     let g = view.parameters c.group-item.result in
     let gs = map view.parameters (drop (i + 1) all) in
     let step : map view.parameters (drop i all) ≡ g ∷ gs =
@@ -32,7 +31,7 @@ pub returns : goal.returns
 returns c =
     let all = c.args.groups.now in
     let i = c.loop-group.group-index in
-    let old = state c.loop-group.self in
+    let old = c.loop-group.self in
     let none = drop_all i all c.loop-group-test.false in
     let rest = λ (gs : List _). d.heading old.env c.args.of c.args.is_function (map view.parameters gs) in (
       sym (ap (λ (gs : List _). with_heading old (rest gs)) none) ∙ c.loop-group.invariant.judged,

@@ -1,15 +1,14 @@
 use Rattle.std.proofs.Common.{◌≡◌, ◌≤◌, drop, map}
 use Rattle.cp_model.specs.RulesDeclarations as d
 use Rattle.cp_model.specs.View as view
-use Rattle.cp_rules.specs.Checking.{state}
 use Rattle.cp_rules.specs.Headings.{collected, nothing, with_heading, with_part}
 use Rattle.cp_rules.proofs.checker.Checker.heading.Given as goal
 
 -- with the rest of the groups it is what it is with all
 abbrev pub invariant-loop-group : goal.invariant-loop-group
 invariant-loop-group l =
-    let now = state l.self in
-    let before = state l.fn.self in
+    let now = l.self in
+    let before = l.fn.self in
     let rest = d.heading now.env l.of l.is_function (map view.parameters (drop l.group-index l.groups)) in
     let all = d.heading before.env l.fn.of l.fn.is_function (map view.parameters l.fn.groups) in
     record {

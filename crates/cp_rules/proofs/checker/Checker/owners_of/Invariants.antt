@@ -1,11 +1,11 @@
 use Rattle.std.proofs.Common.{◌≡◌, drop}
 use Rattle.cp_model.specs.RulesDeclarations as d
-use Rattle.cp_rules.specs.Checking.{after, state}
+use Rattle.cp_rules.specs.Checking.{after}
 use Rattle.cp_rules.proofs.checker.Checker.owners_of.Given as goal
 
 -- what the rest makes and tells, is what all do
 abbrev pub invariant-loop-x : goal.invariant-loop-x
 invariant-loop-x l =
-    let now = state l.self in
-    let before = state l.fn.self in
+    let now = l.self in
+    let before = l.fn.self in
     after now (d.owners_of now.env l.y (drop l.x-index l.names)) ≡ after before (d.owners_of before.env l.fn.y l.fn.names)

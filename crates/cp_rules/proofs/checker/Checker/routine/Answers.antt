@@ -1,20 +1,21 @@
 use Rattle.std.proofs.Common.{◌≡◌, ◌+◌, ℕ, length, rules, ap, ◌∙◌}
 use Rattle.cp_model.specs.RulesTypes.{capped}
 use Rattle.cp_model.specs.View as view
-use Rattle.cp_rules.specs.Checking.{state}
+use Rattle.cp_rules.specs.Checking.{State}
 use Rattle.cp_rules.proofs.RoutineParts.{routine_declared}
 use Rattle.cp_judge.proofs.Tells.{on_ok}
 use Rattle.cp_rules.proofs.checker.Checker.routine.Goals as goal
 
 pub returns : goal.returns
 returns c =
-    let old = state c.args.self.now in
+    let old = c.args.self.now in
     let routine = view.routine c.args.routine.now in
-    let first : c.parameter_count-first.result ≡ length c.routine_heading.new.self.environment.parameters = search rules in
+    let first : c.parameter_count-first.result ≡ length c.routine_heading.new.self.env.parameters = search rules in
     let count : c.len.result ≡ length c.in_ok-heading.heading.rows.items = search rules in
     let needed = c.sum-2.ensures ∙ ap (λ (n : ℕ). capped (n + c.in_ok-inside.inside)) c.sum.ensures in
+    let opened = ap (λ (z : State). z.env) c.self.view_is in
     on_ok c.leave_routine.result
-    (λ left. routine_declared old c.args.sort routine (state c.routine_heading.new.self) (state c.routine_body.new.self) (state c.leave_routine.new.self)
+    (λ left. routine_declared old c.args.sort routine c.routine_heading.new.self c.routine_body.new.self c.leave_routine.new.self
     c.in_ok-heading.heading c.in_ok-heading.answer c.row-row.result c.mark-outside.result c.parameter_count-first.result c.len.result c.words.result c.in_ok-inside.inside c.sum-2.result
     c.mark-outside.ensures c.in_ok-heading.ensures first count c.row-row.ensures c.in_ok-inside.ensures c.words.ensures needed left)
-    (rw c.region-region.ensures at c.leave_routine.ensures)
+    (rw (c.region-region.ensures, opened) at c.leave_routine.ensures)

@@ -3,7 +3,7 @@ use Rattle.cp_model.specs.RulesDeclarations as d
 use Rattle.cp_model.specs.RulesEnvironment as r
 use Rattle.cp_model.specs.View as view
 use Rattle.cp_model.specs.declared.rules.Entity.TheVariants as entity
-use Rattle.cp_rules.specs.Checking.{State, state}
+use Rattle.cp_rules.specs.Checking.{State}
 use Rattle.cp_rules.specs.Headings.{collected}
 use Rattle.cp_rules.specs.Routines.{entered, inside, region_of}
 use Rattle.cp_rules.proofs.RoutineParts.{body_judged}
@@ -11,19 +11,19 @@ use Rattle.cp_rules.proofs.checker.Checker.routine_body.Goals as goal
 
 pub returns : goal.returns
 returns c =
-    let old = state c.args.self.now in
+    let old = c.args.self.now in
     let y = c.args.sort in
     let routine = view.routine c.args.routine.now in
     let k = collected c.args.heading.now in
-    let entering : state c.enter.new.self ≡ record old { env = entered old.env k.rows (region_of y routine) } =
+    let entering : c.enter.new.self ≡ record old { env = entered old.env k.rows (region_of y routine) } =
     rw (c.part.ensures, c.deref.ensures.value) at c.in_ok-enter.ensures in
-    let named : state c.add.new.self ≡ record old { env = r.declare routine.name (entity.UnfinishedRoutine c.args.row) (entered old.env k.rows (region_of y routine)) } =
+    let named : c.add.new.self ≡ record old { env = r.declare routine.name (entity.UnfinishedRoutine c.args.row) (entered old.env k.rows (region_of y routine)) } =
     c.in_ok-add.ensures
     ∙ ap (λ (z : State). let st : State = record z { env = r.declare routine.name (entity.UnfinishedRoutine c.args.row) z.env } in st) entering in
-    let within : state c.add_each.new.self ≡ record old { env = inside old.env y routine c.args.row k } =
+    let within : c.add_each.new.self ≡ record old { env = inside old.env y routine c.args.row k } =
     rw c.deref-2.ensures.value at c.in_ok-add_each.ensures
     ∙ ap (λ (z : State). let st : State = record z { env = (d.declare_each z.env k.bound).env } in st) named in
-    body_judged old y routine k c.args.row old old (state c.add_each.new.self) (state c.variables.new.self) (state c.statements.new.self)
+    body_judged old y routine k c.args.row old old c.add_each.new.self c.variables.new.self c.statements.new.self
     c.in_ok-words.words c.need.result c.sum.result
     within (rw c.deref-3.ensures.value at c.in_ok-words.ensures) (rw c.deref-4.ensures.value at c.in_ok-statements.ensures)
     (rw c.deref-5.ensures.value at c.need.ensures) c.sum.ensures

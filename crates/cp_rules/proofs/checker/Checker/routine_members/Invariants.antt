@@ -1,4 +1,4 @@
-use Rattle.std.proofs.Common.{◌≡◌, ◌≤◌, ◌++◌, ℕ, None, Some, drop, map, slice_get}
+use Rattle.std.proofs.Common.{◌≡◌, ◌≤◌, ◌++◌, ℕ, None, Some, drop, slice_get}
 use Rattle.cp_model.specs.Names.{lookup}
 use Rattle.cp_model.specs.Rules.{routine_members}
 use Rattle.cp_model.specs.RulesEnvironment.{Text}
@@ -8,7 +8,7 @@ use Rattle.cp_rules.proofs.checker.Checker.routine_members.Given as goal
 -- with the routines among the rest they are all; and none of the rest is among them
 abbrev pub invariant-loop-number : goal.invariant-loop-number
 invariant-loop-number l =
-    let names = l.fn.self.environment.names in
+    let names = l.fn.self.env.names in
     record {
       members : l.members ++ routine_members (drop l.number names) ≡ routine_members (drop l.fn.mark names);
       absent : (j : ℕ) → l.number ≤ j → (e : Text × Entity) → slice_get names j ≡ Some e → lookup e.0 l.members ≡ None;

@@ -1,7 +1,7 @@
-use Rattle.std.proofs.Common.{◌≡◌, length, rules}
+use Rattle.std.proofs.Common.{◌≡◌, ap, length, rules}
 use Rattle.cp_model.specs.Syntax as s
 use Rattle.cp_model.specs.View as view
-use Rattle.cp_rules.specs.Checking.{state}
+use Rattle.cp_rules.specs.Checking.{State}
 use Rattle.cp_rules.proofs.Groups.{group_declared}
 use Rattle.cp_rules.proofs.Views.{view_fields}
 use Rattle.cp_rules.proofs.checker.Checker.variable_group.Goals as goal
@@ -12,8 +12,9 @@ returns c =
     let g : s.Variables = record { names = group.names.items; of = view.type_expression group.of } in
     let judged = rw (view_fields group) at c.in_ok-of.ensures in
     let count : c.len.result ≡ length group.names.items = search rules in
+    let opened = ap (λ (z : State). z.env) c.self.view_is in
     rw (view_fields group)
-    (group_declared (state c.args.self.now) c.args.position g (state c.group_type.new.self) (state c.add_all.new.self) (state c.owners.new.self)
+    (group_declared c.args.self.now c.args.position g c.group_type.new.self c.add_all.new.self c.owners.new.self
     c.in_ok-of.of c.entity.result c.words-each.result c.product.result
-    judged.0 judged.1 c.words-each.ensures c.entity.ensures
+    judged.0 judged.1 (rw opened at c.words-each.ensures) c.entity.ensures
     (rw c.deref.ensures.value at c.in_ok-add_all.ensures) (rw c.deref-2.ensures.value at c.owners.ensures) (rw count at c.product.ensures))

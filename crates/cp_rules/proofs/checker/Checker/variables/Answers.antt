@@ -3,7 +3,6 @@ use Rattle.std.proofs.lemmas.List.{at_drop_more, drop_all}
 use Rattle.cp_model.specs.RulesDeclarations as d
 use Rattle.cp_model.specs.RulesTypes.{capped}
 use Rattle.cp_model.specs.View as view
-use Rattle.cp_rules.specs.Checking.{state}
 use Rattle.cp_rules.specs.Declaring.{with_variables}
 use Rattle.cp_rules.proofs.CappedWords.{capped_end, capped_most}
 use Rattle.cp_rules.proofs.Groups.{rest_counted, rest_declared}
@@ -14,8 +13,8 @@ loop-group-preserved c =
     let all = c.args.groups.now in
     let i = c.loop-group.group-index in
     let p = c.args.position in
-    let old = state c.loop-group.self in
-    let new = state c.variable_group.new.self in
+    let old = c.loop-group.self in
+    let new = c.variable_group.new.self in
     let g = view.variables c.group-item.result in
     let gs = map view.variables (drop (i + 1) all) in
     let step : map view.variables (drop i all) ≡ g ∷ gs =
@@ -33,7 +32,7 @@ pub returns : goal.returns
 returns c =
     let all = c.args.groups.now in
     let i = c.loop-group.group-index in
-    let old = state c.loop-group.self in
+    let old = c.loop-group.self in
     let none = drop_all i all c.loop-group-test.false in
     let ended = ap (λ (gs : List _). (d.variables old.env c.args.position (map view.variables gs)).words) none in (
       sym (ap (λ (gs : List _). with_variables old (d.variables old.env c.args.position (map view.variables gs))) none) ∙ c.loop-group.invariant.declared,

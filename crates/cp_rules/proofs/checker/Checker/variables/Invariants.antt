@@ -2,15 +2,14 @@ use Rattle.std.proofs.Common.{◌≡◌, ◌≤◌, ◌+◌, drop, map}
 use Rattle.cp_model.specs.RulesDeclarations as d
 use Rattle.cp_model.specs.RulesTypes.{capped}
 use Rattle.cp_model.specs.View as view
-use Rattle.cp_rules.specs.Checking.{state}
 use Rattle.cp_rules.specs.Declaring.{with_variables}
 use Rattle.cp_rules.proofs.checker.Checker.variables.Given as goal
 
 -- what the rest declares, tells and counts, is what all do
 abbrev pub invariant-loop-group : goal.invariant-loop-group
 invariant-loop-group l =
-    let now = state l.self in
-    let before = state l.fn.self in
+    let now = l.self in
+    let before = l.fn.self in
     let rest = d.variables now.env l.position (map view.variables (drop l.group-index l.groups)) in
     let all = d.variables before.env l.fn.position (map view.variables l.fn.groups) in
     record {
