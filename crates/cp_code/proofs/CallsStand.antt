@@ -113,7 +113,7 @@ callee_of env (a.At d e) c n h is = absurd (cc)
 
 -- ---- Targets
 
-distinct_apart : (x : Name) (vs ws : List (Name × Variable)) (v : Variable) → Distinct (vs ++ ws) → lookup x ws ≡ Some v → lookup x vs ≡ None
+pub distinct_apart : (x : Name) (vs ws : List (Name × Variable)) (v : Variable) → Distinct (vs ++ ws) → lookup x ws ≡ Some v → lookup x vs ≡ None
 distinct_apart x [] ws v d h = refl
 distinct_apart x (w ∷ vs) ws v d h = go (bytes_eq x w.0) refl (distinct_apart x vs ws v d.1 h)
   where

@@ -11,6 +11,10 @@ mod InitStand
 mod ResultStand
 mod TablesStand
 mod CodeStands
+mod UnitsStand
+mod Pasting
+mod PlansStand
+mod StartsStand
 mod OperationsStand
 mod StatementsStand
 mod Example

@@ -45,7 +45,7 @@ higher_right m n = go (int_le m n) refl
     go true h = same n
     go false h = grind (arith, h)
 
-equal_integers : (m n : ℤ) → same_integer m n ≡ true → m ≡ n
+pub equal_integers : (m n : ℤ) → same_integer m n ≡ true → m ≡ n
 equal_integers (pos m) (pos n) h = ap pos (eqb-true m n h)
 equal_integers (negsuc m) (negsuc n) h = ap negsuc (eqb-true m n h)
 equal_integers (pos m) (negsuc n) h = absurd (cc)
