@@ -180,7 +180,7 @@ module _ (scope : Scope) (program : Program) (texts : List UnitText) (systems : 
       → CallFits scope program texts before unit (call_of scope (unit_of scope c) (target_of (environment scope) c.of) xs low)
       → Calls site d c low (call_of scope (unit_of scope c) (target_of (environment scope) c.of) xs low)
   call_stands d c low xs means may fits =
-      let there : UnitThere program texts before (unit_of scope c) (RoutineOf (system_of_callee env c.of) c.routine) = standing.units at o c.routine c.of may in
+      let there : UnitThere program texts before (unit_of scope c) (RoutineOf (system_of_callee env c.of) c.routine) = standing.units at o c.routine c.of (λ n is. callee_of env d c n means is) may in
       let room = fits there.unit there.earlier in
       record {
         means = means;

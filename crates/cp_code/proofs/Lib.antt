@@ -15,6 +15,9 @@ mod UnitsStand
 mod Pasting
 mod PlansStand
 mod StartsStand
+mod ScopesStand
+mod SystemsStand
+mod DefinitionsStand
 mod OperationsStand
 mod StatementsStand
 mod Example

@@ -49,8 +49,11 @@ pub record Standing (scope : Scope) (program : Program) (texts : List UnitText) 
   pub running : RoutineHere scope scope.routine
   pub by_value : (x : Name) (v : Variable) → lookup x (permanent_variables scope.globals scope.system) ≡ Some v → v.by_reference ≡ false
   pub no_clock : (at : Location) (o : Owner) (x : Name) → NamesVariable (environment_at scope at o) x → is_clock x ≡ false
-  pub units : (at : Location) (o : Owner) (r : Routine) (of : Option Component) → MayBeCalled (place_at scope systems routines at o) r of
-      → UnitThere program texts before (unit_of scope (record { routine = r; of = of })) (RoutineOf (system_of_callee (environment_at scope at o) of) r)
+  pub units : (at : Location) (o : Owner) (r : Routine) (of : Option Component)
+      → ((n : Component) → of ≡ Some n → component_named (environment_at scope at o) n.name ≡ Some n)
+      → MayBeCalled (place_at scope systems routines at o) r of
+      → UnitThere program texts before (unit_of scope (record { routine = r; of = of }))
+        (RoutineOf (system_of_callee (environment_at scope at o) of) r)
   pub parameters : (at : Location) (o : Owner) (r : Routine) (of : Option Component) → MayBeCalled (place_at scope systems routines at o) r of
       → Each (RoutineParameter scope.globals (declared.is_function r.result)) (declarations scope.globals r.parameters)
   pub plain : (at : Location) (o : Owner) (d : a.Designator) → TypedPlace (place_at scope systems routines at o) d

@@ -118,7 +118,7 @@ abbrev images_of : GlobalScope → List (Name × Variable) → List ℤ
 images_of g [] = []
 images_of g (v ∷ vs) = image g v.1.type ++ images_of g vs
 
-abbrev ByValue : Name × Variable → Type 0
+abbrev pub ByValue : Name × Variable → Type 0
 ByValue v = (v.1.by_reference ≡ false) × Plannable false v.1.type
 
 one_value : (g : GlobalScope) (v : Name × Variable) → ByValue v → local_words g v.1 ≡ words g v.1.type
