@@ -18,6 +18,8 @@ mod StartsStand
 mod ScopesStand
 mod SystemsStand
 mod DefinitionsStand
+mod RowsStand
+mod TextsStand
 mod OperationsStand
 mod StatementsStand
 mod Example
