@@ -15,6 +15,7 @@ use Rattle.cp_code.specs.StandsFor.{end_of}
 use Rattle.cp_code.specs.Scopes.{declared_type, groups_of, or_zero}
 use Rattle.cp_code.specs.Plans.{plan_of_routine}
 use Rattle.cp_code.specs.Compile.{Compiled, CompiledTypes, body_scope, definition_texts, first_of_type, routine_scope, system_texts, with_definition, with_definitions, with_routine, with_routines, with_system}
+use Rattle.cp_code.specs.Known.{InOrder, NamedBefore}
 use Rattle.cp_code.proofs.ScopesStand.{SystemKnown, UnitsThere}
 use Rattle.cp_code.proofs.SystemsStand.{After, Begins, Good, SystemHere, Within, begins_get, get_less, system_stands, system_there, units_later, within_first}
 
@@ -97,18 +98,6 @@ module _ (g : GlobalScope) (program : Program) (texts : List UnitText) where
   FirstsRight h m = (y : Name) (q : System) (inner : Members) → lookup y h.types ≡ Some (ComponentOf q inner)
       → UnitsThere program texts m.compiled.units (or_zero (lookup y m.firsts)) q
 
-  -- Each component that a system type names has a type that was defined before.
-  abbrev pub NamedBefore : GlobalScope → System → Type 0
-  NamedBefore h s = (n : Component) → component_named (some_environment g s None) n.name ≡ Some n
-      → (inner : Members) × (lookup (declared_type n.name (groups_of n.is_parameter s)) h.types ≡ Some (ComponentOf n.system inner))
-
-  abbrev pub InOrder : GlobalScope → List System → List Definition → Type 0
-  InOrder h ys [] = Unit {0}
-  InOrder h ys (a.SystemDef x s ∷ ds) = SystemKnown g s ys × NamedBefore h s × InOrder (define h (a.SystemDef x s)) (ys ++ s ∷ []) ds
-  InOrder h ys (a.TypeDef x t ∷ ds) = InOrder (define h (a.TypeDef x t)) ys ds
-  InOrder h ys (a.EnumDef x vs ∷ ds) = InOrder (define h (a.EnumDef x vs)) ys ds
-  InOrder h ys (a.ConstantDef x c ∷ ds) = InOrder (define h (a.ConstantDef x c)) ys ds
-
   abbrev pub TextsAt : ℕ → List UnitText → Type 0
   TextsAt n ts = (i : ℕ) (t : UnitText) → slice_get ts i ≡ Some t → slice_get texts (n + i) ≡ Some t
 
@@ -118,7 +107,7 @@ module _ (g : GlobalScope) (program : Program) (texts : List UnitText) where
     pub texts_at : TextsAt (length m.compiled.units) more
 
   -- a system type whose texts come next
-  pub system_here : (s : System) (h : GlobalScope) (m : CompiledTypes) (more : List UnitText) (ys : List System) (known : SystemKnown g s ys) → NamedBefore h s → Stand h m (system_texts s ++ more)
+  pub system_here : (s : System) (h : GlobalScope) (m : CompiledTypes) (more : List UnitText) (ys : List System) (known : SystemKnown g s ys) → NamedBefore g h s → Stand h m (system_texts s ++ more)
       → SystemHere g program texts s ys known m.firsts m.compiled
   system_here s h m more ys known named so = record {
     routines = λ k r is. so.texts_at k (RoutineOf s r) (ap (λ l. slice_get l k) (append_assoc (map (RoutineOf s) s.routines) (BodyOf s ∷ []) more) ∙ get_map s s.routines k r (BodyOf s ∷ more) is);
@@ -143,7 +132,7 @@ module _ (g : GlobalScope) (program : Program) (texts : List UnitText) where
       mapped [] = refl
       mapped (r ∷ rs) = ap suc (mapped rs)
 
-  system_defined : (x : Name) (s : System) (h : GlobalScope) (m : CompiledTypes) (more : List UnitText) (ys : List System) → SystemKnown g s ys → NamedBefore h s
+  system_defined : (x : Name) (s : System) (h : GlobalScope) (m : CompiledTypes) (more : List UnitText) (ys : List System) → SystemKnown g s ys → NamedBefore g h s
       → Stand h m (system_texts s ++ more) → Within g program texts (with_definition g (a.SystemDef x s) m).compiled
       → Stand (define h (a.SystemDef x s)) (with_definition g (a.SystemDef x s) m) more
   system_defined x s h m more ys known named so within =
@@ -204,7 +193,7 @@ module _ (g : GlobalScope) (program : Program) (texts : List UnitText) where
     texts_at = so.texts_at;
   }
 
-  pub definitions_stand : (ds : List Definition) (h : GlobalScope) (ys : List System) (m : CompiledTypes) (more : List UnitText) → InOrder h ys ds
+  pub definitions_stand : (ds : List Definition) (h : GlobalScope) (ys : List System) (m : CompiledTypes) (more : List UnitText) → InOrder g h ys ds
       → Stand h m (definition_texts ds ++ more) → Within g program texts (with_definitions g ds m).compiled → Stand (define_all h ds) (with_definitions g ds m) more
   definitions_stand [] h ys m more order so within = so
   definitions_stand (a.SystemDef x s ∷ ds) h ys m more order so within =

@@ -12,6 +12,7 @@ use Rattle.cp_typing.specs.Words.{component_words, rights_in, words, words_of_me
 use Rattle.cp_code.specs.Programs.{Fill, Repeat, Start}
 use Rattle.cp_model.specs.Locations.{ByIndex, ByName, Path}
 use Rattle.cp_model.specs.Places.{within}
+pub use Rattle.cp_code.specs.Known.{Plannable, PlannableMembers}
 use Rattle.cp_code.specs.Layout.{Part, distance, farther, head_words, member_part, of_class, part}
 use Rattle.cp_code.proofs.Found.{part_whole}
 use Rattle.cp_code.specs.Starts.{block, fill, paste, repeated, started, started_by, word}
@@ -37,20 +38,6 @@ abbrev mutual
   pub images : GlobalScope → Members → List ℤ
   images g NoMembers = []
   images g (MoreMembers x t ms) = image g t ++ images g ms
-
--- What can be planned: arrays have elements, and components stand where words are 0.
-abbrev mutual
-  pub Plannable : Bool → ResolvedType → Type 0
-  Plannable zeros (Simple b low high start) = Unit {0}
-  Plannable zeros (ArrayOf low high t) = (int_le low high ≡ true) × Plannable zeros t
-  Plannable zeros (RecordOf ms) = PlannableMembers zeros ms
-  Plannable zeros Queue = Unit {0}
-  Plannable zeros (ComponentOf s inner) = (zeros ≡ true) × PlannableMembers zeros inner
-  Plannable zeros NoType = Unit {0}
-
-  pub PlannableMembers : Bool → Members → Type 0
-  PlannableMembers zeros NoMembers = Unit {0}
-  PlannableMembers zeros (MoreMembers x t ms) = Plannable zeros t × PlannableMembers zeros ms
 
 -- The words may be 0 already.
 abbrev pub Blank : Bool → List ℤ → ℕ → ℕ → Type 0

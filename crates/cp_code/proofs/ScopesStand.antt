@@ -20,6 +20,7 @@ use Rattle.cp_code.specs.Sites.{BodyOf, RoutineOf, UnitText, system_of_callee}
 use Rattle.cp_code.specs.StatementsFor.{IsPlain}
 use Rattle.cp_code.specs.Scopes.{Scope, first_of, routine_index, unit_of}
 use Rattle.cp_code.proofs.Environments.{environment_at}
+pub use Rattle.cp_code.specs.Known.{RunsIn, SystemKnown}
 use Rattle.cp_code.proofs.CallsStand.{is_named, name_kept}
 use Rattle.cp_code.proofs.Standing.{InitStands, RoutineHere, Standing, UnitThere, place_at}
 
@@ -56,35 +57,20 @@ first_distinct (v ∷ vs) ws d = (none_first vs d.0, first_distinct vs ws d.1)
         go true h rest = absurd (cc)
         go false h rest = rest h
 
--- Of a system type in the scope of the text: its bodies are typed where these system types were defined before; its variables are no `var`
--- parameters, its components have the members that are reported, no variable is the clock, and arrays and records that are copied are
--- plain. The components that it names have their units before.
-pub record SystemKnown (g : GlobalScope) (s : System) (systems : List System) : Type 0 where
-  pub bodies : TypedBodies g systems s
-  pub by_value : (x : Name) (v : Variable) → lookup x (permanent_variables g s) ≡ Some v → v.by_reference ≡ false
-  pub reported : (x : Name) (v : Variable) (r : System) (inner : Members) → lookup x (declarations g s.variables) ≡ Some v → v.type ≡ ComponentOf r inner
-      → inner ≡ reported_members g r
-  pub no_clock : (scope : Scope) (at : Location) (o : Owner) (x : Name) → scope.globals ≡ g → scope.system ≡ s → NamesVariable (environment_at scope at o) x
-      → is_clock x ≡ false
-  pub plain : (scope : Scope) (routines : ℕ) (at : Location) (o : Owner) (d : a.Designator) → scope.globals ≡ g → scope.system ≡ s
-      → TypedPlace (place_at scope systems routines at o) d → is_structured (place_type (environment_at scope at o) d) ≡ true
-      → has_queues (place_type (environment_at scope at o) d) ≡ false → IsPlain (place_type (environment_at scope at o) d)
-  pub systems_typed : (i : ℕ) (q : System) → slice_get systems i ≡ Some q → (before : List System) × TypedSystem g before q
-
 module _ (g : GlobalScope) (program : Program) (texts : List UnitText) (before : List CodeUnit) (s : System) (systems : List System)
     (known : SystemKnown g s systems) (firsts : List (Name × ℕ)) (first k words : ℕ) (w : Option Routine) where
   abbrev pub scope : Scope
   scope = record { globals = g; system = s; routine = w; firsts = firsts; first = first; words = words }
 
-  pub standing : RoutineHere scope w
+  pub standing : RoutineHere scope w → RunsIn s w
       → ((j : ℕ) (r : Routine) → j < k → slice_get s.routines j ≡ Some r → UnitThere program texts before (first + j) (RoutineOf s r))
       → ((n : Component) → component_named (some_environment g s None) n.name ≡ Some n → UnitsThere program texts before (first_of scope n) n.system)
       → Standing scope program texts before systems k
-  standing running own named = record {
+  standing running runs own named = record {
     running = running;
     by_value = known.by_value;
-    no_clock = λ at o x. known.no_clock scope at o x refl refl;
-    plain = λ at o d. known.plain scope k at o d refl refl;
+    no_clock = λ at o x. known.no_clock scope at o x refl refl runs;
+    plain = λ at o d. known.plain scope k at o d refl refl runs;
     units = units;
     parameters = parameters;
     inits = inits;

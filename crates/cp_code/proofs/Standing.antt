@@ -21,6 +21,7 @@ use Rattle.cp_code.specs.StatementsFor.{IsPlain}
 use Rattle.cp_code.specs.Scopes.{Scope, body_of, environment, target_of, unit_of}
 use Rattle.cp_code.specs.CodedTerms.{CodedCall}
 use Rattle.cp_code.proofs.Environments.{environment_at}
+pub use Rattle.cp_code.specs.Known.{place_at}
 
 -- What a unit is the code of, and that it stands in the program, and among those that were compiled before.
 pub record UnitThere (program : Program) (texts : List UnitText) (before : List CodeUnit) (n : ℕ) (t : UnitText) : Type 0 where
@@ -33,9 +34,6 @@ pub record UnitThere (program : Program) (texts : List UnitText) (before : List 
 abbrev pub RoutineHere : Scope → Option Routine → Type 0
 RoutineHere scope None = Unit {0}
 RoutineHere scope (Some r) = (routine_named r.name scope.system ≡ Some r) × ResultFits scope.globals r.result
-
-abbrev pub place_at : Scope → List System → ℕ → Location → Owner → Place
-place_at scope systems routines at o = record { env = environment_at scope at o; systems = systems; routines = routines }
 
 -- What is known of a component that is initialised: its body stands, and its parameters are simple values and rights of distinct names.
 pub record InitStands (scope : Scope) (program : Program) (texts : List UnitText) (before : List CodeUnit) (n : Component) : Type 0 where

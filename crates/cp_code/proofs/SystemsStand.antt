@@ -187,7 +187,7 @@ module _ (g : GlobalScope) (program : Program) (texts : List UnitText) where
           let need = need_of_all c.units scope.words e.operations in
           let unit = code_unit e.entry (plan_of_routine g r) need in
           let code = unit_stands scope program texts c.units systems k
-          (standing g program texts c.units s systems known firsts first k (activation_words g r) (Some r) (typed.found, typed.result)
+          (standing g program texts c.units s systems known firsts first k (activation_words g r) (Some r) (typed.found, typed.result) (k, is)
           (own_there k c so before) (λ n named. units_later start.units c.units _ n.system so.grows (here.named n named)))
           (plan_of_routine g r) (Return (is_function r.result)) r.body at
           (all_there scope c.units unit c.operations e.operations within.operations) typed.body in
@@ -239,7 +239,7 @@ module _ (g : GlobalScope) (program : Program) (texts : List UnitText) where
           let need = need_of_all c.units scope.words e.operations in
           let unit = code_unit e.entry [] need in
           let code = unit_stands scope program texts c.units systems (length s.routines)
-          (standing g program texts c.units s systems known firsts first (length s.routines) 0 None tt
+          (standing g program texts c.units s systems known firsts first (length s.routines) 0 None tt tt
           (own_there (length s.routines) c so before) (λ n named. units_later start.units c.units _ n.system so.grows (here.named n named)))
           [] (end_of s.sort) s.body at
           (all_there scope c.units unit c.operations e.operations within.operations) (λ l o. known.bodies.body l) in

@@ -19,7 +19,8 @@ use Rattle.cp_code.specs.Sites.{BodyOf, UnitText}
 use Rattle.cp_code.specs.StandsFor.{MonitorStands, ProcessStands, StandsFor, component_at, component_in, system_of_monitor, system_of_process}
 use Rattle.cp_code.specs.Scopes.{declared_type, or_zero}
 use Rattle.cp_code.specs.Compile.{Compiled, CompiledTypes, Owner, compile, definition_texts, nothing_compiled, of_sort, owner_before, owners_of, sum_words, system_texts, unit_texts, waiting_words, with_definitions, with_system}
-use Rattle.cp_code.proofs.DefinitionsStand.{FirstsRight, InOrder, NamedBefore, Stand, definitions_stand, system_first, system_here}
+use Rattle.cp_code.specs.Known.{TextKnown}
+use Rattle.cp_code.proofs.DefinitionsStand.{FirstsRight, Stand, definitions_stand, system_first, system_here}
 use Rattle.cp_code.proofs.InitStand.{all_found}
 use Rattle.cp_code.proofs.PlansStand.{PlannableMembers}
 use Rattle.cp_code.proofs.RowsStand.{monitor_row, monitor_there, monitor_within, monitors_apart, process_row, process_there, process_within, processes_apart}
@@ -159,17 +160,7 @@ module _ (setup : Setup) where
   abbrev variables : List (Name × Variable)
   variables = declarations g tree.initial.variables
 
-  -- What is known of a text: its system types in order, its initial process, and that components can be planned and have one layout.
-  pub record TextKnown : Type 0 where
-    pub in_order : InOrder g program texts standard_scope [] tree.definitions
-    pub initial : SystemKnown g tree.initial (text_systems setup)
-    pub named : NamedBefore g program texts g tree.initial
-    pub no_parameters : tree.initial.parameters ≡ []
-    pub initial_planned : PlannableMembers true (reported_members g tree.initial)
-    pub planned : (x : Name) (v : Variable) (s : System) (inner : Members) → lookup x variables ≡ Some v → v.type ≡ ComponentOf s inner → PlannableMembers true (reported_members g s)
-    pub members : (s : System) (inner : Members) (x : Name) → named_type g x ≡ ComponentOf s inner → inner ≡ reported_members g s
-
-  module _ (known : TextKnown) where
+  module _ (known : TextKnown setup) where
     within : Within g program texts all
     within = record { operations = begins_same all.operations; units = begins_same all.units }
 
