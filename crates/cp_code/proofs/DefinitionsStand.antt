@@ -1,14 +1,12 @@
 -- The units of all system types of a text stand, and each name of a type has the first unit of its own.
-use Rattle.std.proofs.Common.{◌≡◌, ◌<◌, ◌⊎◌, ℕ, ℤ, zero, suc, ◌+◌, ◌-◌, pos, List, [], ◌∷◌, ◌++◌, Option, Some, None, refl, ap, sym, subst, ◌∙◌, Bool, true, false, if◌then◌else◌, slice_get, length, map, arith, append_assoc, bytes_eq}
+use Rattle.std.proofs.Common.{◌≡◌, ℕ, ℤ, zero, suc, ◌+◌, ◌-◌, List, [], ◌∷◌, ◌++◌, Option, Some, None, refl, ap, sym, subst, ◌∙◌, Bool, true, false, if◌then◌else◌, slice_get, length, map, arith, append_assoc, bytes_eq}
 use Rattle.std.proofs.lemmas.List.{length-append}
 use Rattle.cp_model.specs.Abstract as a
 use Rattle.cp_model.specs.Abstract.{BaseType, Constant, Definition, Enumeration, Name, Routine, System, TypeExpression}
 use Rattle.cp_model.specs.Names.{lookup}
 use Rattle.cp_model.specs.Types.{ArrayOf, ComponentOf, GlobalScope, Members, NoType, Queue, RecordOf, ResolvedType, Simple, array_type, constant_value, full_range, or_no_type, resolved_type, subrange_type}
 use Rattle.cp_model.specs.Declarations.{define, define_all, reported_members, with_constant}
-use Rattle.cp_model.specs.Components.{Component, component_named}
-use Rattle.cp_typing.specs.Needs.{some_environment}
-use Rattle.cp_code.specs.Programs.{CodeUnit, Program, Return}
+use Rattle.cp_code.specs.Programs.{Program, Return}
 use Rattle.cp_code.specs.Sites.{BodyOf, RoutineOf, UnitText}
 use Rattle.cp_code.specs.StatementsFor.{is_function}
 use Rattle.cp_code.specs.StandsFor.{end_of}
@@ -17,7 +15,7 @@ use Rattle.cp_code.specs.Plans.{plan_of_routine}
 use Rattle.cp_code.specs.Compile.{Compiled, CompiledTypes, body_scope, definition_texts, first_of_type, routine_scope, system_texts, with_definition, with_definitions, with_routine, with_routines, with_system}
 use Rattle.cp_code.specs.Known.{InOrder, NamedBefore}
 use Rattle.cp_code.proofs.ScopesStand.{SystemKnown, UnitsThere}
-use Rattle.cp_code.proofs.SystemsStand.{After, Begins, Good, SystemHere, Within, begins_get, get_less, system_stands, system_there, units_later, within_first}
+use Rattle.cp_code.proofs.SystemsStand.{Begins, Good, SystemHere, Within, system_stands, system_there, units_later, within_first}
 
 -- ---- Lists
 

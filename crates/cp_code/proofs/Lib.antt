@@ -6,6 +6,7 @@ mod Temps
 mod Fits
 mod StandardStand
 mod CallsStand
+mod SpotsStand
 mod TermsStand
 mod InitStand
 mod ResultStand
@@ -14,12 +15,15 @@ mod CodeStands
 mod UnitsStand
 mod Pasting
 mod PlansStand
+mod PartsStart
 mod StartsStand
 mod ScopesStand
 mod SystemsStand
 mod DefinitionsStand
 mod RowsStand
 mod TextsStand
+mod KnownStand
 mod OperationsStand
-mod StatementsStand
+mod AssignmentsStand
+mod ProceduresStand
 mod Example

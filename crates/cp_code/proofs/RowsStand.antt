@@ -1,6 +1,5 @@
 -- The rows of monitors and processes: each has its own shared words.
-use Rattle.std.proofs.Common.{◌≡◌, ◌≤◌, ◌<◌, ◌⊎◌, inl, inr, ℕ, zero, suc, ◌+◌, List, [], ◌∷◌, Option, Some, None, refl, ap, sym, subst, ◌∙◌, slice_get, length, arith}
-use Rattle.cp_model.specs.Abstract.{System}
+use Rattle.std.proofs.Common.{◌≡◌, ◌≤◌, inl, inr, ℕ, zero, suc, ◌+◌, List, [], ◌∷◌, Option, Some, None, refl, ap, subst, slice_get, arith}
 use Rattle.cp_model.specs.Types.{GlobalScope}
 use Rattle.cp_code.specs.Programs as code
 use Rattle.cp_code.specs.Layout.{component_words}

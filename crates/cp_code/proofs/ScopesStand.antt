@@ -1,27 +1,24 @@
 -- What is known where the code of a typed system type stands.
-use Rattle.std.proofs.Common.{◌≡◌, ◌≢◌, ◌<◌, ℕ, zero, suc, ◌+◌, List, [], ◌∷◌, ◌++◌, Option, Some, None, refl, ap, sym, subst, ◌∙◌, Bool, true, false, if◌then◌else◌, slice_get, length, arith, bytes_eq}
+use Rattle.std.proofs.Common.{◌≡◌, ◌<◌, ℕ, zero, suc, ◌+◌, List, [], ◌∷◌, ◌++◌, Option, Some, None, refl, ap, sym, subst, ◌∙◌, Bool, true, false, if◌then◌else◌, slice_get, length, arith, bytes_eq}
 use Rattle.cp_model.specs.Abstract as a
 use Rattle.cp_model.specs.Abstract.{Name, Routine, System}
 use Rattle.cp_model.specs.Names.{lookup}
-use Rattle.cp_model.specs.Types.{ComponentOf, GlobalScope, Members}
-use Rattle.cp_model.specs.Declarations.{Variable, declarations, reported_members}
-use Rattle.cp_model.specs.Environments.{permanent_variables}
-use Rattle.cp_model.specs.Locations.{Location, OfProcess, Owner, root}
+use Rattle.cp_model.specs.Types.{GlobalScope}
+use Rattle.cp_model.specs.Declarations.{Variable, declarations}
+use Rattle.cp_model.specs.Locations.{Location, Owner}
 use Rattle.cp_model.specs.Components.{Component, component_named}
-use Rattle.cp_typing.specs.Judgement.{Initialises, MayBeCalled, NamesVariable, TypedPlace, has_queues, is_structured}
+use Rattle.cp_typing.specs.Judgement.{Initialises, MayBeCalled}
 use Rattle.cp_typing.specs.Declared as declared
 use Rattle.cp_typing.specs.Declared.{Distinct, Each, RoutineParameter}
 use Rattle.cp_typing.specs.Needs.{some_environment}
-use Rattle.cp_typing.specs.StaticTypes.{is_clock, place_type}
-use Rattle.cp_typing.specs.WellTyped.{TypedBodies, TypedRoutine, TypedSystem}
+use Rattle.cp_typing.specs.WellTyped.{TypedRoutine}
 use Rattle.cp_typing.proofs.Names.{bytes_eq-refl, bytes_same}
 use Rattle.cp_code.specs.Programs.{CodeUnit, Program}
 use Rattle.cp_code.specs.Sites.{BodyOf, RoutineOf, UnitText, system_of_callee}
-use Rattle.cp_code.specs.StatementsFor.{IsPlain}
 use Rattle.cp_code.specs.Scopes.{Scope, first_of, routine_index, unit_of}
 use Rattle.cp_code.proofs.Environments.{environment_at}
 pub use Rattle.cp_code.specs.Known.{RunsIn, SystemKnown}
-use Rattle.cp_code.proofs.CallsStand.{is_named, name_kept}
+use Rattle.cp_code.proofs.CallsStand.{name_kept}
 use Rattle.cp_code.proofs.Standing.{InitStands, RoutineHere, Standing, UnitThere, place_at}
 
 -- A routine that is the only one of its name has the number of its place.

@@ -1,5 +1,5 @@
 -- The plans of routines and components give activations and components their start values.
-use Rattle.std.proofs.Common.{◌≡◌, ◌≤◌, ◌<◌, ◌⊎◌, inl, inr, ℕ, zero, suc, ◌+◌, ◌*◌, ◌-◌, ℤ, pos, List, [], ◌∷◌, ◌++◌, Option, Some, None, refl, ap, sym, subst, ◌∙◌, Bool, true, false, if◌then◌else◌, length, arith, slice_get, bytes_eq, append_assoc}
+use Rattle.std.proofs.Common.{◌≡◌, ◌≤◌, ◌<◌, ◌⊎◌, inl, inr, ℕ, zero, suc, ◌+◌, ◌-◌, ℤ, pos, List, [], ◌∷◌, ◌++◌, Option, Some, None, refl, ap, sym, subst, ◌∙◌, Bool, true, false, if◌then◌else◌, length, arith, slice_get, bytes_eq, append_assoc}
 use Rattle.std.specs.Prelude.{replicate, slice_index_or, slice_set}
 use Rattle.std.proofs.lemmas.List.{get_or-set_same, get_or-set_other, get_or-replicate, get_or_append_left, length-append, length-replicate, length-set}
 use Rattle.std.proofs.lemmas.Bool.{true≢false}
@@ -13,14 +13,15 @@ use Rattle.cp_typing.specs.Declared.{Distinct, Each}
 use Rattle.cp_typing.specs.Needs.{result_words}
 use Rattle.cp_typing.specs.Words as of_sort
 use Rattle.cp_typing.specs.Words.{rights_in, words, words_of_members}
-use Rattle.cp_typing.proofs.Names.{bytes_eq-refl, bytes_same, lookup_first}
-use Rattle.cp_code.specs.Programs.{CodeUnit, Fill, Repeat, Start}
+use Rattle.cp_typing.proofs.Names.{bytes_eq-refl, lookup_first}
+use Rattle.cp_code.specs.Programs.{Fill, Repeat, Start}
 use Rattle.cp_code.specs.Layout.{activation_words, component_words, head_words, local, local_at, local_words, locals_words, member_part, part}
-use Rattle.cp_code.specs.Plans.{plan, plan_of_component, plan_of_result, plan_of_routine, plan_of_variables}
-use Rattle.cp_code.specs.Starts.{AreZero, Starts, StartsComponent, block, fill, paste, repeated, started, started_by, unset, word}
+use Rattle.cp_code.specs.Plans.{plan_of_component, plan_of_result, plan_of_routine, plan_of_variables}
+use Rattle.cp_code.specs.Starts.{AreZero, Starts, StartsComponent, block, fill, paste, repeated, started, unset, word}
 use Rattle.cp_code.proofs.CallsStand.{distinct_apart}
 use Rattle.cp_code.proofs.Pasting.{fill_is_paste, paste_append, paste_inside, paste_length, paste_outside}
-use Rattle.cp_code.proofs.PlansStand.{PartOf, Plannable, PlannableMembers, all_planned, fill_before_is, image, image_length, image_of_class, images, images_length, members_start, part_behind, parts_start, planned}
+use Rattle.cp_code.proofs.PlansStand.{Plannable, PlannableMembers, all_planned, fill_before_is, image, image_length, image_of_class, images, images_length, planned}
+use Rattle.cp_code.proofs.PartsStart.{PartOf, members_start, part_behind, parts_start}
 
 -- ---- Lengths
 
@@ -156,8 +157,7 @@ variable_part g (w ∷ vs) h at k x v path m u found there = go (bytes_eq x w.0)
         → (local_at g (at + local_words g w.1) vs x ≡ Some (k, v) → part g v.type path ≡ Some (m, u) → (d : ℕ) × (k ≡ at + local_words g w.1 + d) × PartOf g (images_of g vs) (locals_words g vs) (d + m) u)
         → (d : ℕ) × (k ≡ at + d) × PartOf g (image g w.1.type ++ images_of g vs) (local_words g w.1 + locals_words g vs) (d + m) u
     go true found rest =
-        let p = parts_start g w.1.type path m u (ap (λ z. part g z.type path) (ap variable_in found) ∙ there) in
-        (
+        let p = parts_start g w.1.type path m u (ap (λ z. part g z.type path) (ap variable_in found) ∙ there) in (
           0,
           place at k (sym (ap place_in found)),
           record {
@@ -182,8 +182,7 @@ variable_part g (w ∷ vs) h at k x v path m u found there = go (bytes_eq x w.0)
         nothing : (a b : ℕ) → 0 + a + b ≡ a + b
         nothing a b = omega arith
     go false found rest =
-        let r = rest found there in
-        (
+        let r = rest found there in (
           local_words g w.1 + r.0,
           apart at (local_words g w.1) r.0 k r.1,
           record {

@@ -1,11 +1,11 @@
 -- The units of a typed system type stand, one after another.
-use Rattle.std.proofs.Common.{◌≡◌, ◌≤◌, ◌<◌, ◌⊎◌, inl, inr, ℕ, zero, suc, ◌+◌, List, [], ◌∷◌, ◌++◌, Option, Some, None, refl, ap, sym, subst, ◌∙◌, Bool, true, false, slice_get, length, arith, append_assoc, append-nil}
+use Rattle.std.proofs.Common.{◌≡◌, ◌<◌, ◌⊎◌, inl, inr, ℕ, zero, suc, ◌+◌, List, [], ◌∷◌, ◌++◌, Option, Some, None, refl, ap, sym, subst, ◌∙◌, Bool, false, slice_get, length, arith, append_assoc, append-nil}
 use Rattle.std.proofs.lemmas.List.{length-append}
 use Rattle.cp_model.specs.Abstract.{Name, Routine, Statement, System}
 use Rattle.cp_model.specs.Names.{lookup}
 use Rattle.cp_model.specs.Types.{ArrayOf, ComponentOf, GlobalScope, Members, MoreMembers, NoMembers, NoType, Queue, RecordOf, ResolvedType, Simple}
 use Rattle.cp_model.specs.Declarations.{Variable, declarations}
-use Rattle.cp_model.specs.Locations.{Location, OfProcess, Owner}
+use Rattle.cp_model.specs.Locations.{OfProcess}
 use Rattle.cp_model.specs.Components.{Component, component_named}
 use Rattle.cp_typing.specs.Declared.{Each, RoutineVariable}
 use Rattle.cp_typing.specs.Needs.{some_environment}
@@ -13,10 +13,10 @@ use Rattle.cp_typing.specs.SoundTypes.{SoundMembers, SoundType}
 use Rattle.cp_typing.specs.WellTyped.{TypedRoutine}
 use Rattle.cp_code.specs.Programs.{CodeUnit, Operation, Program, Return, Start}
 use Rattle.cp_code.specs.Layout.{activation_words}
-use Rattle.cp_code.specs.Sites.{BodyOf, RoutineOf, UnitText, operation_at}
+use Rattle.cp_code.specs.Sites.{BodyOf, RoutineOf, UnitText}
 use Rattle.cp_code.specs.StatementsFor.{is_function}
 use Rattle.cp_code.specs.StandsFor.{UnitStands, end_of}
-use Rattle.cp_code.specs.Scopes.{Scope, declared_type, first_of, groups_of, or_zero}
+use Rattle.cp_code.specs.Scopes.{Scope, declared_type, groups_of, or_zero}
 use Rattle.cp_code.specs.Plans.{plan_of_routine}
 use Rattle.cp_code.specs.CodeNeeds.{need_of_all}
 use Rattle.cp_code.specs.Compile.{Compiled, body_scope, code_unit, routine_scope, unit_code, with_body, with_routine, with_routines, with_system, with_unit}
@@ -49,7 +49,7 @@ get_first (y ∷ xs) zs (suc n) x h = get_first xs zs n x h
 pub begins_get : {A : Type 0} (xs ys : List A) → Begins xs ys → (n : ℕ) (x : A) → slice_get xs n ≡ Some x → slice_get ys n ≡ Some x
 begins_get xs ys h n x e = ap (λ l. slice_get l n) h.is ∙ get_first xs h.rest n x e
 
-get_seam : {A : Type 0} (xs : List A) (x : A) (zs : List A) → slice_get (xs ++ x ∷ zs) (length xs) ≡ Some x
+pub get_seam : {A : Type 0} (xs : List A) (x : A) (zs : List A) → slice_get (xs ++ x ∷ zs) (length xs) ≡ Some x
 get_seam [] x zs = refl
 get_seam (y ∷ xs) x zs = get_seam xs x zs
 
@@ -106,11 +106,10 @@ module _ (g : GlobalScope) (program : Program) (texts : List UnitText) where
       → AllThere scope program texts before unit xs (length front)
   all_there scope before unit front [] h = tt
   all_there scope before unit front (x ∷ xs) h =
-      let next : (front ++ x ∷ []) ++ xs ≡ front ++ x ∷ xs = append_assoc front (x ∷ []) xs in
-      (
+      let next : (front ++ x ∷ []) ++ xs ≡ front ++ x ∷ xs = append_assoc front (x ∷ []) xs in (
         ap (λ l. slice_get l (length front)) (h.is ∙ append_assoc front (x ∷ xs) h.rest) ∙ get_seam front x (xs ++ h.rest),
         subst (AllThere scope program texts before unit xs) (length-append front (x ∷ []) ∙ one_more (length front))
-        (all_there scope before unit (front ++ x ∷ []) xs (subst (λ l. Begins l program.operations) (sym next) h)),
+            (all_there scope before unit (front ++ x ∷ []) xs (subst (λ l. Begins l program.operations) (sym next) h)),
       )
     where
       one_more : (n : ℕ) → n + 1 ≡ suc n
@@ -192,12 +191,11 @@ module _ (g : GlobalScope) (program : Program) (texts : List UnitText) where
           (plan_of_routine g r) (Return (is_function r.result)) r.body at
           (all_there scope c.units unit c.operations e.operations within.operations) typed.body in
           record {
-            good = good_with c unit (RoutineOf s r) (c.operations ++ e.operations) so.good (ap (slice_get texts) so.count ∙ here.routines k r is)
-                (
-                  routine_starts g s r typed.distinct (variables_by_value g (declarations g r.variables) typed.variables) e.entry need.words need.temps need.frames,
-                  words_needed c.units scope.words e.operations,
-                  code,
-                );
+            good = good_with c unit (RoutineOf s r) (c.operations ++ e.operations) so.good (ap (slice_get texts) so.count ∙ here.routines k r is) (
+              routine_starts g s r typed.distinct (variables_by_value g (declarations g r.variables) typed.variables) e.entry need.words need.temps need.frames,
+              words_needed c.units scope.words e.operations,
+              code,
+            );
             grows = begins_on start.units c.units (c.units ++ unit ∷ []) so.grows (record { rest = unit ∷ []; is = refl });
             count = length-append c.units (unit ∷ []) ∙ omega (arith, so.count);
           }

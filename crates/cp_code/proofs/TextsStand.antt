@@ -1,32 +1,30 @@
 -- The compiled program of a text stands for it, where this is known of the text.
-use Rattle.std.proofs.Common.{◌≡◌, ◌≤◌, ◌<◌, ◌⊎◌, inl, inr, ℕ, zero, suc, ◌+◌, ◌-◌, List, [], ◌∷◌, ◌++◌, Option, Some, None, refl, ap, sym, subst, ◌∙◌, Bool, true, false, if◌then◌else◌, filter, slice_get, length, arith, append-nil, bytes_eq, codes}
+use Rattle.std.proofs.Common.{◌≡◌, ◌≤◌, ◌<◌, inl, ℕ, zero, suc, ◌+◌, ◌-◌, List, [], ◌∷◌, ◌++◌, Option, Some, None, refl, ap, sym, subst, ◌∙◌, Bool, true, false, if◌then◌else◌, slice_get, length, arith, append-nil, bytes_eq, codes}
 use Rattle.std.specs.Option.{option_or}
 use Rattle.std.proofs.lemmas.Bool.{true≢false}
 use Rattle.cp_model.specs.Abstract as a
 use Rattle.cp_model.specs.Abstract.{Group, Monitor, Name, Process, Sort, System, Tree}
 use Rattle.cp_model.specs.Names.{lookup}
-use Rattle.cp_model.specs.Types.{ArrayOf, ComponentOf, GlobalScope, Members, NoType, Queue, RecordOf, ResolvedType, Simple, full_range, named_type, standard_scope}
-use Rattle.cp_model.specs.Declarations.{Variable, declarations, globals, is_component, reported_members}
-use Rattle.cp_model.specs.Components.{Component, as_component, component_named, is_component_of, same_sort}
-use Rattle.cp_model.specs.States.{Setup, count_components, initial_variables, monitor_count, process_count}
+use Rattle.cp_model.specs.Types.{ArrayOf, ComponentOf, GlobalScope, Members, NoType, Queue, RecordOf, ResolvedType, Simple, full_range, standard_scope}
+use Rattle.cp_model.specs.Declarations.{Variable, declarations, globals, is_component}
+use Rattle.cp_model.specs.Components.{Component, as_component, component_named, is_component_of}
+use Rattle.cp_model.specs.States.{Setup, count_components, monitor_count, process_count}
 use Rattle.cp_typing.specs.Declared.{Distinct, Each}
 use Rattle.cp_typing.specs.Needs.{some_environment}
 use Rattle.cp_typing.specs.WellTyped.{text_systems}
-use Rattle.cp_code.specs.Programs as code
-use Rattle.cp_code.specs.Programs.{CodeUnit, Program}
+use Rattle.cp_code.specs.Programs.{Program}
 use Rattle.cp_code.specs.Layout.{component_words}
-use Rattle.cp_code.specs.Sites.{BodyOf, UnitText}
+use Rattle.cp_code.specs.Sites.{UnitText}
 use Rattle.cp_code.specs.StandsFor.{MonitorStands, ProcessStands, StandsFor, component_at, component_in, system_of_monitor, system_of_process}
 use Rattle.cp_code.specs.Scopes.{declared_type, or_zero}
-use Rattle.cp_code.specs.Compile.{Compiled, CompiledTypes, Owner, compile, definition_texts, nothing_compiled, of_sort, owner_before, owners_of, sum_words, system_texts, unit_texts, waiting_words, with_definitions, with_system}
+use Rattle.cp_code.specs.Compile.{Compiled, CompiledTypes, Owner, compile, nothing_compiled, of_sort, owner_before, owners_of, sum_words, system_texts, unit_texts, with_definitions, with_system}
 use Rattle.cp_code.specs.Known.{TextKnown}
-use Rattle.cp_code.proofs.DefinitionsStand.{FirstsRight, Stand, definitions_stand, system_first, system_here}
+use Rattle.cp_code.proofs.DefinitionsStand.{Stand, definitions_stand, system_first, system_here}
 use Rattle.cp_code.proofs.InitStand.{all_found}
-use Rattle.cp_code.proofs.PlansStand.{PlannableMembers}
 use Rattle.cp_code.proofs.RowsStand.{monitor_row, monitor_there, monitor_within, monitors_apart, process_row, process_there, process_within, processes_apart}
-use Rattle.cp_code.proofs.ScopesStand.{SystemKnown, UnitsThere}
+use Rattle.cp_code.proofs.ScopesStand.{UnitsThere}
 use Rattle.cp_code.proofs.StartsStand.{component_starts}
-use Rattle.cp_code.proofs.SystemsStand.{After, Good, Within, begins_same, get_less, get_some, system_stands, system_there, units_later}
+use Rattle.cp_code.proofs.SystemsStand.{After, Within, begins_same, get_some, system_stands, system_there, units_later}
 
 -- ---- Components of a sort
 

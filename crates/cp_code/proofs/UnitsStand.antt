@@ -1,20 +1,17 @@
 -- A unit that is compiled stands for its routine or body.
 --
 -- What a unit needs is the greatest of what its operations need, so each of them has it.
-use Rattle.std.proofs.Common.{◌≡◌, ◌≤◌, ℕ, suc, ◌+◌, List, [], ◌∷◌, ◌++◌, Option, Some, None, refl, ap, sym, subst, ◌∙◌, slice_get, length, arith}
-use Rattle.std.specs.Prelude.{max}
-use Rattle.cp_model.specs.Abstract as a
+use Rattle.std.proofs.Common.{◌≡◌, ◌≤◌, ℕ, suc, ◌+◌, List, [], ◌∷◌, Option, Some, None, subst, length, arith}
 use Rattle.cp_model.specs.Abstract.{Statement, System}
 use Rattle.cp_model.specs.Locations.{Location, Owner}
 use Rattle.cp_typing.specs.Judgement.{TypedStatement}
 use Rattle.cp_code.specs.Programs as op
 use Rattle.cp_code.specs.Programs.{Call, CodeUnit, Operation, Program, Start}
-use Rattle.cp_code.specs.Sites.{Site, UnitText, operation_at}
+use Rattle.cp_code.specs.Sites.{UnitText, operation_at}
 use Rattle.cp_code.specs.TermsFor.{nothing_known}
 use Rattle.cp_code.specs.StatementsFor.{CodeFor}
 use Rattle.cp_code.specs.Scopes.{Scope}
-use Rattle.cp_code.specs.CodeNeeds.{Need, greater_need, need_of, need_of_all, need_of_call, no_need, with_room, with_temps}
-use Rattle.cp_code.specs.CodedStatements.{emitted}
+use Rattle.cp_code.specs.CodeNeeds.{Need, need_of, need_of_all, need_of_call, no_need, with_room, with_temps}
 use Rattle.cp_code.specs.Compile.{code_unit, unit_code}
 use Rattle.cp_code.proofs.Environments.{environment_at}
 use Rattle.cp_code.proofs.OperationsStand.{AllStand, OperationFits}
@@ -81,12 +78,11 @@ module _ (scope : Scope) (program : Program) (texts : List UnitText) (before : L
   pub all_fit : (words : ℕ) (xs : List Operation) (at : ℕ) → AllThere xs at → Within (need_of_all before words xs) unit
       → AllStand scope program texts before unit xs at
   all_fit words [] at there w = tt
-  all_fit words (x ∷ xs) at there w =
-      (
-        there.0,
-        operation_fits x (record { words = omega (arith, w.words); temps = omega (arith, w.temps); frames = omega (arith, w.frames) }),
-        all_fit words xs (suc at) there.1 (record { words = omega (arith, w.words); temps = omega (arith, w.temps); frames = omega (arith, w.frames) }),
-      )
+  all_fit words (x ∷ xs) at there w = (
+    there.0,
+    operation_fits x (record { words = omega (arith, w.words); temps = omega (arith, w.temps); frames = omega (arith, w.frames) }),
+    all_fit words xs (suc at) there.1 (record { words = omega (arith, w.words); temps = omega (arith, w.temps); frames = omega (arith, w.frames) }),
+  )
 
 pub words_needed : (before : List CodeUnit) (words : ℕ) (xs : List Operation) → words ≤ (need_of_all before words xs).words
 words_needed before words [] = omega arith

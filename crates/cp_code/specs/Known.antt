@@ -1,4 +1,4 @@
--- What the compiler needs to know of a text. Accepted texts have it.
+-- What the law of the compiler needs to know of a text.
 use Rattle.std.specs.Prelude.{◌≡◌, ℕ, int_le, Bool, true, false, List, [], ◌∷◌, ◌++◌, Option, Some, None, slice_get}
 use Rattle.cp_model.specs.Abstract as a
 use Rattle.cp_model.specs.Abstract.{Definition, Name, Routine, System}
@@ -12,7 +12,7 @@ use Rattle.cp_model.specs.States.{Setup, initial_variables}
 use Rattle.cp_typing.specs.Judgement.{NamesVariable, Place, TypedPlace, has_queues, is_structured}
 use Rattle.cp_typing.specs.Needs.{some_environment}
 use Rattle.cp_typing.specs.StaticTypes.{is_clock, place_type}
-use Rattle.cp_typing.specs.WellTyped.{TypedBodies, TypedSystem, text_systems}
+use Rattle.cp_typing.specs.WellTyped.{TypedBodies, TypedSystem, WellTyped, text_systems}
 use Rattle.cp_code.specs.StandsFor.{StandsFor}
 use Rattle.cp_code.specs.StatementsFor.{IsPlain}
 use Rattle.cp_code.specs.Scopes.{Scope, declared_type, environment_at, groups_of}
@@ -84,7 +84,33 @@ pub record TextKnown (setup : Setup) : Type 0 where
   pub planned : (x : Name) (v : Variable) (s : System) (inner : Members) → lookup x (initial_variables setup) ≡ Some v → v.type ≡ ComponentOf s inner → PlannableMembers true (reported_members (globals setup.tree) s)
   pub members : (s : System) (inner : Members) (x : Name) → named_type (globals setup.tree) x ≡ ComponentOf s inner → inner ≡ reported_members (globals setup.tree) s
 
+-- ---- Beside the typing
+
+-- What the typing of a text doesn't tell of a system type: no variable is the clock, and what is copied is plain.
+pub record SystemFacts (g : GlobalScope) (s : System) : Type 0 where
+  pub no_clock : (scope : Scope) (at : Location) (o : Owner) (x : Name) → scope.globals ≡ g → scope.system ≡ s → RunsIn s scope.routine
+      → NamesVariable (environment_at scope at o) x → is_clock x ≡ false
+  pub plain : (systems : List System) (scope : Scope) (routines : ℕ) (at : Location) (o : Owner) (d : a.Designator) → scope.globals ≡ g → scope.system ≡ s
+      → RunsIn s scope.routine
+      → TypedPlace (place_at scope systems routines at o) d → is_structured (place_type (environment_at scope at o) d) ≡ true
+      → has_queues (place_type (environment_at scope at o) d) ≡ false → IsPlain (place_type (environment_at scope at o) d)
+
+abbrev pub NamesInOrder : GlobalScope → GlobalScope → List Definition → Type 0
+NamesInOrder g h [] = Unit {0}
+NamesInOrder g h (a.SystemDef x s ∷ ds) = NamedBefore g h s × NamesInOrder g (define h (a.SystemDef x s)) ds
+NamesInOrder g h (a.TypeDef x t ∷ ds) = NamesInOrder g (define h (a.TypeDef x t)) ds
+NamesInOrder g h (a.EnumDef x vs ∷ ds) = NamesInOrder g (define h (a.EnumDef x vs)) ds
+NamesInOrder g h (a.ConstantDef x c ∷ ds) = NamesInOrder g (define h (a.ConstantDef x c)) ds
+
+-- Nor that types are defined before they are named, and that a component has one layout wherever its type is named.
+pub record TextFacts (setup : Setup) : Type 0 where
+  pub systems : (i : ℕ) (s : System) → slice_get (text_systems setup) i ≡ Some s → SystemFacts (globals setup.tree) s
+  pub initial : SystemFacts (globals setup.tree) setup.tree.initial
+  pub in_order : NamesInOrder (globals setup.tree) standard_scope setup.tree.definitions
+  pub members : (s : System) (inner : Members) (x : Name) → named_type (globals setup.tree) x ≡ ComponentOf s inner
+      → inner ≡ reported_members (globals setup.tree) s
+
 -- ---- The law
 
-abbrev pub KnownTextsHavePrograms : Type 0
-KnownTextsHavePrograms = (setup : Setup) → TextKnown setup → StandsFor (compile setup.tree) setup
+abbrev pub TypedTextsHavePrograms : Type 0
+TypedTextsHavePrograms = (setup : Setup) → WellTyped setup → TextFacts setup → StandsFor (compile setup.tree) setup

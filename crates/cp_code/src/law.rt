@@ -1,9 +1,9 @@
-//! The laws, as functions without a body: a caller has a law as a fact once it calls the function. Their statements stand in `specs/Known.antt`.
+//! The law, as a function without a body: a caller has it as a fact once it calls the function. Its statement stands in `specs/Known.antt`.
 
-ghost use Rattle.cp_code.specs.Known.{KnownTextsHavePrograms};
+ghost use Rattle.cp_code.specs.Known.{TypedTextsHavePrograms};
 
-/// What the compiler makes of a text stands for it (`specs/StandsFor.antt`), where the text is typed, its types are defined before
-/// they are named, and its components have one layout (`specs/Known.antt`).
-pub fn known_texts_have_programs()
-    ensures { KnownTextsHavePrograms }
+/// What the compiler makes of a well typed text stands for it (`specs/StandsFor.antt`), where the text has what its typing doesn't
+/// tell (`TextFacts`): no variable is the clock, what is copied is plain, types are defined before they are named, and a component has one layout.
+pub fn typed_texts_have_programs()
+    ensures { TypedTextsHavePrograms }
 {}
