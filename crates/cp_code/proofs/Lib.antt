@@ -1,1 +1,16 @@
+mod Environments
+mod Found
+mod Standing
+mod NamesStand
+mod Temps
+mod Fits
+mod StandardStand
+mod CallsStand
+mod TermsStand
+mod InitStand
+mod ResultStand
+mod TablesStand
+mod CodeStands
+mod OperationsStand
+mod StatementsStand
 mod Example

@@ -10,7 +10,7 @@ use Rattle.cp_model.specs.Types.{GlobalScope, ResolvedType, Simple, base_of_type
 use Rattle.cp_model.specs.Declarations.{declarations}
 use Rattle.cp_model.specs.Integers.{count_between}
 use Rattle.cp_model.specs.Components.{Component, component_named, process_number}
-use Rattle.cp_model.specs.Calls.{callee}
+use Rattle.cp_model.specs.Calls.{Callee, callee}
 use Rattle.cp_model.specs.Expressions.{name_of}
 use Rattle.cp_typing.specs.StaticTypes.{expression_type, place_type}
 use Rattle.cp_typing.specs.Words.{words}
@@ -75,13 +75,13 @@ abbrev pub store : GlobalScope → ResolvedType → CodedSpot → CodedTerm → 
 store g (Simple b low high start) d e s at next = with_calls (d.calls ++ e.calls) (op.Set d.spot low high e.term next) at
 store g t d e s at next = with_calls (d.calls ++ s.calls) (op.CopyWords d.spot s.spot (words g t) next) at
 
-abbrev pub assign : Scope → a.Designator → a.Expression → ℕ → ℕ → ℕ → Emitted
-assign scope d e low at next =
-    let t = place_type (environment scope) d in
-    if is_result scope d then set_result t (coded_term scope e low) at next
-    else
+-- A result is set, or a variable.
+abbrev pub assign_by : Scope → a.Designator → a.Expression → ℕ → ℕ → ℕ → Bool → Emitted
+assign_by scope d e low at next true =
+    set_result (place_type (environment scope) d) (coded_term scope e low) at next
+assign_by scope d e low at next false =
     let to = coded_spot scope d low in
-    store scope.globals t to (coded_term scope e to.temps) (coded_variable scope e to.temps) at next
+    store scope.globals (place_type (environment scope) d) to (coded_term scope e to.temps) (coded_variable scope e to.temps) at next
 
 -- ---- Calls and standard procedures
 
@@ -106,13 +106,12 @@ standard_statement scope x a.NoExpression low at next = with_calls [] (op.Wait n
 standard_statement scope x (a.MoreExpressions e es) low at next =
     standard_procedure scope x (expression_type (environment scope) e) (coded_term scope e low) (coded_variable scope e low) at next
 
-abbrev pub perform : Scope → a.Designator → a.Expressions → ℕ → ℕ → ℕ → Emitted
-perform scope d es low at next = elim (callee (environment scope) d) [
-  | None ↦ standard_statement scope (name_of d) es low at next
-  | Some c ↦
-      let xs = coded_arguments scope es (parameters_of scope c) (first_parameter c) low in
-      with_calls xs.calls (op.Procedure (call_of scope (unit_of scope c) (target_of (environment scope) c.of) xs.arguments low) next) at
-]
+-- A standard procedure, or else a user's.
+abbrev pub perform_by : Scope → a.Designator → a.Expressions → ℕ → ℕ → ℕ → Option Callee → Emitted
+perform_by scope d es low at next None = standard_statement scope (name_of d) es low at next
+perform_by scope d es low at next (Some c) =
+    let xs = coded_arguments scope es (parameters_of scope c) (first_parameter c) low in
+    with_calls xs.calls (op.Procedure (call_of scope (unit_of scope c) (target_of (environment scope) c.of) xs.arguments low) next) at
 
 -- ---- Init
 
@@ -125,13 +124,11 @@ init_operation scope n a.Monitor xs low next = op.InitMonitor (init_call scope n
 init_operation scope n a.Process xs low next =
     op.InitProcess (process_number (environment scope) n) xs.arguments scope.words next
 
-abbrev pub init : Scope → Name → a.Expressions → ℕ → ℕ → ℕ → Emitted
-init scope x es low at next = elim (component_named (environment scope) x) [
-  | None ↦ record { operations = []; entry = next }
-  | Some n ↦
-      let xs = init_arguments scope n.system es (declarations scope.globals n.system.parameters) low in
-      with_calls xs.calls (init_operation scope n n.system.sort xs low next) at
-]
+abbrev pub init_by : Scope → a.Expressions → ℕ → ℕ → ℕ → Option Component → Emitted
+init_by scope es low at next None = record { operations = []; entry = next }
+init_by scope es low at next (Some n) =
+    let xs = init_arguments scope n.system es (declarations scope.globals n.system.parameters) low in
+    with_calls xs.calls (init_operation scope n n.system.sort xs low next) at
 
 -- ---- Case
 
@@ -198,8 +195,8 @@ abbrev mutual
   emitted scope (a.Seq x y) low at next =
       let second = emitted scope y low at next in
       behind second.operations (emitted scope x low (at + length second.operations) second.entry)
-  emitted scope (a.Assign d e) low at next = assign scope d e low at next
-  emitted scope (a.Perform d es) low at next = perform scope d es low at next
+  emitted scope (a.Assign d e) low at next = assign_by scope d e low at next (is_result scope d)
+  emitted scope (a.Perform d es) low at next = perform_by scope d es low at next (callee (environment scope) d)
   emitted scope (a.If e x y) low at next =
       let no = emitted scope y low at next in
       let yes = emitted scope x low (at + length no.operations) next in
@@ -231,7 +228,7 @@ abbrev mutual
   emitted scope (a.Cycle x) low at next =
       let body = emitted scope x low (suc at) at in
       record { operations = op.Cycle body.entry ∷ body.operations; entry = at }
-  emitted scope (a.Init x es) low at next = init scope x es low at next
+  emitted scope (a.Init x es) low at next = init_by scope es low at next (component_named (environment scope) x)
 
   pub emitted_arms : Scope → a.Arms → ℕ → ℕ → ℕ → EmittedArms
   emitted_arms scope a.NoArm low at next = record { arms = []; operations = [] }

@@ -143,6 +143,16 @@ function_call scope c xs low =
 abbrev pub parameters_of : Scope → Callee → List (Name × Variable)
 parameters_of scope c = declarations scope.globals c.routine.parameters
 
+-- A designator alone, by what it calls.
+abbrev pub used_term : Scope → a.Designator → ℕ → CodedSpot → Option Callee → CodedTerm
+used_term scope d low s None = name_or_item scope d s low
+used_term scope d low s (Some c) = function_call scope c (no_arguments low) low
+
+-- A call of a standard function, or else of a user's with these arguments.
+abbrev pub called_term : Scope → ℕ → CodedTerm → (Callee → CodedArguments) → Option Callee → CodedTerm
+called_term scope low standard xs None = standard
+called_term scope low standard xs (Some c) = function_call scope c (xs c) low
+
 -- ---- Expressions
 
 abbrev mutual
@@ -150,14 +160,10 @@ abbrev mutual
   coded_term scope (a.Literal n) low = lone_term (Number (pos n)) low
   coded_term scope (a.Letter n) low = lone_term (Number (pos n)) low
   coded_term scope (a.Known b n) low = lone_term (Number n) low
-  coded_term scope (a.Use d) low = elim (callee (environment scope) d) [
-    | None ↦ name_or_item scope d (coded_spot scope d low) low
-    | Some c ↦ function_call scope c (no_arguments low) low
-  ]
-  coded_term scope (a.Call d es) low = elim (callee (environment scope) d) [
-    | None ↦ coded_standard scope (name_of d) es low
-    | Some c ↦ function_call scope c (coded_arguments scope es (parameters_of scope c) (first_parameter c) low) low
-  ]
+  coded_term scope (a.Use d) low = used_term scope d low (coded_spot scope d low) (callee (environment scope) d)
+  coded_term scope (a.Call d es) low =
+      called_term scope low (coded_standard scope (name_of d) es low)
+      (λ c. coded_arguments scope es (parameters_of scope c) (first_parameter c) low) (callee (environment scope) d)
   coded_term scope (a.Not e) low = let t = coded_term scope e low in record t { term = Not t.term }
   coded_term scope (a.Negative e) low = let t = coded_term scope e low in record t { term = Negative t.term }
   coded_term scope (a.Positive e) low = coded_term scope e low

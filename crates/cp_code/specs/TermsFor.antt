@@ -3,7 +3,7 @@
 -- The user calls of an expression are operations in front of the statement's own, in the order in which they are made. `place` is
 -- where the first call that is still to be made stands, and `next` where the last one leads. The values that are made lie in the temps
 -- from `low` to `high`. `Known` stands for a call that has been made: its value is in a temp, and `K` is what temps are known to hold. In a
--- text nothing is known.
+-- text nothing is known, and a value that is `Known` there is a number.
 use Rattle.std.specs.Prelude.{◌≡◌, ◌≤◌, ◌<◌, ℕ, ◌+◌, ℤ, pos, false, true, List, [], ◌∷◌, Some, None, Result, Ok, Err}
 use Rattle.cp_model.specs.Abstract as a
 use Rattle.cp_model.specs.Abstract.{BaseType, Boolean, Char, Integer, Name}
@@ -76,6 +76,7 @@ abbrev mutual
   pub TermFor : Site → Knowns → a.Expression → Term → BaseType → ℕ → ℕ → ℕ → ℕ → Type 0
   TermFor site K (a.Literal n) (Number m) b place next low high = (m ≡ pos n) × (b ≡ Integer) × (place ≡ next)
   TermFor site K (a.Letter n) (Number m) b place next low high = (m ≡ pos n) × (b ≡ Char) × (place ≡ next)
+  TermFor site K (a.Known base n) (Number m) b place next low high = (m ≡ n) × (b ≡ base) × (place ≡ next)
   TermFor site K (a.Known base n) (Made t) b place next low high =
       (b ≡ base) × (place ≡ next) × K t n × (low ≤ t) × (t < high)
   TermFor site K (a.Use d) (Made t) b place next low high =

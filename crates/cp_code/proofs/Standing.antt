@@ -1,0 +1,86 @@
+-- Where code is proved to stand: the scope that it was compiled with, the site, and what is known of both.
+use Rattle.std.proofs.Common.{◌≡◌, ◌≤◌, ◌<◌, ℕ, suc, ◌+◌, List, [], ◌∷◌, ◌++◌, Option, Some, None, refl, ap, sym, subst, ◌∙◌, Bool, true, false, slice_get, length, arith, bytes_eq, append_assoc, is_some}
+use Rattle.std.proofs.lemmas.Bool.{true≢false}
+use Rattle.cp_model.specs.Abstract as a
+use Rattle.cp_model.specs.Abstract.{Name, Plain, Routine, System}
+use Rattle.cp_model.specs.Names.{lookup}
+use Rattle.cp_model.specs.Types.{ComponentOf, GlobalScope, Members, ResolvedType, named_type}
+use Rattle.cp_model.specs.Declarations.{Variable, declarations, is_component, reported_members}
+use Rattle.cp_model.specs.Environments.{Environment, IsVariable, meaning, permanent_variables}
+use Rattle.cp_model.specs.Locations.{ByName, Location, Owner, under}
+use Rattle.cp_model.specs.Calls.{Callee, callee, routine_named, own_routine}
+use Rattle.cp_model.specs.Components.{Component, component_named}
+use Rattle.cp_typing.specs.Judgement.{Initialises, IsSimple, MayBeCalled, TypedPlace, has_queues, is_structured, NamesVariable, Place}
+use Rattle.cp_typing.specs.Declared as declared
+use Rattle.cp_typing.specs.Declared.{Distinct, Each, ResultFits, RoutineParameter, SystemParameter}
+use Rattle.cp_typing.specs.StaticTypes.{is_clock, place_type}
+use Rattle.cp_code.specs.Programs as op
+use Rattle.cp_code.specs.Programs.{Call, CodeUnit, Program}
+use Rattle.cp_code.specs.Sites.{BodyOf, RoutineOf, Site, TargetFor, UnitText, operation_at, system_of_callee}
+use Rattle.cp_code.specs.StatementsFor.{IsPlain}
+use Rattle.cp_code.specs.Scopes.{Scope, body_of, environment, target_of, unit_of}
+use Rattle.cp_code.specs.CodedTerms.{CodedCall}
+use Rattle.cp_code.proofs.Environments.{environment_at}
+
+-- What a unit is the code of, and that it stands in the program, and among those that were compiled before.
+pub record UnitThere (program : Program) (texts : List UnitText) (before : List CodeUnit) (n : ℕ) (t : UnitText) : Type 0 where
+  pub text : slice_get texts n ≡ Some t
+  pub unit : CodeUnit
+  pub there : slice_get program.units n ≡ Some unit
+  pub earlier : slice_get before n ≡ Some unit
+
+-- The routine that runs is found by its name, and its result is simple.
+abbrev pub RoutineHere : Scope → Option Routine → Type 0
+RoutineHere scope None = Unit {0}
+RoutineHere scope (Some r) = (routine_named r.name scope.system ≡ Some r) × ResultFits scope.globals r.result
+
+abbrev pub place_at : Scope → List System → ℕ → Location → Owner → Place
+place_at scope systems routines at o = record { env = environment_at scope at o; systems = systems; routines = routines }
+
+-- What is known of a component that is initialised: its body stands, and its parameters are simple values and rights of distinct names.
+pub record InitStands (scope : Scope) (program : Program) (texts : List UnitText) (before : List CodeUnit) (n : Component) : Type 0 where
+  pub body : UnitThere program texts before (body_of scope n) (BodyOf n.system)
+  pub defined : List System
+  pub each : Each (SystemParameter scope.globals defined n.system.sort) (declarations scope.globals n.system.parameters)
+  pub distinct : Distinct (declarations scope.globals n.system.parameters)
+
+-- What is known where code stands. `systems` and `routines` are those that were defined before.
+pub record Standing (scope : Scope) (program : Program) (texts : List UnitText) (before : List CodeUnit) (systems : List System) (routines : ℕ) : Type 0 where
+  pub running : RoutineHere scope scope.routine
+  pub by_value : (x : Name) (v : Variable) → lookup x (permanent_variables scope.globals scope.system) ≡ Some v → v.by_reference ≡ false
+  pub no_clock : (at : Location) (o : Owner) (x : Name) → NamesVariable (environment_at scope at o) x → is_clock x ≡ false
+  pub units : (at : Location) (o : Owner) (r : Routine) (of : Option Component) → MayBeCalled (place_at scope systems routines at o) r of
+      → UnitThere program texts before (unit_of scope (record { routine = r; of = of })) (RoutineOf (system_of_callee (environment_at scope at o) of) r)
+  pub parameters : (at : Location) (o : Owner) (r : Routine) (of : Option Component) → MayBeCalled (place_at scope systems routines at o) r of
+      → Each (RoutineParameter scope.globals (declared.is_function r.result)) (declarations scope.globals r.parameters)
+  pub plain : (at : Location) (o : Owner) (d : a.Designator) → TypedPlace (place_at scope systems routines at o) d
+      → is_structured (place_type (environment_at scope at o) d) ≡ true → has_queues (place_type (environment_at scope at o) d) ≡ false
+      → IsPlain (place_type (environment_at scope at o) d)
+  pub inits : (at : Location) (o : Owner) (x : Name) (es : a.Expressions) (i : Initialises (place_at scope systems routines at o) x es)
+      → InitStands scope program texts before i.component
+  pub distinct : Distinct (permanent_variables scope.globals scope.system)
+  pub reported : (x : Name) (v : Variable) (r : System) (inner : Members) → lookup x (declarations scope.globals scope.system.variables) ≡ Some v
+      → v.type ≡ ComponentOf r inner → inner ≡ reported_members scope.globals r
+  pub no_process : (at : Location) (o : Owner) (r : Routine) (n : Component) → MayBeCalled (place_at scope systems routines at o) r (Some n)
+      → n.system.sort ≡ a.Process → ⊥
+
+-- ---- Calls that stand
+
+module _ (scope : Scope) (program : Program) (texts : List UnitText) (before : List CodeUnit) (unit : CodeUnit) where
+  -- The unit that is called needs no more than there is behind the activation.
+  abbrev pub CallFits : Call → Type 0
+  CallFits call = (u : CodeUnit) → slice_get before call.routine ≡ Some u
+      → (call.words + u.words ≤ unit.words) × (call.temps + u.temps ≤ unit.temps) × (1 + u.frames ≤ unit.frames)
+
+  -- The calls stand from a place on, in order, and the last one leads to the next.
+  abbrev pub Chained : List CodedCall → ℕ → ℕ → Type 0
+  Chained [] place next = place ≡ next
+  Chained (c ∷ cs) place next =
+      (middle : ℕ) × (operation_at program place ≡ Some (op.Function c.call c.into middle)) × CallFits c.call × Chained cs middle next
+
+  pub split : (cs ds : List CodedCall) (place next : ℕ) → Chained (cs ++ ds) place next
+      → (middle : ℕ) × Chained cs place middle × Chained ds middle next
+  split [] ds place next h = (place, refl, h)
+  split (c ∷ cs) ds place next h =
+      let rest : (middle : ℕ) × Chained cs h.0 middle × Chained ds middle next = split cs ds h.0 next h.3 in
+      (rest.0, (h.0, h.1, h.2, rest.1), rest.2)
