@@ -10,7 +10,6 @@ use Rattle.cp_model.specs.Types.{ArrayOf, ComponentOf, Members, MoreMembers, NoM
 use Rattle.cp_model.specs.Declarations.{Variable, declarations}
 use Rattle.cp_model.specs.Environments.{Environment, Frame, IsVariable, meaning}
 use Rattle.cp_model.specs.Components.{Component, component_named, process_number}
-use Rattle.cp_model.specs.Places.{within}
 use Rattle.cp_model.specs.Calls.{Callee, callee}
 use Rattle.cp_model.specs.StatementSteps.{has_label}
 use Rattle.cp_typing.specs.Words.{words}
@@ -18,7 +17,6 @@ use Rattle.cp_code.specs.Terms.{Argument, Right, Term, Value}
 use Rattle.cp_code.specs.Programs as op
 use Rattle.cp_code.specs.Programs.{Call, Counting, Operation, Table}
 use Rattle.cp_code.specs.Layout.{local, member, right}
-use Rattle.cp_code.specs.Starts.{unset}
 use Rattle.cp_code.specs.Tables.{place_in}
 use Rattle.cp_code.specs.Sites.{BodyOf, Calls, IsNoClock, NamesVariable, Runs, Site, TargetFor, first_parameter, local_location, operation_at, parameters}
 use Rattle.cp_code.specs.TermsFor.{ArgumentsFor, Knowns, SpotFor, TermFor, nothing_known}
@@ -42,8 +40,7 @@ abbrev mutual
 
 -- ---- Assignments
 
--- The running routine is a function of this name and simple result type. No parameter or variable of it has its name, and none of its
--- values is the mark of a result that isn't set.
+-- The running routine is a function of this name and simple result type. No parameter or variable of it has its name.
 pub record NamesResult (env : Environment) (x : Name) (low high : ℤ) : Type 0 where
   pub frame : Frame
   pub runs : env.frame ≡ Some frame
@@ -56,7 +53,6 @@ pub record NamesResult (env : Environment) (x : Name) (low high : ℤ) : Type 0 
   pub type : variable.type ≡ Simple base low high start
   pub function : (t : Name) × (frame.routine.result ≡ Some t)
   pub no_local : local env.globals frame.routine frame.routine.name ≡ None
-  pub is_set : (n : ℤ) → within low high n ≡ true → n ≡ unset → ⊥
 
 abbrev pub AssignsBy : Site → Knowns → a.Designator → a.Expression → Operation → ℕ → ℕ → ℕ → ℕ → Type 0
 AssignsBy site K d e (op.Set to lower upper value n) place last next low =
@@ -132,7 +128,7 @@ InitArgumentsFor site K s (p ∷ ps) (a.MoreExpressions e es) (Value to lower up
 InitArgumentsFor site K s (p ∷ ps) (a.MoreExpressions (a.Use (a.Plain x)) es) (Right to t ∷ xs) place next low high =
     (n : Component) × (inner : Members) × (v : Variable)
     × (right site.env.globals s p.0 ≡ Some (to, v)) × (p.1.type ≡ ComponentOf n.system inner)
-    × (component_named site.env x ≡ Some n) × (callee site.env (a.Plain x) ≡ None) × TargetFor site.env (Some n) t
+    × (component_named site.env x ≡ Some n) × TargetFor site.env (Some n) t
     × InitArgumentsFor site K s ps es xs place next low high
 InitArgumentsFor site K s _ _ _ place next low high = ⊥
 
