@@ -52,7 +52,7 @@ type_of s = ComponentOf s (reported_members g s)
 
 get_code : (at : Location) (o : Owner) → CodeFor (site_of program texts (unit_at program 0) (RoutineOf c get) (routine_environment g c get at o)) nothing_known get.body 2 0 0
 get_code at o =
-    (1, (2, op.Set (Rooted (Member 1)) (negsuc 32767) (pos 32767) (Binary a.Add (Item (Rooted (Member 1))) (Item (Rooted (Local 1)))) 1, refl, (Integer, Integer, pos 0, 2, 0, refl, le 0 _ refl, le 0 _ refl, (refl, record { variable = one (int); means = refl; lies = refl; reference = refl; type = refl }), (Integer, Integer, 2, 0, refl, refl, le 0 _ refl, le 0 _ refl, (negsuc 32767, pos 32767, pos 0, refl, refl, (refl, record { variable = one (int); means = refl; lies = refl; reference = refl; type = refl })), (negsuc 32767, pos 32767, pos 0, refl, refl, (refl, record { frame = record { owner = o; routine = get }; runs = refl; variable = one (int); means = refl; lies = refl; reference = refl; type = refl }))))), (0, (1, op.SetResult (negsuc 32767) (pos 32767) (Item (Rooted (Member 1))) 0, refl, (Integer, refl, record { frame = record { owner = o; routine = get }; runs = refl; is_name = refl; variable = one int; means = refl; reference = refl; base = Integer; start = pos 0; type = refl }, (negsuc 32767, pos 32767, pos 0, refl, refl, (refl, record { variable = one (int); means = refl; lies = refl; reference = refl; type = refl })))), refl))
+    (1, (2, op.Set (Rooted (Member 1)) (negsuc 32767) (pos 32767) (Binary a.Add (Item (Rooted (Member 1))) (Item (Rooted (Local 1)))) 1, refl, (Integer, Integer, pos 0, 2, 0, refl, le 0 _ refl, le 0 _ refl, (refl, record { variable = one (int); means = refl; lies = refl; reference = refl; type = refl }), (Integer, Integer, 2, 0, refl, refl, le 0 _ refl, le 0 _ refl, (negsuc 32767, pos 32767, pos 0, refl, refl, (refl, record { variable = one (int); means = refl; lies = refl; reference = refl; type = refl })), (negsuc 32767, pos 32767, pos 0, refl, refl, (refl, record { frame = record { owner = o; routine = get }; runs = refl; variable = one (int); means = refl; lies = refl; reference = refl; type = refl }))))), (0, (1, op.SetResult (negsuc 32767) (pos 32767) (Item (Rooted (Member 1))) 0, refl, (Integer, refl, record { frame = record { owner = o; routine = get }; runs = refl; is_name = refl; variable = one int; means = refl; reference = refl; base = Integer; start = pos 0; type = refl; function = (codes "integer", refl); no_local = refl }, (negsuc 32767, pos 32767, pos 0, refl, refl, (refl, record { variable = one (int); means = refl; lies = refl; reference = refl; type = refl })))), refl))
 
 c_code : (at : Location) → CodeFor (site_of program texts (unit_at program 1) (BodyOf c) (body_environment g c at)) nothing_known c.body 4 3 0
 c_code at =

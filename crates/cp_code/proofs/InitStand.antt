@@ -7,8 +7,6 @@ use Rattle.cp_model.specs.Names.{lookup}
 use Rattle.cp_model.specs.Types.{ArrayOf, ComponentOf, Members, NoType, Queue, RecordOf, ResolvedType, Simple, base_of_type}
 use Rattle.cp_model.specs.Declarations.{Variable, declarations, is_component}
 use Rattle.cp_model.specs.Environments.{Environment}
-use Rattle.cp_model.specs.Expressions.{name_of}
-use Rattle.cp_model.specs.Arguments.{designator_of}
 use Rattle.cp_model.specs.Locations.{Location, Owner}
 use Rattle.cp_model.specs.Components.{Component, component_named}
 use Rattle.cp_typing.specs.Judgement.{AllInitFit, InitFits, IsComponentArgument, Place}
@@ -168,9 +166,9 @@ module _ (scope : Scope) (program : Program) (texts : List UnitText) (systems : 
 
     right_stands : (r : System) (inner : Members) (sort : Sort) → lookup x (declarations scope.globals s.parameters) ≡ Some (v_of (ComponentOf r inner))
         → MayBePassed sort (Some r.sort) → InitFits p (ComponentOf r inner) e → Goal x (v_of (ComponentOf r inner)) e low place between next high ps es xs
-    right_stands r inner sort found passed fits chain room rest =
+    right_stands r inner sort found passed fits =
         let k : NamedArgument r e = named_argument r e fits in
-        let named : component_named env (name_of (designator_of e)) ≡ Some k.component = ap (λ z. component_named env (name_of (designator_of z))) k.is ∙ k.named in
+        subst (λ z. Goal x (v_of (ComponentOf r inner)) z low place between next high ps es xs) (sym k.is) (λ chain room rest.
         let m = right_found scope.globals x 1 (rights scope.globals s) (v_of (ComponentOf r inner))
         (kept_found x (λ v. is_component v.1.type) (declarations scope.globals s.parameters) (v_of (ComponentOf r inner)) found (λ y. refl)) in
         let target : TargetFor env (Some k.component) (target_of (environment scope) (Some k.component)) =
@@ -181,10 +179,10 @@ module _ (scope : Scope) (program : Program) (texts : List UnitText) (systems : 
           v_of (ComponentOf r inner),
           m.1 ∙ ap (λ z. Some (z, v_of (ComponentOf r inner))) (sym (ap right_start m.1)),
           ap (λ z. ComponentOf z inner) (sym k.system),
-          named,
-          subst (λ z. TargetFor env (Some k.component) (target_of (environment scope) z)) (sym named) target,
+          k.named,
+          subst (λ z. TargetFor env (Some k.component) (target_of (environment scope) z)) (sym k.named) target,
           subst (λ z. InitArgumentsFor site K s ps es xs z next low high) (sym chain) rest,
-        )
+        ))
 
     argument_stands : (t : ResolvedType) (sort : Sort) → lookup x (declarations scope.globals s.parameters) ≡ Some (v_of t)
         → SystemParameter scope.globals defined sort (x, v_of t) → InitFits p t e → Goal x (v_of t) e low place between next high ps es xs

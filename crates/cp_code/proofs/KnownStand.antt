@@ -285,4 +285,6 @@ module _ (setup : Setup) (typed : WellTyped setup) where
       initial_planned = initial_planned;
       planned = component_planned;
       members = facts.members;
+      set_apart = facts.set_apart;
+      typed = typed;
     }

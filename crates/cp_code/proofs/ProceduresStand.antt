@@ -164,6 +164,7 @@ module _ (scope : Scope) (program : Program) (texts : List UnitText) (systems : 
           start,
           (none, refl, refl),
           refl,
+          v.no_call,
           spot_of d (Simple Char (low_of t) (high_of t) start) low (with_calls s.calls (op.Accept s.spot (low_of t) (high_of t) next) place).entry place v.no_call
               (v.type ∙ ap (λ l. Simple Char l upper start) (sym (ap low_of type)) ∙ ap (λ h. Simple Char (low_of t) h start) (sym (ap high_of type))) refl v.typed fits w.chain w.below,
         ),
@@ -181,6 +182,7 @@ module _ (scope : Scope) (program : Program) (texts : List UnitText) (systems : 
         (
           (none, refl, refl, refl),
           refl,
+          v.no_call,
           spot_of d Queue low (with_calls s.calls (op.Delay s.spot next) place).entry place v.no_call v.type refl v.typed fits w.chain w.below,
         ),
       ))
@@ -200,6 +202,7 @@ module _ (scope : Scope) (program : Program) (texts : List UnitText) (systems : 
         w.there,
         (
           (none, refl, refl, refl),
+          v.no_call,
           spot_of d Queue low (with_calls s.calls (op.Continue s.spot (runs_function scope.routine)) place).entry place v.no_call v.type refl v.typed fits w.chain w.below,
           (f, runs, runs_as scope.routine f runs),
         ),

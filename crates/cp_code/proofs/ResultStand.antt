@@ -45,9 +45,9 @@ module _ (scope : Scope) (at : Location) (o : Owner) (x : Name) where
     pub names : NamesResult (env_of w) x (low_of (place_type (env_of w) (Plain x))) (high_of (place_type (env_of w) (Plain x)))
     pub simple : IsSimple (place_type (env_of w) (Plain x))
 
-  from_result : (r : Routine) (t : Name) → x ≡ r.name → IsSimple (named_type scope.globals t)
+  from_result : (r : Routine) (t : Name) → r.result ≡ Some t → x ≡ r.name → lookup x (locals scope.globals r) ≡ None → IsSimple (named_type scope.globals t)
       → meaning (env_of (Some r)) x ≡ IsVariable (local_location (record { owner = o; routine = r }) x) (result t) → Resulting (Some r)
-  from_result r t is simple means =
+  from_result r t of is none simple means =
       let type : place_type (env_of (Some r)) (Plain x) ≡ named_type scope.globals t = ap place_type_meant means in
       let k = bounds_are (named_type scope.globals t) simple in
       record {
@@ -60,6 +60,8 @@ module _ (scope : Scope) (at : Location) (o : Owner) (x : Name) where
           reference = refl;
           base = base_of_type (named_type scope.globals t);
           start = k.0;
+          function = (t, of);
+          no_local = subst (λ y. local scope.globals r y ≡ None) is (local_none scope.globals x (result_words r.result) (locals scope.globals r) none);
           type = subst (λ z. named_type scope.globals t ≡ Simple (base_of_type (named_type scope.globals t)) (low_of z) (high_of z) k.0) (sym type) k.1;
         };
         simple = subst IsSimple (sym type) simple;
@@ -90,7 +92,7 @@ module _ (scope : Scope) (at : Location) (o : Owner) (x : Name) where
               ap (lookup x) (sym (append_assoc (declarations scope.globals r.parameters) (declarations scope.globals r.variables) (result_variable scope.globals r.name r.result)))
               ∙ lookup_later x own (result_variable scope.globals r.name r.result) e
               ∙ ap (λ z. lookup x (result_variable scope.globals r.name z)) of ∙ ap (one (result t)) same in
-              from_result r t (bytes_same x r.name same) fits.0 (ap (λ v. variable_or v o [] x (meaning (env_of None) x)) all)
+              from_result r t of (bytes_same x r.name same) e fits.0 (ap (λ v. variable_or v o [] x (meaning (env_of None) x)) all)
 
   pub result_stands : RoutineHere scope scope.routine → is_result scope (Plain x) ≡ true → Resulting scope.routine
   result_stands here is = resulting scope.routine here is

@@ -323,6 +323,8 @@ module _ (setup : Setup) where
 
     pub stands : StandsFor program setup
     stands = record {
+      typed = known.typed;
+      set_apart = known.set_apart;
       texts = texts;
       units = after.good;
       processes = processes_stand;

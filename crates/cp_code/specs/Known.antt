@@ -1,12 +1,14 @@
 -- What the law of the compiler needs to know of a text.
-use Rattle.std.specs.Prelude.{◌≡◌, ℕ, int_le, Bool, true, false, List, [], ◌∷◌, ◌++◌, Option, Some, None, slice_get}
+use Rattle.std.specs.Prelude.{◌≡◌, ℕ, ℤ, int_le, Bool, true, false, List, [], ◌∷◌, ◌++◌, Option, Some, None, slice_get}
 use Rattle.cp_model.specs.Abstract as a
-use Rattle.cp_model.specs.Abstract.{Definition, Name, Routine, System}
+use Rattle.cp_model.specs.Abstract.{BaseType, Definition, Name, Routine, System}
 use Rattle.cp_model.specs.Names.{lookup}
 use Rattle.cp_model.specs.Types.{ArrayOf, ComponentOf, GlobalScope, Members, MoreMembers, NoMembers, NoType, Queue, RecordOf, ResolvedType, Simple, named_type, standard_scope}
 use Rattle.cp_model.specs.Declarations.{Variable, declarations, define, globals, reported_members}
 use Rattle.cp_model.specs.Environments.{permanent_variables}
 use Rattle.cp_model.specs.Locations.{Location, Owner}
+use Rattle.cp_model.specs.Places.{within}
+use Rattle.cp_code.specs.Starts.{unset}
 use Rattle.cp_model.specs.Components.{Component, component_named}
 use Rattle.cp_model.specs.States.{Setup, initial_variables}
 use Rattle.cp_typing.specs.Judgement.{NamesVariable, Place, TypedPlace, has_queues, is_structured}
@@ -83,6 +85,9 @@ pub record TextKnown (setup : Setup) : Type 0 where
   pub initial_planned : PlannableMembers true (reported_members (globals setup.tree) setup.tree.initial)
   pub planned : (x : Name) (v : Variable) (s : System) (inner : Members) → lookup x (initial_variables setup) ≡ Some v → v.type ≡ ComponentOf s inner → PlannableMembers true (reported_members (globals setup.tree) s)
   pub members : (s : System) (inner : Members) (x : Name) → named_type (globals setup.tree) x ≡ ComponentOf s inner → inner ≡ reported_members (globals setup.tree) s
+  pub set_apart : (x : Name) (b : BaseType) (low high start n : ℤ) → named_type (globals setup.tree) x ≡ Simple b low high start
+      → within low high n ≡ true → n ≡ unset → ⊥
+  pub typed : WellTyped setup
 
 -- ---- Beside the typing
 
@@ -102,13 +107,16 @@ NamesInOrder g h (a.TypeDef x t ∷ ds) = NamesInOrder g (define h (a.TypeDef x 
 NamesInOrder g h (a.EnumDef x vs ∷ ds) = NamesInOrder g (define h (a.EnumDef x vs)) ds
 NamesInOrder g h (a.ConstantDef x c ∷ ds) = NamesInOrder g (define h (a.ConstantDef x c)) ds
 
--- Nor that types are defined before they are named, and that a component has one layout wherever its type is named.
+-- Nor that types are defined before they are named, that a component has one layout wherever its type is named, and that no value of a
+-- type is the mark of a result that isn't set.
 pub record TextFacts (setup : Setup) : Type 0 where
   pub systems : (i : ℕ) (s : System) → slice_get (text_systems setup) i ≡ Some s → SystemFacts (globals setup.tree) s
   pub initial : SystemFacts (globals setup.tree) setup.tree.initial
   pub in_order : NamesInOrder (globals setup.tree) standard_scope setup.tree.definitions
   pub members : (s : System) (inner : Members) (x : Name) → named_type (globals setup.tree) x ≡ ComponentOf s inner
       → inner ≡ reported_members (globals setup.tree) s
+  pub set_apart : (x : Name) (b : BaseType) (low high start n : ℤ) → named_type (globals setup.tree) x ≡ Simple b low high start
+      → within low high n ≡ true → n ≡ unset → ⊥
 
 -- ---- The law
 

@@ -1,19 +1,21 @@
 -- When a program stands for a text.
-use Rattle.std.specs.Prelude.{◌≡◌, ◌≤◌, ◌⊎◌, ℕ, zero, suc, ◌+◌, ◌-◌, List, [], ◌∷◌, Option, Some, None, length, slice_get}
-use Rattle.cp_model.specs.Abstract.{Monitor, Name, Process, Routine, Sort, System}
-use Rattle.cp_model.specs.Types.{ComponentOf, GlobalScope, Members, ResolvedType, named_type}
+use Rattle.std.specs.Prelude.{◌≡◌, ℤ, true, ◌≤◌, ◌⊎◌, ℕ, zero, suc, ◌+◌, ◌-◌, List, [], ◌∷◌, Option, Some, None, length, slice_get}
+use Rattle.cp_model.specs.Abstract.{BaseType, Monitor, Name, Process, Routine, Sort, System}
+use Rattle.cp_model.specs.Types.{ComponentOf, GlobalScope, Members, ResolvedType, Simple, named_type}
+use Rattle.cp_model.specs.Places.{within}
 use Rattle.cp_model.specs.Declarations.{Variable, declarations, globals, reported_members}
 use Rattle.cp_model.specs.Environments.{Environment}
 use Rattle.cp_model.specs.Locations.{Location, Owner}
 use Rattle.cp_model.specs.Report.{components_of}
 use Rattle.cp_model.specs.States.{Setup, monitor_count, process_count}
+use Rattle.cp_typing.specs.WellTyped.{WellTyped}
 use Rattle.cp_code.specs.Programs as code
 use Rattle.cp_code.specs.Programs.{CodeUnit, EndBody, End, Operation, Program, Return}
 use Rattle.cp_code.specs.Layout.{activation_words, component_words}
 use Rattle.cp_code.specs.Sites.{BodyOf, RoutineOf, Site, UnitText, operation_at}
 use Rattle.cp_code.specs.TermsFor.{nothing_known}
 use Rattle.cp_code.specs.StatementsFor.{CodeFor, is_function}
-use Rattle.cp_code.specs.Starts.{Starts, StartsComponent}
+use Rattle.cp_code.specs.Starts.{Starts, StartsComponent, unset}
 
 -- ---- Units
 
@@ -97,9 +99,13 @@ Apart a n b m = (a + n ≤ b) ⊎ (b + m ≤ a)
 
 -- ---- The whole
 
--- `texts` tells what each unit is the code of. The blocks of shared words are apart from one another, and the members of a component
+-- The text is well typed, and no value of a type that a name means is the mark of a result that isn't set. `texts` tells what each unit is
+-- the code of. The blocks of shared words are apart from one another, and the members of a component
 -- are the same wherever its type is named.
 pub record StandsFor (program : Program) (setup : Setup) : Type 0 where
+  pub typed : WellTyped setup
+  pub set_apart : (x : Name) (b : BaseType) (low high start n : ℤ) → named_type (globals setup.tree) x ≡ Simple b low high start
+      → within low high n ≡ true → n ≡ unset → ⊥
   pub texts : List UnitText
   pub units : (n : ℕ) (u : CodeUnit) (t : UnitText) → slice_get program.units n ≡ Some u → slice_get texts n ≡ Some t
       → UnitStands program texts (globals setup.tree) u t

@@ -11,14 +11,12 @@ use Rattle.cp_model.specs.Declarations.{Variable, declarations}
 use Rattle.cp_model.specs.Environments.{Environment, Frame, IsVariable, meaning}
 use Rattle.cp_model.specs.Components.{Component, component_named, process_number}
 use Rattle.cp_model.specs.Calls.{Callee, callee}
-use Rattle.cp_model.specs.Arguments.{designator_of}
-use Rattle.cp_model.specs.Expressions.{name_of}
 use Rattle.cp_model.specs.StatementSteps.{has_label}
 use Rattle.cp_typing.specs.Words.{words}
 use Rattle.cp_code.specs.Terms.{Argument, Right, Term, Value}
 use Rattle.cp_code.specs.Programs as op
 use Rattle.cp_code.specs.Programs.{Call, Counting, Operation, Table}
-use Rattle.cp_code.specs.Layout.{member, right}
+use Rattle.cp_code.specs.Layout.{local, member, right}
 use Rattle.cp_code.specs.Tables.{place_in}
 use Rattle.cp_code.specs.Sites.{BodyOf, Calls, IsNoClock, NamesVariable, Runs, Site, TargetFor, first_parameter, local_location, operation_at, parameters}
 use Rattle.cp_code.specs.TermsFor.{ArgumentsFor, Knowns, SpotFor, TermFor, nothing_known}
@@ -42,7 +40,7 @@ abbrev mutual
 
 -- ---- Assignments
 
--- The running routine is a function of this name and simple result type.
+-- The running routine is a function of this name and simple result type. No parameter or variable of it has its name.
 pub record NamesResult (env : Environment) (x : Name) (low high : ℤ) : Type 0 where
   pub frame : Frame
   pub runs : env.frame ≡ Some frame
@@ -53,6 +51,8 @@ pub record NamesResult (env : Environment) (x : Name) (low high : ℤ) : Type 0 
   pub base : BaseType
   pub start : ℤ
   pub type : variable.type ≡ Simple base low high start
+  pub function : (t : Name) × (frame.routine.result ≡ Some t)
+  pub no_local : local env.globals frame.routine frame.routine.name ≡ None
 
 abbrev pub AssignsBy : Site → Knowns → a.Designator → a.Expression → Operation → ℕ → ℕ → ℕ → ℕ → Type 0
 AssignsBy site K d e (op.Set to lower upper value n) place last next low =
@@ -103,12 +103,13 @@ PerformsBy site K (a.Plain x) (a.MoreExpressions e a.NoExpression) (op.Display v
     (b : BaseType) × IsStandard site x Displays × (n ≡ next) × IsByte b as_byte
     × TermFor site K e value b place last low site.unit.temps
 PerformsBy site K (a.Plain x) (a.MoreExpressions (a.Use d) a.NoExpression) (op.Accept to lower upper n) place last next low =
-    (start : ℤ) × IsStandard site x Accepts × (n ≡ next)
+    (start : ℤ) × IsStandard site x Accepts × (n ≡ next) × (callee site.env d ≡ None)
     × SpotFor site K d to (Simple Char lower upper start) place last low site.unit.temps
 PerformsBy site K (a.Plain x) (a.MoreExpressions (a.Use d) a.NoExpression) (op.Delay queue n) place last next low =
-    IsStandard site x Delays × (n ≡ next) × SpotFor site K d queue Queue place last low site.unit.temps
+    IsStandard site x Delays × (n ≡ next) × (callee site.env d ≡ None)
+    × SpotFor site K d queue Queue place last low site.unit.temps
 PerformsBy site K (a.Plain x) (a.MoreExpressions (a.Use d) a.NoExpression) (op.Continue queue function) place last next low =
-    IsStandard site x Continues × SpotFor site K d queue Queue place last low site.unit.temps
+    IsStandard site x Continues × (callee site.env d ≡ None) × SpotFor site K d queue Queue place last low site.unit.temps
     × ((f : Frame) × (site.env.frame ≡ Some f) × (function ≡ is_function f.routine.result))
 PerformsBy site K (a.Plain x) a.NoExpression (op.Wait n) place last next low =
     (callee site.env (a.Plain x) ≡ None) × (n ≡ next) × (place ≡ last)
@@ -124,10 +125,10 @@ InitArgumentsFor site K s (p ∷ ps) (a.MoreExpressions e es) (Value to lower up
     × (p.1.type ≡ Simple b lower upper start) × (low ≤ middle) × (middle ≤ high)
     × TermFor site K e c b place between low middle
     × InitArgumentsFor site K s ps es xs between next middle high
-InitArgumentsFor site K s (p ∷ ps) (a.MoreExpressions e es) (Right to t ∷ xs) place next low high =
+InitArgumentsFor site K s (p ∷ ps) (a.MoreExpressions (a.Use (a.Plain x)) es) (Right to t ∷ xs) place next low high =
     (n : Component) × (inner : Members) × (v : Variable)
     × (right site.env.globals s p.0 ≡ Some (to, v)) × (p.1.type ≡ ComponentOf n.system inner)
-    × (component_named site.env (name_of (designator_of e)) ≡ Some n) × TargetFor site.env (Some n) t
+    × (component_named site.env x ≡ Some n) × TargetFor site.env (Some n) t
     × InitArgumentsFor site K s ps es xs place next low high
 InitArgumentsFor site K s _ _ _ place next low high = ⊥
 

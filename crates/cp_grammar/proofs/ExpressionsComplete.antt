@@ -18,7 +18,8 @@ use Rattle.cp_grammar.proofs.Lists.{repeat_stops, repeat_goes}
 use Rattle.cp_grammar.specs.Follows.{ends_factor, ends_term, ends_simple, ends_expression}
 use Rattle.cp_grammar.proofs.Ends.{term_then_factor, simple_then_term, expression_then_simple, ends_product, ends_sum, ends_relation, ends_at_operator, ends_at_sum, ends_at_relation, product_is, sum_is, relation_is}
 use Rattle.cp_grammar.proofs.ExpressionsShrink.{expression_shrinks}
-use Rattle.cp_grammar.proofs.ExpressionsSound.{IsFactor, IsTerm, IsSimple, chain_push}
+use Rattle.cp_grammar.proofs.OperatorsSound.{IsFactor, IsTerm, IsSimple}
+use Rattle.cp_grammar.proofs.ExpressionsSound.{chain_push}
 
 -- ---- what the pieces read
 

@@ -17,7 +17,8 @@ use Rattle.cp_grammar.specs.Reading.{Outcome, Reader, and_then, ◌>>=◌, pure,
 use Rattle.cp_grammar.specs.Names.{identifier_of}
 use Rattle.cp_grammar.specs.Expressions.{product_operator, sum_operator, relation_operator, sign_of, goes_on, operation_of, chain_from, term_of, signed_term, simple_of, expression_of, expressions_from, index_of, indices_from, begins_selector, field_of, indexed_of, selector_by, selector_of, designator_of, arguments_of, optional_arguments_of, call_or_part, named_of, parenthesized_of, not_of, factor_by, factor_of, inner_at, factor_at, expression_at}
 use Rattle.cp_grammar.proofs.Tokens.{is_symbol_is}
-use Rattle.cp_grammar.proofs.ExpressionsSound.{IsFactor, IsTerm, IsSimple, Table, product_table, sum_table, relation_kind, relation_sides, sign_kind, factor_is_term, term_is_simple, chain_push, separated_expressions, each_selector, indices_push}
+use Rattle.cp_grammar.proofs.OperatorsSound.{IsFactor, IsTerm, IsSimple, Table, product_table, sum_table, relation_kind, relation_sides, sign_kind, factor_is_term, term_is_simple}
+use Rattle.cp_grammar.proofs.ExpressionsSound.{chain_push, separated_expressions, each_selector, indices_push}
 use Rattle.cp_grammar.proofs.Viable.{Inhabited, ViableAt, Viable, Behind, from_start, then, then_at, finish, pure_viable, imply, kind_viable, take_at, symbol_viable, of_kind, expect_viable, ViableInner, DeepOr, inside_or, or_some, or_then, repeated_viable, separated_viable, each_viable}
 use Rattle.cp_grammar.proofs.NamesViable.{identifier_viable}
 

@@ -11,7 +11,8 @@ use Rattle.cp_grammar.specs.Declarations.{variables_of, body_of, routines_of, se
 use Rattle.cp_grammar.specs.Text.{tree_of, text_of, text_at}
 use Rattle.cp_grammar.specs.Laws.{TextIsComplete, TreeIsUnique}
 use Rattle.cp_grammar.proofs.Tokens.{expect_reads}
-use Rattle.cp_grammar.proofs.DeclarationsComplete.{block_begins, variables_begin, variables_reads, body_reads, routines_reads, sections_reads}
+use Rattle.cp_grammar.proofs.HeadingsComplete.{block_begins}
+use Rattle.cp_grammar.proofs.DeclarationsComplete.{variables_begin, variables_reads, body_reads, routines_reads, sections_reads}
 
 text_go : (p : Reader s.TypeExpression) (d : Option Deeper) (t : s.Tree) (ts t1 t2 t3 t4 : List Token)
     → repeated begins_section (section_of p d) [] ts ≡ Ok (t.sections, t1) → variables_of p t1 ≡ Ok (t.variables, t2)

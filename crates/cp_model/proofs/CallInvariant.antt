@@ -28,7 +28,8 @@ use Rattle.cp_model.proofs.MixedStores.{IsClosed}
 use Rattle.cp_model.proofs.ExpressionReach.{IfGives, PlaceIn, anything, place_in, then_gives}
 use Rattle.cp_model.proofs.ActionReach.{FoundIn, call_in_task_in}
 use Rattle.cp_model.proofs.StoreInvariants.{AllPlain, IsPlain, forget_no_new_reference, forget_store, forgotten, frames_keep_store, is_closed, leaves_plain, push_continuation, push_keeps, same_owner_of}
-use Rattle.cp_model.proofs.StatementInvariant.{EffectInvariant, StepInvariant, class_location_owner, continuation_tail, if_after, in_first, run_task_after}
+use Rattle.cp_model.proofs.ReturnInvariant.{EffectInvariant, StepInvariant, continuation_tail}
+use Rattle.cp_model.proofs.StatementInvariant.{class_location_owner, if_after, in_first, run_task_after}
 
 abbrev CallWrite : (Owner → Bool) → Owner → Location → Value → Type 0
 CallWrite t o l (Reference j) = (l.owner ≡ o) × (t j.owner ≡ true)

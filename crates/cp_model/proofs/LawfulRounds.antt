@@ -11,7 +11,8 @@ use Rattle.cp_model.proofs.Orders.{AreDistinct, MayChangePlaces, after, lawful_i
 use Rattle.cp_model.proofs.StateMaps.{differ}
 use Rattle.cp_model.proofs.OwnSteps.{private_past_private}
 use Rattle.cp_model.proofs.StepOrder.{private_past_kernel}
-use Rattle.cp_model.proofs.StateInvariant.{kernel_step_keeps, kernel_turn_keeps, may_commute, private_step_keeps}
+use Rattle.cp_model.proofs.OutsideReach.{may_commute}
+use Rattle.cp_model.proofs.StateInvariant.{kernel_step_keeps, kernel_turn_keeps, private_step_keeps}
 
 pub below_are_out : (p q n : ℕ) → p < q → is_in p (numbers_from q n) ≡ false
 below_are_out p q zero h = refl

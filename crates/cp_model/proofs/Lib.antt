@@ -4,6 +4,7 @@ pub mod MixedStores
 pub mod ExpressionReach
 pub mod WriteReach
 pub mod ActionReach
+pub mod ReturnReach
 pub mod StepReach
 pub mod QuietSteps
 pub mod OwnSteps
@@ -11,13 +12,16 @@ pub mod EffectsBeside
 pub mod NotPrivate
 pub mod StepOrder
 pub mod StoreInvariants
+pub mod ReturnInvariant
 pub mod StatementInvariant
 pub mod CallInvariant
+pub mod OutsideReach
 pub mod StateInvariant
 pub mod StartInvariant
 pub mod LawfulRounds
 pub mod PhasedRounds
 pub mod RoundLaws
+pub mod PrivateStepsKept
 pub mod PartsKept
 pub mod RoundCount
 pub mod OrderRows

@@ -16,7 +16,8 @@ use Rattle.cp_model.specs.Parts.{is_own}
 use Rattle.cp_model.proofs.StateMaps.{differ, is_foreign, own_apart, state_is, with_at_same, with_at_swap, with_at_there}
 use Rattle.cp_model.proofs.MixedStores.{IsClosed, mix, mix_same}
 use Rattle.cp_model.proofs.ActionReach.{ContinuationIn}
-use Rattle.cp_model.proofs.StepReach.{result_mixed, step_same, with_mixed_store}
+use Rattle.cp_model.proofs.ReturnReach.{result_mixed, with_mixed_store}
+use Rattle.cp_model.proofs.StepReach.{step_same}
 use Rattle.cp_model.proofs.QuietSteps.{Quietly, private_is_quiet}
 
 -- p's own part, and the store.

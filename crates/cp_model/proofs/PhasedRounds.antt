@@ -14,9 +14,10 @@ use Rattle.cp_model.specs.Parts.{is_own}
 use Rattle.cp_model.proofs.Orders.{AreDistinct}
 use Rattle.cp_model.proofs.StateMaps.{differ, state_is, with_at_here, with_at_same}
 use Rattle.cp_model.proofs.MixedStores.{mix}
-use Rattle.cp_model.proofs.StepReach.{with_mixed_store}
+use Rattle.cp_model.proofs.ReturnReach.{with_mixed_store}
 use Rattle.cp_model.proofs.OwnSteps.{IsSameFor, install, no_private_step, own_configuration, private_step_is, same_for_self, same_kind, status_after}
-use Rattle.cp_model.proofs.StateInvariant.{kernel_turn_keeps, may_commute, private_step_keeps, private_turn_keeps}
+use Rattle.cp_model.proofs.OutsideReach.{may_commute}
+use Rattle.cp_model.proofs.StateInvariant.{kernel_turn_keeps, private_step_keeps, private_turn_keeps}
 use Rattle.cp_model.proofs.LawfulRounds.{numbers_are_distinct, turn_past}
 
 module _ (setup : Setup) where

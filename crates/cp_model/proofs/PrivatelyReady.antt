@@ -9,7 +9,8 @@ use Rattle.cp_model.specs.Invariant.{Invariant}
 use Rattle.cp_model.specs.Parts.{SameOwnPart, is_own}
 use Rattle.cp_model.proofs.OwnSteps.{IsSameFor, kind_private, outcome, same_for_self, same_kind}
 use Rattle.cp_model.proofs.StepOrder.{kernel_same_for, kernel_writes}
-use Rattle.cp_model.proofs.StateInvariant.{kernel_step_keeps, may_commute}
+use Rattle.cp_model.proofs.OutsideReach.{may_commute}
+use Rattle.cp_model.proofs.StateInvariant.{kernel_step_keeps}
 
 module _ (setup : Setup) where
   kernel_step_same_for : (p q : ℕ) (s : State) → q ≢ p → Invariant s → kind s p ≡ Private

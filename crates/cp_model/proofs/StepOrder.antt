@@ -14,7 +14,8 @@ use Rattle.cp_model.specs.Parts.{is_own}
 use Rattle.cp_model.proofs.StateMaps.{differ, is_foreign, state_is, with_at_swap, with_at_there}
 use Rattle.cp_model.proofs.MixedStores.{IsClosed, mix, mix_same}
 use Rattle.cp_model.proofs.ActionReach.{ContinuationIn}
-use Rattle.cp_model.proofs.StepReach.{result_mixed, step_same, with_mixed_store}
+use Rattle.cp_model.proofs.ReturnReach.{result_mixed, with_mixed_store}
+use Rattle.cp_model.proofs.StepReach.{step_same}
 use Rattle.cp_model.proofs.OwnSteps.{IsSameFor, MayCommute, NotPrivate, install, kind_private, no_private_step, outcome, own_configuration, private_same_for, private_step_is, result, same_for_self, same_kind, status_after}
 use Rattle.cp_model.proofs.EffectsBeside.{IsOwnStatus, effect_alone, effect_beside, result_status_own, status_alone}
 use Rattle.cp_model.proofs.NotPrivate.{after_step_other}

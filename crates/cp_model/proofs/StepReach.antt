@@ -30,61 +30,7 @@ use Rattle.cp_model.proofs.MixedStores.{IsClosed, forget_mix, get_mix, mix, put_
 use Rattle.cp_model.proofs.ExpressionReach.{IfGives, PlaceIn, anything, place_in, place_same, then_gives, value_same}
 use Rattle.cp_model.proofs.WriteReach.{WritesIn, bind_in, bind_same, put_all_mix, starting_writes_in, writes_in}
 use Rattle.cp_model.proofs.ActionReach.{ActionIn, ContinuationIn, action_in}
-
--- ---- Configurations
-
-abbrev pub with_mixed_store : (Owner → Bool) → Store → Configuration → Configuration
-with_mixed_store t b r = record r { store = mix t r.store b }
-
-abbrev pub result_mixed : (Owner → Bool) → Store → StepResult → StepResult
-result_mixed t b (Fault n) = Fault n
-result_mixed t b (Gives x) = Gives (with_mixed_store t b x.0, x.1)
-
-then_moved : {A : Type 0} (t : Owner → Bool) (b : Store) (Q : A → Type 0) (o u : Outcome A) (f g : A → StepResult)
-    → o ≡ u → IfGives Q u → ((x : A) → Q x → f x ≡ result_mixed t b (g x)) → and_then o f ≡ result_mixed t b (and_then u g)
-then_moved t b Q o (Fault n) f g e h k = ap (λ x. and_then x f) e
-then_moved t b Q o (Gives y) f g e h k = ap (λ x. and_then x f) e ∙ k y h
-
-if_moved : (t : Owner → Bool) (b : Store) (x : Bool) (o u p q : StepResult) → o ≡ result_mixed t b u
-    → p ≡ result_mixed t b q → (if x then o else p) ≡ result_mixed t b (if x then u else q)
-if_moved t b true o u p q h k = h
-if_moved t b false o u p q h k = k
-
--- ---- Returns
-
-abbrev configuration_moved : (Owner → Bool) → Store → Outcome Configuration → Outcome Configuration
-configuration_moved t b (Fault n) = Fault n
-configuration_moved t b (Gives x) = Gives (with_mixed_store t b x)
-
-return_value_same : (t : Owner → Bool) (b : Store) (config : Configuration) (env : Environment) (o : Owner) (k : List Task)
-    (x : Name) (v : Value) → t o ≡ true
-    → return_value (with_mixed_store t b config) env o k x v ≡ configuration_moved t b (return_value config env o k x v)
-return_value_same t b config env o k x (Ordinal n) h = rw (forget_mix t o config.store b h) refl
-return_value_same t b config env o k x Absent h = refl
-return_value_same t b config env o k x (QueueHolds y) h = refl
-return_value_same t b config env o k x (MonitorRight m) h = refl
-return_value_same t b config env o k x (ClassRight l) h = refl
-return_value_same t b config env o k x (Reference l) h = refl
-return_value_same t b config env o k x (Initialised y) h = refl
-
-returns_same : (t : Owner → Bool) (b : Store) (config : Configuration) (env : Environment) (k : List Task)
-    → FrameIn t env.frame
-    → returns (with_mixed_store t b config) env k ≡ configuration_moved t b (returns config env k)
-returns_same t b config env k h = go env.frame h
-  where
-    by_result : (f : Frame) (r : Option Name) → t f.owner ≡ true
-        → (elim r as (λ x. Outcome Configuration) [ None ↦ Gives (record (with_mixed_store t b config) { store = forget f.owner (mix t config.store b); continuation = k }) | Some x ↦ return_value (with_mixed_store t b config) env f.owner k x (mix t config.store b (record { owner = f.owner; path = ByName f.routine.name ∷ [] })) ])
-        ≡ configuration_moved t b (elim r as (λ x. Outcome Configuration) [ None ↦ Gives (record config { store = forget f.owner config.store; continuation = k }) | Some x ↦ return_value config env f.owner k x (config.store (record { owner = f.owner; path = ByName f.routine.name ∷ [] })) ])
-    by_result f None h = rw (forget_mix t f.owner config.store b h) refl
-    by_result f (Some x) h = rw (get_mix t config.store b (record { owner = f.owner; path = ByName f.routine.name ∷ [] }) h)
-        (return_value_same t b config env f.owner k x (config.store
-        (record { owner = f.owner; path = ByName f.routine.name ∷ [] })) h)
-
-    go : (f : Option Frame) → FrameIn t f → (elim f
-        as (λ x. Outcome Configuration) [ None ↦ Gives (with_mixed_store t b config) | Some f ↦ elim f.routine.result as (λ x. Outcome Configuration) [ None ↦ Gives (record (with_mixed_store t b config) { store = forget f.owner (mix t config.store b); continuation = k }) | Some x ↦ return_value (with_mixed_store t b config) env f.owner k x (mix t config.store b (record { owner = f.owner; path = ByName f.routine.name ∷ [] })) ] ])
-        ≡ configuration_moved t b (elim f as (λ x. Outcome Configuration) [ None ↦ Gives config | Some f ↦ elim f.routine.result as (λ x. Outcome Configuration) [ None ↦ Gives (record config { store = forget f.owner config.store; continuation = k }) | Some x ↦ return_value config env f.owner k x (config.store (record { owner = f.owner; path = ByName f.routine.name ∷ [] })) ] ])
-    go None h = refl
-    go (Some f) h = by_result f f.routine.result h
+use Rattle.cp_model.proofs.ReturnReach.{configuration_moved, if_moved, result_mixed, returns_same, then_moved, with_mixed_store}
 
 module _ (t : Owner → Bool) (b : Store) (w : Context) (f g : ℕ → Bool) (config : Configuration)
     (closed : IsClosed t config.store) (activations_pass : (d : ℕ) → t (OfActivation w.process d) ≡ true) where

@@ -3,6 +3,9 @@
 //! A type, a routine, a system type and a parameter are named by the number of its row in a table, in the order of the text. The
 //! rules themselves are defined in `specs/Rules*.antt` and told in docs/language.md, "Rules".
 
+ghost use Rattle.std.specs.Prelude.{◌≡◌};
+ghost use Rattle.cp_model.specs.RulesJudged.{number_of};
+
 use crate::tree::Sort;
 
 /// A rule of the language, by its number in refusals.
@@ -21,6 +24,29 @@ pub enum Rule {
     C11,
     C12,
     C13,
+}
+
+impl Rule {
+    /// Its number, 1 to 13.
+    pub const fn number(self) -> u8
+        ensures { result ≡ number_of self }
+    {
+        match self {
+            Rule::C1 => 1,
+            Rule::C2 => 2,
+            Rule::C3 => 3,
+            Rule::C4 => 4,
+            Rule::C5 => 5,
+            Rule::C6 => 6,
+            Rule::C7 => 7,
+            Rule::C8 => 8,
+            Rule::C9 => 9,
+            Rule::C10 => 10,
+            Rule::C11 => 11,
+            Rule::C12 => 12,
+            Rule::C13 => 13,
+        }
+    }
 }
 
 /// A rule that is broken at a place of the text.

@@ -5,10 +5,12 @@ use Rattle.cp_model.specs.States.{Setup, State, numbers_from, process_count, pro
 use Rattle.cp_model.specs.Turns.{kernel_turn, private_turn}
 use Rattle.cp_model.specs.Rounds.{close_round, kernel_turns, own_parts, phased_round, wake}
 use Rattle.cp_model.specs.Invariant.{Invariant}
-use Rattle.cp_model.proofs.PartsKept.{kernel_turn_other_parts, own_part_is_turned, own_parts_kernel_part, wake_kernel_part}
+use Rattle.cp_model.proofs.PrivateStepsKept.{own_part_is_turned, own_parts_kernel_part, wake_kernel_part}
+use Rattle.cp_model.proofs.PartsKept.{kernel_turn_other_parts}
 use Rattle.cp_model.proofs.PhasedRounds.{own_parts_keep}
 use Rattle.cp_model.proofs.RoundCount.{wake_count}
-use Rattle.cp_model.proofs.StateInvariant.{close_round_keeps, wake_keeps}
+use Rattle.cp_model.proofs.OutsideReach.{close_round_keeps}
+use Rattle.cp_model.proofs.StateInvariant.{wake_keeps}
 use Rattle.cp_program.specs.declared.program.Program.{Program}
 use Rattle.cp_private.specs.declared.private.Private.{Private}
 use Rattle.cp_private.specs.PartOf.{PartOf}

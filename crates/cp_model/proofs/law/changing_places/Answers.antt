@@ -1,7 +1,7 @@
 use Rattle.cp_model.proofs.LawfulRounds.{turn_past}
 use Rattle.cp_model.proofs.OwnSteps.{private_past_private}
 use Rattle.cp_model.proofs.SharedTurns.{shared_turns_are_lawful}
-use Rattle.cp_model.proofs.StateInvariant.{may_commute}
+use Rattle.cp_model.proofs.OutsideReach.{may_commute}
 use Rattle.cp_model.proofs.law.changing_places.Goals as goal
 
 pub returns : goal.returns

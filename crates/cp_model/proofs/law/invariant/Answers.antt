@@ -1,4 +1,5 @@
-use Rattle.cp_model.proofs.StateInvariant.{close_round_keeps, event_keeps, kernel_step_keeps, kernel_turn_keeps, private_step_keeps, private_turn_keeps, replay_round_keeps, run_keeps, sequential_round_keeps, wake_keeps}
+use Rattle.cp_model.proofs.OutsideReach.{close_round_keeps}
+use Rattle.cp_model.proofs.StateInvariant.{event_keeps, kernel_step_keeps, kernel_turn_keeps, private_step_keeps, private_turn_keeps, replay_round_keeps, run_keeps, sequential_round_keeps, wake_keeps}
 use Rattle.cp_model.proofs.StartInvariant.{start_invariant}
 use Rattle.cp_model.proofs.PhasedRounds.{own_parts_keep}
 use Rattle.cp_model.proofs.law.invariant.Goals as goal

@@ -1,0 +1,27 @@
+//! Worked texts, as they are listed.
+
+use serde::Deserialize;
+use std::alloc::{AllocError, Global};
+
+/// A text with what is done with it and the answer due. Bytes are characters up to 255.
+#[derive(Drop, Deserialize)]
+pub struct Case {
+    pub name: String,
+    pub text: String,
+    pub command: String,
+    pub answer: String,
+    pub rounds: u32,
+    pub turn: u32,
+    pub tick: u32,
+    pub input: String,
+    pub chains: bool,
+}
+
+/// The bytes of which each character is one.
+pub fn bytes_of(alloc: Global, text: &str) -> Result<Vec<u8>, AllocError> {
+    let mut bytes = Vec::with_capacity(alloc, text.len())?;
+    for c in text.chars() {
+        bytes.push(u8::try_from(u32::from(c)).unwrap_or(b'?'))?;
+    }
+    Ok(bytes)
+}

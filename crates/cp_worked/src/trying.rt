@@ -1,0 +1,97 @@
+//! What `execute` answers for a worked text.
+
+use crate::cases::{Case, bytes_of};
+use cp_execute::execute::{Job, execute};
+use cp_execute::refusal::Refusal;
+use cp_execute::running::Run;
+use cp_rounds::gate::Open;
+use cp_rounds::plan::Plan;
+use cp_rounds::tick::Tick;
+use std::alloc::{AllocError, Global};
+use std::sync::Wait;
+use std::thread::Threads;
+
+/// How an answer came out.
+#[derive(Clone, Copy, Debug, PartialEq, Eq)]
+pub enum Outcome {
+    Right,
+    Wrong,
+    /// The machine can't run the text yet.
+    Outside,
+    /// No command gives such an answer.
+    LeftOut,
+}
+
+// Workers, chunk and wave of the plans by which each text runs.
+const PLANS: [(u32, u32, u32); 3] = [(1, 1, 255), (2, 1, 255), (4, 3, 2)];
+
+fn answer_of<H: Threads + Wait + Sync>(
+    rt: &H,
+    alloc: Global,
+    case: &Case,
+    job: &Job,
+) -> Result<Outcome, AllocError> {
+    let text = bytes_of(alloc, &case.text)?;
+    let input = bytes_of(alloc, &case.input)?;
+    let mut out = Vec::new(alloc);
+    let (mut from, mut given) = (text.as_slice(), input.as_slice());
+    let due = case.answer.as_bytes();
+    match execute(rt, alloc, &mut from, &mut given, job, &Open, &mut out) {
+        Ok(()) if out.as_slice() == due => Ok(Outcome::Right),
+        Ok(()) => Ok(Outcome::Wrong),
+        Err(Refusal::Fragment) => Ok(Outcome::Outside),
+        Err(refusal) => {
+            let line = format!(in alloc; "{refusal}\n")?;
+            let right = out.is_empty() && line.as_bytes() == due;
+            Ok(if right {
+                Outcome::Right
+            } else {
+                Outcome::Wrong
+            })
+        }
+    }
+}
+
+fn run_by<H: Threads + Wait + Sync>(
+    rt: &H,
+    alloc: Global,
+    case: &Case,
+    plan: (u32, u32, u32),
+) -> Result<Outcome, AllocError> {
+    let (workers, chunk, wave) = plan;
+    match (
+        Plan::new(case.turn, workers, chunk, wave),
+        Tick::new(case.tick),
+    ) {
+        (Ok(plan), Ok(tick)) => {
+            let job = Job::Run(Run {
+                rounds: case.rounds,
+                plan,
+                tick,
+            });
+            answer_of(rt, alloc, case, &job)
+        }
+        _ => Ok(Outcome::Wrong),
+    }
+}
+
+/// How a worked text comes out: right where its answer is due by every plan.
+pub fn try_case<H: Threads + Wait + Sync>(
+    rt: &H,
+    alloc: Global,
+    case: &Case,
+) -> Result<Outcome, AllocError> {
+    if case.command.as_str() == "check" {
+        return answer_of(rt, alloc, case, &Job::Check);
+    }
+    if case.command.as_str() != "run" || case.chains {
+        return Ok(Outcome::LeftOut);
+    }
+    for plan in PLANS {
+        let outcome = run_by(rt, alloc, case, plan)?;
+        if outcome != Outcome::Right {
+            return Ok(outcome);
+        }
+    }
+    Ok(Outcome::Right)
+}
