@@ -1,21 +1,20 @@
 -- A call that is compiled calls what is meant, and its target is the component that is named.
-use Rattle.std.proofs.Common.{◌≡◌, ◌≤◌, ◌+◌, ℕ, List, [], ◌∷◌, ◌++◌, if◌then◌else◌, Option, Some, None, refl, ap, sym, subst, ◌∙◌, Bool, true, false, bytes_eq}
-use Rattle.std.specs.Prelude.{slice_get}
+use Rattle.std.proofs.Common.{◌≡◌, ℕ, List, [], ◌∷◌, ◌++◌, if◌then◌else◌, Option, Some, None, refl, ap, sym, ◌∙◌, Bool, true, false, bytes_eq}
 use Rattle.std.specs.Option.{option_or}
 use Rattle.cp_model.specs.Abstract as a
 use Rattle.cp_model.specs.Abstract.{Name, Routine, Sort, System}
 use Rattle.cp_model.specs.Names.{lookup}
-use Rattle.cp_model.specs.Types.{ArrayOf, ComponentOf, Members, NoType, Queue, RecordOf, ResolvedType, Simple, base_of_type, full_range, named_type}
+use Rattle.cp_model.specs.Types.{ArrayOf, ComponentOf, Members, NoType, Queue, RecordOf, ResolvedType, Simple, base_of_type}
 use Rattle.cp_model.specs.Declarations.{Variable, declarations, is_component, reported_members}
 use Rattle.cp_model.specs.Environments.{Environment, permanent_variables}
 use Rattle.cp_model.specs.Locations.{Location, Owner}
 use Rattle.cp_model.specs.Components.{Component, as_component, component_named}
 use Rattle.cp_model.specs.Calls.{Callee, callee, own_routine, is_local, routine_named}
-use Rattle.cp_typing.specs.Judgement.{IsFunction, MayBeCalled, Place}
+use Rattle.cp_typing.specs.Judgement.{IsFunction, MayBeCalled}
 use Rattle.cp_typing.specs.StaticTypes.{answer_type}
 use Rattle.cp_code.specs.Terms.{Argument}
-use Rattle.cp_code.specs.Programs.{Call, CodeUnit, Program}
-use Rattle.cp_code.specs.Sites.{Answers, Calls, RoutineOf, Runs, Site, TargetFor, TargetOf, UnitText, system_of_callee}
+use Rattle.cp_code.specs.Programs.{CodeUnit, Program}
+use Rattle.cp_code.specs.Sites.{Answers, Calls, RoutineOf, Site, TargetFor, TargetOf, UnitText, system_of_callee}
 use Rattle.cp_code.specs.Layout.{member, right, rights}
 use Rattle.cp_code.specs.Scopes.{Scope, environment, part_start, right_start, target_by, target_of, unit_of}
 use Rattle.cp_code.proofs.Found.{kept_found, right_found, variable_is_member}
@@ -113,7 +112,7 @@ callee_of env (a.At d e) c n h is = absurd (cc)
 
 -- ---- Targets
 
-distinct_apart : (x : Name) (vs ws : List (Name × Variable)) (v : Variable) → Distinct (vs ++ ws) → lookup x ws ≡ Some v → lookup x vs ≡ None
+pub distinct_apart : (x : Name) (vs ws : List (Name × Variable)) (v : Variable) → Distinct (vs ++ ws) → lookup x ws ≡ Some v → lookup x vs ≡ None
 distinct_apart x [] ws v d h = refl
 distinct_apart x (w ∷ vs) ws v d h = go (bytes_eq x w.0) refl (distinct_apart x vs ws v d.1 h)
   where
@@ -180,7 +179,7 @@ module _ (scope : Scope) (program : Program) (texts : List UnitText) (systems : 
       → CallFits scope program texts before unit (call_of scope (unit_of scope c) (target_of (environment scope) c.of) xs low)
       → Calls site d c low (call_of scope (unit_of scope c) (target_of (environment scope) c.of) xs low)
   call_stands d c low xs means may fits =
-      let there : UnitThere program texts before (unit_of scope c) (RoutineOf (system_of_callee env c.of) c.routine) = standing.units at o c.routine c.of may in
+      let there : UnitThere program texts before (unit_of scope c) (RoutineOf (system_of_callee env c.of) c.routine) = standing.units at o c.routine c.of (λ n is. callee_of env d c n means is) may in
       let room = fits there.unit there.earlier in
       record {
         means = means;

@@ -1,39 +1,39 @@
 -- The emitted operations stand for the typed statement, whatever its kind.
-use Rattle.std.proofs.Common.{◌≡◌, ◌≤◌, ℕ, suc, ◌+◌, ℤ, List, [], ◌∷◌, ◌++◌, Option, Some, None, refl, ap, sym, subst, ◌∙◌, Bool, true, false, arith, length, if◌then◌else◌}
-use Rattle.std.proofs.lemmas.List.{length-append}
+use Rattle.std.proofs.Common.{◌≡◌, ◌≤◌, ℕ, suc, ◌+◌, ℤ, List, [], ◌++◌, Option, Some, refl, ap, sym, subst, ◌∙◌, Bool, true, false, arith, length, if◌then◌else◌}
 use Rattle.cp_model.specs.Abstract as a
 use Rattle.cp_model.specs.Abstract.{BaseType, Boolean, Constant, Name, Plain, Sort, System}
-use Rattle.cp_model.specs.Types.{ResolvedType, Simple, base_of_type}
-use Rattle.cp_model.specs.Declarations.{Variable, declarations, is_component}
+use Rattle.cp_model.specs.Types.{Simple, base_of_type}
+use Rattle.cp_model.specs.Declarations.{declarations, is_component}
 use Rattle.cp_model.specs.Environments.{Environment}
 use Rattle.cp_model.specs.Locations.{Location, Owner}
 use Rattle.cp_model.specs.Components.{Component, component_named, process_number}
 use Rattle.cp_model.specs.Calls.{callee}
 use Rattle.cp_model.specs.StatementSteps.{has_label}
-use Rattle.cp_typing.specs.Judgement.{Initialises, IsOfBase, IsProcedureCall, IsSimple, Place, TypedArms, TypedExpression, TypedStatement}
+use Rattle.cp_typing.specs.Judgement.{Initialises, IsProcedureCall, IsSimple, Place, TypedArms, TypedExpression, TypedStatement}
 use Rattle.cp_typing.specs.StaticTypes.{expression_type, place_type}
-use Rattle.cp_code.specs.Terms.{Root}
 use Rattle.cp_code.specs.Programs as op
 use Rattle.cp_code.specs.Programs.{CodeUnit, Operation, Program}
 use Rattle.cp_code.specs.Sites as code
 use Rattle.cp_code.specs.Sites.{BodyOf, FitsBehind, Runs, Site, TargetFor, UnitText}
 use Rattle.cp_code.specs.TermsFor.{TermFor, nothing_known}
-use Rattle.cp_code.specs.StatementsFor.{ArmFor, CodeFor, Counts, HasRoom, InitCalls, PassesBy, either}
-use Rattle.cp_code.specs.Tables.{arm_at, place_in}
-use Rattle.cp_code.specs.Scopes.{Scope, body_of, environment, root_named, target_of}
-use Rattle.cp_code.specs.CodedTerms.{CodedArguments, CodedCall, call_of, coded_term, init_arguments, root_or_first}
-use Rattle.cp_code.specs.CodedStatements.{Emitted, calls_at, counting, emitted, emitted_arms, high_of, init_by, init_call, init_operation, is_result, low_of, table_of, with_calls}
+use Rattle.cp_code.specs.StatementsFor.{ArmFor, CodeFor, HasRoom, InitCalls, PassesBy, either}
+use Rattle.cp_code.specs.Tables.{arm_at}
+use Rattle.cp_code.specs.Scopes.{Scope, environment, root_named}
+use Rattle.cp_code.specs.CodedTerms.{CodedArguments, CodedCall, coded_term, init_arguments, root_or_first}
+use Rattle.cp_code.specs.CodedStatements.{calls_at, counting, emitted, emitted_arms, high_of, init_by, init_call, init_operation, is_result, low_of, table_of, with_calls}
 use Rattle.cp_code.proofs.Environments.{callee_same, environment_at, place_type_same}
 use Rattle.cp_code.proofs.Fits.{AllBelow, below_split, term_fits}
-use Rattle.cp_code.proofs.NamesStand.{RootFor, names_root, uncalled_is_no_result}
-use Rattle.cp_code.proofs.OperationsStand.{AllStand, OperationFits, WithCalls, calls_stand, stand_split, with_calls_stand}
+use Rattle.cp_code.proofs.NamesStand.{RootFor, uncalled_is_no_result}
+use Rattle.cp_code.proofs.OperationsStand.{AllStand, calls_stand, stand_split, with_calls_stand}
 use Rattle.cp_code.proofs.ResultStand.{bounds_are}
-use Rattle.cp_code.proofs.Standing.{CallFits, Chained, InitStands, Standing, UnitThere, place_at, split}
+use Rattle.cp_code.proofs.Standing.{CallFits, Chained, InitStands, Standing, place_at, split}
 use Rattle.cp_code.proofs.Temps.{term_grows}
-use Rattle.cp_code.proofs.TermsStand.{term_stands, variable_root}
+use Rattle.cp_code.proofs.TermsStand.{term_stands}
+use Rattle.cp_code.proofs.SpotsStand.{variable_root}
 use Rattle.cp_code.proofs.CallsStand.{named_target}
 use Rattle.cp_code.proofs.InitStand.{all_found, init_arguments_stand, init_fits}
-use Rattle.cp_code.proofs.StatementsStand.{arm_of, assign_stands, perform_stands, term_at}
+use Rattle.cp_code.proofs.AssignmentsStand.{arm_of, assign_stands, term_at}
+use Rattle.cp_code.proofs.ProceduresStand.{perform_stands}
 use Rattle.cp_code.proofs.TablesStand.{table_finds}
 
 module _ (scope : Scope) (program : Program) (texts : List UnitText) (systems : List System) (routines : ℕ) (before : List CodeUnit) (unit : CodeUnit) (at : Location) (o : Owner)

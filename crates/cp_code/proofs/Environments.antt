@@ -1,27 +1,18 @@
 -- What names and designators are doesn't depend on where a component lies and who owns an activation.
-use Rattle.std.proofs.Common.{◌≡◌, Option, Some, None, refl, ap, ◌∙◌, if◌then◌else◌, Bool, true, false, ℤ}
+use Rattle.std.proofs.Common.{◌≡◌, Option, Some, None, refl, ap, ◌∙◌, if◌then◌else◌}
 use Rattle.cp_model.specs.Abstract as a
 use Rattle.cp_model.specs.Abstract.{BaseType, Integer, Name, Routine}
 use Rattle.cp_model.specs.Names.{lookup}
-use Rattle.cp_model.specs.Types.{ResolvedType, full_range}
+use Rattle.cp_model.specs.Types.{full_range}
 use Rattle.cp_model.specs.Declarations.{Variable}
-use Rattle.cp_model.specs.Environments.{Environment, Frame, IsVariable, Meaning, constant_or_unknown, local_or, local_variables, meaning, permanent_variables, variable_or}
+use Rattle.cp_model.specs.Environments.{Environment, IsVariable, Meaning, local_variables, meaning, permanent_variables, variable_or}
 use Rattle.cp_model.specs.Expressions.{name_of}
-use Rattle.cp_model.specs.Locations.{Location, OfProcess, Owner, Path, root}
+use Rattle.cp_model.specs.Locations.{Location, OfProcess, Owner, Path}
 use Rattle.cp_model.specs.Calls.{callee}
 use Rattle.cp_model.specs.Places.{field_type}
-use Rattle.cp_typing.specs.Needs.{frame_of}
-use Rattle.cp_typing.specs.StaticTypes.{called_type, element_type, expression_type, first_type, is_clock, named_value_type, own_value_type, place_type, place_type_meant, standard_type, value_type_meant}
+use Rattle.cp_typing.specs.StaticTypes.{called_type, element_type, expression_type, first_type, is_clock, own_value_type, place_type, place_type_meant, standard_type, value_type_meant}
 use Rattle.cp_code.specs.Scopes.{Scope, environment}
-
-abbrev pub frame_at : Owner → Option Routine → Option Frame
-frame_at o None = None
-frame_at o (Some r) = Some (record { owner = o; routine = r })
-
--- The environment of a scope, where the component lies there and the activation has this owner.
-abbrev pub environment_at : Scope → Location → Owner → Environment
-environment_at scope at o =
-    record { globals = scope.globals; system = scope.system; component = at; frame = frame_at o scope.routine }
+pub use Rattle.cp_code.specs.Scopes.{environment_at, frame_at}
 
 module _ (scope : Scope) (at : Location) (o : Owner) where
   abbrev env : Environment

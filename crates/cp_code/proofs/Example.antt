@@ -1,5 +1,5 @@
 -- The program of the example stands for its text.
-use Rattle.std.proofs.Common.{◌≡◌, ℤ, ℕ, zero, suc, ◌<◌, ◌≤◌, ◌+◌, pos, negsuc, List, [], ◌∷◌, length, Bool, true, false, Option, None, Some, refl, ap, sym, subst, ◌∙◌, arith}
+use Rattle.std.proofs.Common.{◌≡◌, ℕ, zero, suc, ◌<◌, ◌≤◌, ◌+◌, pos, negsuc, List, [], ◌∷◌, length, Bool, true, false, Option, None, Some, refl, ap, sym, subst, ◌∙◌, arith}
 use Rattle.std.specs.Prelude.{codes, slice_get, slice_set, nat_le}
 use Rattle.std.proofs.lemmas.List.{get_or-set_same, get_or-set_other, length-set}
 use Rattle.std.proofs.lemmas.Bool.{leb-true, true≢false}
@@ -108,7 +108,7 @@ no_starts r u none no_result no_plan = record {
   length_is = λ base ws. ap (λ plan. length (started base plan ws)) no_plan;
   variables = λ base ws room v i at m path b low high n h. absurd (nothing_there v (subst (λ vs. slice_get vs i ≡ Some v) none h));
   result = λ base ws t room h. absurd (nothing_there t (sym no_result ∙ h));
-  outside = λ base ws i h other. ap (λ plan. word (started base plan ws) i) no_plan;
+  outside = λ base ws i room h other. ap (λ plan. word (started base plan ws) i) no_plan;
 }
 
 one_more : (base : ℕ) → base + 0 ≡ base
@@ -123,7 +123,7 @@ get_starts = record {
   variables = λ base ws room v i at m path b low high n h. absurd (nothing_there v h);
   result = λ base ws t room h.
       subst (λ i. word (slice_set ws (base + 0) unset) i ≡ unset) (one_more base) (get_or-set_same ws (base + 0) unset (pos 0) (below base (length ws) room));
-  outside = λ base ws i h other. get_or-set_other ws (base + 0) i unset (pos 0) (λ e. other (codes "integer") refl (e ∙ one_more base));
+  outside = λ base ws i room h other. get_or-set_other ws (base + 0) i unset (pos 0) (λ e. other (codes "integer") refl (e ∙ one_more base));
 }
 
 stands : (n : ℕ) (x u : CodeUnit) (y t : UnitText) → UnitStands program texts g x y → Some x ≡ Some u → Some y ≡ Some t

@@ -1,13 +1,13 @@
 -- A variable that is found by its name lies in the activation or the component where it is declared.
-use Rattle.std.proofs.Common.{◌≡◌, ℕ, suc, ◌+◌, List, [], ◌∷◌, ◌++◌, Option, Some, None, refl, ap, sym, subst, ◌∙◌, if◌then◌else◌, Bool, true, false, not, filter, bytes_eq, arith}
+use Rattle.std.proofs.Common.{◌≡◌, ℕ, suc, ◌+◌, List, [], ◌∷◌, ◌++◌, Option, Some, None, refl, ap, sym, ◌∙◌, if◌then◌else◌, Bool, true, false, not, filter, bytes_eq, arith}
 use Rattle.cp_model.specs.Abstract.{Name, System}
 use Rattle.cp_model.specs.Names.{lookup}
 use Rattle.cp_model.specs.Types.{ArrayOf, ComponentOf, GlobalScope, Members, MoreMembers, NoMembers, NoType, Queue, RecordOf, ResolvedType, Simple}
 use Rattle.cp_model.specs.Declarations.{Variable, declarations, is_component, members_from}
 use Rattle.cp_model.specs.Environments.{permanent_variables}
 use Rattle.cp_typing.specs.Words.{words}
-use Rattle.cp_typing.proofs.Names.{lookup-append, lookup_first, lookup_later}
-use Rattle.cp_code.specs.Layout.{Part, farther, head_words, local_at, local_words, member, member_part, part, right_at}
+use Rattle.cp_typing.proofs.Names.{lookup_first, lookup_later}
+use Rattle.cp_code.specs.Layout.{farther, head_words, local_at, local_words, member, member_part, part, right_at}
 
 pub part_whole : (g : GlobalScope) (t : ResolvedType) → part g t [] ≡ Some (0, t)
 part_whole g (Simple b low high start) = refl

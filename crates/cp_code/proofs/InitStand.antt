@@ -1,5 +1,5 @@
 -- The compiled arguments of an `init` are passed to the parameters of the component.
-use Rattle.std.proofs.Common.{◌≡◌, ◌≤◌, ◌⊎◌, inl, inr, ℕ, ◌+◌, ℤ, List, [], ◌∷◌, ◌++◌, Option, Some, None, refl, ap, sym, subst, ◌∙◌, Bool, true, false, arith, if◌then◌else◌, bytes_eq}
+use Rattle.std.proofs.Common.{◌≡◌, ◌≤◌, inl, inr, ℕ, ℤ, List, [], ◌∷◌, Some, None, refl, ap, sym, subst, ◌∙◌, Bool, true, false, arith, if◌then◌else◌, bytes_eq}
 use Rattle.std.proofs.lemmas.Bool.{true≢false}
 use Rattle.cp_model.specs.Abstract as a
 use Rattle.cp_model.specs.Abstract.{Name, Sort, System}
@@ -7,22 +7,20 @@ use Rattle.cp_model.specs.Names.{lookup}
 use Rattle.cp_model.specs.Types.{ArrayOf, ComponentOf, Members, NoType, Queue, RecordOf, ResolvedType, Simple, base_of_type}
 use Rattle.cp_model.specs.Declarations.{Variable, declarations, is_component}
 use Rattle.cp_model.specs.Environments.{Environment}
-use Rattle.cp_model.specs.Expressions.{name_of}
-use Rattle.cp_model.specs.Arguments.{designator_of}
 use Rattle.cp_model.specs.Locations.{Location, Owner}
 use Rattle.cp_model.specs.Components.{Component, component_named}
 use Rattle.cp_typing.specs.Judgement.{AllInitFit, InitFits, IsComponentArgument, Place}
-use Rattle.cp_typing.specs.Declared.{Distinct, Each, IsSystem, MayBePassed, SystemParameter, sort_of}
+use Rattle.cp_typing.specs.Declared.{Distinct, Each, MayBePassed, SystemParameter}
 use Rattle.cp_typing.specs.StaticTypes.{expression_type}
 use Rattle.cp_typing.proofs.Names.{bytes_eq-refl, bytes_same}
-use Rattle.cp_code.specs.Terms.{Argument, Right, Value}
+use Rattle.cp_code.specs.Terms.{Argument}
 use Rattle.cp_code.specs.Programs.{CodeUnit, Program}
-use Rattle.cp_code.specs.Layout.{member, right, rights}
+use Rattle.cp_code.specs.Layout.{rights}
 use Rattle.cp_code.specs.Sites.{Site, TargetFor, UnitText}
 use Rattle.cp_code.specs.TermsFor.{Knowns}
 use Rattle.cp_code.specs.StatementsFor.{InitArgumentsFor}
 use Rattle.cp_code.specs.Scopes.{Scope, environment, part_start, right_start, target_of}
-use Rattle.cp_code.specs.CodedTerms.{CodedArgument, CodedCall, coded_term, init_argument, init_arguments, target_named}
+use Rattle.cp_code.specs.CodedTerms.{CodedCall, coded_term, init_argument, init_arguments}
 use Rattle.cp_code.proofs.Environments.{environment_at}
 use Rattle.cp_code.proofs.Found.{kept_found, parameter_is_member, right_found}
 use Rattle.cp_code.proofs.Fits.{AllBelow, below_split, term_fits}

@@ -1,26 +1,26 @@
 -- What a name of a variable is compiled to is where the variable lies.
-use Rattle.std.proofs.Common.{◌≡◌, ◌⊎◌, inl, inr, ℕ, ℤ, ◌+◌, List, [], ◌∷◌, ◌++◌, Option, Some, None, refl, ap, sym, subst, ◌∙◌, Bool, true, false, if◌then◌else◌, bytes_eq, append_assoc, is_some}
+use Rattle.std.proofs.Common.{◌≡◌, ◌⊎◌, inl, inr, ℕ, ℤ, List, [], ◌∷◌, ◌++◌, Option, Some, None, refl, ap, sym, subst, ◌∙◌, Bool, true, false, if◌then◌else◌, bytes_eq, append_assoc, is_some}
 use Rattle.std.proofs.lemmas.Bool.{true≢false}
 use Rattle.cp_model.specs.Abstract as a
 use Rattle.cp_model.specs.Abstract.{Name, Plain, Routine, System}
 use Rattle.cp_model.specs.Names.{lookup}
-use Rattle.cp_model.specs.Types.{GlobalScope, ResolvedType, named_type}
+use Rattle.cp_model.specs.Types.{ResolvedType, named_type}
 use Rattle.cp_model.specs.Declarations.{Variable, declarations, is_component}
-use Rattle.cp_model.specs.Environments.{Environment, Frame, IsConstant, IsVariable, local_variables, meaning, permanent_variables, result_variable, variable_or}
+use Rattle.cp_model.specs.Environments.{Environment, IsConstant, IsVariable, local_variables, meaning, permanent_variables, result_variable, variable_or}
 use Rattle.cp_model.specs.Locations.{ByName, Location, Owner, root, under}
 use Rattle.cp_model.specs.Calls.{Callee, callee, own_routine, routine_named}
-use Rattle.cp_typing.specs.Judgement.{is_structured, IsOfBase}
+use Rattle.cp_typing.specs.Judgement.{is_structured}
 use Rattle.cp_typing.specs.Declared.{ResultFits}
 use Rattle.cp_typing.specs.StaticTypes.{place_type, place_type_meant}
 use Rattle.cp_typing.specs.Variables.{IsGlobalConstant, IsLocalVariable, IsOwnVariable, frame_variables}
 use Rattle.cp_typing.specs.Needs.{result_words}
 use Rattle.cp_typing.proofs.Facts.{constants_are_global, variables_lie}
-use Rattle.cp_typing.proofs.Names.{bytes_same, bytes_eq-refl, lookup_first, lookup_later}
+use Rattle.cp_typing.proofs.Names.{bytes_same, lookup_first, lookup_later}
 use Rattle.cp_code.specs.Terms.{Local, Member, Root, Through}
-use Rattle.cp_code.specs.Layout.{Part, local, local_at, locals, member}
-use Rattle.cp_code.specs.Sites.{NamesLocal, NamesMember, NamesVariable, local_location}
+use Rattle.cp_code.specs.Layout.{local, locals, member}
+use Rattle.cp_code.specs.Sites.{NamesLocal, NamesVariable}
 use Rattle.cp_code.specs.StatementsFor.{is_function}
-use Rattle.cp_code.specs.Scopes.{Scope, local_in, root_named, root_of_local, root_or_member}
+use Rattle.cp_code.specs.Scopes.{Scope, local_in, root_named, root_or_member}
 use Rattle.cp_code.specs.CodedStatements.{is_result, is_result_of}
 use Rattle.cp_code.proofs.Environments.{environment_at, frame_at}
 use Rattle.cp_code.proofs.Found.{is_member, local_found, local_none, no_member}

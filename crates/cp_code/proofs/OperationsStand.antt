@@ -1,11 +1,11 @@
 -- Operations that stand in a program from a place on, within what their unit needs.
-use Rattle.std.proofs.Common.{◌≡◌, ◌≤◌, ℕ, suc, ◌+◌, List, [], ◌∷◌, ◌++◌, Option, Some, None, refl, ap, sym, subst, ◌∙◌, length, arith}
+use Rattle.std.proofs.Common.{◌≡◌, ◌≤◌, ℕ, suc, ◌+◌, List, [], ◌∷◌, ◌++◌, Some, refl, subst, length, arith}
 use Rattle.cp_code.specs.Programs as op
 use Rattle.cp_code.specs.Programs.{Call, CodeUnit, Operation, Program}
 use Rattle.cp_code.specs.Sites.{UnitText, operation_at}
 use Rattle.cp_code.specs.Scopes.{Scope}
 use Rattle.cp_code.specs.CodedTerms.{CodedCall}
-use Rattle.cp_code.specs.CodedStatements.{Emitted, calls_at, with_calls}
+use Rattle.cp_code.specs.CodedStatements.{calls_at, with_calls}
 use Rattle.cp_code.proofs.Fits.{AllBelow}
 use Rattle.cp_code.proofs.Standing.{CallFits, Chained}
 

@@ -1,5 +1,5 @@
 -- The name of a running function means its result, where it is compiled as one.
-use Rattle.std.proofs.Common.{◌≡◌, ℕ, ℤ, List, [], ◌∷◌, ◌++◌, Option, Some, None, refl, ap, sym, subst, ◌∙◌, Bool, true, false, if◌then◌else◌, bytes_eq, append_assoc}
+use Rattle.std.proofs.Common.{◌≡◌, ℕ, ℤ, List, [], ◌++◌, Option, Some, None, refl, ap, sym, subst, ◌∙◌, Bool, true, false, if◌then◌else◌, bytes_eq, append_assoc}
 use Rattle.std.proofs.lemmas.Bool.{true≢false}
 use Rattle.cp_model.specs.Abstract.{Name, Plain, Routine}
 use Rattle.cp_model.specs.Names.{lookup}
@@ -21,7 +21,7 @@ use Rattle.cp_code.proofs.Environments.{environment_at}
 use Rattle.cp_code.proofs.Found.{local_found, local_none}
 use Rattle.cp_code.proofs.NamesStand.{local_is_no_result, of_routine}
 use Rattle.cp_code.proofs.Standing.{RoutineHere}
-use Rattle.cp_code.proofs.TermsStand.{simple_is}
+use Rattle.cp_code.proofs.SpotsStand.{simple_is}
 
 pub bounds_are : (t : ResolvedType) → IsSimple t → (start : ℤ) × (t ≡ Simple (base_of_type t) (low_of t) (high_of t) start)
 bounds_are t s =

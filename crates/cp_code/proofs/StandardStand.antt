@@ -1,29 +1,16 @@
 -- Standard functions answer what the definitions say.
-use Rattle.std.proofs.Common.{
-  ◌≡◌,
-  ℤ,
-  pos,
-  negsuc,
-  [],
-  ◌∷◌,
-  Bool,
-  true,
-  false,
-  refl,
-  subst,
-  if◌then◌else◌,
-}
+use Rattle.std.proofs.Common.{◌≡◌, ℤ, pos, negsuc, Bool, true, false, refl, subst}
 use Rattle.std.specs.Prelude.{◌+ℤ◌, nat_abs}
 use Rattle.cp_model.specs.Abstract as a
 use Rattle.cp_model.specs.Abstract.{BaseType, Char, Integer}
 use Rattle.cp_model.specs.Types.{base_of_type, first_ordinal, last_ordinal}
 use Rattle.cp_model.specs.Operators.{integer_result}
-use Rattle.cp_model.specs.Outcomes.{Outcome, provided}
+use Rattle.cp_model.specs.Outcomes.{provided}
 use Rattle.cp_model.specs.Places.{TypedValue, ordinal_of, simple_value, within}
 use Rattle.cp_model.specs.declared.state.Fault.TheVariants as fault
 use Rattle.cp_typing.specs.Judgement as typed
 use Rattle.cp_typing.specs.Judgement.{StandardFunction, function_name}
-use Rattle.cp_typing.specs.StaticTypes.{operator_type, standard_type}
+use Rattle.cp_typing.specs.StaticTypes.{operator_type}
 use Rattle.cp_code.specs.Terms.{Abs, Chr, Ord, Shift}
 use Rattle.cp_code.specs.Functions.{in_range, unless}
 use Rattle.cp_code.specs.TermsFor.{Agrees, FunctionFor, IsEmptyFunction, result_base}

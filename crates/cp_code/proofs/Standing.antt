@@ -1,26 +1,26 @@
 -- Where code is proved to stand: the scope that it was compiled with, the site, and what is known of both.
-use Rattle.std.proofs.Common.{◌≡◌, ◌≤◌, ◌<◌, ℕ, suc, ◌+◌, List, [], ◌∷◌, ◌++◌, Option, Some, None, refl, ap, sym, subst, ◌∙◌, Bool, true, false, slice_get, length, arith, bytes_eq, append_assoc, is_some}
-use Rattle.std.proofs.lemmas.Bool.{true≢false}
+use Rattle.std.proofs.Common.{◌≡◌, ◌≤◌, ℕ, ◌+◌, List, [], ◌∷◌, ◌++◌, Option, Some, None, refl, true, false, slice_get}
 use Rattle.cp_model.specs.Abstract as a
 use Rattle.cp_model.specs.Abstract.{Name, Plain, Routine, System}
 use Rattle.cp_model.specs.Names.{lookup}
-use Rattle.cp_model.specs.Types.{ComponentOf, GlobalScope, Members, ResolvedType, named_type}
-use Rattle.cp_model.specs.Declarations.{Variable, declarations, is_component, reported_members}
-use Rattle.cp_model.specs.Environments.{Environment, IsVariable, meaning, permanent_variables}
-use Rattle.cp_model.specs.Locations.{ByName, Location, Owner, under}
-use Rattle.cp_model.specs.Calls.{Callee, callee, routine_named, own_routine}
+use Rattle.cp_model.specs.Types.{ComponentOf, Members}
+use Rattle.cp_model.specs.Declarations.{Variable, declarations, reported_members}
+use Rattle.cp_model.specs.Environments.{permanent_variables}
+use Rattle.cp_model.specs.Locations.{Location, Owner}
+use Rattle.cp_model.specs.Calls.{routine_named}
 use Rattle.cp_model.specs.Components.{Component, component_named}
-use Rattle.cp_typing.specs.Judgement.{Initialises, IsSimple, MayBeCalled, TypedPlace, has_queues, is_structured, NamesVariable, Place}
+use Rattle.cp_typing.specs.Judgement.{Initialises, MayBeCalled, TypedPlace, has_queues, is_structured, NamesVariable}
 use Rattle.cp_typing.specs.Declared as declared
 use Rattle.cp_typing.specs.Declared.{Distinct, Each, ResultFits, RoutineParameter, SystemParameter}
 use Rattle.cp_typing.specs.StaticTypes.{is_clock, place_type}
 use Rattle.cp_code.specs.Programs as op
 use Rattle.cp_code.specs.Programs.{Call, CodeUnit, Program}
-use Rattle.cp_code.specs.Sites.{BodyOf, RoutineOf, Site, TargetFor, UnitText, operation_at, system_of_callee}
+use Rattle.cp_code.specs.Sites.{BodyOf, RoutineOf, UnitText, operation_at, system_of_callee}
 use Rattle.cp_code.specs.StatementsFor.{IsPlain}
-use Rattle.cp_code.specs.Scopes.{Scope, body_of, environment, target_of, unit_of}
+use Rattle.cp_code.specs.Scopes.{Scope, body_of, unit_of}
 use Rattle.cp_code.specs.CodedTerms.{CodedCall}
 use Rattle.cp_code.proofs.Environments.{environment_at}
+pub use Rattle.cp_code.specs.Known.{place_at}
 
 -- What a unit is the code of, and that it stands in the program, and among those that were compiled before.
 pub record UnitThere (program : Program) (texts : List UnitText) (before : List CodeUnit) (n : ℕ) (t : UnitText) : Type 0 where
@@ -34,9 +34,6 @@ abbrev pub RoutineHere : Scope → Option Routine → Type 0
 RoutineHere scope None = Unit {0}
 RoutineHere scope (Some r) = (routine_named r.name scope.system ≡ Some r) × ResultFits scope.globals r.result
 
-abbrev pub place_at : Scope → List System → ℕ → Location → Owner → Place
-place_at scope systems routines at o = record { env = environment_at scope at o; systems = systems; routines = routines }
-
 -- What is known of a component that is initialised: its body stands, and its parameters are simple values and rights of distinct names.
 pub record InitStands (scope : Scope) (program : Program) (texts : List UnitText) (before : List CodeUnit) (n : Component) : Type 0 where
   pub body : UnitThere program texts before (body_of scope n) (BodyOf n.system)
@@ -49,8 +46,11 @@ pub record Standing (scope : Scope) (program : Program) (texts : List UnitText) 
   pub running : RoutineHere scope scope.routine
   pub by_value : (x : Name) (v : Variable) → lookup x (permanent_variables scope.globals scope.system) ≡ Some v → v.by_reference ≡ false
   pub no_clock : (at : Location) (o : Owner) (x : Name) → NamesVariable (environment_at scope at o) x → is_clock x ≡ false
-  pub units : (at : Location) (o : Owner) (r : Routine) (of : Option Component) → MayBeCalled (place_at scope systems routines at o) r of
-      → UnitThere program texts before (unit_of scope (record { routine = r; of = of })) (RoutineOf (system_of_callee (environment_at scope at o) of) r)
+  pub units : (at : Location) (o : Owner) (r : Routine) (of : Option Component)
+      → ((n : Component) → of ≡ Some n → component_named (environment_at scope at o) n.name ≡ Some n)
+      → MayBeCalled (place_at scope systems routines at o) r of
+      → UnitThere program texts before (unit_of scope (record { routine = r; of = of }))
+      (RoutineOf (system_of_callee (environment_at scope at o) of) r)
   pub parameters : (at : Location) (o : Owner) (r : Routine) (of : Option Component) → MayBeCalled (place_at scope systems routines at o) r of
       → Each (RoutineParameter scope.globals (declared.is_function r.result)) (declarations scope.globals r.parameters)
   pub plain : (at : Location) (o : Owner) (d : a.Designator) → TypedPlace (place_at scope systems routines at o) d

@@ -1,7 +1,7 @@
 -- A table leads where the list of arms does: to the first arm with the label.
-use Rattle.std.proofs.Common.{◌≡◌, ◌≤◌, ◌<◌, ℕ, zero, suc, ◌+◌, ◌*◌, ℤ, pos, negsuc, List, [], ◌∷◌, Option, Some, None, refl, ap, sym, subst, ◌∙◌, Bool, true, false, if◌then◌else◌, length, arith, eqb-true}
+use Rattle.std.proofs.Common.{◌≡◌, ◌≤◌, ◌<◌, ℕ, zero, suc, ◌*◌, ℤ, pos, negsuc, List, [], ◌∷◌, Some, None, refl, ap, sym, ◌∙◌, Bool, true, false, if◌then◌else◌, length, arith, eqb-true}
 use Prim.{grind}
-use Rattle.std.specs.Prelude.{◌+ℤ◌, int_le, nat_le, slice_index_or, ◌&&◌}
+use Rattle.std.specs.Prelude.{◌+ℤ◌, int_le, nat_le, slice_index_or}
 use Rattle.std.proofs.lemmas.Bool.{leb-true, true≢false}
 use Rattle.cp_model.specs.Integers.{count_between, same_integer}
 use Rattle.cp_code.specs.Programs.{Arm, Dense, Sparse}
@@ -45,7 +45,7 @@ higher_right m n = go (int_le m n) refl
     go true h = same n
     go false h = grind (arith, h)
 
-equal_integers : (m n : ℤ) → same_integer m n ≡ true → m ≡ n
+pub equal_integers : (m n : ℤ) → same_integer m n ≡ true → m ≡ n
 equal_integers (pos m) (pos n) h = ap pos (eqb-true m n h)
 equal_integers (negsuc m) (negsuc n) h = ap negsuc (eqb-true m n h)
 equal_integers (pos m) (negsuc n) h = absurd (cc)

@@ -1,5 +1,5 @@
 -- Terms, spots and arguments use temps from the first free one on.
-use Rattle.std.proofs.Common.{ℕ, suc, ◌≤◌, ◌+◌, List, [], ◌∷◌, Option, Some, None, Bool, true, false, if◌then◌else◌, arith, bytes_eq, codes}
+use Rattle.std.proofs.Common.{ℕ, ◌≤◌, ◌+◌, List, [], ◌∷◌, Option, Some, None, Bool, true, false, if◌then◌else◌, arith, bytes_eq, codes}
 use Rattle.cp_model.specs.Abstract as a
 use Rattle.cp_model.specs.Abstract.{BaseType, Name}
 use Rattle.cp_model.specs.Types.{ArrayOf, ComponentOf, GlobalScope, NoType, Queue, RecordOf, ResolvedType, Simple, base_of_type}
@@ -11,7 +11,7 @@ use Rattle.cp_code.specs.Terms.{Empty, Standard}
 use Rattle.cp_code.specs.Layout.{local_words}
 use Rattle.cp_code.specs.Sites.{first_parameter}
 use Rattle.cp_code.specs.Scopes.{Scope, environment}
-use Rattle.cp_code.specs.CodedTerms.{CodedArguments, CodedSpot, CodedTerm, argument_of, by_value, called_term, coded_arguments, coded_spot, coded_standard, coded_term, coded_variable, element_part, function_call, function_named, name_or_item, no_arguments, parameters_of, standard_term, used_term}
+use Rattle.cp_code.specs.CodedTerms.{CodedArguments, CodedSpot, CodedTerm, argument_of, by_value, called_term, coded_arguments, coded_spot, coded_standard, coded_term, coded_variable, element_part, function_named, name_or_item, parameters_of, standard_term, used_term}
 
 name_grows : (scope : Scope) (d : a.Designator) (s : CodedSpot) (low : ℕ) → low ≤ s.temps → low ≤ (name_or_item scope d s low).temps
 name_grows scope (a.Plain x) s low h = omega arith

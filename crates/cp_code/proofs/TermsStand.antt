@@ -2,91 +2,40 @@
 --
 -- One induction over expressions. That a call is one is decided by the meaning's own look-up, in the compiler and in the judgement alike,
 -- so each case is split by its answer, and the answer at the compiler's place is carried to every place.
-use Rattle.std.proofs.Common.{◌≡◌, ◌≤◌, ◌<◌, ◌⊎◌, inl, inr, ℕ, suc, ◌+◌, ℤ, List, [], ◌∷◌, ◌++◌, Option, Some, None, refl, ap, sym, subst, ◌∙◌, Bool, true, false, if◌then◌else◌, arith, bytes_eq, codes}
+use Rattle.std.proofs.Common.{◌≡◌, ◌≤◌, inl, inr, ℕ, ◌+◌, ℤ, List, [], ◌∷◌, Option, Some, None, refl, ap, sym, subst, ◌∙◌, Bool, true, false, arith}
 use Rattle.std.proofs.lemmas.Bool.{true≢false}
 use Rattle.cp_model.specs.Abstract as a
 use Rattle.cp_model.specs.Abstract.{BaseType, Boolean, Integer, Name, Plain, System}
-use Rattle.cp_model.specs.Types.{ArrayOf, ComponentOf, GlobalScope, Members, MoreMembers, NoMembers, NoType, Queue, RecordOf, ResolvedType, Simple, base_of_type, full_range}
-use Rattle.cp_model.specs.Declarations.{Variable, declarations, is_component}
-use Rattle.cp_model.specs.Environments.{Environment, IsConstant, IsUnknown, IsVariable, Meaning, meaning}
+use Rattle.cp_model.specs.Types.{ArrayOf, ComponentOf, NoType, Queue, RecordOf, ResolvedType, Simple, base_of_type}
+use Rattle.cp_model.specs.Declarations.{Variable, is_component}
+use Rattle.cp_model.specs.Environments.{Environment}
 use Rattle.cp_model.specs.Expressions.{name_of}
-use Rattle.cp_model.specs.Locations.{ByName, Location, Owner}
+use Rattle.cp_model.specs.Locations.{Location, Owner}
 use Rattle.cp_model.specs.Calls.{Callee, callee}
-use Rattle.cp_model.specs.Places.{field_type, member_type}
-use Rattle.cp_model.specs.Names.{lookup}
 use Rattle.cp_typing.specs.Words.{words}
 use Rattle.cp_typing.specs.Judgement as typed
 use Rattle.cp_typing.specs.Judgement.{Agree, AllFit, Called, FitsBy, IsArray, IsFunction, IsFunctionCall, IsOfBase, IsSimple, IsStandardCall, IsUsedAs, IsVariableArgument, HasField, NamesValue, NamesVariable, OperandsFit, Place, StandardFits, TypedExpression, TypedExpressions, TypedPlace, TypedUse, find_member, function_name, has_queues, is_structured}
 use Rattle.cp_typing.specs.Declared as declared
 use Rattle.cp_typing.specs.Declared.{Each, IsData, RoutineParameter}
 use Rattle.cp_typing.specs.SoundTypes.{SoundType}
-use Rattle.cp_typing.specs.StaticTypes.{answer_type, called_type, element_type, expression_type, first_type, is_clock, named_value_type, own_value_type, place_type, place_type_meant, standard_type, value_type_meant}
+use Rattle.cp_typing.specs.StaticTypes.{answer_type, called_type, expression_type, first_type, own_value_type, place_type, standard_type}
 use Rattle.cp_typing.proofs.Facts.{structured_values}
-use Rattle.cp_code.specs.Terms.{Argument, Binary, Copy, Element, Empty, Item, Made, Negative, Not, Number, Realtime, Reference, Root, Rooted, Spot, Standard, Term, Value}
+use Rattle.cp_code.specs.Terms.{Argument, Copy}
 use Rattle.cp_code.specs.Programs as op
 use Rattle.cp_code.specs.Programs.{Call, CodeUnit, Program}
-use Rattle.cp_code.specs.Layout.{Part, farther, local_words, member_part, part}
+use Rattle.cp_code.specs.Layout.{local_words}
 use Rattle.cp_code.specs.Sites as code
 use Rattle.cp_code.specs.Sites.{IsNoClock, Site, UnitText, first_parameter, parameters}
-use Rattle.cp_code.specs.TermsFor.{ArgumentsFor, Knowns, SpotFor, TermFor, moved}
-use Rattle.cp_code.specs.Scopes.{Scope, environment, part_start, root_named, target_of, unit_of}
-use Rattle.cp_code.specs.CodedStatements.{is_result}
-use Rattle.cp_code.specs.CodedTerms.{CodedArguments, CodedCall, CodedSpot, CodedTerm, argument_of, call_of, called_term, coded_arguments, coded_spot, coded_standard, coded_term, coded_variable, element_part, field_part, function_call, name_or_item, no_arguments, ordinal_or_zero, parameters_of, root_or_first, standard_term, term_of_name, used_term, variable_or_number}
+use Rattle.cp_code.specs.TermsFor.{ArgumentsFor, Knowns, SpotFor, TermFor}
+use Rattle.cp_code.specs.Scopes.{Scope, environment, target_of, unit_of}
+use Rattle.cp_code.specs.CodedTerms.{CodedCall, argument_of, call_of, called_term, coded_arguments, coded_spot, coded_standard, coded_term, coded_variable, function_call, parameters_of, standard_term}
 use Rattle.cp_code.proofs.Environments.{callee_same, environment_at, place_type_same, type_same}
-use Rattle.cp_code.proofs.Found.{part_whole}
-use Rattle.cp_code.proofs.NamesStand.{NoResult, RootFor, constant_has_no_root, names_root, structured_is_no_result, uncalled_is_no_result}
-use Rattle.cp_code.proofs.Standing.{CallFits, Chained, Standing, place_at, split}
-use Rattle.cp_code.proofs.Temps.{arguments_grow, spot_grows, term_grows, variable_grows}
+use Rattle.cp_code.proofs.Standing.{Chained, Standing, place_at, split}
+use Rattle.cp_code.proofs.Temps.{arguments_grow, spot_grows, term_grows}
 use Rattle.cp_code.proofs.StandardStand.{abs_stands, base_of_operator, chr_stands, empty_stands, ord_stands, pred_stands, succ_stands}
 use Rattle.cp_code.proofs.CallsStand.{answers, call_stands}
-
--- ---- Types
-
-pub simple_is : (t : ResolvedType) → IsSimple t → (low : ℤ) × (high : ℤ) × (start : ℤ) × (t ≡ Simple (base_of_type t) low high start)
-simple_is t s =
-    let i = s.1 in
-    (i.low, i.high, i.start, i.is ∙ ap (λ b. Simple b i.low i.high i.start) (sym (ap base_of_type i.is)))
-
-simple_full : (b : BaseType) → IsSimple (full_range b)
-simple_full b = (b, record { low = _; high = _; start = _; is = refl })
-
-simple_of : (b : BaseType) (t : ResolvedType) → IsOfBase b t → IsSimple t
-simple_of b t i = (b, i)
-
-operands : (o : a.Operator) (t u : ResolvedType) → OperandsFit o t u → IsSimple t × IsSimple u
-operands a.Add t u h = (simple_of Integer t h.0, simple_of Integer u h.1)
-operands a.Subtract t u h = (simple_of Integer t h.0, simple_of Integer u h.1)
-operands a.Multiply t u h = (simple_of Integer t h.0, simple_of Integer u h.1)
-operands a.Divide t u h = (simple_of Integer t h.0, simple_of Integer u h.1)
-operands a.Modulo t u h = (simple_of Integer t h.0, simple_of Integer u h.1)
-operands a.And t u h = (simple_of Boolean t h.0, simple_of Boolean u h.1)
-operands a.Or t u h = (simple_of Boolean t h.0, simple_of Boolean u h.1)
-operands a.Equal t u h = (simple_of h.0 t h.1, simple_of h.0 u h.2)
-operands a.Unequal t u h = (simple_of h.0 t h.1, simple_of h.0 u h.2)
-operands a.Less t u h = (simple_of h.0 t h.1, simple_of h.0 u h.2)
-operands a.Greater t u h = (simple_of h.0 t h.1, simple_of h.0 u h.2)
-operands a.AtMost t u h = (simple_of h.0 t h.1, simple_of h.0 u h.2)
-operands a.AtLeast t u h = (simple_of h.0 t h.1, simple_of h.0 u h.2)
-
-simple_is_no_component : (t : ResolvedType) → IsSimple t → is_component t ≡ false
-simple_is_no_component t s = ap is_component s.1.is
-
-member_there : (g : GlobalScope) (x : Name) (n : ℕ) (ms : Members) (t : ResolvedType) → find_member x ms ≡ Some t
-    → (member_type x ms ≡ t) × ((k : ℕ) × (member_part g n ms x [] ≡ Some (k, t)))
-member_there g x n NoMembers t h = absurd (cc)
-member_there g x n (MoreMembers y u ms) t h = go (bytes_eq x y) h (member_there g x (n + words g u) ms t)
-  where
-    whole : farther n (part g u []) ≡ Some (n + 0, u)
-    whole = ap (farther n) (part_whole g u)
-
-    go : (b : Bool) → (if b then Some u else find_member x ms) ≡ Some t
-        → (find_member x ms ≡ Some t → (member_type x ms ≡ t) × ((k : ℕ) × (member_part g (n + words g u) ms x [] ≡ Some (k, t))))
-        → ((if b then u else member_type x ms) ≡ t)
-        × ((k : ℕ) × ((if b then farther n (part g u []) else member_part g (n + words g u) ms x []) ≡ Some (k, t)))
-    go true h rest = (cc, (n + 0, whole ∙ ap (λ o. elim o [ None ↦ None | Some z ↦ Some (n + 0, z) ]) h))
-    go false h rest = rest h
-
--- ---- The induction
+use Rattle.cp_code.proofs.SpotsStand as spots
+use Rattle.cp_code.proofs.SpotsStand.{member_there, operands, simple_full, simple_is, simple_is_no_component, simple_of}
 
 module _ (scope : Scope) (program : Program) (texts : List UnitText) (systems : List System) (routines : ℕ) (before : List CodeUnit) (unit : CodeUnit) (at : Location) (o : Owner)
     (standing : Standing scope program texts before systems routines) (K : Knowns) where
@@ -102,194 +51,14 @@ module _ (scope : Scope) (program : Program) (texts : List UnitText) (systems : 
   abbrev Chain : List CodedCall → ℕ → ℕ → Type 0
   Chain = Chained scope program texts before unit
 
-  -- ---- Names
-
-  -- the root of a variable that is no result and no component
-  pub variable_root : (x : Name) → NamesVariable env x → NoResult scope x → is_component (place_type env (Plain x)) ≡ false
-      → RootFor scope env x (place_type env (Plain x))
-  variable_root x v no_result is_data =
-      let t : place_type env (Plain x) ≡ v.1.type = ap place_type_meant v.2 in
-      subst (RootFor scope env x) (sym t)
-      (names_root scope at o x v.0 v.1 standing.running standing.by_value v.2 no_result (sym (ap is_component t) ∙ is_data))
-
-  -- a name of a type that isn't missing means a variable
-  typed_name : (x : Name) (t : ResolvedType) → place_type env (Plain x) ≡ t → (t ≡ NoType → ⊥) → NamesVariable env x
-  typed_name x t is some = go (meaning env x) refl
-    where
-      go : (m : Meaning) → meaning env x ≡ m → NamesVariable env x
-      go (IsVariable l v) e = (l, v, e)
-      go (IsConstant b n) e = absurd (some (sym is ∙ ap place_type_meant e))
-      go IsUnknown e = absurd (some (sym is ∙ ap place_type_meant e))
-
-  by_term : (e : a.Expression) (t u : Term) (b c : BaseType) (place next low high : ℕ) → t ≡ u → b ≡ c → TermFor site K e u c place next low high
-      → TermFor site K e t b place next low high
-  by_term e t u b c place next low high is same h =
-      subst (λ z. TermFor site K e z b place next low high) (sym is) (subst (λ z. TermFor site K e u z place next low high) (sym same) h)
-
-  name_stands : (x : Name) (place next low high : ℕ) → callee env (Plain x) ≡ None → NamesValue env x → IsSimple (named_value_type env x) → place ≡ next
-      → TermFor site K (a.Use (Plain x)) (term_of_name scope x) (base_of_type (named_value_type env x)) place next low high
-  name_stands x place next low high none (inl is) simple e =
-      let clock : is_clock x ≡ true = ap is_clock is in
-      by_term (a.Use (Plain x)) (term_of_name scope x) Realtime (base_of_type (named_value_type env x)) Integer place next low high
-      (ap (λ b. if b then Realtime else variable_or_number (root_named scope x) (ordinal_or_zero (lookup x scope.globals.constants))) clock)
-      (ap (λ b. base_of_type (if b then full_range Integer else value_type_meant (meaning env x))) clock)
-      (none, clock, refl, e)
-  name_stands x place next low high none (inr (inl c)) simple e =
-      let k = constant_has_no_root scope at o x c.1.0 c.1.1 c.1.2 in
-      by_term (a.Use (Plain x)) (term_of_name scope x) (Number c.1.1) (base_of_type (named_value_type env x)) c.1.0 place next low high
-      (ap (λ b. if b then Realtime else variable_or_number (root_named scope x) (ordinal_or_zero (lookup x scope.globals.constants))) c.0
-      ∙ ap (λ r. variable_or_number r (ordinal_or_zero (lookup x scope.globals.constants))) k.0 ∙ ap (λ z. Number (ordinal_or_zero z)) k.1)
-      (ap (λ b. base_of_type (if b then full_range Integer else value_type_meant (meaning env x))) c.0 ∙ ap (λ m. base_of_type (value_type_meant m)) c.1.2)
-      (none, c.0, c.1.2, e)
-  name_stands x place next low high none (inr (inr v)) simple e =
-      let value : named_value_type env x ≡ place_type env (Plain x) =
-      ap (λ b. if b then full_range Integer else value_type_meant (meaning env x)) v.0 ∙ ap value_type_meant v.1.2 ∙ sym (ap place_type_meant v.1.2) in
-      let here : IsSimple (place_type env (Plain x)) = subst IsSimple value simple in
-      let r : RootFor scope env x (place_type env (Plain x)) =
-      variable_root x v.1 (uncalled_is_no_result scope at o x standing.running none) (simple_is_no_component (place_type env (Plain x)) here) in
-      let s = simple_is (place_type env (Plain x)) here in
-      by_term (a.Use (Plain x)) (term_of_name scope x) (Item (Rooted r.0)) (base_of_type (named_value_type env x)) (base_of_type (place_type env (Plain x))) place next low high
-      (ap (λ b. if b then Realtime else variable_or_number (root_named scope x) (ordinal_or_zero (lookup x scope.globals.constants))) v.0
-      ∙ ap (λ z. variable_or_number z (ordinal_or_zero (lookup x scope.globals.constants))) r.1)
-      (ap base_of_type value)
-      (s.0, s.1, s.2, none, v.0, (e, subst (code.NamesVariable env x r.0) s.3 r.2))
-
-  -- ---- What is proved of each part
-
   abbrev TermStands : a.Expression → Type 0
-  TermStands e = (low place next high : ℕ) → TypedExpression p e → IsSimple (expression_type env e)
-      → Chain (coded_term scope e low).calls place next → (coded_term scope e low).temps ≤ high
-      → TermFor site K e (coded_term scope e low).term (base_of_type (expression_type env e)) place next low high
+  TermStands e = spots.TermStands scope program texts systems routines before unit at o standing K e
 
   abbrev SpotStands : a.Designator → Type 0
-  SpotStands d = (low place next high : ℕ) → TypedPlace p d → is_result scope d ≡ false → is_component (place_type env d) ≡ false
-      → Chain (coded_spot scope d low).calls place next → (coded_spot scope d low).temps ≤ high
-      → SpotFor site K d (coded_spot scope d low).spot (place_type env d) place next low high
+  SpotStands e = spots.SpotStands scope program texts systems routines before unit at o standing K e
 
   abbrev VariableStands : a.Expression → Type 0
-  VariableStands (a.Use d) = SpotStands d
-  VariableStands _ = Unit {0}
-
-  structured_has_no_result : (d : a.Designator) → is_structured (place_type env d) ≡ true → is_result scope d ≡ false
-  structured_has_no_result (a.Plain x) h = structured_is_no_result scope at o x standing.running h
-  structured_has_no_result (a.Part d x) h = refl
-  structured_has_no_result (a.At d e) h = refl
-
-  uncalled_has_no_result : (d : a.Designator) → callee env d ≡ None → is_result scope d ≡ false
-  uncalled_has_no_result (a.Plain x) h = uncalled_is_no_result scope at o x standing.running h
-  uncalled_has_no_result (a.Part d x) h = refl
-  uncalled_has_no_result (a.At d e) h = refl
-
-  -- ---- Uses
-
-  item_stands : (d : a.Designator) (s : CodedSpot) (place next low high : ℕ) → callee env d ≡ None → IsNoClock d → IsSimple (place_type env d)
-      → SpotFor site K d s.spot (place_type env d) place next low high
-      → TermFor site K (a.Use d) (Item s.spot) (base_of_type (place_type env d)) place next low high
-  item_stands d s place next low high none clock simple h =
-      let k = simple_is (place_type env d) simple in
-      (k.0, k.1, k.2, none, clock, subst (λ t. SpotFor site K d s.spot t place next low high) k.3 h)
-
-  use_stands : (d : a.Designator) (low place next high : ℕ) (c : Option Callee) → callee env d ≡ c → IsUsedAs p c d
-      → IsSimple (called_type scope.globals c (own_value_type env d)) → SpotStands d
-      → Chain (used_term scope d low (coded_spot scope d low) c).calls place next → (used_term scope d low (coded_spot scope d low) c).temps ≤ high
-      → TermFor site K (a.Use d) (used_term scope d low (coded_spot scope d low) c).term (base_of_type (called_type scope.globals c (own_value_type env d))) place next low high
-  use_stands d low place next high (Some c) means t simple spot chain room = (
-    c,
-    call_of scope (unit_of scope c) (target_of (environment scope) c.of) [] low,
-    subst (λ n. code.operation_at program place ≡ Some (op.Function (call_of scope (unit_of scope c) (target_of (environment scope) c.of) [] low) low n)) chain.3 chain.1,
-    call_stands scope program texts systems routines before unit at o standing d c low [] means t.0.may chain.2,
-    no_parameters (declarations scope.globals c.routine.parameters) t.0.fit,
-    refl,
-    answers scope program texts systems routines before unit at o standing c t.1,
-    omega arith,
-    omega (arith, room),
-  )
-    where
-      no_parameters : (ps : List (Name × Variable)) → AllFit env ps a.NoExpression → ps ≡ []
-      no_parameters [] fit = refl
-      no_parameters (q ∷ qs) fit = absurd fit
-  use_stands (a.Plain x) low place next high None means t simple spot chain room = name_stands x place next low high means t simple chain
-  use_stands (a.Part d x) low place next high None means t simple spot chain room =
-      item_stands (a.Part d x) (coded_spot scope (a.Part d x) low) place next low high means tt simple
-      (spot low place next high t refl (simple_is_no_component (place_type env (a.Part d x)) simple) chain room)
-  use_stands (a.At d e) low place next high None means t simple spot chain room =
-      item_stands (a.At d e) (coded_spot scope (a.At d e) low) place next low high means tt simple
-      (spot low place next high t refl (simple_is_no_component (place_type env (a.At d e)) simple) chain room)
-
-  -- ---- Parts
-
-  plain_stands : (x : Name) → SpotStands (a.Plain x)
-  plain_stands x low place next high t no_result is_data chain room =
-      let r : RootFor scope env x (place_type env (Plain x)) = variable_root x t no_result is_data in
-      (chain, subst (λ z. code.NamesVariable env x z (place_type env (Plain x))) (sym (ap root_or_first r.1)) r.2)
-
-  part_stands : (d : a.Designator) (x : Name) → SpotStands d → SpotStands (a.Part d x)
-  part_stands d x spot low place next high t no_result is_data chain room =
-      let field = t.1 in
-      let k = member_there scope.globals x 0 field.members field.type field.found in
-      let type : place_type env (a.Part d x) ≡ field.type = ap (field_type x) field.is ∙ k.0 in
-      let there : part scope.globals (RecordOf field.members) (ByName x ∷ []) ≡ Some (k.1.0, field.type) = k.1.1 in
-      let way : part_start (part scope.globals (place_type (environment scope) d) (ByName x ∷ [])) ≡ k.1.0 =
-      ap (λ z. part_start (part scope.globals z (ByName x ∷ []))) (place_type_same scope at o d ∙ field.is) ∙ ap part_start there in (
-        field.members,
-        k.1.0,
-        (coded_spot scope d low).spot,
-        there ∙ ap (λ z. Some (k.1.0, z)) (sym type),
-        ap (λ n. moved n (coded_spot scope d low).spot) way,
-        subst (λ z. SpotFor site K d (coded_spot scope d low).spot z place next low high) field.is
-            (spot low place next high t.0 (structured_has_no_result d (ap is_structured field.is)) (ap is_component field.is) chain room),
-      )
-
-  element_stands : (d : a.Designator) (e : a.Expression) (s : CodedSpot) (i : CodedTerm) (of t : ResolvedType) (array : IsArray t) → of ≡ t → (place next low high : ℕ)
-      → low ≤ s.temps → s.temps ≤ i.temps
-      → ((middle : ℕ) → Chain s.calls place middle → SpotFor site K d s.spot t place middle low s.temps)
-      → ((middle : ℕ) → Chain i.calls middle next → TermFor site K e i.term (base_of_type (expression_type env e)) middle next s.temps high)
-      → Chain (element_part scope.globals of s i).calls place next
-      → i.temps ≤ high
-      → SpotFor site K (a.At d e) (element_part scope.globals of s i).spot (element_type t) place next low high
-  element_stands d e s i of t array same place next low high grows more spot index chain room =
-      subst (λ z. Chain (element_part scope.globals z s i).calls place next → SpotFor site K (a.At d e) (element_part scope.globals z s i).spot (element_type t) place next low high)
-      (sym (same ∙ array.is))
-      (λ chain.
-      let k = split scope program texts before unit s.calls i.calls place next chain in (
-        base_of_type (expression_type env e),
-        k.0,
-        s.temps,
-        sym (ap (λ z. words scope.globals (element_type z)) array.is),
-        refl,
-        grows,
-        omega (arith, more, room),
-        subst (λ z. SpotFor site K d s.spot z place k.0 low s.temps) (array.is ∙ ap (λ z. ArrayOf array.low array.high (element_type z)) (sym array.is)) (spot k.0 k.1),
-        index k.0 k.2,
-      ))
-      chain
-
-  element_room : (d : a.Designator) (high : ℕ) (s : CodedSpot) (i : CodedTerm) (array : IsArray (place_type env d)) → place_type (environment scope) d ≡ place_type env d
-      → (element_part scope.globals (place_type (environment scope) d) s i).temps ≤ high → i.temps ≤ high
-  element_room d high s i array same room = subst (λ z. (element_part scope.globals z s i).temps ≤ high) (same ∙ array.is) room
-
-  -- ---- Variables
-
-  used_place : (d : a.Designator) → TypedUse p d → (place_type env d ≡ NoType → ⊥) → TypedPlace p d
-  used_place (a.Plain x) t some = typed_name x (place_type env (Plain x)) refl some
-  used_place (a.Part d x) t some = t
-  used_place (a.At d e) t some = t
-
-  used_as : (d : a.Designator) → callee env d ≡ None → TypedExpression p (a.Use d) → TypedUse p d
-  used_as d none t = subst (λ c. IsUsedAs p c d) none t
-
-  is_no_clock : (d : a.Designator) → TypedPlace p d → IsNoClock d
-  is_no_clock (a.Plain x) t = standing.no_clock at o x t
-  is_no_clock (a.Part d x) t = tt
-  is_no_clock (a.At d e) t = tt
-
-  sound_is_some : (t : ResolvedType) → SoundType t → (t ≡ NoType → ⊥) × (is_component t ≡ false)
-  sound_is_some (Simple b lower upper start) s = ((λ h. cc), refl)
-  sound_is_some (ArrayOf lower upper t) s = ((λ h. cc), refl)
-  sound_is_some (RecordOf ms) s = ((λ h. cc), refl)
-  sound_is_some Queue s = ((λ h. cc), refl)
-  sound_is_some (ComponentOf r inner) s = absurd s
-  sound_is_some NoType s = absurd s
+  VariableStands e = spots.VariableStands scope program texts systems routines before unit at o standing K e
 
   -- ---- Standard functions
 
@@ -308,14 +77,14 @@ module _ (scope : Scope) (program : Program) (texts : List UnitText) (systems : 
   empty_of : (e : a.Expression) (low place next high : ℕ) (b : BaseType) → typed.IsQueueArgument env e → TypedExpression p e → VariableStands e
       → FunctionStands e low place next high b (function_name typed.Empty)
   empty_of (a.Use d) low place next high b fits t variable none chain room =
-      let typed_place : TypedPlace p d = used_place d (used_as d fits.0 t) (λ h. absurd (cc (h, fits.1))) in (
+      let typed_place : TypedPlace p d = spots.used_place scope program texts systems routines before unit at o standing K d (spots.used_as scope program texts systems routines before unit at o standing K d fits.0 t) (λ h. absurd (cc (h, fits.1))) in (
         none,
         fits.0,
-        is_no_clock d typed_place,
+        spots.is_no_clock scope program texts systems routines before unit at o standing K d typed_place,
         empty_stands,
         refl,
         subst (λ z. SpotFor site K d (coded_spot scope d low).spot z place next low high) fits.1
-            (variable low place next high typed_place (uncalled_has_no_result d fits.0) (ap is_component fits.1) chain room),
+            (variable low place next high typed_place (spots.uncalled_has_no_result scope program texts systems routines before unit at o standing K d fits.0) (ap is_component fits.1) chain room),
       )
   empty_of (a.Literal n) low place next high b fits t variable none chain room = absurd fits
   empty_of (a.Letter n) low place next high b fits t variable none chain room = absurd fits
@@ -367,8 +136,8 @@ module _ (scope : Scope) (program : Program) (texts : List UnitText) (systems : 
     reference_stands : (t : ResolvedType) (d : a.Designator) → SoundType t → IsVariableArgument env (a.Use d) t → TypedExpression p (a.Use d) → SpotStands d
         → ArgumentStands true t (a.Use d)
     reference_stands t d sound fits te spot chain room rest =
-        let some = sound_is_some t sound in
-        let typed_place : TypedPlace p d = used_place d (used_as d fits.0 te) (λ h. some.0 (sym fits.1 ∙ h)) in (
+        let some = spots.sound_is_some scope program texts systems routines before unit at o standing K t sound in
+        let typed_place : TypedPlace p d = spots.used_place scope program texts systems routines before unit at o standing K d (spots.used_as scope program texts systems routines before unit at o standing K d fits.0 te) (λ h. some.0 (sym fits.1 ∙ h)) in (
           between,
           (coded_spot scope d low).temps,
           refl,
@@ -377,7 +146,7 @@ module _ (scope : Scope) (program : Program) (texts : List UnitText) (systems : 
           spot_grows scope d low,
           room,
           subst (λ z. SpotFor site K d (coded_spot scope d low).spot z place between low (coded_spot scope d low).temps) fits.1
-              (spot low place between (coded_spot scope d low).temps typed_place (uncalled_has_no_result d fits.0) (ap is_component fits.1 ∙ some.1) chain (omega arith)),
+              (spot low place between (coded_spot scope d low).temps typed_place (spots.uncalled_has_no_result scope program texts systems routines before unit at o standing K d fits.0) (ap is_component fits.1 ∙ some.1) chain (omega arith)),
           rest,
         )
 
@@ -408,11 +177,11 @@ module _ (scope : Scope) (program : Program) (texts : List UnitText) (systems : 
       refl,
       refl,
       none,
-      is_no_clock d typed_place,
+      spots.is_no_clock scope program texts systems routines before unit at o standing K d typed_place,
       spot_grows scope d low,
       room,
       subst (λ z. SpotFor site K d (coded_spot scope d low).spot z place between low (coded_spot scope d low).temps) type
-          (spot low place between (coded_spot scope d low).temps typed_place (uncalled_has_no_result d none) (no_component (place_type env d) (ap is_structured type ∙ structure)) chain (omega arith)),
+          (spot low place between (coded_spot scope d low).temps typed_place (spots.uncalled_has_no_result scope program texts systems routines before unit at o standing K d none) (no_component (place_type env d) (ap is_structured type ∙ structure)) chain (omega arith)),
       rest,
     )
       where
@@ -538,7 +307,7 @@ module _ (scope : Scope) (program : Program) (texts : List UnitText) (systems : 
       let same : callee (environment scope) d ≡ callee env d = callee_same scope at o d in
       let own = own_value_type env d in
       subst (λ c. TermFor site K (a.Use d) (coded_term scope (a.Use d) low).term (base_of_type (called_type scope.globals c own)) place next low high) same
-      (use_stands d low place next high (callee (environment scope) d) (sym same) (subst (λ c. IsUsedAs p c d) (sym same) t)
+      (spots.use_stands scope program texts systems routines before unit at o standing K d low place next high (callee (environment scope) d) (sym same) (subst (λ c. IsUsedAs p c d) (sym same) t)
       (subst (λ c. IsSimple (called_type scope.globals c own)) (sym same) simple) spot chain room)
 
   call_expression_stands : (d : a.Designator) (es : a.Expressions) → StandardStands es → ArgumentsStand es → TermStands (a.Call d es)
@@ -564,16 +333,16 @@ module _ (scope : Scope) (program : Program) (texts : List UnitText) (systems : 
         binary_stands q e f (term_stands e) (term_stands f) low place next high t simple chain room
 
     pub spot_stands : (d : a.Designator) → SpotStands d
-    spot_stands (a.Plain x) low place next high t no_result is_data chain room = plain_stands x low place next high t no_result is_data chain room
-    spot_stands (a.Part d x) low place next high t no_result is_data chain room = part_stands d x (spot_stands d) low place next high t no_result is_data chain room
+    spot_stands (a.Plain x) low place next high t no_result is_data chain room = spots.plain_stands scope program texts systems routines before unit at o standing K x low place next high t no_result is_data chain room
+    spot_stands (a.Part d x) low place next high t no_result is_data chain room = spots.part_stands scope program texts systems routines before unit at o standing K d x (spot_stands d) low place next high t no_result is_data chain room
     spot_stands (a.At d e) low place next high t no_result is_data chain room =
         let s = coded_spot scope d low in
         let array = t.2 in
-        element_stands d e s (coded_term scope e s.temps) (place_type (environment scope) d) (place_type env d) array (place_type_same scope at o d) place next low high
+        spots.element_stands scope program texts systems routines before unit at o standing K d e s (coded_term scope e s.temps) (place_type (environment scope) d) (place_type env d) array (place_type_same scope at o d) place next low high
         (spot_grows scope d low) (term_grows scope e s.temps)
-        (λ middle c. spot_stands d low place middle s.temps t.0 (structured_has_no_result d (ap is_structured array.is)) (ap is_component array.is) c (omega arith))
-        (λ middle c. term_stands e s.temps middle next high t.1 t.3 c (element_room d high s (coded_term scope e s.temps) array (place_type_same scope at o d) room))
-        chain (element_room d high s (coded_term scope e s.temps) array (place_type_same scope at o d) room)
+        (λ middle c. spot_stands d low place middle s.temps t.0 (spots.structured_has_no_result scope program texts systems routines before unit at o standing K d (ap is_structured array.is)) (ap is_component array.is) c (omega arith))
+        (λ middle c. term_stands e s.temps middle next high t.1 t.3 c (spots.element_room scope program texts systems routines before unit at o standing K d high s (coded_term scope e s.temps) array (place_type_same scope at o d) room))
+        chain (spots.element_room scope program texts systems routines before unit at o standing K d high s (coded_term scope e s.temps) array (place_type_same scope at o d) room)
 
     pub variable_stands : (e : a.Expression) → VariableStands e
     variable_stands (a.Use d) = spot_stands d

@@ -14,4 +14,5 @@ pub mod CodedStatements
 pub mod Plans
 pub mod CodeNeeds
 pub mod Compile
+pub mod Known
 pub mod Example

@@ -26,9 +26,9 @@ abbrev pub fill_unless : Bool → ℕ → ℕ → ℤ → List Start → List St
 fill_unless true at count (pos zero) rest = rest
 fill_unless zeros at count n rest = fill_before at count n rest
 
-abbrev pub repeat_before : ℕ → ℕ → ℕ → List Start → List Start → List Start
-repeat_before at size count [] rest = rest
-repeat_before at size count (x ∷ xs) rest = (x ∷ xs) ++ (Repeat at size count ∷ rest)
+abbrev pub repeat_before : Bool → ℕ → ℕ → ℕ → List Start → List Start → List Start
+repeat_before true at size count [] rest = rest
+repeat_before zeros at size count xs rest = xs ++ (Repeat at size count ∷ rest)
 
 -- ---- Types
 
@@ -44,7 +44,7 @@ plan_of_class _ xs rest = rest
 
 abbrev pub plan_of_array : Bool → ℕ → ℕ → ℕ → Option ℤ → List Start → List Start → List Start
 plan_of_array zeros at size count (Some n) xs rest = fill_unless zeros at (count * size) n rest
-plan_of_array zeros at size count None xs rest = repeat_before at size count xs rest
+plan_of_array zeros at size count None xs rest = repeat_before zeros at size count xs rest
 
 -- The plan of a variable of this type that lies at a word, and then others. The words may all be 0 before.
 abbrev mutual

@@ -8,7 +8,8 @@ use Rattle.cp_model.specs.Abstract.{Group, Name, Routine, Sort, System, TypeExpr
 use Rattle.cp_model.specs.Names.{lookup}
 use Rattle.cp_model.specs.Types.{GlobalScope}
 use Rattle.cp_model.specs.Declarations.{Variable}
-use Rattle.cp_model.specs.Environments.{Environment}
+use Rattle.cp_model.specs.Environments.{Environment, Frame}
+use Rattle.cp_model.specs.Locations.{Location, Owner}
 use Rattle.cp_model.specs.Components.{Component, declared_monitor}
 use Rattle.cp_model.specs.Calls.{Callee}
 use Rattle.cp_typing.specs.Needs.{some_environment}
@@ -31,6 +32,15 @@ pub record Scope : Type 0 where
 -- Names mean the same wherever a component and its activation lie.
 abbrev pub environment : Scope → Environment
 environment scope = some_environment scope.globals scope.system scope.routine
+
+abbrev pub frame_at : Owner → Option Routine → Option Frame
+frame_at o None = None
+frame_at o (Some r) = Some (record { owner = o; routine = r })
+
+-- The environment of a scope, where the component lies there and the activation has this owner.
+abbrev pub environment_at : Scope → Location → Owner → Environment
+environment_at scope at o =
+    record { globals = scope.globals; system = scope.system; component = at; frame = frame_at o scope.routine }
 
 -- ---- Variables
 

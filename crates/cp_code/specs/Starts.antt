@@ -57,7 +57,7 @@ pub record Starts (g : GlobalScope) (r : Routine) (u : CodeUnit) : Type 0 where
       → word (started base u.starts ws) (base + (at + m)) ≡ n
   pub result : (base : ℕ) (ws : List ℤ) (t : Name) → base + activation_words g r ≤ length ws → r.result ≡ Some t
       → word (started base u.starts ws) base ≡ unset
-  pub outside : (base : ℕ) (ws : List ℤ) (i : ℕ)
+  pub outside : (base : ℕ) (ws : List ℤ) (i : ℕ) → base + activation_words g r ≤ length ws
       → (i < base + (result_words r.result + locals_words g (declarations g r.parameters))) ⊎ (base + activation_words g r ≤ i)
       → ((t : Name) → r.result ≡ Some t → i ≡ base → ⊥)
       → word (started base u.starts ws) i ≡ word ws i
@@ -75,13 +75,13 @@ pub record StartsComponent (g : GlobalScope) (s : System) (plan : List Start) : 
       → (x : Name) (path : Path) (m : ℕ) (b : BaseType) (low high n : ℤ)
       → member_part g (head_words g s) (reported_members g s) x path ≡ Some (m, Simple b low high n)
       → word (started base plan ws) (base + m) ≡ n
-  pub head : (base : ℕ) (ws : List ℤ) (i : ℕ) → AreZero g s base ws → i < head_words g s
+  pub head : (base : ℕ) (ws : List ℤ) (room : base + component_words g s ≤ length ws) (i : ℕ) → AreZero g s base ws → i < head_words g s
       → word (started base plan ws) (base + i) ≡ pos 0
-  pub queues : (base : ℕ) (ws : List ℤ) (x : Name) (path : Path) (m : ℕ) → AreZero g s base ws
+  pub queues : (base : ℕ) (ws : List ℤ) (room : base + component_words g s ≤ length ws) (x : Name) (path : Path) (m : ℕ) → AreZero g s base ws
       → member_part g (head_words g s) (reported_members g s) x path ≡ Some (m, Queue)
       → word (started base plan ws) (base + m) ≡ pos 0
-  pub heads : (base : ℕ) (ws : List ℤ) (x : Name) (path : Path) (m i : ℕ) (r : System) (inner : Members) → AreZero g s base ws
+  pub heads : (base : ℕ) (ws : List ℤ) (room : base + component_words g s ≤ length ws) (x : Name) (path : Path) (m i : ℕ) (r : System) (inner : Members) → AreZero g s base ws
       → member_part g (head_words g s) (reported_members g s) x path ≡ Some (m, ComponentOf r inner) → r.sort ≡ Class
       → i < head_words g r → word (started base plan ws) (base + (m + i)) ≡ pos 0
-  pub outside : (base : ℕ) (ws : List ℤ) (i : ℕ) → (i < base) ⊎ (base + component_words g s ≤ i)
+  pub outside : (base : ℕ) (ws : List ℤ) (room : base + component_words g s ≤ length ws) (i : ℕ) → AreZero g s base ws → (i < base) ⊎ (base + component_words g s ≤ i)
       → word (started base plan ws) i ≡ word ws i
