@@ -14,7 +14,7 @@ import sys
 import tempfile
 
 ROOT = pathlib.Path(__file__).resolve().parent.parent
-PROGRAM = ROOT / 'crates' / 'cpm' / 'out' / 'cpm'
+PROGRAM = pathlib.Path(os.environ.get('CPM', ROOT / 'crates' / 'cpm' / 'out' / 'cpm'))
 EXAMPLES = ROOT / 'docs' / 'examples'
 REFUSING = ROOT / 'trials' / 'refusing.c'
 

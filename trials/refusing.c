@@ -81,7 +81,7 @@ ssize_t write(int file, const void *buffer, size_t size)
     return syscall(SYS_write, file, buffer, wanted("SHORT_WRITES") && size > 1 ? 1 : size);
 }
 
-__attribute__((destructor)) static void tell(void)
+static void write_counts(void)
 {
     const char *name = getenv("CALLS");
     char line[80];
@@ -92,4 +92,12 @@ __attribute__((destructor)) static void tell(void)
     file = open(name, O_WRONLY | O_CREAT | O_TRUNC, 0600);
     syscall(SYS_write, file, line, (size_t)length);
     close(file);
+}
+
+/* A program with threads ends by this call, which runs no destructors. */
+void _exit(int status)
+{
+    write_counts();
+    syscall(SYS_exit_group, status);
+    __builtin_unreachable();
 }
