@@ -23,6 +23,7 @@ mod DefinitionsStand
 mod RowsStand
 mod TextsStand
 mod KnownStand
+mod FactsStand
 mod OperationsStand
 mod AssignmentsStand
 mod ProceduresStand
