@@ -211,7 +211,7 @@ reported_named g (t ∷ ts) h x s inner is = go (bytes_eq x t.0) is (reported_na
     go false is rest = rest is
 
 -- what is no further below 0 is not the mark
-not_unset : (low high n : ℤ) → IsAbove 2147483647 low → within low high n ≡ true → n ≡ unset → ⊥
+not_unset : (low high n : ℤ) → IsAbove 65535 low → within low high n ≡ true → n ≡ unset → ⊥
 not_unset (pos k) high n above inside is = grind (arith, inside, is)
 not_unset (negsuc k) high n above inside is = grind (arith, above, inside, is)
 
@@ -228,7 +228,7 @@ module _ (setup : Setup) (typed : WellTyped setup) where
       (each_map (InitialVariable g (text_systems setup)) (λ w. IsFormed w.1) (declarations g setup.tree.initial.variables)
       (λ w h alone. elim h.1 [ inl k ↦ k.0.0 | inr k ↦ system_formed g (text_systems setup) w.1.type k alone ]) typed.initial_variables)
 
-  pub text_facts : AreNegativesWithin 2147483647 setup.tree.definitions → TextFacts setup
+  pub text_facts : AreNegativesWithin 65535 setup.tree.definitions → TextFacts setup
   text_facts small = record {
     systems = λ i s is.
         system_facts g s (take i (text_systems setup)) (typed.systems i s is).bodies (members_formed g (take i (text_systems setup)) s (typed.systems i s is));
@@ -236,5 +236,5 @@ module _ (setup : Setup) (typed : WellTyped setup) where
     in_order = names_in_order g setup.tree.definitions standard_scope [] typed.in_order;
     members = λ s inner x is. reported_named g g.types typed.types x s inner is;
     set_apart = λ x b low high start n named inside is.
-        not_unset low high n (lower_bounds 2147483647 setup.tree x b low high start (omega arith) small named) inside is;
+        not_unset low high n (lower_bounds 65535 setup.tree x b low high start (omega arith) small named) inside is;
   }

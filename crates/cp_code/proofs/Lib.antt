@@ -28,3 +28,4 @@ mod OperationsStand
 mod AssignmentsStand
 mod ProceduresStand
 mod Example
+mod Negatives

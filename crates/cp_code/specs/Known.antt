@@ -124,8 +124,10 @@ pub record TextFacts (setup : Setup) : Type 0 where
 
 -- ---- The law
 
--- Numbers behind a minus are those of tokens, of 16 bits. No rule says so, and the mark of a result that isn't set has 32.
+-- What the compiler makes of a text stands for it, whatever its input and its clock are.
+abbrev pub HasProgram : s.Tree → Type 0
+HasProgram t = (setup : Setup) → setup.tree ≡ erase.abstract t → StandsFor (compile setup.tree) setup
+
+-- Numbers of tokens have 16 bits. No rule says so of a tree, and the mark of a result that isn't set has 32.
 abbrev pub AcceptedTextsHavePrograms : Type 0
-AcceptedTextsHavePrograms =
-    (t : s.Tree) (setup : Setup) → Accepted t → setup.tree ≡ erase.abstract t → AreNegativesWithin 2147483647 setup.tree.definitions
-    → StandsFor (compile setup.tree) setup
+AcceptedTextsHavePrograms = (t : s.Tree) → Accepted t → AreNegativesWithin 65535 (erase.abstract t).definitions → HasProgram t
