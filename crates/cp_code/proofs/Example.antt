@@ -72,7 +72,7 @@ run_code at o =
 
 d_code : (at : Location) → CodeFor (site_of program texts (unit_at program 5) (BodyOf d) (body_environment g d at)) nothing_known d.body 12 11 0
 d_code at =
-    (11, (11, (12, op.InitClass (record { routine = 3; target = target.Class 2; arguments = Right 1 (target.ClassRight 1) ∷ []; words = 0; temps = 0 }) 11, record { name = codes "k"; system = b; is_parameter = false }, refl, refl, (refl, refl, record { own = refl; target = refl; runs = record { text = refl; unit = unit_at program 3; there = refl; fits = record { words = le _ _ refl; temps = le _ _ refl; frames = le _ _ refl }; words = refl; temps = refl }; room = le _ _ refl }, (record { name = codes "a"; system = c; is_parameter = true }, reported_members g c, one (type_of c), refl, refl, refl, (one (type_of c), refl), refl))), refl), refl)
+    (11, (11, (12, op.InitClass (record { routine = 3; target = target.Class 2; arguments = Right 1 (target.ClassRight 1) ∷ []; words = 0; temps = 0 }) 11, record { name = codes "k"; system = b; is_parameter = false }, refl, refl, (refl, refl, record { own = refl; target = refl; runs = record { text = refl; unit = unit_at program 3; there = refl; fits = record { words = le _ _ refl; temps = le _ _ refl; frames = le _ _ refl }; words = refl; temps = refl }; room = le _ _ refl }, (record { name = codes "a"; system = c; is_parameter = true }, reported_members g c, one (type_of c), refl, refl, refl, (one (type_of c), refl), refl, refl))), refl), refl)
 
 add_code : (at : Location) (o : Owner) → CodeFor (site_of program texts (unit_at program 6) (RoutineOf m add) (routine_environment g m add at o)) nothing_known add.body 14 13 0
 add_code at o =
@@ -84,11 +84,11 @@ m_code at =
 
 p_code : (at : Location) → CodeFor (site_of program texts (unit_at program 8) (BodyOf p) (body_environment g p at)) nothing_known p.body 22 17 0
 p_code at =
-    (20, (21, (22, op.InitClass (record { routine = 1; target = target.Class 2; arguments = []; words = 0; temps = 0 }) 21, record { name = codes "s"; system = c; is_parameter = false }, refl, refl, (refl, refl, record { own = refl; target = refl; runs = record { text = refl; unit = unit_at program 1; there = refl; fits = record { words = le _ _ refl; temps = le _ _ refl; frames = le _ _ refl }; words = refl; temps = refl }; room = le _ _ refl }, refl)), (20, (21, op.InitClass (record { routine = 5; target = target.Class 4; arguments = Right 1 (target.Class 2) ∷ []; words = 0; temps = 0 }) 20, record { name = codes "u"; system = d; is_parameter = false }, refl, refl, (refl, refl, record { own = refl; target = refl; runs = record { text = refl; unit = unit_at program 5; there = refl; fits = record { words = le _ _ refl; temps = le _ _ refl; frames = le _ _ refl }; words = refl; temps = refl }; room = le _ _ refl }, (record { name = codes "s"; system = c; is_parameter = false }, reported_members g c, one (type_of c), refl, refl, refl, refl, refl))), refl)), (19, (20, op.Set (Rooted (Member 8)) (negsuc 32767) (pos 32767) (Number (pos 3)) 19, refl, (Integer, Integer, pos 0, 20, 0, refl, le 0 _ refl, le 0 _ refl, (refl, record { variable = one (int); means = refl; lies = refl; reference = refl; type = refl }), (refl, refl, refl))), (18, (19, op.Procedure (record { routine = 4; target = target.Class 4; arguments = Reference 0 (Rooted (Member 8)) ∷ []; words = 0; temps = 0 }) 18, refl, (record { routine = run; of = Some (record { name = codes "u"; system = d; is_parameter = false }) }, 0, record { means = refl; target = refl; runs = record { text = refl; unit = unit_at program 4; there = refl; fits = record { words = le _ _ refl; temps = le _ _ refl; frames = le _ _ refl }; words = refl; temps = refl } }, refl, refl, le 0 _ refl, (19, 0, refl, refl, refl, le 0 _ refl, le 0 _ refl, (refl, record { variable = one (int); means = refl; lies = refl; reference = refl; type = refl }), refl))), (17, (18, op.Procedure (record { routine = 6; target = target.MonitorRight 1; arguments = Value 0 (negsuc 32767) (pos 32767) (Item (Rooted (Member 8))) ∷ []; words = 0; temps = 0 }) 17, refl, (record { routine = add; of = Some (record { name = codes "g"; system = m; is_parameter = true }) }, 0, record { means = refl; target = (one (type_of m), refl); runs = record { text = refl; unit = unit_at program 6; there = refl; fits = record { words = le _ _ refl; temps = le _ _ refl; frames = le _ _ refl }; words = refl; temps = refl } }, refl, refl, le 0 _ refl, (Integer, pos 0, 18, 0, refl, refl, refl, le 0 _ refl, le 0 _ refl, (negsuc 32767, pos 32767, pos 0, refl, refl, (refl, record { variable = one (int); means = refl; lies = refl; reference = refl; type = refl })), refl))), refl))))
+    (20, (21, (22, op.InitClass (record { routine = 1; target = target.Class 2; arguments = []; words = 0; temps = 0 }) 21, record { name = codes "s"; system = c; is_parameter = false }, refl, refl, (refl, refl, record { own = refl; target = refl; runs = record { text = refl; unit = unit_at program 1; there = refl; fits = record { words = le _ _ refl; temps = le _ _ refl; frames = le _ _ refl }; words = refl; temps = refl }; room = le _ _ refl }, refl)), (20, (21, op.InitClass (record { routine = 5; target = target.Class 4; arguments = Right 1 (target.Class 2) ∷ []; words = 0; temps = 0 }) 20, record { name = codes "u"; system = d; is_parameter = false }, refl, refl, (refl, refl, record { own = refl; target = refl; runs = record { text = refl; unit = unit_at program 5; there = refl; fits = record { words = le _ _ refl; temps = le _ _ refl; frames = le _ _ refl }; words = refl; temps = refl }; room = le _ _ refl }, (record { name = codes "s"; system = c; is_parameter = false }, reported_members g c, one (type_of c), refl, refl, refl, refl, refl, refl))), refl)), (19, (20, op.Set (Rooted (Member 8)) (negsuc 32767) (pos 32767) (Number (pos 3)) 19, refl, (Integer, Integer, pos 0, 20, 0, refl, le 0 _ refl, le 0 _ refl, (refl, record { variable = one (int); means = refl; lies = refl; reference = refl; type = refl }), (refl, refl, refl))), (18, (19, op.Procedure (record { routine = 4; target = target.Class 4; arguments = Reference 0 (Rooted (Member 8)) ∷ []; words = 0; temps = 0 }) 18, refl, (record { routine = run; of = Some (record { name = codes "u"; system = d; is_parameter = false }) }, 0, record { means = refl; target = refl; runs = record { text = refl; unit = unit_at program 4; there = refl; fits = record { words = le _ _ refl; temps = le _ _ refl; frames = le _ _ refl }; words = refl; temps = refl } }, refl, refl, le 0 _ refl, (19, 0, refl, refl, refl, le 0 _ refl, le 0 _ refl, (refl, record { variable = one (int); means = refl; lies = refl; reference = refl; type = refl }), refl))), (17, (18, op.Procedure (record { routine = 6; target = target.MonitorRight 1; arguments = Value 0 (negsuc 32767) (pos 32767) (Item (Rooted (Member 8))) ∷ []; words = 0; temps = 0 }) 17, refl, (record { routine = add; of = Some (record { name = codes "g"; system = m; is_parameter = true }) }, 0, record { means = refl; target = (one (type_of m), refl); runs = record { text = refl; unit = unit_at program 6; there = refl; fits = record { words = le _ _ refl; temps = le _ _ refl; frames = le _ _ refl }; words = refl; temps = refl } }, refl, refl, le 0 _ refl, (Integer, pos 0, 18, 0, refl, refl, refl, le 0 _ refl, le 0 _ refl, (negsuc 32767, pos 32767, pos 0, refl, refl, (refl, record { variable = one (int); means = refl; lies = refl; reference = refl; type = refl })), refl))), refl))))
 
 initial_code : (at : Location) → CodeFor (site_of program texts (unit_at program 9) (BodyOf initial) (body_environment g initial at)) nothing_known initial.body 25 23 0
 initial_code at =
-    (23, (24, (25, op.InitMonitor (record { routine = 7; target = target.Monitor 1; arguments = []; words = 0; temps = 0 }) 24, record { name = codes "g"; system = m; is_parameter = false }, refl, refl, (refl, refl, record { own = refl; target = refl; runs = record { text = refl; unit = unit_at program 7; there = refl; fits = record { words = le _ _ refl; temps = le _ _ refl; frames = le _ _ refl }; words = refl; temps = refl }; room = le _ _ refl }, refl)), (23, (24, op.InitProcess 2 (Right 1 (target.Monitor 1) ∷ []) 0 23, record { name = codes "q"; system = p; is_parameter = false }, refl, refl, (refl, refl, refl, refl, le _ _ refl, (record { name = codes "g"; system = m; is_parameter = false }, reported_members g m, one (type_of m), refl, refl, refl, refl, refl))), refl)), refl)
+    (23, (24, (25, op.InitMonitor (record { routine = 7; target = target.Monitor 1; arguments = []; words = 0; temps = 0 }) 24, record { name = codes "g"; system = m; is_parameter = false }, refl, refl, (refl, refl, record { own = refl; target = refl; runs = record { text = refl; unit = unit_at program 7; there = refl; fits = record { words = le _ _ refl; temps = le _ _ refl; frames = le _ _ refl }; words = refl; temps = refl }; room = le _ _ refl }, refl)), (23, (24, op.InitProcess 2 (Right 1 (target.Monitor 1) ∷ []) 0 23, record { name = codes "q"; system = p; is_parameter = false }, refl, refl, (refl, refl, refl, refl, le _ _ refl, (record { name = codes "g"; system = m; is_parameter = false }, reported_members g m, one (type_of m), refl, refl, refl, refl, refl, refl))), refl)), refl)
 
 -- ---- units
 

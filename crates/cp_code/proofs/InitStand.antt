@@ -1,18 +1,19 @@
 -- The compiled arguments of an `init` are passed to the parameters of the component.
-use Rattle.std.proofs.Common.{◌≡◌, ◌≤◌, inl, inr, ℕ, ℤ, List, [], ◌∷◌, Some, None, refl, ap, sym, subst, ◌∙◌, Bool, true, false, arith, if◌then◌else◌, bytes_eq}
+use Rattle.std.proofs.Common.{◌≡◌, ◌≤◌, inl, inr, ℕ, ℤ, List, [], ◌∷◌, Option, Some, None, refl, ap, sym, subst, ◌∙◌, Bool, true, false, arith, if◌then◌else◌, bytes_eq}
 use Rattle.std.proofs.lemmas.Bool.{true≢false}
 use Rattle.cp_model.specs.Abstract as a
 use Rattle.cp_model.specs.Abstract.{Name, Sort, System}
 use Rattle.cp_model.specs.Names.{lookup}
 use Rattle.cp_model.specs.Types.{ArrayOf, ComponentOf, Members, NoType, Queue, RecordOf, ResolvedType, Simple, base_of_type}
 use Rattle.cp_model.specs.Declarations.{Variable, declarations, is_component}
-use Rattle.cp_model.specs.Environments.{Environment}
+use Rattle.cp_model.specs.Environments.{Environment, permanent_variables}
 use Rattle.cp_model.specs.Locations.{Location, Owner}
+use Rattle.cp_model.specs.Calls.{callee, is_local, own_routine}
 use Rattle.cp_model.specs.Components.{Component, component_named}
 use Rattle.cp_typing.specs.Judgement.{AllInitFit, InitFits, IsComponentArgument, Place}
 use Rattle.cp_typing.specs.Declared.{Distinct, Each, MayBePassed, SystemParameter}
 use Rattle.cp_typing.specs.StaticTypes.{expression_type}
-use Rattle.cp_typing.proofs.Names.{bytes_eq-refl, bytes_same}
+use Rattle.cp_typing.proofs.Names.{bytes_eq-refl, bytes_same, lookup_first, lookup_later}
 use Rattle.cp_code.specs.Terms.{Argument}
 use Rattle.cp_code.specs.Programs.{CodeUnit, Program}
 use Rattle.cp_code.specs.Layout.{rights}
@@ -27,7 +28,7 @@ use Rattle.cp_code.proofs.Fits.{AllBelow, below_split, term_fits}
 use Rattle.cp_code.proofs.Standing.{Chained, Standing, place_at, split}
 use Rattle.cp_code.proofs.Temps.{term_grows}
 use Rattle.cp_code.proofs.TermsStand.{term_stands}
-use Rattle.cp_code.proofs.CallsStand.{named_target}
+use Rattle.cp_code.proofs.CallsStand.{IsNamed, is_named, named_target}
 
 -- ---- Temps
 
@@ -130,6 +131,24 @@ module _ (scope : Scope) (program : Program) (texts : List UnitText) (systems : 
   named_argument r (a.Positive e) h = absurd h
   named_argument r (a.Binary q e f) h = absurd h
 
+  -- The name of a component is no call: no routine has it.
+  not_called : (x : Name) (n : Component) → component_named env x ≡ Some n → callee env (a.Plain x) ≡ None
+  not_called x n h = ap (λ r. elim r [ None ↦ None | Some q ↦ Some (record { routine = q; of = None }) ]) (own (is_local env.globals env.frame x))
+    where
+      k : IsNamed env x n
+      k = is_named env x n h
+
+      in_both : (q : Option Variable) → lookup x (declarations scope.globals scope.system.parameters) ≡ q → (b : Bool) → n.is_parameter ≡ b
+          → (v : Variable) × (lookup x (permanent_variables scope.globals scope.system) ≡ Some v)
+      in_both (Some v) found b is = (v, lookup_first x (declarations scope.globals scope.system.parameters) (declarations scope.globals scope.system.variables) v found)
+      in_both None none true is = absurd (cc (none, k.parameter is))
+      in_both None none false is =
+          (k.variable, lookup_later x (declarations scope.globals scope.system.parameters) (declarations scope.globals scope.system.variables) none ∙ k.own is)
+
+      own : (b : Bool) → own_routine b x scope.system ≡ None
+      own true = refl
+      own false = let v = in_both (lookup x (declarations scope.globals scope.system.parameters)) refl n.is_parameter refl in standing.no_routine x v.0 v.1
+
   passed_is_no_process : (sort of : Sort) → MayBePassed sort (Some of) → of ≡ a.Process → ⊥
   passed_is_no_process sort of (inl h) is = absurd (cc)
   passed_is_no_process sort of (inr h) is = absurd (cc (h.1))
@@ -181,6 +200,7 @@ module _ (scope : Scope) (program : Program) (texts : List UnitText) (systems : 
           ap (λ z. ComponentOf z inner) (sym k.system),
           k.named,
           subst (λ z. TargetFor env (Some k.component) (target_of (environment scope) z)) (sym k.named) target,
+          not_called k.name k.component k.named,
           subst (λ z. InitArgumentsFor site K s ps es xs z next low high) (sym chain) rest,
         ))
 

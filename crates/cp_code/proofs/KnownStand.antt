@@ -1,4 +1,4 @@
--- What the compiler needs to know of a text follows from its typing, but for what `TextFacts` says.
+-- What the compiler needs to know of a text follows from its typing and from what `TextFacts` says.
 use Rattle.std.proofs.Common.{◌≡◌, ◌<◌, ◌⊎◌, inl, inr, ℕ, zero, suc, List, [], ◌∷◌, ◌++◌, Option, Some, None, refl, ap, sym, subst, ◌∙◌, Bool, true, false, not, if◌then◌else◌, filter, slice_get, take, length, arith, bytes_eq, append_assoc}
 use Rattle.std.proofs.lemmas.Bool.{true≢false}
 use Rattle.cp_model.specs.Abstract as a
@@ -25,27 +25,44 @@ use Rattle.cp_code.proofs.SystemsStand.{get_seam, sound_plannable}
 
 -- ---- Declared types
 
--- A name is declared with a written type.
-declared_as : (g : GlobalScope) (gs : List Group) (x : Name) (v : Variable) → lookup x (declarations g gs) ≡ Some v
-    → (t : TypeExpression) × (declared_type x gs ≡ type_name t) × (v.type ≡ resolved_type g t)
-declared_as g [] x v h = absurd (cc)
-declared_as g (d ∷ ds) x v h = in_group d.names h (declared_as g ds x v)
+-- A name is declared with a written type, in any scope.
+pub record DeclaredIn (g h : GlobalScope) (gs : List Group) (x : Name) (v : Variable) : Type 0 where
+  pub type : TypeExpression
+  pub named : declared_type x gs ≡ type_name type
+  pub is : v.type ≡ resolved_type g type
+  pub other : Variable
+  pub found : lookup x (declarations h gs) ≡ Some other
+  pub other_is : other.type ≡ resolved_type h type
+
+abbrev grouped : Group → GlobalScope → Variable
+grouped d s = record { by_reference = d.by_reference; type = resolved_type s d.type }
+
+abbrev in_group : Group → List Group → GlobalScope → List Name → List (Name × Variable)
+in_group d ds s ns = declared_group d.by_reference (resolved_type s d.type) ns (declarations s ds)
+
+abbrev DeclaredAs : GlobalScope → GlobalScope → Variable → Option Variable → Name → Type 0
+DeclaredAs g h v o z = (t : TypeExpression) × (z ≡ type_name t) × (v.type ≡ resolved_type g t) × (w : Variable) × (o ≡ Some w) × (w.type ≡ resolved_type h t)
+
+pub declared_in : (g h : GlobalScope) (gs : List Group) (x : Name) (v : Variable) → lookup x (declarations g gs) ≡ Some v → DeclaredIn g h gs x v
+declared_in g h [] x v found = absurd (cc)
+declared_in g h (d ∷ ds) x v found =
+    let k = go_group d.names found (declared_in g h ds x v) in
+    record { type = k.0; named = k.1; is = k.2; other = k.3; found = k.4; other_is = k.5 }
   where
-    in_group : (ns : List Name) → lookup x (declared_group d.by_reference (resolved_type g d.type) ns (declarations g ds)) ≡ Some v
-        → (lookup x (declarations g ds) ≡ Some v → (t : TypeExpression) × (declared_type x ds ≡ type_name t) × (v.type ≡ resolved_type g t))
-        → (t : TypeExpression) × ((if is_among x ns then type_name d.type else declared_type x ds) ≡ type_name t) × (v.type ≡ resolved_type g t)
-    in_group [] h rest = rest h
-    in_group (n ∷ ns) h rest = go (bytes_eq x n) h (λ e. in_group ns e rest)
+    go_group : (ns : List Name) → lookup x (in_group d ds g ns) ≡ Some v → (lookup x (declarations g ds) ≡ Some v → DeclaredIn g h ds x v)
+        → DeclaredAs g h v (lookup x (in_group d ds h ns)) (if is_among x ns then type_name d.type else declared_type x ds)
+    go_group [] e rest = let k = rest e in (k.type, k.named, k.is, k.other, k.found, k.other_is)
+    go_group (n ∷ ns) e rest = go (bytes_eq x n) e (λ k. go_group ns k rest)
       where
-        go : (b : Bool) → (if b then Some (record { by_reference = d.by_reference; type = resolved_type g d.type }) else lookup x (declared_group d.by_reference (resolved_type g d.type) ns (declarations g ds))) ≡ Some v
-            → (lookup x (declared_group d.by_reference (resolved_type g d.type) ns (declarations g ds)) ≡ Some v → (t : TypeExpression) × ((if is_among x ns then type_name d.type else declared_type x ds) ≡ type_name t) × (v.type ≡ resolved_type g t))
-            → (t : TypeExpression) × ((if (if b then true else is_among x ns) then type_name d.type else declared_type x ds) ≡ type_name t) × (v.type ≡ resolved_type g t)
-        go true h others = (d.type, refl, sym (ap type_in h))
-          where
-            type_in : Option Variable → ResolvedType
-            type_in None = resolved_type g d.type
-            type_in (Some w) = w.type
-        go false h others = others h
+        type_in : Option Variable → ResolvedType
+        type_in None = resolved_type g d.type
+        type_in (Some w) = w.type
+
+        go : (b : Bool) → (if b then Some (grouped d g) else lookup x (in_group d ds g ns)) ≡ Some v
+            → (lookup x (in_group d ds g ns) ≡ Some v → DeclaredAs g h v (lookup x (in_group d ds h ns)) (if is_among x ns then type_name d.type else declared_type x ds))
+            → DeclaredAs g h v (if b then Some (grouped d h) else lookup x (in_group d ds h ns)) (if (if b then true else is_among x ns) then type_name d.type else declared_type x ds)
+        go true e others = (d.type, refl, sym (ap type_in e), grouped d h, refl, refl)
+        go false e others = others e
 
 -- A component's type is a name of the scope.
 pub named_in_scope : (g : GlobalScope) (s : System) (n : Component) → component_named (some_environment g s None) n.name ≡ Some n
@@ -60,20 +77,20 @@ named_in_scope g s n h =
       where
         by : (gs : List Group) → lookup n.name (declarations g gs) ≡ Some k.variable → (inner : Members) × (lookup (declared_type n.name gs) g.types ≡ Some (ComponentOf n.system inner))
         by gs found =
-            let d = declared_as g gs n.name k.variable found in
-            let c = component_name g d.0 n.system k.inner (sym d.2 ∙ k.type) in
-            (k.inner, ap (λ z. lookup z g.types) (d.1 ∙ ap type_name c.1) ∙ c.2)
+            let d = declared_in g g gs n.name k.variable found in
+            let c = component_name g d.type n.system k.inner (sym d.is ∙ k.type) in
+            (k.inner, ap (λ z. lookup z g.types) (d.named ∙ ap type_name c.1) ∙ c.2)
     go k false is = by s.variables (k.own is)
       where
         by : (gs : List Group) → lookup n.name (declarations g gs) ≡ Some k.variable → (inner : Members) × (lookup (declared_type n.name gs) g.types ≡ Some (ComponentOf n.system inner))
         by gs found =
-            let d = declared_as g gs n.name k.variable found in
-            let c = component_name g d.0 n.system k.inner (sym d.2 ∙ k.type) in
-            (k.inner, ap (λ z. lookup z g.types) (d.1 ∙ ap type_name c.1) ∙ c.2)
+            let d = declared_in g g gs n.name k.variable found in
+            let c = component_name g d.type n.system k.inner (sym d.is ∙ k.type) in
+            (k.inner, ap (λ z. lookup z g.types) (d.named ∙ ap type_name c.1) ∙ c.2)
 
 -- ---- Each variable
 
-each_map : (P Q : Name × Variable → Type 0) (vs : List (Name × Variable)) → ((v : Name × Variable) → P v → Q v) → Each P vs → Each Q vs
+pub each_map : (P Q : Name × Variable → Type 0) (vs : List (Name × Variable)) → ((v : Name × Variable) → P v → Q v) → Each P vs → Each Q vs
 each_map P Q [] f h = tt
 each_map P Q (v ∷ vs) f h = (f v h.0, each_map P Q vs f h.1)
 
@@ -89,7 +106,7 @@ each_found P (w ∷ vs) x v h is = go (bytes_eq x w.0) is (each_found P vs x v h
         or_first z (Some y) = y
     go false is rest = rest is
 
-found_in_both : (P : Variable → Type 0) (vs ws : List (Name × Variable)) (x : Name) (v : Variable) → Each (λ w. P w.1) vs → Each (λ w. P w.1) ws → lookup x (vs ++ ws) ≡ Some v → P v
+pub found_in_both : (P : Variable → Type 0) (vs ws : List (Name × Variable)) (x : Name) (v : Variable) → Each (λ w. P w.1) vs → Each (λ w. P w.1) ws → lookup x (vs ++ ws) ≡ Some v → P v
 found_in_both P vs ws x v h k is = go (lookup x vs) refl
   where
     go : (o : Option Variable) → lookup x vs ≡ o → P v
@@ -139,7 +156,7 @@ system_plannable g before (RecordOf ms) all h = absurd h
 system_plannable g before Queue all h = absurd h
 system_plannable g before NoType all h = absurd h
 
-system_is_component : (g : GlobalScope) (before : List System) (t : ResolvedType) → IsSystem g before t → is_component t ≡ true
+pub system_is_component : (g : GlobalScope) (before : List System) (t : ResolvedType) → IsSystem g before t → is_component t ≡ true
 system_is_component g before (ComponentOf s inner) h = refl
 system_is_component g before (Simple b low high start) h = absurd h
 system_is_component g before (ArrayOf low high t) h = absurd h

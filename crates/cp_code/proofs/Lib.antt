@@ -23,7 +23,9 @@ mod DefinitionsStand
 mod RowsStand
 mod TextsStand
 mod KnownStand
+mod FactsStand
 mod OperationsStand
 mod AssignmentsStand
 mod ProceduresStand
 mod Example
+mod Negatives

@@ -66,6 +66,7 @@ module _ (g : GlobalScope) (program : Program) (texts : List UnitText) (before :
   standing running runs own named = record {
     running = running;
     by_value = known.by_value;
+    no_routine = known.bodies.no_routine;
     no_clock = λ at o x. known.no_clock scope at o x refl refl runs;
     plain = λ at o d. known.plain scope k at o d refl refl runs;
     units = units;

@@ -45,6 +45,7 @@ pub record InitStands (scope : Scope) (program : Program) (texts : List UnitText
 pub record Standing (scope : Scope) (program : Program) (texts : List UnitText) (before : List CodeUnit) (systems : List System) (routines : ℕ) : Type 0 where
   pub running : RoutineHere scope scope.routine
   pub by_value : (x : Name) (v : Variable) → lookup x (permanent_variables scope.globals scope.system) ≡ Some v → v.by_reference ≡ false
+  pub no_routine : (x : Name) (v : Variable) → lookup x (permanent_variables scope.globals scope.system) ≡ Some v → routine_named x scope.system ≡ None
   pub no_clock : (at : Location) (o : Owner) (x : Name) → NamesVariable (environment_at scope at o) x → is_clock x ≡ false
   pub units : (at : Location) (o : Owner) (r : Routine) (of : Option Component)
       → ((n : Component) → of ≡ Some n → component_named (environment_at scope at o) n.name ≡ Some n)

@@ -1,8 +1,11 @@
 -- What the law of the compiler needs to know of a text.
 use Rattle.std.specs.Prelude.{◌≡◌, ℕ, ℤ, int_le, Bool, true, false, List, [], ◌∷◌, ◌++◌, Option, Some, None, slice_get}
+use Rattle.cp_model.specs.Syntax as s
+use Rattle.cp_model.specs.Erase as erase
 use Rattle.cp_model.specs.Abstract as a
 use Rattle.cp_model.specs.Abstract.{BaseType, Definition, Name, Routine, System}
 use Rattle.cp_model.specs.Names.{lookup}
+use Rattle.cp_model.specs.Rules.{Accepted}
 use Rattle.cp_model.specs.Types.{ArrayOf, ComponentOf, GlobalScope, Members, MoreMembers, NoMembers, NoType, Queue, RecordOf, ResolvedType, Simple, named_type, standard_scope}
 use Rattle.cp_model.specs.Declarations.{Variable, declarations, define, globals, reported_members}
 use Rattle.cp_model.specs.Environments.{permanent_variables}
@@ -12,6 +15,7 @@ use Rattle.cp_code.specs.Starts.{unset}
 use Rattle.cp_model.specs.Components.{Component, component_named}
 use Rattle.cp_model.specs.States.{Setup, initial_variables}
 use Rattle.cp_typing.specs.Judgement.{NamesVariable, Place, TypedPlace, has_queues, is_structured}
+use Rattle.cp_typing.specs.Magnitudes.{AreNegativesWithin}
 use Rattle.cp_typing.specs.Needs.{some_environment}
 use Rattle.cp_typing.specs.StaticTypes.{is_clock, place_type}
 use Rattle.cp_typing.specs.WellTyped.{TypedBodies, TypedSystem, WellTyped, text_systems}
@@ -89,9 +93,9 @@ pub record TextKnown (setup : Setup) : Type 0 where
       → within low high n ≡ true → n ≡ unset → ⊥
   pub typed : WellTyped setup
 
--- ---- Beside the typing
+-- ---- From the typing
 
--- What the typing of a text doesn't tell of a system type: no variable is the clock, and what is copied is plain.
+-- What the typing of a text tells by its parts, of a system type: no variable is the clock, and what is copied is plain.
 pub record SystemFacts (g : GlobalScope) (s : System) : Type 0 where
   pub no_clock : (scope : Scope) (at : Location) (o : Owner) (x : Name) → scope.globals ≡ g → scope.system ≡ s → RunsIn s scope.routine
       → NamesVariable (environment_at scope at o) x → is_clock x ≡ false
@@ -107,7 +111,7 @@ NamesInOrder g h (a.TypeDef x t ∷ ds) = NamesInOrder g (define h (a.TypeDef x 
 NamesInOrder g h (a.EnumDef x vs ∷ ds) = NamesInOrder g (define h (a.EnumDef x vs)) ds
 NamesInOrder g h (a.ConstantDef x c ∷ ds) = NamesInOrder g (define h (a.ConstantDef x c)) ds
 
--- Nor that types are defined before they are named, that a component has one layout wherever its type is named, and that no value of a
+-- And of a text: types are defined before they are named, a component has one layout wherever its type is named, and no value of a
 -- type is the mark of a result that isn't set.
 pub record TextFacts (setup : Setup) : Type 0 where
   pub systems : (i : ℕ) (s : System) → slice_get (text_systems setup) i ≡ Some s → SystemFacts (globals setup.tree) s
@@ -120,5 +124,10 @@ pub record TextFacts (setup : Setup) : Type 0 where
 
 -- ---- The law
 
-abbrev pub TypedTextsHavePrograms : Type 0
-TypedTextsHavePrograms = (setup : Setup) → WellTyped setup → TextFacts setup → StandsFor (compile setup.tree) setup
+-- What the compiler makes of a text stands for it, whatever its input and its clock are.
+abbrev pub HasProgram : s.Tree → Type 0
+HasProgram t = (setup : Setup) → setup.tree ≡ erase.abstract t → StandsFor (compile setup.tree) setup
+
+-- Numbers of tokens have 16 bits. No rule says so of a tree, and the mark of a result that isn't set has 32.
+abbrev pub AcceptedTextsHavePrograms : Type 0
+AcceptedTextsHavePrograms = (t : s.Tree) → Accepted t → AreNegativesWithin 65535 (erase.abstract t).definitions → HasProgram t

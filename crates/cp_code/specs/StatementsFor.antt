@@ -128,7 +128,7 @@ InitArgumentsFor site K s (p ∷ ps) (a.MoreExpressions e es) (Value to lower up
 InitArgumentsFor site K s (p ∷ ps) (a.MoreExpressions (a.Use (a.Plain x)) es) (Right to t ∷ xs) place next low high =
     (n : Component) × (inner : Members) × (v : Variable)
     × (right site.env.globals s p.0 ≡ Some (to, v)) × (p.1.type ≡ ComponentOf n.system inner)
-    × (component_named site.env x ≡ Some n) × TargetFor site.env (Some n) t
+    × (component_named site.env x ≡ Some n) × TargetFor site.env (Some n) t × (callee site.env (a.Plain x) ≡ None)
     × InitArgumentsFor site K s ps es xs place next low high
 InitArgumentsFor site K s _ _ _ place next low high = ⊥
 

@@ -1,10 +1,23 @@
-//! The law, as a function without a body: a caller has it as a fact once it calls the function. Its statement stands in `specs/Known.antt`.
+//! The law of the compiler. Its statement stands in `specs/Known.antt`.
 
-ghost use Rattle.cp_code.specs.Known.{TypedTextsHavePrograms};
+ghost use Rattle.cp_model.specs.Rules.{Accepted};
+ghost use Rattle.cp_model.specs.View as view;
+ghost use Rattle.cp_code.specs.Known.{AcceptedTextsHavePrograms, HasProgram};
 
-/// What the compiler makes of a well typed text stands for it (`specs/StandsFor.antt`), where the text has what its typing doesn't
-/// tell (`TextFacts`): no variable is the clock, what is copied is plain, types are defined before they are named, a component has one
-/// layout, and no value is the mark of a result that isn't set.
-pub fn typed_texts_have_programs()
-    ensures { TypedTextsHavePrograms }
+use crate::numbers::read_numbers;
+use cp_model::tree::Tree;
+
+/// What the compiler makes of an accepted text stands for it (`specs/StandsFor.antt`), where the numbers that its definitions write behind
+/// a minus are at most 65,535. A function without a body: a caller has the law as a fact once it calls the function.
+pub fn accepted_texts_have_programs()
+    ensures { AcceptedTextsHavePrograms }
 {}
+
+/// What the compiler makes of the text of an accepted tree stands for it: the tree's numbers have 16 bits.
+pub fn accepted_tree_has_program(tree: &Tree)
+    requires { Accepted (view.tree tree.now) }
+    ensures { HasProgram (view.tree tree.now) }
+{
+    read_numbers(tree);
+    accepted_texts_have_programs();
+}

@@ -9,10 +9,11 @@
 //!   system type share their code.
 //! - **The compiler.** `Compile.compile`: from the tree to the program, by `Scopes`, `CodedTerms`, `CodedStatements`, `Plans` and `CodeNeeds`. It
 //!   takes any tree; what it makes of a text that the rules refuse means nothing.
-//! - **The law.** `law::typed_texts_have_programs`: what the compiler makes of a well typed text stands for it, where `Known.TextFacts` holds of the text.
-//!   `proofs/` show it by terms, calls, statements by kind, plans of words, units in text order, and components.
+//! - **The law.** `law::accepted_tree_has_program`: what the compiler makes of the text of an accepted tree stands for it.
+//!   `proofs/` show it by terms, calls, statements by kind, plans of words, units in text order, and components, from what `Known` says of a text.
 //!
 //! `Example` is a text with calls, `var` parameters, rights, a monitor and two processes, and its program stands for it.
 #![tactic(auto)]
 
 pub mod law;
+pub mod numbers;

@@ -10,20 +10,22 @@ use Rattle.cp_model.specs.declared.rules.Standard.TheVariants as standard
 use Rattle.cp_model.specs.declared.rules.Part.TheVariants as part
 use Rattle.cp_model.specs.declared.rules.Position.{Position}
 use Rattle.cp_model.specs.RulesEnvironment.{Environment, Names, Text, is_in_entry, is_in_routine}
+use Rattle.cp_model.specs.RulesTypes.{has_name}
 use Rattle.cp_model.specs.RulesNeeds.{need_statements}
 use Rattle.cp_model.specs.RulesStatements.{statements}
 use Rattle.cp_model.specs.RulesDeclarations.{Declared, routines, variables}
 use Rattle.cp_model.specs.Types.{ComponentOf, GlobalScope, Members}
 use Rattle.cp_model.specs.Declarations.{Variable, declarations}
 use Rattle.cp_model.specs.Locations.{Location, OfProcess, root}
+use Rattle.cp_model.specs.Calls.{routine_named}
 use Rattle.cp_model.specs.Environments.{permanent_variables}
 use Rattle.cp_model.specs.Names.{lookup}
 use Rattle.cp_typing.specs.Judgement.{Place, TypedStatement}
 use Rattle.cp_typing.specs.Declared.{Distinct}
-use Rattle.cp_typing.specs.WellTyped.{TypedBodies, TypedRoutine, body_place}
+use Rattle.cp_typing.specs.WellTyped.{NoClock, TypedBodies, TypedRoutine, body_place}
 use Rattle.cp_typing.specs.Needs.{statement_need}
-use Rattle.cp_typing.proofs.Distinctness.{distinct_first, distinct_last, distinct_variables, keys_same}
-use Rattle.cp_typing.proofs.Names.{AllDistinct, NewNames, keys, keys-append, lookup_has, new_is_distinct, there_is_not_new}
+use Rattle.cp_typing.proofs.Distinctness.{distinct_apart, distinct_first, distinct_last, distinct_variables, has_second, keys_same, no_clock, not_either}
+use Rattle.cp_typing.proofs.Names.{AllDistinct, NewNames, has_lookup, keys, keys-append, lookup_has, new_is_distinct, there_is_not_new}
 use Rattle.cp_typing.proofs.TableMeanings.{Declares, NamesAs, Tables, TypeAt, Types, grows_same, names_kept}
 use Rattle.cp_typing.proofs.Visible.{RegionAs, Visible}
 use Rattle.cp_typing.proofs.Statements.{statements_as}
@@ -90,22 +92,54 @@ module _ (G : GlobalScope → Type 0) (ys : List a.System) (y : s.System) (p : P
       subst (TypedRoutine g ys (erase.system y) k) x.2
       (subst (λ j. TypedRoutine g ys (erase.system y) j (erase.routine x.0)) (omega arith) (routines_all.typed k x.0 x.1 g in_scope))
 
+  abbrev scope : ComponentScope G ys (erase.system y) env rs 0
+  scope = o.scope
+
+  abbrev own_names : List Text
+  own_names = keys scope.parameters ++ keys scope.variables
+
+  all_distinct_in : AllDistinct (keys scope.outer ++ (own_names ++ keys scope.routines))
+  all_distinct_in = subst AllDistinct
+      (ap keys scope.names ∙ keys-append scope.outer _ ∙ ap (λ l. keys scope.outer ++ l) (keys-append scope.parameters _ ∙ ap (λ l. keys scope.parameters ++ l) (keys-append scope.variables scope.routines)
+      ∙ sym (append_assoc (keys scope.parameters) (keys scope.variables) (keys scope.routines)))) scope.distinct
+
   -- the names of its parameters and variables
+  member_names : (g : GlobalScope) → G g → keys (permanent_variables g (erase.system y)) ≡ own_names
+  member_names g i =
+      keys-append (declarations g (erase.system y).parameters) _
+      ∙ ap₂ (λ l m. l ++ m) (ap keys (scope.declares_parameters g i) ∙ sym (keys_same true rs scope.parameters scope.parameters_declared scope.parameters_as))
+      (ap keys (scope.declares_variables g i) ∙ sym (keys_same false rs scope.variables scope.variables_declared scope.variables_as))
+
   members_distinct : (g : GlobalScope) → G g → Distinct (permanent_variables g (erase.system y))
   members_distinct g i =
-      let c : ComponentScope G ys (erase.system y) env rs 0 = o.scope in
-      let all_keys : keys env.names ≡ keys c.outer ++ ((keys c.parameters ++ keys c.variables) ++ keys c.routines) =
-      ap keys c.names ∙ keys-append c.outer _ ∙ ap (λ l. keys c.outer ++ l) (keys-append c.parameters _ ∙ ap (λ l. keys c.parameters ++ l) (keys-append c.variables c.routines)
-      ∙ sym (append_assoc (keys c.parameters) (keys c.variables) (keys c.routines))) in
-      let own_keys : keys (permanent_variables g (erase.system y)) ≡ keys c.parameters ++ keys c.variables =
-      keys-append (declarations g (erase.system y).parameters) _
-      ∙ ap₂ (λ l m. l ++ m) (ap keys (c.declares_parameters g i) ∙ sym (keys_same true rs c.parameters c.parameters_declared c.parameters_as))
-      (ap keys (c.declares_variables g i) ∙ sym (keys_same false rs c.variables c.variables_declared c.variables_as)) in
       distinct_variables (permanent_variables g (erase.system y))
-      (subst AllDistinct (sym own_keys) (distinct_first _ (keys c.routines) (distinct_last (keys c.outer) _ (subst AllDistinct all_keys c.distinct))))
+      (subst AllDistinct (sym (member_names g i)) (distinct_first own_names (keys scope.routines) (distinct_last (keys scope.outer) (own_names ++ keys scope.routines) all_distinct_in)))
+
+  members_no_clock : (g : GlobalScope) → G g → NoClock (permanent_variables g (erase.system y))
+  members_no_clock g i =
+      no_clock (permanent_variables g (erase.system y))
+      (ap (has_name (codes "realtime")) (member_names g i)
+      ∙ (not_either (codes "realtime") own_names (keys scope.routines)
+      (distinct_apart (keys scope.outer) (own_names ++ keys scope.routines) all_distinct_in (codes "realtime") (lookup_has (codes "realtime") scope.outer (entity.Standard standard.Realtime) scope.clock))).0)
+
+  -- no routine has the name of a parameter or variable
+  members_no_routine : (g : GlobalScope) → G g → (x : Text) (v : Variable) → lookup x (permanent_variables g (erase.system y)) ≡ Some v → routine_named x (erase.system y) ≡ None
+  members_no_routine g i x v found =
+      let names : Names = scope.outer ++ (scope.parameters ++ scope.variables) in
+      let there : has_name x (keys names) ≡ true =
+      ap (has_name x) (keys-append scope.outer (scope.parameters ++ scope.variables) ∙ ap (λ l. keys scope.outer ++ l) (keys-append scope.parameters scope.variables))
+      ∙ has_second x (keys scope.outer) own_names (ap (has_name x) (sym (member_names g i)) ∙ lookup_has x (permanent_variables g (erase.system y)) v found) in
+      let e : (e : Entity) × (lookup x names ≡ Some e) = has_lookup x names there in
+      scope.no_routine x e.0 e.1
 
   pub bodies_typed : (g : GlobalScope) → G g → TypedBodies g ys (erase.system y)
-  bodies_typed g i = record { distinct = members_distinct g i; routines = λ k q h. routine_typed q k h g i; body = λ at. body_of g i at }
+  bodies_typed g i = record {
+    distinct = members_distinct g i;
+    no_clock = members_no_clock g i;
+    no_routine = members_no_routine g i;
+    routines = λ k q h. routine_typed q k h g i;
+    body = λ at. body_of g i at;
+  }
 
 -- ---- the scope after the variables of a component
 

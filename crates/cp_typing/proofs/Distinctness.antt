@@ -1,5 +1,5 @@
 -- Names that are all distinct: parts of a list, in any order, are distinct too.
-use Rattle.std.proofs.Common.{◌≡◌, Bool, true, false, ◌||◌, List, [], ◌∷◌, ◌++◌, Option, Some, None, refl, ap, ap₂, sym, subst, ◌∙◌, append_assoc, append-nil, bytes_eq}
+use Rattle.std.proofs.Common.{◌≡◌, Bool, true, false, ◌||◌, List, [], ◌∷◌, ◌++◌, Option, Some, None, refl, ap, ap₂, sym, subst, ◌∙◌, append_assoc, append-nil, bytes_eq, codes}
 use Rattle.std.proofs.lemmas.Bool.{true≢false, or_from, or_right}
 use Rattle.cp_model.specs.Abstract.{Name}
 use Rattle.cp_model.specs.RulesEnvironment.{Names, Text}
@@ -8,7 +8,9 @@ use Rattle.cp_model.specs.Types.{GlobalScope}
 use Rattle.cp_model.specs.Declarations.{Variable}
 use Rattle.cp_model.specs.Environments.{result_variable}
 use Rattle.cp_typing.specs.Declared.{Distinct}
-use Rattle.cp_typing.proofs.Names.{AllDistinct, bytes_eq-refl, bytes_same, has-append, has_first, keys, lookup_none}
+use Rattle.cp_typing.specs.StaticTypes.{is_clock}
+use Rattle.cp_typing.specs.WellTyped.{NoClock}
+use Rattle.cp_typing.proofs.Names.{AllDistinct, bytes_eq-refl, bytes_same, has-append, has_first, keys, lookup_has, lookup_none}
 use Rattle.cp_typing.proofs.TableMeanings.{Types}
 use Rattle.cp_typing.proofs.LayerNames.{VariablesAs}
 
@@ -16,14 +18,14 @@ use Rattle.cp_typing.proofs.LayerNames.{VariablesAs}
 abbrev pub Apart : List Text → List Text → Type 0
 Apart xs ys = (x : Text) → has_name x xs ≡ true → has_name x ys ≡ false
 
-has_second : (x : Text) (xs ys : List Text) → has_name x ys ≡ true → has_name x (xs ++ ys) ≡ true
+pub has_second : (x : Text) (xs ys : List Text) → has_name x ys ≡ true → has_name x (xs ++ ys) ≡ true
 has_second x xs ys h = has-append x xs ys ∙ or_right (has_name x xs) (has_name x ys) h
 
 none_in : (b c : Bool) → (b || c) ≡ false → (b ≡ false) × (c ≡ false)
 none_in true c h = absurd (true≢false h)
 none_in false c h = (refl, h)
 
-not_either : (x : Text) (xs ys : List Text) → has_name x (xs ++ ys) ≡ false → (has_name x xs ≡ false) × (has_name x ys ≡ false)
+pub not_either : (x : Text) (xs ys : List Text) → has_name x (xs ++ ys) ≡ false → (has_name x xs ≡ false) × (has_name x ys ≡ false)
 not_either x xs ys h = none_in (has_name x xs) (has_name x ys) (sym (has-append x xs ys) ∙ h)
 
 not_both : (b : Bool) → (b ≡ true → ⊥) → b ≡ false
@@ -64,6 +66,14 @@ apart_second xs ys zs h x k = (not_either x ys zs (h x k)).1
 pub distinct_variables : (ds : List (Text × Variable)) → AllDistinct (keys ds) → Distinct ds
 distinct_variables [] d = tt
 distinct_variables (v ∷ vs) d = (lookup_none v.0 vs d.0, distinct_variables vs d.1)
+
+-- Where the clock is no name among them, no variable is the clock.
+pub no_clock : (vs : List (Text × Variable)) → has_name (codes "realtime") (keys vs) ≡ false → NoClock vs
+no_clock vs none x v found = go (is_clock x) refl
+  where
+    go : (b : Bool) → is_clock x ≡ b → is_clock x ≡ false
+    go false is = is
+    go true is = absurd (true≢false (sym (lookup_has x vs v found) ∙ ap (λ z. has_name z (keys vs)) (bytes_same x (codes "realtime") is) ∙ none))
 
 pub keys_same : (q : Bool) (rs : Types) (vs : Names) (ds : List (Text × Variable)) → VariablesAs q rs vs ds → keys vs ≡ keys ds
 keys_same q rs [] [] h = refl
@@ -106,6 +116,11 @@ module _ (outer ps vs rs : List Text) (f : Text) (qs ws : List Text) (d : AllDis
       go true is k = has_second x (f ∷ []) (qs ++ ws) is
       go false is k = has_first x (f ∷ []) (qs ++ ws) k
 
+  -- a name outside is none of the routine's own
+  not_own : (x : Text) → has_name x outer ≡ true → has_name x own ≡ false
+  not_own x h =
+      (not_either x rs own (not_either x vs (rs ++ own) (not_either x ps (vs ++ (rs ++ own)) (distinct_apart outer (ps ++ (vs ++ (rs ++ own))) d x h)).1).1).1
+
   result_keys : (g : GlobalScope) (o : Option Name) → result_name o ≡ keys (result_variable g f o)
   result_keys g None = refl
   result_keys g (Some t) = refl
@@ -117,3 +132,8 @@ module _ (outer ps vs rs : List Text) (f : Text) (qs ws : List Text) (d : AllDis
       (distinct_both ((qs ++ ws) ++ result_name o) (ps ++ vs)
       (distinct_both (qs ++ ws) (result_name o) (distinct_last (f ∷ []) (qs ++ ws) own_distinct) (result_distinct o) (result_apart o))
       (distinct_first (ps ++ vs) (rs ++ own) inside) (λ x h. locals_apart x (among o x h)))
+
+  pub outer_no_local : (x : Text) → has_name x outer ≡ true → (g : GlobalScope) (o : Option Name) → has_name x (qs ++ (ws ++ keys (result_variable g f o))) ≡ false
+  outer_no_local x h g o =
+      subst (λ l. has_name x l ≡ false) (append_assoc qs ws (result_name o) ∙ ap (λ l. qs ++ (ws ++ l)) (result_keys g o))
+      (not_both (has_name x ((qs ++ ws) ++ result_name o)) (λ there. true≢false (sym (among o x there) ∙ not_own x h)))

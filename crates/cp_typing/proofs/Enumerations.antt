@@ -18,6 +18,7 @@ use Rattle.cp_model.specs.Places.{within}
 use Rattle.cp_model.specs.Names.{lookup}
 use Rattle.cp_model.specs.RulesDeclarations.{declare_each}
 use Rattle.cp_typing.specs.Declared.{IsData}
+use Rattle.cp_typing.specs.WellTyped.{Later}
 use Rattle.cp_typing.proofs.Names.{AllDistinct, NewNames, bytes_eq-refl, keys, keys-append, lookup-append, lookup_first, lookup_later, lookup_none, has_first, there_is_not_new, lookup_has}
 use Rattle.cp_typing.proofs.Judging.{first_empty, rest_empty}
 use Rattle.cp_typing.proofs.TypeRows.{grows_by, not_new, tables_added}
@@ -25,7 +26,7 @@ use Rattle.cp_typing.proofs.TableMeanings.{data_row, simple_data, BaseAt, Grows,
 use Rattle.cp_typing.proofs.Layers.{IsOuter}
 use Rattle.cp_typing.proofs.DeclaredNames.{declare_new, declared_new, names_more, tables_same, each_new, names_of, each_declared, text_of}
 use Rattle.cp_typing.proofs.RoutineNames.{all_distinct}
-use Rattle.cp_typing.proofs.Stages.{Defined, Later, Stage, first_there, no_systems, not_first, stage_named, tables_fewer, type_later, outer_more, later_on, names_fewer}
+use Rattle.cp_typing.proofs.Stages.{Defined, Stage, first_there, no_systems, not_first, stage_named, tables_fewer, type_later, outer_more, later_on, names_fewer}
 use Rattle.cp_typing.proofs.MemberNames.{mapped_length, new_fewer}
 
 abbrev Constants : Type 0
@@ -178,7 +179,7 @@ module _ (env : Environment) (g : GlobalScope) (rs : Types) (ys : List a.System)
   stage_a : Stage named scope_a more ys
   stage_a = stage_named env own g scope_a rs more ys ys x.name (entity.Type t) stage tables_own grows_own
       (λ n w i h. stage.systems n w i (not_new rs (full_range b) n w i refl h)) (record { region = refl; processes = refl; monitors = refl })
-      (λ k l. (λ alone. enumeration_fits k, stage.types k (later_on g scope_a k later_a l))) later_a none tt
+      (λ k l. ((λ alone. enumeration_fits k, tt), stage.types k (later_on g scope_a k later_a l))) later_a none tt
       (full_range b, type_there, λ k l. l.types x.name (full_range b) (first_there x.name (full_range b) g.types))
       (λ z n. (refl, not_first x.name z (full_range b) g.types n))
 
@@ -240,4 +241,5 @@ module _ (env : Environment) (g : GlobalScope) (rs : Types) (ys : List a.System)
     later = later_on g scope_a scope_behind later_a later_b;
     stage = subst (Stage after scope_behind more) (sym (no_systems ys)) stage_behind;
     typed = λ i w h. absurd (cc);
+    in_order = λ k l. tt;
   })

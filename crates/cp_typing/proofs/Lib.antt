@@ -50,3 +50,4 @@ pub mod StartValues
 pub mod Values
 pub mod Example
 pub mod Magnitudes
+pub mod LowerBounds

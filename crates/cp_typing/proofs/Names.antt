@@ -1,5 +1,5 @@
 -- Names that are found in lists, and names that are new.
-use Rattle.std.proofs.Common.{◌≡◌, Bool, true, false, ◌||◌, List, [], ◌∷◌, ◌++◌, Some, None, if◌then◌else◌, refl, ap, sym, subst, ◌∙◌, append_assoc, append-nil, bytes_eq}
+use Rattle.std.proofs.Common.{◌≡◌, Bool, true, false, ◌||◌, List, [], ◌∷◌, ◌++◌, Option, Some, None, if◌then◌else◌, refl, ap, sym, subst, ◌∙◌, append_assoc, append-nil, bytes_eq}
 use Rattle.std.specs.Option.{option_or}
 use Rattle.std.proofs.lemmas.Bool.{true≢false, or_from, or_right}
 use Rattle.std.proofs.lemmas.Slice.Eq.{bytes_eq-Decides}
@@ -66,6 +66,13 @@ none_has x (v ∷ vs) h = go (none_has x vs) (bytes_eq x v.0) h
         → (b || has_name x (keys vs)) ≡ false
     go rest true h = absurd (cc)
     go rest false h = rest h
+
+pub has_lookup : {A : Type 0} (x : Text) (vs : List (Text × A)) → has_name x (keys vs) ≡ true → (a : A) × (lookup x vs ≡ Some a)
+has_lookup {A} x vs h = go (lookup x vs) refl
+  where
+    go : (o : Option A) → lookup x vs ≡ o → (a : A) × (lookup x vs ≡ Some a)
+    go (Some a) is = (a, is)
+    go None is = absurd (true≢false (sym h ∙ none_has x vs is))
 
 pub has-append : (x : Text) (ks ls : List Text) → has_name x (ks ++ ls) ≡ (has_name x ks || has_name x ls)
 has-append x [] ls = refl

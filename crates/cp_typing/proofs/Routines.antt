@@ -1,5 +1,5 @@
 -- Routines: what each adds to its component's scope, and that its body is typed.
-use Rattle.std.proofs.Common.{◌≡◌, ◌≤◌, ℕ, zero, suc, ◌+◌, Bool, true, false, List, [], ◌∷◌, ◌++◌, Option, Some, None, if◌then◌else◌, slice_get, find, length, map, take, drop, refl, ap, ap₂, sym, subst, ◌∙◌, arith, append_assoc, append-nil, length-append, bytes_eq, is_some}
+use Rattle.std.proofs.Common.{◌≡◌, ◌≤◌, ℕ, zero, suc, ◌+◌, Bool, true, false, List, [], ◌∷◌, ◌++◌, Option, Some, None, if◌then◌else◌, slice_get, find, length, map, take, drop, refl, ap, ap₂, sym, subst, ◌∙◌, arith, append_assoc, append-nil, length-append, bytes_eq, codes, is_some}
 use Rattle.std.specs.Option.{option_or}
 use Rattle.std.proofs.lemmas.Bool.{true≢false}
 use Rattle.std.proofs.Math.Seq.{get_or-append_seam}
@@ -13,6 +13,7 @@ use Rattle.cp_model.specs.declared.rules.Entity.{Entity}
 use Rattle.cp_model.specs.declared.rules.Entity.TheVariants as entity
 use Rattle.cp_model.specs.declared.rules.Returns.{Returns}
 use Rattle.cp_model.specs.declared.rules.Returns.TheVariants as returns
+use Rattle.cp_model.specs.declared.rules.Standard.TheVariants as standard
 use Rattle.cp_model.specs.declared.rules.RoutineRow.{RoutineRow}
 use Rattle.cp_model.specs.declared.rules.Position.TheVariants as position
 use Rattle.cp_model.specs.RulesJudged.{Judged}
@@ -27,13 +28,13 @@ use Rattle.cp_model.specs.Environments.{local_variables, permanent_variables, re
 use Rattle.cp_model.specs.Names.{lookup}
 use Rattle.cp_typing.specs.Judgement.{IsSimple}
 use Rattle.cp_typing.specs.Declared.{Distinct, Each, IsData, ResultFits, RoutineParameter, RoutineVariable, is_function}
-use Rattle.cp_typing.specs.WellTyped.{TypedRoutine}
+use Rattle.cp_typing.specs.WellTyped.{NoClock, TypedRoutine}
 use Rattle.cp_typing.specs.Words.{words_of_variables}
 use Rattle.cp_typing.specs.Needs as needs
 use Rattle.cp_typing.specs.Needs.{call_need, in_statement, start_need, statement_need}
-use Rattle.cp_typing.proofs.Distinctness.{distinct_variables, keys_same, local_names_distinct}
+use Rattle.cp_typing.proofs.Distinctness.{distinct_variables, keys_same, local_names_distinct, no_clock, outer_no_local}
 use Rattle.cp_typing.proofs.VariableKinds.{routine_parameters, routine_variables}
-use Rattle.cp_typing.proofs.Names.{AllDistinct, bytes_same, keys, keys-append, lookup-append, none_has}
+use Rattle.cp_typing.proofs.Names.{AllDistinct, bytes_same, keys, keys-append, lookup-append, lookup_has, none_has}
 use Rattle.cp_typing.proofs.Judging.{first_empty, rest_empty}
 use Rattle.cp_typing.proofs.TypeRows.{grows_by}
 use Rattle.cp_typing.proofs.TableMeanings.{Grows, NeedAs, ParametersAs, ReturnsAs, RoutineAs, RowAs, Tables, data_fits, row_data, Types, grows_on, names_kept, parameters_kept, returns_kept, routine_kept}
@@ -253,14 +254,18 @@ module _ (G : GlobalScope → Type 0) (ys : List a.System) (y : a.System) where
         ∙ ap (λ l. keys c.parameters ++ l) (keys-append c.variables c.routines))) (keys-append (names_of head.bound) made.entries_of)
         ∙ append_assoc (keys c.outer) _ _ ∙ ap (λ l. keys c.outer ++ l) (append_assoc (keys c.parameters) _ _ ∙ ap (λ l. keys c.parameters ++ l) (append_assoc (keys c.variables) (keys c.routines) _))
 
+    local_names : (g : GlobalScope) → G g
+        → keys (local_variables g q) ≡ keys (names_of head.bound) ++ (keys made.entries_of ++ keys (result_variable g r.name.name q.result))
+    local_names g i =
+        keys-append (declarations g q.parameters) _ ∙ ap₂ (λ l m. l ++ m) (ap keys (made_head.declares g i) ∙ sym (keys_same true rs (names_of head.bound) made_head.declared made_head.meets))
+        (keys-append (declarations g q.variables) _ ∙ ap (λ l. l ++ keys (result_variable g r.name.name q.result))
+        (ap keys (made.declares g i) ∙ sym (keys_same false made.more made.entries_of made.declared made.meets)))
+
     keys_variables : (g : GlobalScope) → G g → keys (local_variables g q ++ permanent_variables g y)
         ≡ (keys (names_of head.bound) ++ (keys made.entries_of ++ keys (result_variable g r.name.name q.result))) ++ (keys c.parameters ++ keys c.variables)
     keys_variables g i =
         keys-append (local_variables g q) (permanent_variables g y)
-        ∙ ap₂ (λ l m. l ++ m)
-        (keys-append (declarations g q.parameters) _ ∙ ap₂ (λ l m. l ++ m) (ap keys (made_head.declares g i) ∙ sym (keys_same true rs (names_of head.bound) made_head.declared made_head.meets))
-        (keys-append (declarations g q.variables) _ ∙ ap (λ l. l ++ keys (result_variable g r.name.name q.result))
-        (ap keys (made.declares g i) ∙ sym (keys_same false made.more made.entries_of made.declared made.meets))))
+        ∙ ap₂ (λ l m. l ++ m) (local_names g i)
         (keys-append (declarations g y.parameters) _ ∙ ap₂ (λ l m. l ++ m) (ap keys (c.declares_parameters g i) ∙ sym (keys_same true rs c.parameters c.parameters_declared c.parameters_as))
         (ap keys (c.declares_variables g i) ∙ sym (keys_same false rs c.variables c.variables_declared c.variables_as)))
 
@@ -270,6 +275,13 @@ module _ (G : GlobalScope → Type 0) (ys : List a.System) (y : a.System) where
         (subst AllDistinct (sym (keys_variables g i))
         (local_names_distinct (keys c.outer) (keys c.parameters) (keys c.variables) (keys c.routines) r.name.name (keys (names_of head.bound)) (keys made.entries_of)
         (subst AllDistinct keys_locals distinct_locals) g q.result))
+
+    locals_no_clock : (g : GlobalScope) → G g → NoClock (local_variables g q)
+    locals_no_clock g i =
+        no_clock (local_variables g q)
+        (ap (has_name (codes "realtime")) (local_names g i)
+        ∙ outer_no_local (keys c.outer) (keys c.parameters) (keys c.variables) (keys c.routines) r.name.name (keys (names_of head.bound)) (keys made.entries_of)
+        (subst AllDistinct keys_locals distinct_locals) (codes "realtime") (lookup_has (codes "realtime") c.outer (entity.Standard standard.Realtime) c.clock) g q.result)
 
     tables_inside : Tables G inside rs
     tables_inside = subst (λ e. Tables G e rs) (sym inside_is) tables_opened
@@ -287,6 +299,7 @@ module _ (G : GlobalScope → Type 0) (ys : List a.System) (y : a.System) where
           (routine_variables G ys locals.env made.more made.tables (λ t w i h. c.systems t w i (made.components t w i h)) g in_scope made.entries_of made.declared made.placed made.meets);
       result = result_fits g in_scope row.returns q.result result_returns;
       distinct = locals_distinct g in_scope;
+      no_clock = locals_no_clock g in_scope;
       body = λ at o. first.body_typed G ys y z sort_is env rs k c r sound g in_scope at o;
     }
 

@@ -1,5 +1,5 @@
 -- The outermost scope, definition by definition: what the rules and the meaning know of it.
-use Rattle.std.proofs.Common.{◌≡◌, ℕ, ℤ, Bool, true, false, List, [], ◌∷◌, ◌++◌, Option, Some, None, if◌then◌else◌, slice_get, take, refl, ap, sym, subst, ◌∙◌, append-nil, codes, bytes_eq}
+use Rattle.std.proofs.Common.{◌≡◌, ℕ, ℤ, Bool, true, false, List, [], ◌∷◌, ◌++◌, Option, Some, None, if◌then◌else◌, slice_get, take, refl, ap, sym, subst, ◌∙◌, append_assoc, append-nil, codes, bytes_eq}
 use Rattle.std.specs.Option.{option_or}
 use Rattle.cp_model.specs.Syntax as s
 use Rattle.cp_model.specs.Abstract as a
@@ -22,11 +22,11 @@ use Rattle.cp_model.specs.RulesEnvironment.{Environment, Names, Text, c1_declare
 use Rattle.cp_model.specs.RulesTypes.{Made, c6_c8_placed, constant, type_at, type_of, placed}
 use Rattle.cp_model.specs.Rules.{define_constant, define_type}
 use Rattle.cp_model.specs.Types.{ArrayOf, ComponentOf, GlobalScope, Members, Queue, RecordOf, ResolvedType, Simple, resolved_type}
-use Rattle.cp_model.specs.Declarations.{define_all, is_component, with_constant}
+use Rattle.cp_model.specs.Declarations.{define, define_all, is_component, with_constant}
 use Rattle.cp_model.specs.Names.{lookup}
 use Rattle.cp_typing.specs.Systems.{systems_of}
-use Rattle.cp_typing.specs.Declared.{AllData, IsData}
-use Rattle.cp_typing.specs.WellTyped.{TypedSystem}
+use Rattle.cp_typing.specs.Declared.{AllFormed, IsData}
+use Rattle.cp_typing.specs.WellTyped.{Later, TypedInOrder, TypedSystem}
 use Rattle.cp_typing.proofs.Names.{AllDistinct, bytes_eq-refl, bytes_same, lookup_first, keys, keys-append, lookup-append, none_has}
 use Rattle.cp_typing.proofs.Judging.{first_empty, rest_empty, sound_has}
 use Rattle.cp_typing.proofs.TypesMade.{placed_sound, type_made, placed_inner}
@@ -38,10 +38,6 @@ use Rattle.cp_typing.proofs.DeclaredNames.{declare_new, declared_new, grows_betw
 use Rattle.cp_typing.proofs.RoutineNames.{all_distinct}
 
 -- ---- scopes with more definitions
-
-pub record Later (g h : GlobalScope) : Type 0 where
-  pub constants : (x : Text) (v : a.BaseType × ℤ) → lookup x g.constants ≡ Some v → lookup x h.constants ≡ Some v
-  pub types : (x : Text) (r : ResolvedType) → lookup x g.types ≡ Some r → lookup x h.types ≡ Some r
 
 pub later_same : (g : GlobalScope) → Later g g
 later_same g = record { constants = λ x v h. h; types = λ x r h. h }
@@ -134,7 +130,7 @@ pub record Stage (env : Environment) (g : GlobalScope) (rs : Types) (ys : List a
   pub region : env.region ≡ process_body
   pub processes : env.processes ≡ 1
   pub monitors : env.monitors ≡ 0
-  pub types : (h : GlobalScope) → Later g h → AllData h g.types
+  pub types : (h : GlobalScope) → Later g h → AllFormed h g.types
   pub seen : Seen env.names g
   pub systems : (t : ℕ) (w : a.System) (inner : Members) → TypeAt rs t (ComponentOf w inner) → (i : ℕ) × (slice_get ys i ≡ Some w)
 
@@ -148,6 +144,7 @@ pub record Defined (env : Environment) (g : GlobalScope) (rs : Types) (ys : List
   pub later : Later g (define_all g ds)
   pub stage : Stage after (define_all g ds) more (ys ++ systems_of ds)
   pub typed : (i : ℕ) (y : a.System) → slice_get (systems_of ds) i ≡ Some y → SystemTyped (define_all g ds) (ys ++ take i (systems_of ds)) y
+  pub in_order : (h : GlobalScope) → Later (define_all g ds) h → TypedInOrder h g ys ds
 
 -- a lookup in a scope with one more name in front
 front : {A : Type 0} (x y : Text) (v : A) (vs : List (Text × A)) (w : A) → lookup x vs ≡ None → lookup y vs ≡ Some w → lookup y ((x, v) ∷ vs) ≡ Some w
@@ -208,7 +205,7 @@ keeps_rest env = record { region = refl; processes = refl; monitors = refl }
 pub stage_named : (env env1 : Environment) (g g1 : GlobalScope) (rs more : Types) (ys zs : List a.System) (x : Text) (e : Entity) → Stage env g rs ys → Tables (Later g) env1 more
     → Grows env env1 rs more
     → ((t : ℕ) (w : a.System) (inner : Members) → TypeAt more t (ComponentOf w inner) → (i : ℕ) × (slice_get zs i ≡ Some w))
-    → KeepsRest env env1 → ((h : GlobalScope) → Later g1 h → AllData h g1.types) → Later g g1 → lookup x env.names ≡ None → IsOuter e → GlobalAs (Later g1) more x e
+    → KeepsRest env env1 → ((h : GlobalScope) → Later g1 h → AllFormed h g1.types) → Later g g1 → lookup x env.names ≡ None → IsOuter e → GlobalAs (Later g1) more x e
     → ((y : Text) → bytes_eq y x ≡ false → (lookup y g1.constants ≡ lookup y g.constants) × (lookup y g1.types ≡ lookup y g.types))
     → Stage (with_names (env.names ++ (x, e) ∷ []) env1) g1 more zs
 stage_named env env1 g g1 rs more ys zs x e stage tables grows systems rest types later none outer new same =
@@ -264,6 +261,7 @@ constant_defined env g rs ys d stage h =
       later = subst (Later g) (sym scope_is) later;
       stage = subst (λ k. Stage (with_names (env.names ++ (x, e) ∷ []) env) k rs (ys ++ [])) (sym scope_is) (subst (Stage (with_names (env.names ++ (x, e) ∷ []) env) g1 rs) (sym (no_systems ys)) behind);
       typed = λ i y e. absurd (cc);
+      in_order = λ k l. tt;
     })
 
 -- ---- written types
@@ -302,7 +300,10 @@ type_defined env g rs ys x te stage h =
       region = ap (λ z. z.region) one.made.same ∙ ap (λ z. z.region) opened;
       processes = ap (λ z. z.processes) one.made.same ∙ ap (λ z. z.processes) opened;
       monitors = ap (λ z. z.monitors) one.made.same ∙ ap (λ z. z.monitors) opened;
-    }) (λ k l. (row_fits (row_of m.env is.0) r k (one.made.tables.rows is.0 r there) (later_on g g1 k later l), stage.types k (later_on g g1 k later l))) later none tt
+    }) (λ k l. (
+      (row_fits (row_of m.env is.0) r k (one.made.tables.rows is.0 r there) (later_on g g1 k later l), (one.made.tables.rows is.0 r there).reported k (later_on g g1 k later l)),
+      stage.types k (later_on g g1 k later l),
+    )) later none tt
     (r, there, λ k l. l.types x.name r (first_there x.name r g.types)) (λ y n. (refl, not_first x.name y r g.types n)) in
     let after_is : (define_type env x te).env ≡ with_names (env.names ++ (x.name, e) ∷ []) m.env =
     ap (λ k. declare x (entity_of entity.Type k) (record m.env { names = env.names })) is.1 ∙ declare_new (record m.env { names = env.names }) x e none in
@@ -311,8 +312,22 @@ type_defined env g rs ys x te stage h =
       later = later;
       stage = subst (Stage (with_names (env.names ++ (x.name, e) ∷ []) m.env) g1 one.made.more) (sym (no_systems ys)) behind;
       typed = λ i y e. absurd (cc);
+      in_order = λ k l. tt;
     })
 
 -- what is typed is typed in scopes with more definitions
 pub typed_later : (g h : GlobalScope) (ys : List a.System) (y : a.System) → Later g h → SystemTyped g ys y → SystemTyped h ys y
 typed_later g h ys y later t i l = t i (later_on g h i later l)
+
+-- more definitions in order
+pub in_order_on : (k : GlobalScope) (ds es : List a.Definition) (g : GlobalScope) (ys : List a.System) → TypedInOrder k g ys ds
+    → TypedInOrder k (define_all g ds) (ys ++ systems_of ds) es → TypedInOrder k g ys (ds ++ es)
+in_order_on k [] es g ys h rest = subst (λ l. TypedInOrder k g l es) (append-nil ys) rest
+in_order_on k (a.SystemDef x y ∷ ds) es g ys h rest = (
+  h.0,
+  in_order_on k ds es (define g (a.SystemDef x y)) (ys ++ y ∷ []) h.1
+      (subst (λ l. TypedInOrder k (define_all (define g (a.SystemDef x y)) ds) l es) (sym (append_assoc ys (y ∷ []) (systems_of ds))) rest),
+)
+in_order_on k (a.TypeDef x t ∷ ds) es g ys h rest = in_order_on k ds es (define g (a.TypeDef x t)) ys h rest
+in_order_on k (a.EnumDef x vs ∷ ds) es g ys h rest = in_order_on k ds es (define g (a.EnumDef x vs)) ys h rest
+in_order_on k (a.ConstantDef x c ∷ ds) es g ys h rest = in_order_on k ds es (define g (a.ConstantDef x c)) ys h rest

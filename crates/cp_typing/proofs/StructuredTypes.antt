@@ -207,6 +207,7 @@ module _ (G : GlobalScope → Type 0) where
     (row_data G env rs (row_of env f.1) r (tables.rows f.1 r h.1) h.3).sound,
     subst (λ z. has_member z ps ≡ false) h.0 (no_member rs f.0 fs ps h.2 d.0),
     fields_sound env rs tables fs ps h.2 d.1,
+    h.4,
   )
   fields_sound env rs tables [] (MoreMembers y r ps) h d = absurd h
   fields_sound env rs tables (f ∷ fs) NoMembers h d = absurd h

@@ -28,6 +28,7 @@ use Rattle.cp_model.specs.Names.{lookup}
 use Rattle.cp_typing.specs.Declared.{Each, SystemParameter, SystemVariable}
 use Rattle.cp_typing.specs.Words.{rights_in, words_of_members, words as type_words}
 use Rattle.cp_typing.specs.Needs.{owner_words, process_need, statement_need}
+use Rattle.cp_typing.specs.WellTyped.{Later}
 use Rattle.cp_typing.proofs.VariableKinds.{system_parameters, system_variables}
 use Rattle.cp_typing.proofs.Owners.{counted_elsewhere}
 use Rattle.cp_typing.proofs.Names.{AllDistinct, keys, keys-append, lookup_first, none_has}
@@ -43,7 +44,7 @@ use Rattle.cp_typing.proofs.RoutineNames.{all_distinct}
 use Rattle.cp_typing.proofs.ExpressionNeeds.{Bounded}
 use Rattle.cp_typing.proofs.Bounds.{capped_within}
 use Rattle.cp_typing.proofs.Members.{component_most, component_total, is_right, members_of, rows_length}
-use Rattle.cp_typing.proofs.Stages.{Defined, KeepsRest, Later, Stage, SystemTyped, later_on, later_same, typed_later, outer_more, first_there, not_first, stage_named, type_later}
+use Rattle.cp_typing.proofs.Stages.{Defined, KeepsRest, Stage, SystemTyped, later_on, later_same, typed_later, outer_more, first_there, not_first, stage_named, type_later}
 use Rattle.cp_typing.proofs.MemberNames.{routine_member_found, dropped_distinct, lookup_dropped, all_by_value, known_among}
 use Rattle.cp_typing.proofs.ComponentBodies.{Opened, Inside, open_scope, bodies_typed, body_need, routines_all}
 
@@ -375,7 +376,7 @@ module _ (env : Environment) (g : GlobalScope) (rs : Types) (ys : List a.System)
 
   stage_behind : Stage (with_names (env.names ++ (x.name, entity.Type place) ∷ []) closed) scope_behind after_types (ys ++ meaning ∷ [])
   stage_behind = stage_named env closed g scope_behind rs after_types ys (ys ++ meaning ∷ []) x.name (entity.Type place) stage tables_closed grows_env systems_behind keeps_closed
-      (λ k l. (λ alone. absurd (true≢false alone), stage.types k (later_on g scope_behind k later_behind l))) later_behind none tt
+      (λ k l. ((λ alone. absurd (true≢false alone), members_same k (later_on g scope_behind k later_behind l)), stage.types k (later_on g scope_behind k later_behind l))) later_behind none tt
       (type, subst (λ n. TypeAt after_types n type) (sym all_made.behind.tables.lengths) (slice_seam all_made.more type), λ k l. l.types x.name type (first_there x.name type g.types))
       (λ z n. (refl, not_first x.name z type g.types n))
 
@@ -385,6 +386,7 @@ module _ (env : Environment) (g : GlobalScope) (rs : Types) (ys : List a.System)
     later = later_behind;
     stage = stage_behind;
     typed = λ i w h. only i w h;
+    in_order = λ k l. ((later_on g scope_behind k later_behind l, type_is_typed g (later_same g)), tt);
   })
     where
       only : (i : ℕ) (w : a.System) → slice_get (meaning ∷ []) i ≡ Some w → SystemTyped scope_behind (ys ++ take i (meaning ∷ [])) w

@@ -24,7 +24,7 @@ use Rattle.cp_model.specs.States.{count_components}
 use Rattle.cp_model.specs.Names.{lookup}
 use Rattle.cp_typing.specs.Systems.{systems_of}
 use Rattle.cp_typing.specs.Declared.{Each, InitialVariable}
-use Rattle.cp_typing.specs.WellTyped.{TypedBodies, WellTyped}
+use Rattle.cp_typing.specs.WellTyped.{Later, TypedBodies, WellTyped}
 use Rattle.cp_typing.specs.Laws.{AcceptedTextsAreWellTyped}
 use Rattle.cp_typing.specs.Words.{words_of_variables}
 use Rattle.cp_typing.specs.Needs.{AllOwnersFit, owner_words}
@@ -34,7 +34,7 @@ use Rattle.cp_typing.proofs.TableMeanings.{GlobalAs, NamesAs, RowAs, StructureAs
 use Rattle.cp_typing.proofs.Layers.{IsOuter}
 use Rattle.cp_typing.proofs.Visible.{some_same}
 use Rattle.cp_typing.proofs.DeclaredVariables.{VariablesMade, variables_made}
-use Rattle.cp_typing.proofs.Stages.{Defined, Later, Stage, SystemTyped, constant_defined, later_on, later_same, no_systems, type_defined, typed_later}
+use Rattle.cp_typing.proofs.Stages.{Defined, Stage, SystemTyped, constant_defined, later_on, later_same, in_order_on, no_systems, type_defined, typed_later}
 use Rattle.cp_typing.proofs.ComponentBodies.{body_need, Inside, Opened, open_scope, bodies_typed}
 use Rattle.cp_typing.proofs.SystemTypes.{system_defined}
 use Rattle.cp_typing.proofs.VariableKinds.{initial_variables}
@@ -77,6 +77,9 @@ defined_on env mid after g rs ys ds es d e =
       stage = subst (λ l. Stage after (define_all g (ds ++ es)) e.more (ys ++ l)) (sym systems)
           (subst (λ k. Stage after k e.more (ys ++ (systems_of ds ++ systems_of es))) (sym scope)
           (subst (Stage after (define_all (define_all g ds) es) e.more) (append_assoc ys (systems_of ds) (systems_of es)) e.stage));
+      in_order = λ k l.
+          let l2 : Later (define_all (define_all g ds) es) k = subst (λ z. Later z k) scope l in
+          in_order_on k ds es g ys (d.in_order k (later_on (define_all g ds) (define_all (define_all g ds) es) k e.later l2)) (e.in_order k l2);
       typed = λ i w h. go i w (split_at (systems_of ds) (systems_of es) i w (sym (ap (λ l. slice_get l i) systems) ∙ h));
     }
   where
@@ -94,7 +97,7 @@ defined_on env mid after g rs ys ds es d e =
         (subst (λ l. SystemTyped (define_all (define_all g ds) es) l w) (append_assoc ys (systems_of ds) (take h.0 (systems_of es))) (e.typed h.0 w h.1)))
 
 defined_none : (env : Environment) (g : GlobalScope) (rs : Types) (ys : List a.System) → Stage env g rs ys → Defined env g rs ys [] env
-defined_none env g rs ys stage = record { more = rs; later = later_same g; stage = subst (Stage env g rs) (sym (no_systems ys)) stage; typed = λ i w h. absurd (cc) }
+defined_none env g rs ys stage = record { more = rs; later = later_same g; stage = subst (Stage env g rs) (sym (no_systems ys)) stage; typed = λ i w h. absurd (cc); in_order = λ k l. tt }
 
 constants_defined : (ds : List ConstantDefinition) (env : Environment) (g : GlobalScope) (rs : Types) (ys : List a.System) → Stage env g rs ys
     → (define_each define_constant env ds).violations ≡ [] → Defined env g rs ys (map erase.constant_definition ds) (define_each define_constant env ds).env
@@ -258,7 +261,7 @@ standard_stage = record {
   systems = no_components;
   processes = refl;
   monitors = refl;
-  types = λ h l. (λ e. (refl, omega arith), (λ e. (refl, omega arith), (λ e. (refl, omega arith), (λ e. (tt, omega arith), tt))));
+  types = λ h l. ((λ e. (refl, omega arith), tt), ((λ e. (refl, omega arith), tt), ((λ e. (refl, omega arith), tt), ((λ e. (tt, omega arith), tt), tt))));
 }
 
 -- ---- the text
@@ -381,6 +384,7 @@ module _ (t : s.Tree) (accepted : Accepted t) where
     processes = processes_fit;
     monitors = monitors_fit;
     types = stage.types g (later_same g);
+    in_order = made.in_order g (later_same g);
     words = record { initial = initial_words; others = others_fit };
   }
 

@@ -40,10 +40,10 @@ sort_of _ = None
 abbrev pub IsData : GlobalScope → ResolvedType → Type 0
 IsData g t = SoundType t × (words g t ≤ word_limit)
 
--- the named types that are no system types: a class that no owner has may be larger
-abbrev pub AllData : GlobalScope → List (Name × ResolvedType) → Type 0
-AllData g [] = Unit {0}
-AllData g (t ∷ ts) = (is_component t.1 ≡ false → IsData g t.1) × AllData g ts
+-- named types are data, or have the members that are reported of their system types: a class that no owner has may be larger
+abbrev pub AllFormed : GlobalScope → List (Name × ResolvedType) → Type 0
+AllFormed g [] = Unit {0}
+AllFormed g (t ∷ ts) = ((is_component t.1 ≡ false → IsData g t.1) × IsReported g t.1) × AllFormed g ts
 
 -- ---- Routines
 

@@ -5,7 +5,7 @@ use Rattle.cp_model.specs.Erase as erase
 use Rattle.cp_model.specs.Abstract.{BaseType, Designator, Expression, Group, Known, Monitor, Name, Plain, Process, Routine, System, Tree, Use}
 use Rattle.cp_model.specs.Names.{lookup}
 use Rattle.cp_model.specs.Rules.{Accepted}
-use Rattle.cp_model.specs.Types.{GlobalScope}
+use Rattle.cp_model.specs.Types.{GlobalScope, Simple, named_type}
 use Rattle.cp_model.specs.Declarations.{Variable, declarations, globals}
 use Rattle.cp_model.specs.Locations.{Location, Owner}
 use Rattle.cp_model.specs.Stores.{Store}
@@ -22,7 +22,7 @@ use Rattle.cp_model.specs.States.{Setup, initial_variables, monitor_count, proce
 use Rattle.cp_typing.specs.StaticTypes.{expression_type, place_type}
 use Rattle.cp_typing.specs.Judgement.{MayBeCalled, Place, TypedExpression, TypedPlace, is_structured}
 use Rattle.cp_typing.specs.TypedTasks.{Answers, TypedCall, TypedTask}
-use Rattle.cp_typing.specs.Magnitudes.{AllSmallBounds, AreSmallDefinitions, AreSmallGroups, IsSmallScope}
+use Rattle.cp_typing.specs.Magnitudes.{AllSmallBounds, AreNegativesWithin, AreSmallDefinitions, AreSmallGroups, IsAbove, IsSmallScope}
 use Rattle.cp_typing.specs.StartValues.{VariablesStart}
 use Rattle.cp_typing.specs.Variables.{IsGlobalConstant, IsLocalVariable, IsOwnVariable}
 use Rattle.cp_typing.specs.WellTyped.{TypedRoutine, WellTyped, routine_place, text_systems}
@@ -106,6 +106,12 @@ abbrev pub BoundsAreAsWritten : Type 0
 BoundsAreAsWritten =
     (n : ℕ) (tree : Tree) → 32768 ≤ n → AreSmallDefinitions n tree.definitions
     → IsSmallScope n (globals tree) × ((gs : List Group) → AreSmallGroups n gs → AllSmallBounds n (declarations (globals tree) gs))
+
+-- Where all numbers behind a minus are at most n, and n is at least 32768, no named type begins further below 0.
+abbrev pub LowerBoundsAreAsWritten : Type 0
+LowerBoundsAreAsWritten =
+    (n : ℕ) (tree : Tree) (x : Name) (b : BaseType) (low high start : ℤ) → 32768 ≤ n → AreNegativesWithin n tree.definitions
+    → named_type (globals tree) x ≡ Simple b low high start → IsAbove n low
 
 -- ---- The start
 

@@ -1,6 +1,6 @@
 pub mod StaticTypes
-pub mod SoundTypes
 pub mod Judgement
+pub mod SoundTypes
 pub mod Declared
 pub mod Systems
 pub mod Words

@@ -1,6 +1,6 @@
 -- Magnitudes: where all numbers of a text are at most n, and no enumeration has more than n values, all bounds and ordinals of its types are
 -- at most n from 0. No rule limits these numbers: how far a token's number goes is a matter of tokens.
-use Rattle.std.specs.Prelude.{◌≤◌, ℕ, ℤ, nat_abs, List, [], ◌∷◌, length}
+use Rattle.std.specs.Prelude.{◌≤◌, ℕ, ℤ, nat_abs, pos, negsuc, suc, List, [], ◌∷◌, length}
 use Rattle.cp_model.specs.Abstract.{Array, Character, Constant, ConstantDef, Definition, EnumDef, Fields, Group, Minus, MoreFields, Name, Named, NoFields, Number, Range, Record, Routine, System, SystemDef, TypeDef, TypeExpression, TypeName}
 use Rattle.cp_model.specs.Types.{ArrayOf, ComponentOf, GlobalScope, Members, MoreMembers, NoMembers, NoType, Queue, RecordOf, ResolvedType, Simple}
 use Rattle.cp_model.specs.Abstract.{BaseType}
@@ -75,3 +75,30 @@ AreSmallTypes n (t ∷ ts) = HasSmallBounds n t.1 × AreSmallTypes n ts
 pub record IsSmallScope (n : ℕ) (g : GlobalScope) : Type 0 where
   pub constants : AreSmallConstants n g.constants
   pub types : AreSmallTypes n g.types
+
+-- ---- Below 0
+
+-- Of numbers behind a minus alone: where those of constants and of the lower bounds of subranges are at most n.
+abbrev pub IsNegativeWithin : ℕ → Constant → Type 0
+IsNegativeWithin n (Number k) = Unit {0}
+IsNegativeWithin n (Minus k) = k ≤ n
+IsNegativeWithin n (Character c) = Unit {0}
+IsNegativeWithin n (Named x) = Unit {0}
+
+abbrev pub BeginsWithin : ℕ → TypeExpression → Type 0
+BeginsWithin n (TypeName x) = Unit {0}
+BeginsWithin n (Range a b) = IsNegativeWithin n a
+BeginsWithin n (Array i e) = Unit {0}
+BeginsWithin n (Record fs) = Unit {0}
+
+abbrev pub AreNegativesWithin : ℕ → List Definition → Type 0
+AreNegativesWithin n [] = Unit {0}
+AreNegativesWithin n (ConstantDef x c ∷ ds) = IsNegativeWithin n c × AreNegativesWithin n ds
+AreNegativesWithin n (TypeDef x t ∷ ds) = BeginsWithin n t × AreNegativesWithin n ds
+AreNegativesWithin n (EnumDef x values ∷ ds) = AreNegativesWithin n ds
+AreNegativesWithin n (SystemDef x s ∷ ds) = AreNegativesWithin n ds
+
+-- no more than n below 0
+abbrev pub IsAbove : ℕ → ℤ → Type 0
+IsAbove n (pos k) = Unit {0}
+IsAbove n (negsuc k) = suc k ≤ n

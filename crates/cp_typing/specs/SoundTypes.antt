@@ -1,12 +1,13 @@
 -- Sound types: those that the variables, fields and elements of an accepted text have.
 --
 -- A sound type is resolved to the end: there is no `NoType` in it, and no component. A simple type starts within its bounds, the
--- bounds of an array rise, and the fields of a record have names of their own.
+-- bounds of an array rise, and the fields of a record have names of their own and hold no queues.
 use Rattle.std.specs.Prelude.{◌≡◌, int_le, Bool, true, false, ◌||◌}
 use Rattle.std.specs.Str.{bytes_eq}
 use Rattle.cp_model.specs.Abstract.{Name}
 use Rattle.cp_model.specs.Types.{ArrayOf, ComponentOf, Members, MoreMembers, NoMembers, NoType, Queue, RecordOf, ResolvedType, Simple}
 use Rattle.cp_model.specs.Places.{within}
+use Rattle.cp_typing.specs.Judgement.{has_queues}
 
 abbrev pub has_member : Name → Members → Bool
 has_member x NoMembers = false
@@ -23,4 +24,4 @@ abbrev mutual
 
   pub SoundMembers : Members → Type 0
   SoundMembers NoMembers = Unit {0}
-  SoundMembers (MoreMembers x t ps) = SoundType t × (has_member x ps ≡ false) × SoundMembers ps
+  SoundMembers (MoreMembers x t ps) = SoundType t × (has_member x ps ≡ false) × SoundMembers ps × (has_queues t ≡ false)

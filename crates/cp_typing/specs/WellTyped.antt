@@ -1,14 +1,16 @@
 -- When a text is well typed: its system types in text order, the initial process, its counts and its words.
-use Rattle.std.specs.Prelude.{◌≡◌, ◌≤◌, ℕ, true, List, [], ◌++◌, None, Some, slice_get, length, take}
-use Rattle.cp_model.specs.Abstract.{Process, Routine, System}
-use Rattle.cp_model.specs.Types.{GlobalScope}
-use Rattle.cp_model.specs.Declarations.{declarations, globals}
+use Rattle.std.specs.Prelude.{◌≡◌, ◌≤◌, ℕ, ℤ, true, false, List, [], ◌∷◌, ◌++◌, None, Some, slice_get, length, take}
+use Rattle.cp_model.specs.Abstract.{BaseType, ConstantDef, Definition, EnumDef, Name, Process, Routine, System, SystemDef, TypeDef}
+use Rattle.cp_model.specs.Names.{lookup}
+use Rattle.cp_model.specs.Types.{GlobalScope, ResolvedType, standard_scope}
+use Rattle.cp_model.specs.Declarations.{Variable, declarations, define, globals}
 use Rattle.cp_model.specs.Locations.{Location, Owner}
 use Rattle.cp_model.specs.Environments.{local_variables, permanent_variables}
 use Rattle.cp_model.specs.Calls.{routine_named}
 use Rattle.cp_model.specs.States.{Setup, initial_variables, monitor_count, process_count}
 use Rattle.cp_typing.specs.Judgement.{Place, TypedStatement}
-use Rattle.cp_typing.specs.Declared.{AllData, Each, Distinct, InitialVariable, ResultFits, RoutineParameter, RoutineVariable, SystemParameter, SystemVariable, is_function}
+use Rattle.cp_typing.specs.Declared.{AllFormed, Each, Distinct, InitialVariable, ResultFits, RoutineParameter, RoutineVariable, SystemParameter, SystemVariable, is_function}
+use Rattle.cp_typing.specs.StaticTypes.{is_clock}
 use Rattle.cp_typing.specs.Systems.{systems_of}
 use Rattle.cp_typing.specs.Needs.{WordsFit}
 
@@ -31,6 +33,10 @@ routine_place g before s k r at o = record {
 
 -- ---- Routines and bodies
 
+-- no variable is the clock
+abbrev pub NoClock : List (Name × Variable) → Type 0
+NoClock vs = (x : Name) (v : Variable) → lookup x vs ≡ Some v → is_clock x ≡ false
+
 -- Routine k of a system type. No name of its own is one of the component's.
 pub record TypedRoutine (g : GlobalScope) (before : List System) (s : System) (k : ℕ) (r : Routine) : Type 0 where
   pub found : routine_named r.name s ≡ Some r
@@ -40,10 +46,13 @@ pub record TypedRoutine (g : GlobalScope) (before : List System) (s : System) (k
   pub variables : Each (RoutineVariable g) (declarations g r.variables)
   pub result : ResultFits g r.result
   pub distinct : Distinct (local_variables g r ++ permanent_variables g s)
+  pub no_clock : NoClock (local_variables g r)
   pub body : (at : Location) (o : Owner) → TypedStatement (routine_place g before s k r at o) r.body
 
 pub record TypedBodies (g : GlobalScope) (before : List System) (s : System) : Type 0 where
   pub distinct : Distinct (permanent_variables g s)
+  pub no_clock : NoClock (permanent_variables g s)
+  pub no_routine : (x : Name) (v : Variable) → lookup x (permanent_variables g s) ≡ Some v → routine_named x s ≡ None
   pub routines : (k : ℕ) (r : Routine) → slice_get s.routines k ≡ Some r → TypedRoutine g before s k r
   pub body : (at : Location) → TypedStatement (body_place g before s at) s.body
 
@@ -52,6 +61,22 @@ pub record TypedSystem (g : GlobalScope) (before : List System) (s : System) : T
   pub parameters : Each (SystemParameter g before s.sort) (declarations g s.parameters)
   pub variables : Each (SystemVariable g before s.sort) (declarations g s.variables)
   pub bodies : TypedBodies g before s
+
+-- ---- Definitions in text order
+
+-- a scope that defines more: what is found in the first is found in the second
+pub record Later (g h : GlobalScope) : Type 0 where
+  pub constants : (x : Name) (v : BaseType × ℤ) → lookup x g.constants ≡ Some v → lookup x h.constants ≡ Some v
+  pub types : (x : Name) (r : ResolvedType) → lookup x g.types ≡ Some r → lookup x h.types ≡ Some r
+
+-- Each system type is typed in the scope before its definition, too; and whatever is found there, the scope g of the text has.
+abbrev pub TypedInOrder : GlobalScope → GlobalScope → List System → List Definition → Type 0
+TypedInOrder g h before [] = Unit {0}
+TypedInOrder g h before (SystemDef x s ∷ ds) =
+    (Later h g × TypedSystem h before s) × TypedInOrder g (define h (SystemDef x s)) (before ++ s ∷ []) ds
+TypedInOrder g h before (TypeDef x t ∷ ds) = TypedInOrder g (define h (TypeDef x t)) before ds
+TypedInOrder g h before (EnumDef x vs ∷ ds) = TypedInOrder g (define h (EnumDef x vs)) before ds
+TypedInOrder g h before (ConstantDef x c ∷ ds) = TypedInOrder g (define h (ConstantDef x c)) before ds
 
 -- ---- The whole text
 
@@ -68,5 +93,6 @@ pub record WellTyped (setup : Setup) : Type 0 where
   pub initial_bodies : TypedBodies (globals setup.tree) (text_systems setup) setup.tree.initial
   pub processes : process_count setup ≤ 255
   pub monitors : monitor_count setup ≤ 255
-  pub types : AllData (globals setup.tree) (globals setup.tree).types
+  pub types : AllFormed (globals setup.tree) (globals setup.tree).types
+  pub in_order : TypedInOrder (globals setup.tree) standard_scope [] setup.tree.definitions
   pub words : WordsFit setup

@@ -1,6 +1,6 @@
 //! The laws, as functions without a body: a caller has a law as a fact once it calls the function. Their statements stand in `specs/Laws.antt`.
 
-ghost use Rattle.cp_typing.specs.Laws.{AcceptedTextsAreWellTyped, BoundsAreAsWritten, CalleesAreDefinedBefore, ConstantsAreGlobal, MonitorsAreNumbered, PlacesHaveStaticTypes, ProcessesAreNumbered, ResultsAreAssignedAlone, StructuredValuesAreVariables, TasksStayTyped, ValuesHaveStaticTypes, VariablesHaveStartValues, VariablesLieWhereDeclared};
+ghost use Rattle.cp_typing.specs.Laws.{AcceptedTextsAreWellTyped, BoundsAreAsWritten, CalleesAreDefinedBefore, ConstantsAreGlobal, LowerBoundsAreAsWritten, MonitorsAreNumbered, PlacesHaveStaticTypes, ProcessesAreNumbered, ResultsAreAssignedAlone, StructuredValuesAreVariables, TasksStayTyped, ValuesHaveStaticTypes, VariablesHaveStartValues, VariablesLieWhereDeclared};
 
 /// An accepted text is well typed (`specs/WellTyped.antt`): its declarations, all statements of all bodies over the environments of
 /// the meaning, its counts of processes and monitors, and its words with the needs of calls.
@@ -51,7 +51,9 @@ pub fn variables_have_start_values()
     ensures { VariablesHaveStartValues }
 {}
 
-/// Bounds and ordinals of types are as small as the numbers that are written, and 32768.
+/// Bounds and ordinals of types are as small as the numbers that are written, and 32768; and lower bounds as small as the numbers behind
+/// a minus.
 pub fn bounds_are_as_written()
-    ensures { BoundsAreAsWritten }
+    ensures bounds { BoundsAreAsWritten }
+    ensures lower { LowerBoundsAreAsWritten }
 {}

@@ -8,8 +8,8 @@
 //!
 //! - **Names.** A variable's name means its declared variable, a constant's its value (`Judgement.NamesVariable`, `NamesValue`);
 //!   where the variable lies is `law::names_mean_declarations`. No name is declared twice (`TypedRoutine.distinct`,
-//!   `TypedBodies.distinct`), and a routine's name is its own (`TypedRoutine.found`, `alone`). A function's name is its result on the left
-//!   of an assignment alone (`law::results_are_assigned_alone`).
+//!   `TypedBodies.distinct`), and a routine's name is its own (`TypedRoutine.found`, `alone`, `TypedBodies.no_routine`). No variable is the
+//!   clock (`no_clock`). A function's name is its result on the left of an assignment alone (`law::results_are_assigned_alone`).
 //! - **Designators and values.** What is indexed is an array, what has a field a record with that field (`TypedPlace`); places and values
 //!   have their static types (`StaticTypes`, `law::static_types`); arrays and records are values of variables alone
 //!   (`law::structured_values_are_variables`). Labels of a `case` are constants of its base, each once (`TypedLabels`).
@@ -24,8 +24,9 @@
 //!   whole text (`Declared.IsSystem`). Parameters and variables are what they may be (`SystemParameter`, `SystemVariable`,
 //!   `InitialVariable`).
 //! - **Data.** Parameters and variables of routines are data without queues (`RoutineParameter`, `RoutineVariable`); data is resolved to the
-//!   end, starts within its bounds, has fields of distinct names (`SoundTypes.SoundType`) and at most 65,536 words (`Declared.IsData`). Bounds
+//!   end, starts within its bounds, has fields of distinct names without queues (`SoundTypes.SoundType`) and at most 65,536 words (`Declared.IsData`). Bounds
 //!   are as small as the numbers that are written (`law::bounds_are_as_written`).
+//! - **Definitions.** System types are typed in the scope before their definition, too (`WellTyped.TypedInOrder`).
 //! - **Owners.** At most 255 processes and 255 monitors (`WellTyped.processes`, `monitors`), numbered within their counts
 //!   (`law::owners_are_numbered`). Each owner has at most 65,536 words, with the need of its calls however deep (`Needs.WordsFit`).
 //! - **The start.** Each leaf of each variable has its start value (`law::variables_have_start_values`).
