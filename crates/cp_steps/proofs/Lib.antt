@@ -1,1 +1,3 @@
 mod LeftExample
+pub mod Finding
+pub mod Evaluates
