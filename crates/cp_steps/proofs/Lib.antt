@@ -1,3 +1,6 @@
 mod LeftExample
 pub mod Finding
 pub mod Evaluates
+pub mod Layouts
+pub mod Bounds
+pub mod Heres

@@ -1,5 +1,5 @@
 -- Where the variables of a process lie: the addresses of locations among its words and the shared ones behind them.
-use Rattle.std.specs.Prelude.{◌≡◌, ℕ, ◌+◌, ℤ, pos, ◌+ℤ◌, if◌then◌else◌, List, [], ◌∷◌, Option, Some, None, length, nat_eq}
+use Rattle.std.specs.Prelude.{◌≡◌, ℕ, ◌+◌, ℤ, Bool, pos, ◌+ℤ◌, if◌then◌else◌, List, [], ◌∷◌, Option, Some, None, length, nat_eq}
 use Rattle.cp_model.specs.Abstract.{Class, Monitor, Name, Process, Routine, Sort, System}
 use Rattle.cp_model.specs.Types.{ComponentOf, GlobalScope, ResolvedType}
 use Rattle.cp_model.specs.Declarations.{Variable, globals, reported_members}
@@ -110,3 +110,7 @@ RightOf G s _ _ at n = ⊥
 abbrev pub RightMeans : Ground → ResolvedType → Value → ℕ → ℤ → Type 0
 RightMeans G (ComponentOf s inner) v at n = RightOf G s s.sort v at n
 RightMeans G t v at n = Unit {0}
+
+-- The same of the owners that pass the test.
+abbrev pub seen : (Owner → Bool) → Ground → List Activation → Location → Option Part
+seen mine G xs l = if mine l.owner then lies G xs l else None
