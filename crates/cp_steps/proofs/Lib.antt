@@ -4,3 +4,6 @@ pub mod Evaluates
 pub mod Layouts
 pub mod Bounds
 pub mod Heres
+pub mod Leads
+pub mod Apart
+pub mod Separate
