@@ -6,4 +6,8 @@ pub mod Bounds
 pub mod Heres
 pub mod Leads
 pub mod Apart
+pub mod Stacks
 pub mod Separate
+pub mod Writing
+pub mod Keeping
+pub mod Holding
