@@ -20,7 +20,7 @@ use Rattle.cp_code.specs.StandsFor.{system_of_process}
 use Rattle.cp_steps.specs.Passing.{monitor_start}
 use Rattle.cp_steps.specs.PrivateStates as machine
 use Rattle.cp_steps.specs.Addresses.{Activation, ClassLies, ComponentLies, Ground, MonitorLies, ProcessLies, activation_at, activation_of, activations, lies, part_at, part_of_activation, part_of_component, part_of_local, part_of_owner, scope, seen}
-use Rattle.cp_steps.specs.Left.{Left, Running, held, held_below}
+use Rattle.cp_steps.specs.Left.{Left, Running, held_below, kept_below}
 use Rattle.cp_steps.specs.PartOf.{ActivationMeans, ActivationsMean, DataMeans, IfFrame}
 use Rattle.cp_steps.proofs.Finding.{part_whole, some_is_not_none}
 use Rattle.cp_steps.proofs.Layouts.{lies_under, same_some}
@@ -37,7 +37,7 @@ module _ (G : Ground) (temps : List ℤ) (limit : ℕ) where
   depth_is b K R (f ∷ fs) place low (EndCall env gate ∷ k) h =
       let c = h.3 in
       ap (λ z. length (activation_of b z (activations f.base fs k))) (ap (λ (y : Environment). y.frame) h.0 ∙ h.1.runs)
-      ∙ ap (λ n. suc n) (depth_is f.base (held_below c.2 temps c.0.temp) c.0 fs c.1 c.2 k c.6)
+      ∙ ap (λ n. suc n) (depth_is f.base (kept_below c.2 c.3 temps c.0.temp) c.0 fs c.1 c.2 k c.7)
   depth_is b K R (f ∷ fs) place low (EndBody gate ∷ k) h =
       let c = h.3 in depth_is f.base nothing_known c.0 fs f.place c.1 k c.4
   depth_is b K R fs place low (EndProcess ∷ k) h = ap (λ z. length (activations b fs z)) h.1 ∙ sym (ap depth h.1)
@@ -78,7 +78,7 @@ module _ (G : Ground) (temps : List ℤ) (limit : ℕ) where
         owner =
             ap (λ (y : Frame). y.owner) same
             ∙ (h.1.owner
-            ∙ ap (OfActivation G.p) (sym (depth_is g.base (held_below c.2 temps c.0.temp) c.0 fs c.1 c.2 k c.6)));
+            ∙ ap (OfActivation G.p) (sym (depth_is g.base (kept_below c.2 c.3 temps c.0.temp) c.0 fs c.1 c.2 k c.7)));
         means = subst (λ z. IfFrame z (ActivationMeans G (activations g.base fs k) store words b)) here m.0;
       }
   top_is store words b K R (g ∷ fs) place low (EndBody gate ∷ k) f h m e = absurd (some_is_not_none f (sym e ∙ h.0))
@@ -182,14 +182,14 @@ pub record Sees (G : Ground) (mine : Owner → Bool) (store : Store) (env : Envi
   pub activations : (d : ℕ) → mine (OfActivation G.p d) ≡ true
   pub references : (l j : Location) (d : ℕ) → l.owner ≡ OfActivation G.p d → store l ≡ Reference j → mine j.owner ≡ true
 
-pub here : (G : Ground) (store : Store) (words temps : List ℤ) (limit : ℕ) (K : Knowns) (R : Running) (fs : List machine.Frame) (place low : ℕ) (k : List Task) (mine : Owner → Bool) (clock : Clock)
+pub here : (G : Ground) (store : Store) (words temps : List ℤ) (limit live : ℕ) (K : Knowns) (R : Running) (fs : List machine.Frame) (place low : ℕ) (k : List Task) (mine : Owner → Bool) (clock : Clock)
     → Left G temps limit K R fs place low k → ActivationsMean G store words R.base fs k
     → ComponentLies G R.env.component R.env.system R.component
     → DataMeans G (activations R.base fs k) mine store words
     → R.env.globals ≡ scope G → Sees G mine store R.env
     → Here R.env clock store (record { words = words; temps = temps; base = R.base; temp = R.temp; component = R.component; clock = realtime clock })
-    (held temps R.temp) (seen mine G (activations R.base fs k))
-here G store words temps limit K R fs place low k mine clock left am cl dm gl S = record {
+    (held_below live temps R.temp) (seen mine G (activations R.base fs k))
+here G store words temps limit live K R fs place low k mine clock left am cl dm gl S = record {
   clock_is = refl;
   locals = λ f x at d e h passive.
       let t = top_is G temps limit store words R.base K R fs place low k f left am e in
@@ -211,7 +211,7 @@ here G store words temps limit K R fs place low k mine clock left am cl dm gl S 
       let s = seen_mine mine G xs l (n, t) h in
       seen_is mine G xs (under l (step ∷ [])) _ s.0 (lies_under G xs l (step ∷ []) n m t u s.1 (ap (λ g. part g t (step ∷ [])) (sym gl) ∙ e));
   cells = λ l n t h. let s = seen_mine mine G xs l (n, t) h in dm.cells l n t s.0 s.1;
-  knowns = λ t n h. h;
+  knowns = λ t n h. h.1;
 }
   where
     xs : List Activation

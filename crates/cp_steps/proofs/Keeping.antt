@@ -19,7 +19,7 @@ use Rattle.cp_code.specs.TermsFor.{Knowns, nothing_known}
 use Rattle.cp_steps.specs.Means.{CellMeans}
 use Rattle.cp_steps.specs.PrivateStates as machine
 use Rattle.cp_steps.specs.Addresses.{Activation, ClassLies, ComponentLies, Ground, MonitorLies, ProcessLies, RightMeans, activation_at, activation_of, activations, lies, part_of_component, scope}
-use Rattle.cp_steps.specs.Left.{Left, Running, held_below}
+use Rattle.cp_steps.specs.Left.{Left, Running, kept_below}
 use Rattle.cp_steps.specs.PartOf.{ActivationMeans, ActivationsMean, DataMeans, IfFrame, ResultMeans}
 use Rattle.cp_code.specs.StandsFor.{system_of_process}
 use Rattle.cp_steps.proofs.Apart.{InHead, IsCell, IsClass}
@@ -127,16 +127,16 @@ module _ (G : Ground) (store after : Store) (old new : List ℤ) where
       let c = h.3 in
       let own : Frame = h.1.frame in
       let rest = activations f.base fs k in
-      let inner : Knowns = held_below c.2 temps c.0.temp in
+      let inner : Knowns = kept_below c.2 c.3 temps c.0.temp in
       let here : env.frame ≡ Some own = ap (λ (y : Environment). y.frame) h.0 ∙ h.1.runs in
       let owner : own.owner ≡ OfActivation G.p (length rest)
-      = h.1.owner ∙ ap (OfActivation G.p) (sym (depth_is G temps limit f.base inner c.0 fs c.1 c.2 k c.6)) in
+      = h.1.owner ∙ ap (OfActivation G.p) (sym (depth_is G temps limit f.base inner c.0 fs c.1 c.2 k c.7)) in
       let top : Activation = record { base = b; routine = own.routine } in
       let are : activations b (f ∷ fs) (EndCall env gate ∷ k) ≡ top ∷ rest = ap (λ z. activation_of b z rest) here in (
         subst (λ z. IfFrame z (ActivationMeans G rest after new b)) (sym here)
             (keeps rest own b owner (ap (activation_at (length rest)) are ∙ found_here (length rest) top rest refl)
             (subst (λ z. IfFrame z (ActivationMeans G rest store old b)) here m.0)),
-        activations_kept temps limit f.base inner c.0 fs c.1 c.2 k c.6
+        activations_kept temps limit f.base inner c.0 fs c.1 c.2 k c.7
             (λ below g a o e. keeps below g a o
             (ap (activation_at (length below)) are
             ∙ found_behind (length below) top rest (record { base = a; routine = g.routine }) e)) m.1,

@@ -26,7 +26,7 @@ use Rattle.cp_code.specs.Example.{b, c, d, m, p, get, go, run, add, program, set
 use Rattle.cp_steps.specs.PrivateStates as machine
 use Rattle.cp_steps.specs.Machines.{unit_at}
 use Rattle.cp_steps.specs.Addresses.{ClassLies, Ground, ProcessLies}
-use Rattle.cp_steps.specs.Left.{Left, Running, Runs, held, held_below, site}
+use Rattle.cp_steps.specs.Left.{Left, Running, Runs, held_below, kept_below, site}
 
 abbrev g : GlobalScope
 g = globals tree
@@ -188,6 +188,7 @@ run_left n = (
     in_process,
     18,
     0,
+    0,
     process_runs,
     record { base = refl; temp = refl; component = refl; words_apart = le _ _ refl; temps_apart = le _ _ refl; kept_fit = le 0 _ refl },
     refl,
@@ -259,6 +260,7 @@ go_end_left n = (
     in_run,
     9,
     0,
+    0,
     run_runs,
     record { base = refl; temp = refl; component = refl; words_apart = le _ _ refl; temps_apart = le _ _ refl; kept_fit = le 0 _ refl },
     refl,
@@ -301,7 +303,7 @@ get_runs = record {
 }
 
 pub get_left : (n : ℤ)
-    → Left ground (n ∷ []) frames_limit (held (n ∷ []) 0) in_get (frame_of_go ∷ go_frames) 0 0
+    → Left ground (n ∷ []) frames_limit (held_below 0 (n ∷ []) 0) in_get (frame_of_go ∷ go_frames) 0 0
     (EndCall get_env None ∷ Do sums go_env ∷ after_go)
 get_left n = (
   refl,
@@ -311,9 +313,10 @@ get_left n = (
     in_go,
     7,
     0,
+    0,
     go_runs,
     record { base = refl; temp = refl; component = refl; words_apart = le _ _ refl; temps_apart = le _ _ refl; kept_fit = le 0 _ refl },
-    (call_of_get, 0, refl, refl, refl, refl),
-    go_left (held_below 0 (n ∷ []) 0) n,
+    (call_of_get, 0, refl, refl, le 0 0 refl, refl, refl),
+    go_left (kept_below 0 0 (n ∷ []) 0) n,
   ),
 )

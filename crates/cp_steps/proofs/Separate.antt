@@ -19,7 +19,7 @@ use Rattle.cp_code.specs.Sites.{BodyOf, RoutineOf, UnitText}
 use Rattle.cp_code.specs.StandsFor.{own_words, system_of_process}
 use Rattle.cp_steps.specs.PrivateStates as machine
 use Rattle.cp_steps.specs.Addresses.{Activation, Ground, activation_at, activation_of, activations, lies, part_at, part_of_activation, part_of_component, part_of_local, part_of_owner, scope}
-use Rattle.cp_steps.specs.Left.{FrameFor, Left, Running, held_below, site}
+use Rattle.cp_steps.specs.Left.{FrameFor, Left, Running, kept_below, site}
 use Rattle.cp_steps.proofs.Apart.{InHead, head_inside, member_above, member_apart, part_apart}
 use Rattle.cp_steps.proofs.Bounds.{member_fits, part_fits}
 use Rattle.cp_steps.proofs.Finding.{some_is_not_none}

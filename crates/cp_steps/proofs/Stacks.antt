@@ -19,7 +19,7 @@ use Rattle.cp_code.specs.Sites.{BodyOf, RoutineOf, UnitText}
 use Rattle.cp_code.specs.StandsFor.{own_words, system_of_process}
 use Rattle.cp_steps.specs.PrivateStates as machine
 use Rattle.cp_steps.specs.Addresses.{Activation, Ground, activation_at, activation_of, activations, lies, part_at, part_of_activation, part_of_component, part_of_local, part_of_owner, scope}
-use Rattle.cp_steps.specs.Left.{FrameFor, Left, Running, held_below, site}
+use Rattle.cp_steps.specs.Left.{FrameFor, Left, Running, kept_below, site}
 use Rattle.cp_steps.proofs.Apart.{InHead, head_inside, member_above, member_apart, part_apart}
 use Rattle.cp_steps.proofs.Bounds.{member_fits, part_fits}
 use Rattle.cp_steps.proofs.Finding.{some_is_not_none}
@@ -54,8 +54,8 @@ stacked G temps limit K R fs place low (ForNext x down n last s env ∷ k) gl w 
     stacked G temps limit nothing_known R fs h.1.0 h.1.1 k gl w h.1.4
 stacked G temps limit K R (f ∷ fs) place low (EndCall env gate ∷ k) gl w h =
     let c = h.3 in
-    let keeps = c.4 in
-    let below = stacked G temps limit (held_below c.2 temps c.0.temp) c.0 fs c.1 c.2 k c.3.globals c.3.frame c.6 in
+    let keeps = c.5 in
+    let below = stacked G temps limit (kept_below c.2 c.3 temps c.0.temp) c.0 fs c.1 c.2 k c.4.globals c.4.frame c.7 in
     let rest = subst (λ b. Stacked G (c.0.base + (site G c.0).words) (activations b fs k)) (sym keeps.base) below in
     let own = ap (λ g. own_words g R.text) gl ∙ frame_words (scope G) R.text R.env.frame h.1.frame h.1.runs w in
     subst (λ z. Stacked G (R.base + (site G R).words) (activation_of R.base z (activations f.base fs k)))

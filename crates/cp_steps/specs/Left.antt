@@ -64,9 +64,13 @@ pub record Runs (G : Ground) (temps limit : ℕ) (R : Running) (fs : List machin
 abbrev pub held : List ℤ → ℕ → Knowns
 held temps temp t n = word temps (temp + t) ≡ n
 
--- Of the temps that are not kept nothing is said.
+-- So many are alive.
 abbrev pub held_below : ℕ → List ℤ → ℕ → Knowns
-held_below kept temps temp t n = t < kept → held temps temp t n
+held_below live temps temp t n = (t < live) × held temps temp t n
+
+-- So many were alive at a call, which keeps the first ones. Of the others nothing is said.
+abbrev pub kept_below : ℕ → ℕ → List ℤ → ℕ → Knowns
+kept_below kept live temps temp t n = (t < live) × (t < kept → held temps temp t n)
 
 -- ---- Tasks
 
@@ -133,11 +137,11 @@ pub record Keeps (G : Ground) (f : machine.Frame) (C R : Running) (kept : ℕ) :
   pub temps_apart : C.temp + kept ≤ R.temp
   pub kept_fit : kept ≤ C.unit.temps
 
--- The caller waits at its call for a value, or goes on behind it.
-abbrev pub CallerAt : Ground → ℕ → ℕ → Option Name → machine.Frame → ℕ → Type 0
-CallerAt G n kept None f place = place ≡ f.place
-CallerAt G n kept (Some t) f place =
-    (call : Call) × (into : ℕ) × (call.routine ≡ n) × (call.temps ≡ kept)
+-- The caller waits at its call for a value, or goes on behind it. The value goes to a temp behind all that were alive.
+abbrev pub CallerAt : Ground → ℕ → ℕ → ℕ → Option Name → machine.Frame → ℕ → Type 0
+CallerAt G n kept live None f place = place ≡ f.place
+CallerAt G n kept live (Some t) f place =
+    (call : Call) × (into : ℕ) × (call.routine ≡ n) × (call.temps ≡ kept) × (live ≤ into)
     × (operation_at G.program place ≡ Some (op.Function call into f.place)) × (f.into ≡ f.temp + into)
 
 abbrev pub result_of : Option Frame → Option Name
@@ -171,9 +175,9 @@ Left G temps limit K R fs place low (ForNext x down n last s env ∷ k) =
     × ForLeft (site G R) temps R.temp x down n last s place next from × Left G temps limit nothing_known R fs next from k)
 Left G temps limit K R (f ∷ fs) place low (EndCall env gate ∷ k) =
     (env ≡ R.env) × ReturnsAt G R place (depth k) × GatesKept f gate k
-    × ((C : Running) × (at : ℕ) × (kept : ℕ) × Runs G (length temps) limit C fs × Keeps G f C R kept
-    × CallerAt G R.number kept (result_of R.env.frame) f at
-    × Left G temps limit (held_below kept temps C.temp) C fs at kept k)
+    × ((C : Running) × (at : ℕ) × (kept : ℕ) × (live : ℕ) × Runs G (length temps) limit C fs × Keeps G f C R kept
+    × CallerAt G R.number kept live (result_of R.env.frame) f at
+    × Left G temps limit (kept_below kept live temps C.temp) C fs at kept k)
 Left G temps limit K R (f ∷ fs) place low (EndBody gate ∷ k) =
     (R.env.frame ≡ None) × (operation_at G.program place ≡ Some op.EndBody) × GatesKept f gate k
     × ((C : Running) × (kept : ℕ) × Runs G (length temps) limit C fs × Keeps G f C R kept

@@ -12,14 +12,15 @@ use Rattle.cp_model.specs.Parts.{Failed, Finished, HasBegun, NotBegun, PrivateSt
 use Rattle.cp_model.specs.States.{State}
 use Rattle.cp_model.specs.StateViews.{fault_number}
 use Rattle.cp_code.specs.Layout.{local, member, right}
-use Rattle.cp_code.specs.Sites.{local_location}
+use Rattle.cp_code.specs.Programs.{Call, Function}
+use Rattle.cp_code.specs.Sites.{local_location, operation_at}
 use Rattle.cp_code.specs.Starts.{unset, word}
 use Rattle.cp_steps.specs.PrivateStates as machine
 use Rattle.cp_steps.specs.PrivateStates.{Activity, PrivateState}
 use Rattle.cp_steps.specs.Means.{CellMeans, ReferenceMeans}
 use Rattle.cp_steps.specs.Addresses.{Activation, ComponentLies, Ground, RightMeans, activations, lies, scope}
 use Rattle.cp_steps.specs.Left as left
-use Rattle.cp_steps.specs.Left.{Left, Runs, held, innermost_gate}
+use Rattle.cp_steps.specs.Left.{Left, Runs, held_below, innermost_gate}
 
 -- ---- Activations
 
@@ -65,6 +66,11 @@ pub record DataMeans (G : Ground) (xs : List Activation) (mine : Owner → Bool)
 
 -- ---- The private state
 
+-- A call at the place puts its value behind the temps that are alive.
+abbrev pub CallsBehind : Ground → ℕ → ℕ → Type 0
+CallsBehind G live place =
+    (call : Call) (into next : ℕ) → operation_at G.program place ≡ Some (Function call into next) → live ≤ into
+
 -- What runs has what is left to do, and its variables.
 pub record RunsOn (G : Ground) (store : Store) (o : PrivateState) (k : List Task) : Type 0 where
   pub running : left.Running
@@ -73,7 +79,9 @@ pub record RunsOn (G : Ground) (store : Store) (o : PrivateState) (k : List Task
   pub temp : o.temp ≡ running.temp
   pub component : o.component ≡ running.component
   pub gate : o.gate ≡ innermost_gate (marked_monitors k)
-  pub left : Left G o.temps o.limit (held o.temps running.temp) running o.frames o.place running.unit.temps k
+  pub live : ℕ
+  pub left : Left G o.temps o.limit (held_below live o.temps running.temp) running o.frames o.place running.unit.temps k
+  pub next_value : CallsBehind G live o.place
   pub count : length o.words ≡ G.own
   pub activations_mean : ActivationsMean G store o.words o.base o.frames k
   pub data_means : DataMeans G (activations o.base o.frames k) (is_own G.p) store o.words
