@@ -11,3 +11,6 @@ pub mod Separate
 pub mod Writing
 pub mod Keeping
 pub mod Holding
+pub mod CallsKept
+pub mod NextCalls
+pub mod FirstCalls
