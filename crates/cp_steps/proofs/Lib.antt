@@ -14,3 +14,4 @@ pub mod Holding
 pub mod CallsKept
 pub mod NextCalls
 pub mod FirstCalls
+pub mod Passing

@@ -63,7 +63,7 @@ location_is l k h =
     let s = both (same_owner l.owner k.owner) (same_path l.path k.path) h in
     λ i. record { owner = owner_is l.owner k.owner s.0 i; path = path_is l.path k.path s.1 i }
 
-same_owner_itself : (n : Owner) → same_owner n n ≡ true
+pub same_owner_itself : (n : Owner) → same_owner n n ≡ true
 same_owner_itself (OfProcess p) = eq-eqb p p refl
 same_owner_itself (OfMonitor m) = eq-eqb m m refl
 same_owner_itself (OfActivation p d) = λ i. eq-eqb p p refl i && eq-eqb d d refl i
