@@ -1,5 +1,5 @@
 #!/usr/bin/env python3
-"""Writes the worked texts of this folder as statements of the crate cp_rows.
+"""Writes the worked texts of this folder as statements of the crates cp_rows and cp_steps_rows.
 
 Each folder is a module of statements, each file a text with its answers:
 
@@ -11,15 +11,19 @@ Each folder is a module of statements, each file a text with its answers:
     == consumed --rounds N [..]    how much of its input each process has taken, which no report tells: no command of the program
     the answer, up to the next line that begins with ==
 
-Lines before the first == say what the text shows. `make_rows.py` writes crates/cp_rows/specs, proofs and src/rows.rt,
-and the cases as JSON, which the program cp_worked reads; `make_rows.py --list` prints them. `make_rows.py --unchanged` fails where the files
+Lines before the first == say what the text shows. `make_rows.py` writes crates/cp_rows/specs, proofs and src/rows.rt, the same of
+crates/cp_steps_rows, where the compiled programs give the reports of the folders that MACHINE names, and the cases as JSON, which the
+program cp_worked reads; `make_rows.py --list` prints them. `make_rows.py --unchanged` fails where the files
 aren't those that it would write.
 """
 import json, pathlib, re, sys
 
 HERE = pathlib.Path(__file__).resolve().parent
-CRATE = HERE.parent / 'crates' / 'cp_rows'
-CASES = HERE.parent / 'crates' / 'cp_worked' / 'stdin'
+CRATES = HERE.parent / 'crates'
+CASES = CRATES / 'cp_worked' / 'stdin'
+# One text has 255 processes: reading its state takes too much memory.
+MACHINE = ('classes', 'clock', 'meaning', 'monitors', 'processes')
+TOO_LARGE = ('many_processes',)
 WRITTEN = {}
 DEFAULTS = {'rounds': '0', 'turn': '100', 'tick': '1', 'input': '', 'order': ''}
 
@@ -70,7 +74,7 @@ def as_bytes(text):
 
 
 def statement(text, head, answer):
-    """The statement that the definitions give this answer."""
+    """The statement that this answer is given."""
     command, found = options(head)
     expected = as_bytes(answer if answer.startswith(('rounds ', 'accepted', 'consumed ')) else answer[:-1])
     chains = 'true' if found.get('chains') else 'false'
@@ -102,52 +106,65 @@ def write(path, text):
     WRITTEN[path] = text
 
 
-def write_module(folder):
+def write_module(crate, folder, wanted):
     """One folder: its statements, their proof, and the public function that stands on them."""
     name, title = folder.name, folder.name.capitalize()
     lines = [f'-- Worked texts and their answers: {name}. Written by worked/make_rows.py.',
              'use Rattle.std.specs.Prelude.{◌≡◌, true, false, [], ◌∷◌, ◌++◌, codes}',
-             'use Rattle.cp_rows.specs.Answers.{check_answer, run_answer, replay_answer, consumed_answer}', '']
+             f'use Rattle.{crate}.specs.Answers.{{{wanted["functions"]}}}', '']
     names = []
     for path in sorted(folder.glob('*.txt')):
         for k, case in enumerate(cases_of(path), 1):
-            own = f'{path.stem}_{k}'
-            names.append(own)
-            lines += [f'abbrev pub {own} : Type 0', f'{own} = {statement(*case)}', '']
+            if wanted['takes'](path.stem, case):
+                own = f'{path.stem}_{k}'
+                names.append(own)
+                lines += [f'abbrev pub {own} : Type 0', f'{own} = {statement(*case)}', '']
     lines += [f'abbrev pub {title} : Type 0', f'{title} = ' + ' × '.join(names), '']
-    write(CRATE / 'specs' / f'{title}.antt', '\n'.join(lines))
-    write_proofs(name, title, names)
+    write(CRATES / crate / 'specs' / f'{title}.antt', '\n'.join(lines))
+    write_proofs(crate, name, title, names)
     return title, name, len(names)
 
 
-def write_proofs(name, title, names):
+def write_proofs(crate, name, title, names):
     """A lemma for each statement, by computation, and the answer that puts them together."""
     modules = unfoldable()
     unfolding = 'unfolding ' + ' '.join(word for own in modules.values() for word in own)
     lemmas = [f'-- The answers of {name}, computed. Written by worked/make_rows.py.', 'use Rattle.std.proofs.Common.{refl}',
-              f'use Rattle.cp_rows.specs.{title}.{{{", ".join(names)}}}']
+              f'use Rattle.{crate}.specs.{title}.{{{", ".join(names)}}}']
     lemmas += [f'use {module}.{{{", ".join(own)}}}' for module, own in modules.items()]
     for own in names:
         lemmas += ['', f'pub {own}-holds : {own}', unfolding, f'{own}-holds = refl']
-    write(CRATE / 'proofs' / f'{title}Computed.antt', '\n'.join(lemmas) + '\n')
+    write(CRATES / crate / 'proofs' / f'{title}Computed.antt', '\n'.join(lemmas) + '\n')
     cited = [f'{own}-holds' for own in names]
-    answers = [f'use Rattle.cp_rows.proofs.{title}Computed.{{{", ".join(cited)}}}',
-               f'use Rattle.cp_rows.proofs.rows.{name}_hold.Goals as goal', '',
+    answers = [f'use Rattle.{crate}.proofs.{title}Computed.{{{", ".join(cited)}}}',
+               f'use Rattle.{crate}.proofs.rows.{name}_hold.Goals as goal', '',
                'pub returns : goal.returns', 'returns c = (' + ', '.join(cited) + ')', '']
-    write(CRATE / 'proofs' / 'rows' / f'{name}_hold' / 'Answers.antt', '\n'.join(answers))
+    write(CRATES / crate / 'proofs' / 'rows' / f'{name}_hold' / 'Answers.antt', '\n'.join(answers))
+
+
+def write_crate(crate, folders, wanted):
+    modules = [write_module(crate, folder, wanted) for folder in folders]
+    path = CRATES / crate
+    write(path / 'proofs' / 'Lib.antt', ''.join(f'mod {title}Computed\n' for title, _, _ in modules))
+    write(path / 'specs' / 'Lib.antt',
+          ''.join(f'pub mod {title}\n' for title in wanted['before'] + [title for title, _, _ in modules]))
+    code = [f'//! The worked texts of the folder `worked`: each function says of one folder that {wanted["who"]} give its answers.',
+            '//!', '//! Written by worked/make_rows.py.', '']
+    code += [f'ghost use Rattle.{crate}.specs.{title}.{{{title}}};' for title, _, _ in modules]
+    for title, name, _ in modules:
+        code += ['', f'/// Each of the answers of `worked/{name}`.', f'pub fn {name}_hold()', f'    ensures {{ {title} }}', '{}']
+    write(path / 'src' / 'rows.rt', '\n'.join(code) + '\n')
+    return sum(count for _, _, count in modules)
 
 
 def make_all():
-    modules = [write_module(folder) for folder in sorted(HERE.iterdir()) if list(folder.glob('*.txt'))]
-    write(CRATE / 'proofs' / 'Lib.antt', ''.join(f'mod {title}Computed\n' for title, _, _ in modules))
-    write(CRATE / 'specs' / 'Lib.antt', 'pub mod Answers\n' + ''.join(f'pub mod {title}\n' for title, _, _ in modules))
-    code = ['//! The worked texts of the folder `worked`: each function says of one folder that the definitions give its answers.',
-            '//!', '//! Written by worked/make_rows.py.', '']
-    code += [f'ghost use Rattle.cp_rows.specs.{title}.{{{title}}};' for title, _, _ in modules]
-    for title, name, _ in modules:
-        code += ['', f'/// Each of the answers of `worked/{name}`.', f'pub fn {name}_hold()', f'    ensures {{ {title} }}', '{}']
-    write(CRATE / 'src' / 'rows.rt', '\n'.join(code) + '\n')
-    return sum(count for _, _, count in modules)
+    folders = [folder for folder in sorted(HERE.iterdir()) if list(folder.glob('*.txt'))]
+    of_meaning = {'functions': 'check_answer, run_answer, replay_answer, consumed_answer', 'before': ['Answers'],
+                  'takes': lambda name, case: True, 'who': 'the definitions'}
+    of_machine = {'functions': 'run_answer, consumed_answer', 'before': ['MachineStates', 'Answers'],
+                  'takes': lambda name, case: name not in TOO_LARGE and case[1].startswith(('run', 'consumed')), 'who': 'the compiled programs'}
+    machine = [folder for folder in folders if folder.name in MACHINE]
+    return write_crate('cp_rows', folders, of_meaning) + write_crate('cp_steps_rows', machine, of_machine)
 
 
 def listed():

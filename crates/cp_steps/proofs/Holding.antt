@@ -1,0 +1,152 @@
+-- A store of a simple value keeps all else; words beyond all activations are not live.
+use Rattle.std.proofs.Common.{◌≡◌, ◌≢◌, ◌⊎◌, inl, inr, ℕ, suc, ◌+◌, ◌≤◌, ◌<◌, ℤ, List, [], ◌∷◌, length, Bool, true, false, Option, Some, None, refl, ap, sym, subst, ◌∙◌, arith}
+use Rattle.std.specs.Prelude.{if◌then◌else◌, nat_eq, slice_set}
+use Rattle.std.proofs.lemmas.Bool.{eq-eqb}
+use Rattle.cp_model.specs.Abstract.{BaseType, Name, System}
+use Rattle.cp_model.specs.Declarations as declared
+use Rattle.cp_model.specs.Declarations.{reported_members}
+use Rattle.cp_model.specs.Locations.{ByIndex, ByName, Location, OfActivation, OfMonitor, OfProcess, Owner, Path, same_location, under}
+use Rattle.cp_model.specs.Parts.{is_own}
+use Rattle.cp_model.specs.Stores.{Ordinal, Store, Value, put}
+use Rattle.cp_model.specs.Types.{ComponentOf, ResolvedType, Simple}
+use Rattle.cp_code.specs.Layout.{Part, activation_words, component_words, farther, local, part}
+use Rattle.cp_code.specs.Starts.{word}
+use Rattle.cp_steps.specs.Means.{CellMeans}
+use Rattle.cp_steps.specs.Addresses.{Activation, ClassLies, ComponentLies, Ground, MonitorLies, ProcessLies, activation_at, lies, part_at, part_of_activation, part_of_local, scope}
+use Rattle.cp_steps.specs.PartOf.{DataMeans}
+use Rattle.cp_code.specs.StandsFor.{system_of_process}
+use Rattle.cp_steps.proofs.Apart.{InHead, IsCell, cell_head}
+use Rattle.cp_steps.proofs.Finding.{some_is_not_none}
+use Rattle.cp_steps.proofs.Heres.{found_below, lies_any}
+use Rattle.cp_steps.proofs.Keeping.{KeepsActivation, KeepsData, depth_of, local_named, right_kept, right_no_variable, right_place}
+use Rattle.cp_steps.proofs.Layouts.{same_some}
+use Rattle.cp_steps.proofs.Stacks.{Stacked, found_inside}
+use Rattle.cp_steps.proofs.Separate.{OwnRight, bottom_below, cell_below, cell_no_own_right, cell_no_reference, cell_no_result, reference_inside, result_inside, separate}
+use Rattle.cp_steps.proofs.Writing.{cell_written, changed_other, location_is}
+
+-- What lies in an activation lies in one that there is.
+pub live_owner : (G : Ground) (xs : List Activation) (l : Location) (v : Part) (d : ℕ) → lies G xs l ≡ Some v → l.owner ≡ OfActivation G.p d → d < length xs
+live_owner G xs l v d h e = by l.owner l.path h e
+  where
+    inner : (f : ℕ) (x : Name) (p : Path) (b : Bool) (o : Option Activation) → activation_at f xs ≡ o → (if b then part_of_activation (scope G) o x p else None) ≡ Some v → f < length xs
+    inner f x p true (Some z) i h = found_below f xs z i
+    inner f x p true None i h = absurd (some_is_not_none v (sym h))
+    inner f x p false o i h = absurd (some_is_not_none v (sym h))
+
+    by : (o : Owner) (p : Path) → part_at G xs o p ≡ Some v → o ≡ OfActivation G.p d → d < length xs
+    by o [] h e = absurd (some_is_not_none v (sym h))
+    by o (ByIndex i ∷ p) h e = absurd (some_is_not_none v (sym h))
+    by (OfActivation q f) (ByName x ∷ p) h e =
+        let same : f ≡ d = ap (depth_of 0) e in
+        subst (λ z. z < length xs) same (inner f x p (nat_eq G.p q) (activation_at f xs) refl h)
+    by (OfProcess q) (ByName x ∷ p) h e = absurd (omega (arith, ap (depth_of (suc d)) e))
+    by (OfMonitor q) (ByName x ∷ p) h e = absurd (omega (arith, ap (depth_of (suc d)) e))
+
+-- ---- words beyond the top
+
+-- A store that is the same at the owners that are live.
+abbrev pub SameLive : Ground → List Activation → Store → Store → Type 0
+SameLive G xs store after = (l : Location) → ((d : ℕ) → l.owner ≡ OfActivation G.p d → d < length xs) → after l ≡ store l
+
+abbrev pub SameBelow : ℕ → List ℤ → List ℤ → Type 0
+SameBelow top old new = (i : ℕ) → i < top → word new i ≡ word old i
+
+module _ (G : Ground) (xs : List Activation) (top : ℕ) (stack : Stacked G top xs) (store after : Store) (old new : List ℤ)
+    (live : SameLive G xs store after) (same : SameBelow top old new) where
+  right_owner : (at : Location) (s : System) (n : ℕ) → is_own G.p at.owner ≡ true → ComponentLies G at s n → (d : ℕ) → at.owner ≡ OfActivation G.p d → d < length xs
+  right_owner at s n mine (ProcessLies where' is zero') d e = absurd (omega (arith, ap (depth_of (suc d)) (sym (ap (λ (l : Location). l.owner) where') ∙ e)))
+  right_owner at s n mine (MonitorLies k where' is from) d e = absurd (omega (arith, ap (depth_of (suc d)) (sym (ap (λ (l : Location). l.owner) where') ∙ e)))
+  right_owner at s n mine (ClassLies sort is) d e = live_owner G xs at _ d (lies_any G xs at _ is) e
+
+  pub data_below : KeepsData G store after old new xs
+  data_below = record {
+    cells = λ l n t mine c h m.
+        let low = cell_below G xs top stack l n t 0 mine (cell_head (scope G) t c) h in
+        subst (λ z. CellMeans t z (word new n)) (sym (live l (λ d e. live_owner G xs l (n, t) d h e)))
+        (subst (λ z. CellMeans t (store l) z) (sym (same n (omega (arith, low)))) m);
+    rights = λ at s n m x v mine cl r none.
+        (live (under at (ByName x ∷ [])) (right_owner at s n mine cl), same (n + m) (by at s n m mine (right_place G xs at s n m x v mine cl r)));
+  }
+    where
+      by : (at : Location) (s : System) (n m : ℕ) → is_own G.p at.owner ≡ true
+          → OwnRight G (n + m) ⊎ ((lies G xs at ≡ Some (n, ComponentOf s (reported_members (scope G) s))) × InHead (scope G) (ComponentOf s (reported_members (scope G) s)) m)
+          → n + m < top
+      by at s n m mine (inl r) = omega (arith, r.2, bottom_below G xs top stack top xs stack r.0 r.1)
+      by at s n m mine (inr r) = cell_below G xs top stack at n _ m mine r.1 r.0
+
+  pub activation_below : (d : ℕ) (z : Activation) → activation_at d xs ≡ Some z → KeepsActivation G store after old new d z
+  activation_below d z there = (
+    λ x at v is by_reference.
+        (live (local_named G d x) there_live, same (z.base + at) (omega (arith, inside.0, (reference_inside (scope G) z.routine x at v is by_reference).1))),
+    λ t is none. (live (local_named G d z.routine.name) there_live, same z.base (omega (arith, inside.0, result_inside (scope G) z.routine t is))),
+  )
+    where
+      inside : (z.base + activation_words (scope G) z.routine ≤ top) × ((s : System) → system_of_process G.setup G.p ≡ Some s → component_words (scope G) s ≤ z.base)
+      inside = found_inside G top d xs z stack there
+
+      there_live : (f : ℕ) → OfActivation G.p d ≡ OfActivation G.p f → f < length xs
+      there_live f e = let s : d ≡ f = ap (depth_of 0) e in omega (arith, s, found_below d xs z there)
+
+-- ---- a simple variable
+
+abbrev is_simple : ResolvedType → Type 0
+is_simple (Simple b low high start) = Unit {0}
+is_simple _ = ⊥
+
+pub put_apart : (l k : Location) (v : Value) (store : Store) → (l ≡ k → ⊥) → put l v store k ≡ store k
+put_apart l k v store d = by (same_location l k) refl
+  where
+    by : (b : Bool) → same_location l k ≡ b → (if b then v else store k) ≡ store k
+    by true e = absurd (d (location_is l k e))
+    by false e = refl
+
+pub reference_no_variable : (G : Ground) (xs : List Activation) (d : ℕ) (z : Activation) (x : Name) (at : ℕ) (v : declared.Variable)
+    → activation_at d xs ≡ Some z → local (scope G) z.routine x ≡ Some (at, v) → v.by_reference ≡ true → lies G xs (local_named G d x) ≡ None
+reference_no_variable G xs d z x at v there is by_reference =
+    ap (λ t. if t then part_of_activation (scope G) (activation_at d xs) x [] else None) (eq-eqb G.p G.p refl)
+    ∙ (ap (λ o. part_of_activation (scope G) o x []) there
+    ∙ (ap (λ o. farther z.base (part_of_local (scope G) o [])) is
+    ∙ ap (λ t. farther z.base (if t then None else farther at (part (scope G) v.type []))) by_reference))
+
+pub result_no_variable : (G : Ground) (xs : List Activation) (d : ℕ) (z : Activation) (x : Name)
+    → activation_at d xs ≡ Some z → local (scope G) z.routine x ≡ None → lies G xs (local_named G d x) ≡ None
+result_no_variable G xs d z x there is =
+    ap (λ t. if t then part_of_activation (scope G) (activation_at d xs) x [] else None) (eq-eqb G.p G.p refl)
+    ∙ (ap (λ o. part_of_activation (scope G) o x []) there
+    ∙ ap (λ o. farther z.base (part_of_local (scope G) o [])) is)
+
+module _ (G : Ground) (xs : List Activation) (top : ℕ) (stack : Stacked G top xs) (store : Store) (words : List ℤ) (l : Location) (n : ℕ) (b : BaseType) (low high start m : ℤ)
+    (own : is_own G.p l.owner ≡ true) (is : lies G xs l ≡ Some (n, Simple b low high start)) where
+  not_there : (k : Location) → lies G xs k ≡ None → l ≡ k → ⊥
+  not_there k none e = absurd (some_is_not_none _ (sym (ap (lies G xs) (sym e) ∙ is) ∙ none))
+
+  pub data_written : n < length words → DataMeans G xs (is_own G.p) store words → DataMeans G xs (is_own G.p) (put l (Ordinal m) store) (slice_set words n m)
+  data_written room D = record {
+    cells = cell_written G xs top store words l n b low high start m stack D.cells own is room;
+    rights = λ at s k i x v mine cl r none.
+        right_kept G store (put l (Ordinal m) store) words (slice_set words n m) xs at s k i x v (
+          put_apart l (under at (ByName x ∷ [])) (Ordinal m) store (not_there (under at (ByName x ∷ [])) (right_no_variable G xs at s k x mine cl none)),
+          changed_other words (k + i) n m (by at s k i mine (right_place G xs at s k i x v mine cl r)),
+        )
+        (D.rights at s k i x v mine cl r none);
+  }
+    where
+      by : (at : Location) (s : System) (k i : ℕ) → is_own G.p at.owner ≡ true
+          → OwnRight G (k + i) ⊎ ((lies G xs at ≡ Some (k, ComponentOf s (reported_members (scope G) s))) × InHead (scope G) (ComponentOf s (reported_members (scope G) s)) i)
+          → k + i ≢ n
+      by at s k i mine (inl r) e = cell_no_own_right G xs top stack l n (k + i) (Simple b low high start) 0 own refl is r (omega (arith, e))
+      by at s k i mine (inr r) e =
+          let same : l ≡ at = separate G xs top stack l at n k (Simple b low high start) (ComponentOf s (reported_members (scope G) s)) 0 i own mine refl r.1 is r.0 (omega (arith, e)) in
+          subst is_simple (ap (λ z. z.1) (same_some {A = Part} (n, Simple b low high start) (k, ComponentOf s (reported_members (scope G) s)) (sym is ∙ (ap (lies G xs) same ∙ r.0)))) tt
+
+  pub activation_written : (d : ℕ) (z : Activation) → activation_at d xs ≡ Some z → KeepsActivation G store (put l (Ordinal m) store) words (slice_set words n m) d z
+  activation_written d z there = (
+    λ x at v found by_reference. (
+      put_apart l (local_named G d x) (Ordinal m) store (not_there (local_named G d x) (reference_no_variable G xs d z x at v there found by_reference)),
+      changed_other words (z.base + at) n m (λ e. cell_no_reference G xs top stack l n (Simple b low high start) 0 d z x at v own refl is there found by_reference (omega (arith, e))),
+    ),
+    λ t found none. (
+      put_apart l (local_named G d z.routine.name) (Ordinal m) store (not_there (local_named G d z.routine.name) (result_no_variable G xs d z z.routine.name there none)),
+      changed_other words z.base n m (λ e. cell_no_result G xs top stack l n (Simple b low high start) 0 d z t own refl is there found (omega (arith, e))),
+    ),
+  )

@@ -1,0 +1,116 @@
+-- Where the variables of a process lie: the addresses of locations among its words and the shared ones behind them.
+use Rattle.std.specs.Prelude.{◌≡◌, ℕ, ◌+◌, ℤ, Bool, pos, ◌+ℤ◌, if◌then◌else◌, List, [], ◌∷◌, Option, Some, None, length, nat_eq}
+use Rattle.cp_model.specs.Abstract.{Class, Monitor, Name, Process, Routine, Sort, System}
+use Rattle.cp_model.specs.Types.{ComponentOf, GlobalScope, ResolvedType}
+use Rattle.cp_model.specs.Declarations.{Variable, globals, reported_members}
+use Rattle.cp_model.specs.Environments.{Frame}
+use Rattle.cp_model.specs.Locations.{ByIndex, ByName, Location, OfActivation, OfMonitor, OfProcess, Owner, Path, root}
+use Rattle.cp_model.specs.Stores.{Absent, ClassRight, MonitorRight, Value}
+use Rattle.cp_model.specs.Continuations.{EndBody, EndCall, Task}
+use Rattle.cp_model.specs.States.{Setup}
+use Rattle.cp_code.specs.Programs.{Program}
+use Rattle.cp_code.specs.Layout.{Part, farther, head_words, local, member_part, natural, part}
+use Rattle.cp_code.specs.Sites.{UnitText}
+use Rattle.cp_code.specs.StandsFor.{system_of_monitor, system_of_process}
+use Rattle.cp_steps.specs.PrivateStates as machine
+use Rattle.cp_steps.specs.Passing.{monitor_start}
+
+-- The program and what its units are the code of, the text, the process, and how many words are its own.
+pub record Ground : Type 0 where
+  pub program : Program
+  pub texts : List UnitText
+  pub setup : Setup
+  pub p : ℕ
+  pub own : ℕ
+
+abbrev pub scope : Ground → GlobalScope
+scope G = globals G.setup.tree
+
+-- ---- Activations
+
+-- An activation: its first word, and its routine.
+pub record Activation : Type 0 where
+  pub base : ℕ
+  pub routine : Routine
+
+abbrev pub activation_of : ℕ → Option Frame → List Activation → List Activation
+activation_of base None xs = xs
+activation_of base (Some f) xs = record { base = base; routine = f.routine } ∷ xs
+
+-- The activations of what is left to do, innermost first; the first one lies at `base`, the others where the frames say.
+abbrev pub activations : ℕ → List machine.Frame → List Task → List Activation
+activations base fs [] = []
+activations base fs (EndCall env gate ∷ k) = elim fs [
+  | [] ↦ []
+  | f ∷ gs ↦ activation_of base env.frame (activations f.base gs k)
+]
+activations base fs (EndBody gate ∷ k) = elim fs [ [] ↦ [] | f ∷ gs ↦ activations f.base gs k ]
+activations base fs (_ ∷ k) = activations base fs k
+
+-- They are counted from the outermost.
+abbrev pub activation_at : ℕ → List Activation → Option Activation
+activation_at d [] = None
+activation_at d (x ∷ xs) = if nat_eq d (length xs) then Some x else activation_at d xs
+
+-- ---- Addresses
+
+-- A part of a parameter or variable. What a `var` parameter refers to lies elsewhere.
+abbrev pub part_of_local : GlobalScope → Option (ℕ × Variable) → Path → Option Part
+part_of_local g None path = None
+part_of_local g (Some v) path = if v.1.by_reference then None else farther v.0 (part g v.1.type path)
+
+abbrev pub part_of_component : GlobalScope → Option System → Name → Path → Option Part
+part_of_component g None x path = None
+part_of_component g (Some s) x path = member_part g (head_words g s) (reported_members g s) x path
+
+abbrev pub part_of_activation : GlobalScope → Option Activation → Name → Path → Option Part
+part_of_activation g None x path = None
+part_of_activation g (Some z) x path = farther z.base (part_of_local g (local g z.routine x) path)
+
+abbrev pub part_of_owner : Ground → List Activation → Owner → Name → Path → Option Part
+part_of_owner G xs (OfProcess q) x path =
+    if nat_eq G.p q then part_of_component (scope G) (system_of_process G.setup q) x path else None
+part_of_owner G xs (OfMonitor m) x path =
+    farther (G.own + monitor_start G.program m) (part_of_component (scope G) (system_of_monitor G.setup m) x path)
+part_of_owner G xs (OfActivation q d) x path =
+    if nat_eq G.p q then part_of_activation (scope G) (activation_at d xs) x path else None
+
+abbrev pub part_at : Ground → List Activation → Owner → Path → Option Part
+part_at G xs o [] = None
+part_at G xs o (ByName x ∷ path) = part_of_owner G xs o x path
+part_at G xs o (ByIndex i ∷ path) = None
+
+-- The address of a location that process p reaches, and its type. Its own words come first, then those of all monitors.
+abbrev pub lies : Ground → List Activation → Location → Option Part
+lies G xs l = part_at G xs l.owner l.path
+
+-- ---- Components
+
+abbrev pub component_type : Ground → System → ResolvedType
+component_type G s = ComponentOf s (reported_members (scope G) s)
+
+-- The component of a system type at a location has its first word there. No component lies in an activation.
+pub data ComponentLies (G : Ground) (at : Location) (s : System) (n : ℕ) : Type 0 where
+  ProcessLies : at ≡ root (OfProcess G.p) → system_of_process G.setup G.p ≡ Some s → n ≡ 0 → ComponentLies G at s n
+  MonitorLies : (m : ℕ) → at ≡ root (OfMonitor m) → system_of_monitor G.setup m ≡ Some s
+      → n ≡ G.own + monitor_start G.program m → ComponentLies G at s n
+  ClassLies : s.sort ≡ Class → lies G [] at ≡ Some (n, component_type G s) → ComponentLies G at s n
+
+-- ---- Rights
+
+abbrev pub RightOf : Ground → System → Sort → Value → ℕ → ℤ → Type 0
+RightOf G s Monitor (MonitorRight m) at n = n ≡ pos m
+RightOf G s Monitor Absent at n = n ≡ pos 0
+RightOf G s Class (ClassRight j) at n = lies G [] j ≡ Some (natural (pos at +ℤ n), component_type G s)
+RightOf G s Class Absent at n = n ≡ pos 0
+RightOf G s Process v at n = Unit {0}
+RightOf G s _ _ at n = ⊥
+
+-- A right that was never set is that of the monitor 0, or of the class that lies at the right itself. Neither is ever initialised.
+abbrev pub RightMeans : Ground → ResolvedType → Value → ℕ → ℤ → Type 0
+RightMeans G (ComponentOf s inner) v at n = RightOf G s s.sort v at n
+RightMeans G t v at n = Unit {0}
+
+-- The same of the owners that pass the test.
+abbrev pub seen : (Owner → Bool) → Ground → List Activation → Location → Option Part
+seen mine G xs l = if mine l.owner then lies G xs l else None

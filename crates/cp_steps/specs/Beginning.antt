@@ -1,0 +1,37 @@
+-- A process before it begins: its private state, and the parameters that wait for it among the shared words.
+--
+-- In the meaning a parameter is stored when the process is started, and its task is what is left to do. Here both come with the end
+-- of the round. So what is said of a started process is said of the state that `begin_from` makes of it.
+use Rattle.std.specs.Prelude.{◌≡◌, ◌-◌, [], slice_get, Some}
+use Rattle.cp_model.specs.Configurations as stage
+use Rattle.cp_model.specs.Parts.{is_own}
+use Rattle.cp_model.specs.States.{State}
+use Rattle.cp_code.specs.Programs as code
+use Rattle.cp_code.specs.Programs.{CodeUnit}
+use Rattle.cp_steps.specs.PrivateStates.{NotBegun, PrivateState}
+use Rattle.cp_steps.specs.KernelSteps.{Kernel}
+use Rattle.cp_steps.specs.Machines.{begin_from}
+use Rattle.cp_steps.specs.Addresses.{Ground}
+use Rattle.cp_steps.specs.PartOf.{DataMeans, RunsOn}
+
+-- o stands at the start of its body.
+pub record AtStart (G : Ground) (o : PrivateState) : Type 0 where
+  pub row : code.Process
+  pub there : slice_get G.program.processes (G.p - 1) ≡ Some row
+  pub unit : CodeUnit
+  pub unit_there : slice_get G.program.units row.body ≡ Some unit
+  pub place : o.place ≡ unit.start
+  pub base : o.base ≡ row.words
+  pub temp : o.temp ≡ 0
+  pub component : o.component ≡ 0
+  pub gate : o.gate ≡ 0
+  pub frames : o.frames ≡ []
+  pub output : o.output ≡ []
+  pub consumed : o.consumed ≡ 0
+
+-- An unstarted process has the start values. A fresh one will run as the meaning says once it has its parameters.
+pub record Begins (G : Ground) (s : State) (k : Kernel) (o : PrivateState) : Type 0 where
+  pub activity_is : o.activity ≡ NotBegun
+  pub at_start : AtStart G o
+  pub unstarted : s.status G.p ≡ stage.Unstarted → DataMeans G [] (is_own G.p) s.store o.words
+  pub fresh : s.status G.p ≡ stage.Fresh → RunsOn G s.store (begin_from G.program k o) (s.continuation G.p)

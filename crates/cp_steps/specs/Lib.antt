@@ -1,0 +1,12 @@
+pub mod Values
+pub mod PrivateStates
+pub mod Passing
+pub mod Calling
+pub mod Steps
+pub mod Means
+pub mod Addresses
+pub mod Left
+pub mod PartOf
+pub mod KernelSteps
+pub mod Machines
+pub mod Beginning

@@ -1,0 +1,5 @@
+mod ClassesComputed
+mod ClockComputed
+mod MeaningComputed
+mod MonitorsComputed
+mod ProcessesComputed
