@@ -2,7 +2,7 @@
 --
 -- The example is the text of cp_code. Inside `get`, which `go` calls in an expression, `go` waits for the value with its whole
 -- assignment left, `run` goes on behind its call of `go`, and the process behind its call of `run`.
-use Rattle.std.proofs.Common.{◌≡◌, ℤ, ℕ, ◌≤◌, ◌+◌, pos, negsuc, List, [], ◌∷◌, Bool, true, false, None, Some, refl}
+use Rattle.std.proofs.Common.{◌≡◌, ℤ, ℕ, ◌≤◌, ◌+◌, pos, negsuc, List, [], ◌∷◌, true, false, None, Some, refl}
 use Rattle.std.specs.Prelude.{codes, nat_le}
 use Rattle.std.proofs.lemmas.Bool.{leb-true}
 use Rattle.cp_model.specs.Abstract as a
