@@ -1,18 +1,13 @@
 -- What stands for an expression stands for it where as much is known of its temps.
-use Rattle.std.proofs.Common.{◌≡◌, ◌≢◌, ℕ, ◌+◌, ◌≤◌, ◌<◌, ℤ, ◌⊎◌, inl, inr, List, [], ◌∷◌, Some, None, refl, ap, sym, subst, ◌∙◌, arith}
+use Rattle.std.proofs.Common.{ℕ, ◌+◌, ◌≤◌, ◌<◌, ℤ, List, [], ◌∷◌, arith}
 use Rattle.cp_model.specs.Abstract as a
 use Rattle.cp_model.specs.Abstract.{BaseType, Name}
-use Rattle.cp_model.specs.Calls.{Callee, Found, UserCall, callee, call_in_arguments, call_in_designator, first_call, in_context, or_else, user_call}
 use Rattle.cp_model.specs.Declarations as declared
-use Rattle.cp_model.specs.Environments.{Environment}
 use Rattle.cp_model.specs.Types.{ArrayOf, Queue, RecordOf, ResolvedType, Simple}
 use Rattle.cp_code.specs.Terms.{Argument, Binary, Copy, Element, Empty, Item, Made, Negative, Not, Number, Realtime, Reference, Rooted, Spot, Standard, Term, Value}
-use Rattle.cp_code.specs.Programs as op
-use Rattle.cp_code.specs.Programs.{Call}
 use Rattle.cp_code.specs.Layout.{local_words}
-use Rattle.cp_code.specs.Sites.{Answers, Calls, IsNoClock, Site, first_parameter, operation_at, parameters}
+use Rattle.cp_code.specs.Sites.{Site, first_parameter, parameters}
 use Rattle.cp_code.specs.TermsFor.{ArgumentsFor, Knowns, SpotFor, TermFor}
-use Rattle.cp_steps.proofs.Finding.{some_is_not_none, user_call_found, user_call_none}
 
 -- What is known of the temps of a range.
 abbrev pub Keeps : Knowns → Knowns → ℕ → ℕ → Type 0

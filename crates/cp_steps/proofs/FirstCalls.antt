@@ -1,47 +1,18 @@
 -- The first call of an expression is the operation at its place; its value leads on to the next.
-use Rattle.std.proofs.Common.{◌≡◌, ◌≢◌, ℕ, ◌+◌, ◌≤◌, ◌<◌, ℤ, ◌⊎◌, inl, inr, List, [], ◌∷◌, Some, None, refl, ap, sym, subst, ◌∙◌, arith}
+use Rattle.std.proofs.Common.{◌≡◌, ℕ, ◌+◌, ◌≤◌, ◌<◌, inl, inr, List, [], ◌∷◌, None, refl, ap, sym, subst, ◌∙◌, arith}
 use Rattle.cp_model.specs.Abstract as a
 use Rattle.cp_model.specs.Abstract.{BaseType, Name}
-use Rattle.cp_model.specs.Calls.{Callee, Found, UserCall, callee, call_in_arguments, call_in_designator, first_call, in_context, or_else, user_call}
+use Rattle.cp_model.specs.Calls.{Found, call_in_arguments, call_in_designator, first_call, in_context, or_else, user_call}
 use Rattle.cp_model.specs.Declarations as declared
-use Rattle.cp_model.specs.Environments.{Environment}
 use Rattle.cp_model.specs.Types.{ArrayOf, Queue, RecordOf, ResolvedType, Simple}
 use Rattle.cp_code.specs.Terms.{Argument, Binary, Copy, Element, Empty, Item, Made, Negative, Not, Number, Realtime, Reference, Rooted, Spot, Standard, Term, Value}
-use Rattle.cp_code.specs.Programs as op
-use Rattle.cp_code.specs.Programs.{Call}
 use Rattle.cp_code.specs.Layout.{local_words}
-use Rattle.cp_code.specs.Sites.{Answers, Calls, IsNoClock, Site, first_parameter, operation_at, parameters}
+use Rattle.cp_code.specs.Sites.{Site, first_parameter, operation_at, parameters}
 use Rattle.cp_code.specs.TermsFor.{ArgumentsFor, Knowns, SpotFor, TermFor}
-use Rattle.cp_steps.proofs.Finding.{some_is_not_none, user_call_found, user_call_none}
-use Rattle.cp_steps.proofs.CallsKept.{Keeps, arguments_kept, narrowed, spot_kept, term_kept}
-use Rattle.cp_steps.proofs.NextCalls.{Advance, AllMade, CallReady, Calling, Follows, Learns, Next, call_follows, follows_on, next_in, next_left, next_right}
-
--- ---- designators with indices
-
--- It has an index.
-abbrev pub IsIndexed : a.Designator → Type 0
-IsIndexed (a.Plain x) = ⊥
-IsIndexed (a.Part d x) = IsIndexed d
-IsIndexed (a.At d e) = Unit {0}
-
-pub indexed_is_no_call : (env : Environment) (d : a.Designator) → IsIndexed d → callee env d ≡ None
-indexed_is_no_call env (a.Plain x) h = absurd h
-indexed_is_no_call env (a.Part (a.Plain x) f) h = absurd h
-indexed_is_no_call env (a.Part (a.Part d x) f) h = refl
-indexed_is_no_call env (a.Part (a.At d e) f) h = refl
-indexed_is_no_call env (a.At d e) h = refl
-
-pub indexed_is_no_clock : (d : a.Designator) → IsIndexed d → IsNoClock d
-indexed_is_no_clock (a.Plain x) h = absurd h
-indexed_is_no_clock (a.Part d x) h = tt
-indexed_is_no_clock (a.At d e) h = tt
-
-callee_holds_none : (env : Environment) (d : a.Designator) (c : Callee) → callee env d ≡ Some c → (v : a.Expression) → call_in_designator env v d ≡ None
-callee_holds_none env (a.Plain x) c h v = refl
-callee_holds_none env (a.Part (a.Plain x) f) c h v = refl
-callee_holds_none env (a.Part (a.Part d x) f) c h v = absurd (some_is_not_none c (sym h))
-callee_holds_none env (a.Part (a.At d e) f) c h v = absurd (some_is_not_none c (sym h))
-callee_holds_none env (a.At d e) c h v = absurd (some_is_not_none c (sym h))
+use Rattle.cp_steps.proofs.Finding.{user_call_found, user_call_none}
+use Rattle.cp_steps.proofs.CallsKept.{Keeps, arguments_kept, spot_kept, term_kept}
+use Rattle.cp_steps.proofs.NextCalls.{Advance, AllMade, Calling, Learns, call_follows, follows_on, next_in, next_left, next_right}
+use Rattle.cp_steps.proofs.Indexed.{IsIndexed, callee_holds_none, indexed_is_no_call, indexed_is_no_clock}
 
 -- What is learnt of one temp keeps what is known of a range without it.
 pub learnt_above : (K L : Knowns) (kept temp low high : ℕ) → temp < low → Learns K L kept temp → Keeps K L low high

@@ -15,7 +15,7 @@ use Rattle.cp_steps.specs.Means.{CellMeans}
 use Rattle.cp_steps.specs.Addresses.{Activation, ClassLies, ComponentLies, Ground, MonitorLies, ProcessLies, activation_at, lies, part_at, part_of_activation, part_of_local, scope}
 use Rattle.cp_steps.specs.PartOf.{DataMeans}
 use Rattle.cp_code.specs.StandsFor.{system_of_process}
-use Rattle.cp_steps.proofs.Apart.{InHead, IsCell, cell_head}
+use Rattle.cp_steps.proofs.Apart.{InHead, cell_head}
 use Rattle.cp_steps.proofs.Finding.{some_is_not_none}
 use Rattle.cp_steps.proofs.Heres.{found_below, lies_any}
 use Rattle.cp_steps.proofs.Keeping.{KeepsActivation, KeepsData, depth_of, local_named, right_kept, right_no_variable, right_place}

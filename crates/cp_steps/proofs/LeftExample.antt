@@ -2,7 +2,7 @@
 --
 -- The example is the text of cp_code. Inside `get`, which `go` calls in an expression, `go` waits for the value with its whole
 -- assignment left, `run` goes on behind its call of `go`, and the process behind its call of `run`.
-use Rattle.std.proofs.Common.{◌≡◌, ℤ, ℕ, ◌≤◌, ◌+◌, pos, negsuc, List, [], ◌∷◌, Bool, true, false, None, Some, refl}
+use Rattle.std.proofs.Common.{◌≡◌, ℤ, ℕ, ◌≤◌, ◌+◌, pos, negsuc, List, [], ◌∷◌, true, false, None, Some, refl}
 use Rattle.std.specs.Prelude.{codes, nat_le}
 use Rattle.std.proofs.lemmas.Bool.{leb-true}
 use Rattle.cp_model.specs.Abstract as a
@@ -90,7 +90,7 @@ init_s_code : CodeFor (site ground in_process) nothing_known (a.Init (codes "s")
 init_s_code = (22, op.InitClass (record { routine = 1; target = target.Class 2; arguments = []; words = 0; temps = 0 }) 21, record { name = codes "s"; system = c; is_parameter = false }, refl, refl, (refl, refl, record { own = refl; target = refl; runs = record { text = refl; unit = unit_at program 1; there = refl; fits = record { words = le _ _ refl; temps = le _ _ refl; frames = le _ _ refl }; words = refl; temps = refl }; room = le _ _ refl }, refl))
 
 init_u_code : CodeFor (site ground in_process) nothing_known (a.Init (codes "u") (a.MoreExpressions (a.Use (a.Plain (codes "s"))) a.NoExpression)) 21 20 0
-init_u_code = (21, op.InitClass (record { routine = 5; target = target.Class 4; arguments = Right 1 (target.Class 2) ∷ []; words = 0; temps = 0 }) 20, record { name = codes "u"; system = d; is_parameter = false }, refl, refl, (refl, refl, record { own = refl; target = refl; runs = record { text = refl; unit = unit_at program 5; there = refl; fits = record { words = le _ _ refl; temps = le _ _ refl; frames = le _ _ refl }; words = refl; temps = refl }; room = le _ _ refl }, (record { name = codes "s"; system = c; is_parameter = false }, reported_members g c, one (type_of c), refl, refl, refl, refl, refl)))
+init_u_code = (21, op.InitClass (record { routine = 5; target = target.Class 4; arguments = Right 1 (target.Class 2) ∷ []; words = 0; temps = 0 }) 20, record { name = codes "u"; system = d; is_parameter = false }, refl, refl, (refl, refl, record { own = refl; target = refl; runs = record { text = refl; unit = unit_at program 5; there = refl; fits = record { words = le _ _ refl; temps = le _ _ refl; frames = le _ _ refl }; words = refl; temps = refl }; room = le _ _ refl }, (record { name = codes "s"; system = c; is_parameter = false }, reported_members g c, one (type_of c), refl, refl, refl, refl, refl, refl)))
 
 set_v_code : CodeFor (site ground in_process) nothing_known (a.Assign (a.Plain (codes "v")) (a.Literal 3)) 20 19 0
 set_v_code = (20, op.Set (Rooted (Member 8)) (negsuc 32767) (pos 32767) (Number (pos 3)) 19, refl, (Integer, Integer, pos 0, 20, 0, refl, le 0 _ refl, le 0 _ refl, (refl, v_named), (refl, refl, refl)))

@@ -13,5 +13,6 @@ pub mod Keeping
 pub mod Holding
 pub mod CallsKept
 pub mod NextCalls
+pub mod Indexed
 pub mod FirstCalls
 pub mod Passing

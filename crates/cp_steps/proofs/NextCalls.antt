@@ -1,20 +1,14 @@
 -- The next call of an expression: the operation at its place, which leads on with its value.
 --
 -- Behind it all calls are made, or the next one puts its value into a temp behind.
-use Rattle.std.proofs.Common.{◌≡◌, ◌≢◌, ℕ, ◌+◌, ◌≤◌, ◌<◌, ℤ, ◌⊎◌, inl, inr, List, [], ◌∷◌, Some, None, refl, ap, sym, subst, ◌∙◌, arith}
+use Rattle.std.proofs.Common.{◌≡◌, ℕ, ◌≤◌, ◌<◌, ℤ, ◌⊎◌, inl, inr, Some, None, ap, ◌∙◌, arith}
 use Rattle.cp_model.specs.Abstract as a
 use Rattle.cp_model.specs.Abstract.{BaseType, Name}
-use Rattle.cp_model.specs.Calls.{Callee, Found, UserCall, callee, call_in_arguments, call_in_designator, first_call, in_context, or_else, user_call}
-use Rattle.cp_model.specs.Declarations as declared
-use Rattle.cp_model.specs.Environments.{Environment}
-use Rattle.cp_model.specs.Types.{ArrayOf, Queue, RecordOf, ResolvedType, Simple}
-use Rattle.cp_code.specs.Terms.{Argument, Binary, Copy, Element, Empty, Item, Made, Negative, Not, Number, Realtime, Reference, Rooted, Spot, Standard, Term, Value}
+use Rattle.cp_model.specs.Calls.{Found, UserCall, call_in_arguments, in_context, or_else}
 use Rattle.cp_code.specs.Programs as op
 use Rattle.cp_code.specs.Programs.{Call}
-use Rattle.cp_code.specs.Layout.{local_words}
-use Rattle.cp_code.specs.Sites.{Answers, Calls, IsNoClock, Site, first_parameter, operation_at, parameters}
-use Rattle.cp_code.specs.TermsFor.{ArgumentsFor, Knowns, SpotFor, TermFor}
-use Rattle.cp_steps.proofs.Finding.{some_is_not_none, user_call_found, user_call_none}
+use Rattle.cp_code.specs.Sites.{Answers, Calls, Site, first_parameter, operation_at, parameters}
+use Rattle.cp_code.specs.TermsFor.{ArgumentsFor, Knowns}
 
 -- ---- the first call
 

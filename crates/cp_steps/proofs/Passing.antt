@@ -1,8 +1,8 @@
 -- Arguments that are passed to a new activation are what the definition binds to its parameters.
-use Rattle.std.proofs.Common.{◌≡◌, ◌≢◌, ◌⊎◌, inl, inr, ℕ, ◌+◌, ◌≤◌, ◌<◌, ℤ, pos, List, [], ◌∷◌, ◌++◌, length, Bool, true, false, Option, Some, None, Result, Ok, Err, refl, ap, sym, subst, ◌∙◌, arith}
-use Rattle.std.specs.Prelude.{◌&&◌, if◌then◌else◌, nat_eq, slice_set}
-use Rattle.std.proofs.lemmas.Bool.{eq-eqb, eqb-true, true≢false}
-use Rattle.std.proofs.lemmas.List.{get_or-set_other, get_or-set_same, length-set}
+use Rattle.std.proofs.Common.{◌≡◌, ◌⊎◌, inl, inr, ℕ, ◌+◌, ◌≤◌, ◌<◌, ℤ, pos, List, [], ◌∷◌, ◌++◌, length, Bool, true, false, Option, Some, None, Result, Ok, Err, refl, ap, sym, subst, ◌∙◌, arith}
+use Rattle.std.specs.Prelude.{◌&&◌, if◌then◌else◌, slice_set}
+use Rattle.std.proofs.lemmas.Bool.{true≢false}
+use Rattle.std.proofs.lemmas.List.{get_or-set_same, length-set}
 use Rattle.cp_model.specs.Abstract as a
 use Rattle.cp_model.specs.Abstract.{BaseType, Name}
 use Rattle.cp_model.specs.Arguments.{argument_writes, bind, designator_of, reference_writes}
@@ -11,7 +11,7 @@ use Rattle.cp_model.specs.Calls.{call_in_arguments, call_in_designator, first_ca
 use Rattle.cp_model.specs.Declarations as declared
 use Rattle.cp_model.specs.Environments.{Environment}
 use Rattle.cp_model.specs.Expressions.{place, value}
-use Rattle.cp_model.specs.Locations.{ByName, Location, OfActivation, OfMonitor, OfProcess, Owner, root, same_owner, under}
+use Rattle.cp_model.specs.Locations.{ByName, Location, Owner, root, under}
 use Rattle.cp_model.specs.Names.{lookup}
 use Rattle.std.specs.Str.{bytes_eq}
 use Rattle.cp_typing.proofs.Names.{bytes_eq-refl, bytes_same}

@@ -1,30 +1,20 @@
 -- Activations lie one behind another, and all behind the component of the process.
-use Rattle.std.proofs.Common.{◌≡◌, ◌⊎◌, inl, inr, ℕ, ◌+◌, ◌≤◌, ◌<◌, ℤ, List, [], ◌∷◌, length, Bool, true, false, Option, Some, None, refl, ap, sym, subst, ◌∙◌, arith}
+use Rattle.std.proofs.Common.{◌≡◌, ◌⊎◌, inl, inr, ℕ, ◌+◌, ◌≤◌, ℤ, List, [], ◌∷◌, length, Bool, true, false, Option, Some, None, refl, ap, sym, subst, ◌∙◌, arith}
 use Rattle.std.specs.Prelude.{if◌then◌else◌, nat_eq}
-use Rattle.std.proofs.lemmas.Bool.{eqb-true, true≢false}
-use Rattle.cp_model.specs.Abstract as a
-use Rattle.cp_model.specs.Abstract.{Name, System}
+use Rattle.std.proofs.lemmas.Bool.{eqb-true}
+use Rattle.cp_model.specs.Abstract.{System}
 use Rattle.cp_model.specs.Continuations.{Do, EndBody, EndCall, EndProcess, ForNext, RepeatTest, Task, WhileTest}
-use Rattle.cp_model.specs.Declarations as declared
 use Rattle.cp_model.specs.Environments.{Environment, Frame}
-use Rattle.cp_model.specs.Locations.{ByIndex, ByName, Location, OfActivation, OfMonitor, OfProcess, Owner, Path}
-use Rattle.std.specs.Str.{bytes_eq}
-use Rattle.cp_model.specs.Parts.{is_own}
-use Rattle.cp_model.specs.Types.{GlobalScope, ResolvedType}
-use Rattle.cp_typing.specs.Needs.{result_words}
-use Rattle.cp_typing.specs.Words.{words}
-use Rattle.cp_code.specs.Layout.{activation_words, component_words, farther, head_words, local, local_at, local_words, locals, locals_words, member_part, part}
+use Rattle.cp_model.specs.Types.{GlobalScope}
+use Rattle.cp_code.specs.Layout.{activation_words, component_words}
 use Rattle.cp_code.specs.TermsFor.{Knowns, nothing_known}
 use Rattle.cp_code.specs.Sites.{BodyOf, RoutineOf, UnitText}
 use Rattle.cp_code.specs.StandsFor.{own_words, system_of_process}
 use Rattle.cp_steps.specs.PrivateStates as machine
-use Rattle.cp_steps.specs.Addresses.{Activation, Ground, activation_at, activation_of, activations, lies, part_at, part_of_activation, part_of_component, part_of_local, part_of_owner, scope}
+use Rattle.cp_steps.specs.Addresses.{Activation, Ground, activation_at, activation_of, activations, scope}
 use Rattle.cp_steps.specs.Left.{FrameFor, Left, Running, kept_below, site}
-use Rattle.cp_steps.proofs.Apart.{InHead, head_inside, member_above, member_apart, part_apart}
-use Rattle.cp_steps.proofs.Bounds.{member_fits, part_fits}
 use Rattle.cp_steps.proofs.Finding.{some_is_not_none}
-use Rattle.cp_steps.proofs.Layouts.{farther_some, same_some}
-use Rattle.cp_typing.proofs.Names.{bytes_same}
+use Rattle.cp_steps.proofs.Layouts.{same_some}
 
 -- The activations lie below `top`, each behind the next one, and all behind the component.
 abbrev pub Stacked : Ground → ℕ → List Activation → Type 0

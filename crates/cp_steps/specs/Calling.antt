@@ -1,5 +1,5 @@
 -- Calls, returns and `init` over words.
-use Rattle.std.specs.Prelude.{Bool, true, false, not, ℕ, zero, suc, ◌+◌, ◌-◌, ℤ, pos, List, [], ◌∷◌, None, Some, if◌then◌else◌, length, nat_lt, slice_get}
+use Rattle.std.specs.Prelude.{Bool, true, false, not, ℕ, zero, suc, ◌+◌, ◌-◌, pos, List, [], ◌∷◌, None, Some, if◌then◌else◌, length, nat_lt, slice_get}
 use Rattle.cp_model.specs.Integers.{same_integer}
 use Rattle.cp_model.specs.declared.state.Fault.TheVariants as fault
 use Rattle.cp_code.specs.Terms.{Argument}

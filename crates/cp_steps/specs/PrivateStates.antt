@@ -1,5 +1,5 @@
 -- Private states as plain data: what a process holds, and what a step of it reads beside and leaves to the kernel.
-use Rattle.std.specs.Prelude.{Bool, false, true, ℕ, ℤ, List, Result, Ok, Err, if◌then◌else◌, length, slice_set}
+use Rattle.std.specs.Prelude.{Bool, false, true, ℕ, ℤ, List, Result, Ok, Err, if◌then◌else◌, slice_set}
 use Rattle.cp_model.specs.declared.state.Fault.{Fault}
 use Rattle.cp_steps.specs.Values.{View}
 
