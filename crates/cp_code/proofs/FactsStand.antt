@@ -1,16 +1,15 @@
 -- What `TextFacts` says of a text follows from its typing, and from the numbers behind a minus.
-use Rattle.std.proofs.Common.{◌≡◌, ◌⊎◌, inl, inr, ℕ, suc, ℤ, pos, negsuc, List, [], ◌∷◌, ◌++◌, Option, Some, None, refl, ap, sym, subst, ◌∙◌, Bool, true, false, if◌then◌else◌, slice_get, take, arith, bytes_eq}
+use Rattle.std.proofs.Common.{◌≡◌, ◌⊎◌, inl, inr, ℕ, ℤ, pos, negsuc, List, [], ◌∷◌, ◌++◌, Option, Some, None, refl, ap, sym, subst, ◌∙◌, Bool, true, false, if◌then◌else◌, slice_get, take, arith, bytes_eq}
 use Rattle.std.proofs.lemmas.Bool.{true≢false}
 use Rattle.cp_model.specs.Abstract as a
 use Rattle.cp_model.specs.Abstract.{BaseType, Definition, Group, Name, Routine, System}
 use Rattle.cp_model.specs.Names.{lookup}
-use Rattle.cp_model.specs.Types.{ArrayOf, ComponentOf, GlobalScope, Members, MoreMembers, NoMembers, NoType, Queue, RecordOf, ResolvedType, Simple, named_type, or_no_type, resolved_type, standard_scope}
+use Rattle.cp_model.specs.Types.{ArrayOf, ComponentOf, GlobalScope, Members, MoreMembers, NoMembers, NoType, Queue, RecordOf, ResolvedType, Simple, or_no_type, resolved_type, standard_scope}
 use Rattle.cp_model.specs.Declarations.{Variable, declarations, define, globals, is_component, reported_members}
 use Rattle.cp_model.specs.Environments.{Frame, IsVariable, local_variables, meaning, permanent_variables, result_variable}
 use Rattle.cp_model.specs.Locations.{Location, Owner}
 use Rattle.cp_model.specs.Places.{field_type, member_type, within}
-use Rattle.cp_model.specs.Components.{Component, component_named}
-use Rattle.cp_model.specs.States.{Setup, initial_variables}
+use Rattle.cp_model.specs.States.{Setup}
 use Rattle.cp_typing.specs.Declared.{AllFormed, Each, InitialVariable, IsData, IsReported, IsSystem, ResultFits, RoutineParameter, RoutineVariable, SystemParameter, SystemVariable, is_function}
 use Rattle.cp_typing.specs.Judgement.{HasField, IsArray, TypedPlace, find_member, has_queues, is_structured}
 use Rattle.cp_typing.specs.Magnitudes.{AreNegativesWithin, IsAbove}
@@ -21,7 +20,6 @@ use Rattle.cp_typing.specs.Variables.{IsLocalVariable, IsOwnVariable}
 use Rattle.cp_typing.specs.WellTyped.{Later, TypedBodies, TypedInOrder, TypedRoutine, TypedSystem, WellTyped, text_systems}
 use Rattle.cp_typing.proofs.Facts.{variables_lie}
 use Rattle.cp_typing.proofs.LowerBounds.{lower_bounds}
-use Rattle.cp_typing.proofs.Names.{lookup_first, lookup_later}
 use Rattle.cp_code.specs.Scopes.{Scope, declared_type, environment_at, frame_at, groups_of, type_name}
 use Rattle.cp_code.specs.StatementsFor.{ArePlain, IsPlain}
 use Rattle.cp_code.specs.Starts.{unset}

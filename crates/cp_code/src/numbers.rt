@@ -1,8 +1,9 @@
 //! The numbers of the code's tree have 16 bits, so those that its definitions write behind a minus are within what the law wants.
 
+ghost use Rattle.std.specs.Prelude.{[], ◌∷◌, map};
 ghost use Rattle.cp_model.specs.Erase as erase;
 ghost use Rattle.cp_model.specs.View as view;
-ghost use Rattle.std.specs.Prelude.{[], ◌∷◌, map};
+ghost use Rattle.cp_model.specs.View.{type_definition};
 ghost use Rattle.cp_typing.specs.Magnitudes.{AreNegativesWithin, BeginsWithin, IsNegativeWithin};
 
 use cp_model::tree::{
@@ -37,17 +38,17 @@ fn read_constants(definitions: &[ConstantDefinition])
 }
 
 fn read_definition(d: &TypeDefinition)
-    ensures { AreNegativesWithin 65535 (erase.type_definition (view.type_definition d.now) ∷ []) }
+    ensures { AreNegativesWithin 65535 (erase.type_definition (type_definition d.now) ∷ []) }
 {
     if let Defined::Written(t) = &d.defined {
         read_type(t);
     }
 }
 
-fn read_types(definitions: &[TypeDefinition])
-    ensures { AreNegativesWithin 65535 (map erase.type_definition (map view.type_definition definitions.now)) }
+fn read_types(types: &[TypeDefinition])
+    ensures { AreNegativesWithin 65535 (map erase.type_definition (map type_definition types.now)) }
 {
-    for d in definitions {
+    for d in types {
         read_definition(d);
     }
 }
@@ -57,7 +58,7 @@ fn read_section(section: &Section)
 {
     match section {
         Section::Constants(definitions) => read_constants(definitions),
-        Section::Types(definitions) => read_types(definitions),
+        Section::Types(types) => read_types(types),
     }
 }
 

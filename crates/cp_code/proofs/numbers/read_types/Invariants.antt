@@ -7,5 +7,5 @@ use Rattle.cp_code.proofs.numbers.read_types.Given as goal
 -- all are within, once those that are left are
 abbrev pub invariant-loop-d : goal.invariant-loop-d
 invariant-loop-d l =
-    AreNegativesWithin 65535 (map erase.type_definition (map view.type_definition (drop l.d-index l.definitions)))
-    → AreNegativesWithin 65535 (map erase.type_definition (map view.type_definition l.fn.definitions))
+    AreNegativesWithin 65535 (map erase.type_definition (map view.type_definition (drop l.d-index l.types)))
+    → AreNegativesWithin 65535 (map erase.type_definition (map view.type_definition l.fn.types))
