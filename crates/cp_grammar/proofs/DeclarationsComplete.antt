@@ -33,7 +33,6 @@ use Rattle.cp_grammar.proofs.DeclarationsSound.{heading}
 use Rattle.cp_grammar.proofs.DeclarationsShrink.{constant_definition_shrinks, parameter_group_shrinks, variable_group_shrinks, routine_shrinks, type_definition_shrinks, section_shrinks}
 use Rattle.cp_grammar.proofs.HeadingsComplete.{Anything, begins_block, block_begins, block_is_no_name, block_is_no_section, block_is_no_var, body_begins, body_is_block, close_is_no_comma, constant_definition_reads, heading_reads, names_begin, parameters_reads, routine_begins, section_is_no_name, semicolon_is_no_parenthesis}
 
-
 -- ---- variables, bodies and routines
 
 semicolon_ends_type : ends_type (Some (kind.Symbol symbol.Semicolon)) ≡ true
