@@ -15,4 +15,9 @@ pub mod CallsKept
 pub mod NextCalls
 pub mod Indexed
 pub mod FirstCalls
+pub mod CodeKept
+pub mod AssignCalls
+pub mod PerformCalls
+pub mod InitCalls
+pub mod StatementCalls
 pub mod Passing
