@@ -20,4 +20,5 @@ pub mod AssignCalls
 pub mod PerformCalls
 pub mod InitCalls
 pub mod StatementCalls
+pub mod LeftKept
 pub mod Passing
