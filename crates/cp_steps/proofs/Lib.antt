@@ -21,4 +21,6 @@ pub mod PerformCalls
 pub mod InitCalls
 pub mod StatementCalls
 pub mod LeftKept
+pub mod Pushing
+pub mod Answered
 pub mod Passing
