@@ -183,7 +183,7 @@ run_left : (n : ℤ) → Left ground (n ∷ []) frames_limit nothing_known in_ru
 run_left n = (
   refl,
   record { frame = run_frame; runs = refl; owner = refl; return = refl },
-  (refl, refl),
+  (refl, refl, tt),
   (
     in_process,
     18,
@@ -191,7 +191,7 @@ run_left n = (
     0,
     process_runs,
     record { base = refl; temp = refl; component = refl; words_apart = le _ _ refl; temps_apart = le _ _ refl; kept_fit = le 0 _ refl },
-    refl,
+    (refl, refl),
     (refl, tt, (17, 0, le 0 0 refl, adds_code, end_left (n ∷ []))),
   ),
 )
@@ -255,7 +255,7 @@ go_end_left : (n : ℤ) → Left ground (n ∷ []) frames_limit nothing_known in
 go_end_left n = (
   refl,
   record { frame = go_frame; runs = refl; owner = refl; return = refl },
-  (refl, refl),
+  (refl, refl, tt),
   (
     in_run,
     9,
@@ -263,7 +263,7 @@ go_end_left n = (
     0,
     run_runs,
     record { base = refl; temp = refl; component = refl; words_apart = le _ _ refl; temps_apart = le _ _ refl; kept_fit = le 0 _ refl },
-    refl,
+    (refl, refl),
     run_left n,
   ),
 )
@@ -308,7 +308,7 @@ pub get_left : (n : ℤ)
 get_left n = (
   refl,
   record { frame = get_frame; runs = refl; owner = refl; return = refl },
-  (refl, refl),
+  (refl, refl, tt),
   (
     in_go,
     7,
