@@ -23,4 +23,8 @@ pub mod StatementCalls
 pub mod LeftKept
 pub mod Pushing
 pub mod Answered
+pub mod RunningOn
+pub mod Stepping
+pub mod Doing
+pub mod Testing
 pub mod Passing
