@@ -27,4 +27,7 @@ pub mod RunningOn
 pub mod Stepping
 pub mod Doing
 pub mod Testing
+pub mod Choosing
+pub mod Assigning
+pub mod Counting
 pub mod Passing
