@@ -30,4 +30,6 @@ pub mod Testing
 pub mod Choosing
 pub mod Assigning
 pub mod Counting
+pub mod Standards
+pub mod Ending
 pub mod Passing
