@@ -32,4 +32,5 @@ pub mod Assigning
 pub mod Counting
 pub mod Standards
 pub mod Ending
+pub mod Returning
 pub mod Passing
