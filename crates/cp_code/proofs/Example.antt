@@ -52,7 +52,7 @@ type_of s = ComponentOf s (reported_members g s)
 
 get_code : (at : Location) (o : Owner) → CodeFor (site_of program texts (unit_at program 0) (RoutineOf c get) (routine_environment g c get at o)) nothing_known get.body 2 0 0
 get_code at o =
-    (1, (2, op.Set (Rooted (Member 1)) (negsuc 32767) (pos 32767) (Binary a.Add (Item (Rooted (Member 1))) (Item (Rooted (Local 1)))) 1, refl, (Integer, Integer, pos 0, 2, 0, refl, le 0 _ refl, le 0 _ refl, (refl, record { variable = one (int); means = refl; lies = refl; reference = refl; type = refl }), (Integer, Integer, 2, 0, refl, refl, le 0 _ refl, le 0 _ refl, (negsuc 32767, pos 32767, pos 0, refl, refl, (refl, record { variable = one (int); means = refl; lies = refl; reference = refl; type = refl })), (negsuc 32767, pos 32767, pos 0, refl, refl, (refl, record { frame = record { owner = o; routine = get }; runs = refl; variable = one (int); means = refl; lies = refl; reference = refl; type = refl }))))), (0, (1, op.SetResult (negsuc 32767) (pos 32767) (Item (Rooted (Member 1))) 0, refl, (Integer, refl, record { frame = record { owner = o; routine = get }; runs = refl; is_name = refl; variable = one int; means = refl; reference = refl; base = Integer; start = pos 0; type = refl; function = (codes "integer", refl); no_local = refl }, (negsuc 32767, pos 32767, pos 0, refl, refl, (refl, record { variable = one (int); means = refl; lies = refl; reference = refl; type = refl })))), refl))
+    (1, (2, op.Set (Rooted (Member 1)) (negsuc 32767) (pos 32767) (Binary a.Add (Item (Rooted (Member 1))) (Item (Rooted (Local 1)))) 1, refl, (Integer, Integer, pos 0, 2, 0, refl, le 0 _ refl, le 0 _ refl, (refl, record { variable = one (int); means = refl; lies = refl; reference = refl; type = refl }), (Integer, Integer, 2, 0, refl, refl, le 0 _ refl, le 0 _ refl, (negsuc 32767, pos 32767, pos 0, refl, refl, (refl, record { variable = one (int); means = refl; lies = refl; reference = refl; type = refl })), (negsuc 32767, pos 32767, pos 0, refl, refl, (refl, record { frame = record { owner = o; routine = get }; runs = refl; variable = one (int); means = refl; lies = refl; reference = refl; type = refl }))))), (0, (1, op.SetResult (negsuc 32767) (pos 32767) (Item (Rooted (Member 1))) 0, refl, (Integer, refl, record { frame = record { owner = o; routine = get }; runs = refl; is_name = refl; variable = one int; means = refl; reference = refl; base = Integer; start = pos 0; type = refl; function = (codes "integer", refl); named = refl; no_local = refl }, (negsuc 32767, pos 32767, pos 0, refl, refl, (refl, record { variable = one (int); means = refl; lies = refl; reference = refl; type = refl })))), refl))
 
 c_code : (at : Location) → CodeFor (site_of program texts (unit_at program 1) (BodyOf c) (body_environment g c at)) nothing_known c.body 4 3 0
 c_code at =
@@ -133,14 +133,14 @@ stands n x u y t h hu ht =
 
 units_stand : (n : ℕ) (u : CodeUnit) (t : UnitText) → slice_get program.units n ≡ Some u → slice_get texts n ≡ Some t
     → UnitStands program texts g u t
-units_stand zero u t hu ht = stands 0 (unit_at program 0) u (RoutineOf c get) t (get_starts, le _ _ refl, λ at o. (0, refl, get_code at o)) hu ht
-units_stand (suc zero) u t hu ht = stands 1 (unit_at program 1) u (BodyOf c) t (refl, λ at. (3, refl, c_code at)) hu ht
-units_stand (suc (suc zero)) u t hu ht = stands 2 (unit_at program 2) u (RoutineOf b go) t (no_starts go (unit_at program 2) refl refl refl, le _ _ refl, λ at o. (5, refl, go_code at o)) hu ht
-units_stand (suc (suc (suc zero))) u t hu ht = stands 3 (unit_at program 3) u (BodyOf b) t (refl, λ at. (8, refl, b_code at)) hu ht
-units_stand (suc (suc (suc (suc zero)))) u t hu ht = stands 4 (unit_at program 4) u (RoutineOf d run) t (no_starts run (unit_at program 4) refl refl refl, le _ _ refl, λ at o. (9, refl, run_code at o)) hu ht
-units_stand (suc (suc (suc (suc (suc zero))))) u t hu ht = stands 5 (unit_at program 5) u (BodyOf d) t (refl, λ at. (11, refl, d_code at)) hu ht
-units_stand (suc (suc (suc (suc (suc (suc zero)))))) u t hu ht = stands 6 (unit_at program 6) u (RoutineOf m add) t (no_starts add (unit_at program 6) refl refl refl, le _ _ refl, λ at o. (13, refl, add_code at o)) hu ht
-units_stand (suc (suc (suc (suc (suc (suc (suc zero))))))) u t hu ht = stands 7 (unit_at program 7) u (BodyOf m) t (refl, λ at. (15, refl, m_code at)) hu ht
-units_stand (suc (suc (suc (suc (suc (suc (suc (suc zero)))))))) u t hu ht = stands 8 (unit_at program 8) u (BodyOf p) t (refl, λ at. (17, refl, p_code at)) hu ht
-units_stand (suc (suc (suc (suc (suc (suc (suc (suc (suc zero))))))))) u t hu ht = stands 9 (unit_at program 9) u (BodyOf initial) t (refl, λ at. (23, refl, initial_code at)) hu ht
+units_stand zero u t hu ht = stands 0 (unit_at program 0) u (RoutineOf c get) t (get_starts, le _ _ refl, (refl, (refl, (refl, tt))), λ at o. (0, refl, get_code at o)) hu ht
+units_stand (suc zero) u t hu ht = stands 1 (unit_at program 1) u (BodyOf c) t (refl, (refl, tt), λ at. (3, refl, c_code at)) hu ht
+units_stand (suc (suc zero)) u t hu ht = stands 2 (unit_at program 2) u (RoutineOf b go) t (no_starts go (unit_at program 2) refl refl refl, le _ _ refl, (refl, (refl, tt)), λ at o. (5, refl, go_code at o)) hu ht
+units_stand (suc (suc (suc zero))) u t hu ht = stands 3 (unit_at program 3) u (BodyOf b) t (refl, (refl, tt), λ at. (8, refl, b_code at)) hu ht
+units_stand (suc (suc (suc (suc zero)))) u t hu ht = stands 4 (unit_at program 4) u (RoutineOf d run) t (no_starts run (unit_at program 4) refl refl refl, le _ _ refl, (refl, (refl, (refl, tt))), λ at o. (9, refl, run_code at o)) hu ht
+units_stand (suc (suc (suc (suc (suc zero))))) u t hu ht = stands 5 (unit_at program 5) u (BodyOf d) t (refl, (refl, (refl, tt)), λ at. (11, refl, d_code at)) hu ht
+units_stand (suc (suc (suc (suc (suc (suc zero)))))) u t hu ht = stands 6 (unit_at program 6) u (RoutineOf m add) t (no_starts add (unit_at program 6) refl refl refl, le _ _ refl, (refl, (refl, tt)), λ at o. (13, refl, add_code at o)) hu ht
+units_stand (suc (suc (suc (suc (suc (suc (suc zero))))))) u t hu ht = stands 7 (unit_at program 7) u (BodyOf m) t (refl, (refl, tt), λ at. (15, refl, m_code at)) hu ht
+units_stand (suc (suc (suc (suc (suc (suc (suc (suc zero)))))))) u t hu ht = stands 8 (unit_at program 8) u (BodyOf p) t (refl, (refl, (refl, (refl, (refl, tt)))), λ at. (17, refl, p_code at)) hu ht
+units_stand (suc (suc (suc (suc (suc (suc (suc (suc (suc zero))))))))) u t hu ht = stands 9 (unit_at program 9) u (BodyOf initial) t (refl, (refl, (refl, tt)), λ at. (23, refl, initial_code at)) hu ht
 units_stand (suc (suc (suc (suc (suc (suc (suc (suc (suc (suc n)))))))))) u t hu ht = absurd (nothing_there u hu)
