@@ -33,4 +33,6 @@ pub mod Counting
 pub mod Standards
 pub mod Ending
 pub mod Returning
+pub mod Resulting
+pub mod ResultSteps
 pub mod Passing
