@@ -74,8 +74,8 @@ set_steps G s before o d e env k Y to lower upper c n there h =
     let none = or_else_none (in_context (λ y. a.Assign y e) (call_in_designator here (a.Literal 0) d)) (in_context (a.Assign d) (first_call here (a.Literal 0) e)) Y.none in
     statement_steps G s before o (a.Assign d e) env k Y (op.Set to lower upper c n) refl refl there refl
     (by _ _ _ _
-    (place_here G s before o (Do (a.Assign d e) env) k N d to (Simple h.0 lower upper h.2) o.place h.3 N.on.left.2.1 h.4 h.8 (in_context_none (λ y. a.Assign y e) (call_in_designator here (a.Literal 0) d) none.0))
-    (value_here G s before o (Do (a.Assign d e) env) k N e c h.1 h.3 N.on.left.2.3.0 h.4 N.on.running.unit.temps h.9 (in_context_none (a.Assign d) (first_call here (a.Literal 0) e) none.1)))
+    (place_here G s before o (Do (a.Assign d e) env) k N N.sees d to (Simple h.0 lower upper h.2) o.place h.3 N.on.left.2.1 h.4 h.8 (in_context_none (λ y. a.Assign y e) (call_in_designator here (a.Literal 0) d) none.0))
+    (value_here G s before o (Do (a.Assign d e) env) k N N.sees e c h.1 h.3 N.on.left.2.3.0 h.4 N.on.running.unit.temps h.9 (in_context_none (a.Assign d) (first_call here (a.Literal 0) e) none.1)))
   where
     goes : Writes → StepResult
     goes ws = own_step (with_writes (configuration s G.p) ws k)

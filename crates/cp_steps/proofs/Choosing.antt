@@ -50,7 +50,7 @@ case_steps G s before o e arms env k Y =
     let N = Y.now in
     let h = N.on.left.2.3 in
     statement_steps G s before o (a.Case e arms) env k Y (op.Case h.1 h.3) refl refl (ap (operation_at G.program) Y.place ∙ h.4) refl
-    (by _ _ (value_here G s before o (Do (a.Case e arms) env) k N e h.1 h.2 o.place h.0 N.on.left.2.1 N.on.running.unit.temps h.5
+    (by _ _ (value_here G s before o (Do (a.Case e arms) env) k N N.sees e h.1 h.2 o.place h.0 N.on.left.2.1 N.on.running.unit.temps h.5
     (in_context_none (λ y. a.Case y arms) (first_call N.on.running.env (a.Literal 0) e) Y.none)))
   where
     here : Environment

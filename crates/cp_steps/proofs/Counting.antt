@@ -37,6 +37,7 @@ use Rattle.cp_steps.proofs.Assigning.{stores}
 use Rattle.cp_steps.proofs.Doing.{Ready, acts_itself, place_here, statement_steps, value_here, view}
 use Rattle.cp_steps.proofs.Evaluates.{ordinal_is}
 use Rattle.cp_steps.proofs.Finding.{in_context_none, or_else_none}
+use Rattle.cp_steps.proofs.Heres.{Sees}
 use Rattle.cp_steps.proofs.LeftKept.{SameBelow, left_kept}
 use Rattle.cp_steps.proofs.Pushing.{activations_push, marks_push, mean_push, push_left}
 use Rattle.cp_steps.proofs.RunningOn.{left_afresh, runs_moved, runs_written}
@@ -107,17 +108,17 @@ counted_on G store o i k R x down st c next low test n last same means marks cou
 
 module _ (G : Ground) (s : State) (before : List ℕ) (o : PrivateState) (i : Task) (k : List Task) (N : Now G s before o i k) where
   -- The counter is stored, on both sides.
-  pub counts_to : (x : Name) (down : Bool) (st : a.Statement) (c : op.Counting) (next low test : ℕ) (n last : ℤ)
+  pub counts_to : Sees G (is_own G.p) s.store N.on.running.env → (x : Name) (down : Bool) (st : a.Statement) (c : op.Counting) (next low test : ℕ) (n last : ℤ)
       → activations o.base o.frames k ≡ activations o.base o.frames (i ∷ k)
       → ((store : Store) (words : List ℤ) → ActivationsMean G store words o.base o.frames k ≡ ActivationsMean G store words o.base o.frames (i ∷ k)) → marked_monitors k ≡ marked_monitors (i ∷ k)
       → Counts (site G N.on.running) x down c next low → operation_at G.program test ≡ Some (op.ForNext c) → CodeFor (site G N.on.running) nothing_known st c.body test (low + 2)
       → Left G o.temps o.limit nothing_known N.on.running o.frames next low k
       → PartOf G (after_step s G.p (for_step (context G.setup s G.p) (configuration s G.p) N.on.running.env k x down n last st)) before (count_to (alone (realtime (clock_of G s)) o) o c n last).0
-  counts_to x down st c next low test n last same means marks counts there code left =
+  counts_to sees x down st c next low test n last same means marks counts there code left =
       let at = root_place (view G s before o i k N) c.variable in
       let after = go_to c.body (set_temp (set_temp (set_word o at n) (o.temp + c.temp) n) (o.temp + c.temp + 1) last) in
       stores G s before o i k N after (λ ws. own_step (with_writes (configuration s G.p) ws j)) counts.base Integer c.low c.high counts.start at n (place (clock_of G s) N.on.running.env s.store (a.Plain x))
-      (place_here G s before o i k N (a.Plain x) (Rooted c.variable) (Simple counts.base c.low c.high counts.start) test test low low (refl, counts.variable) refl)
+      (place_here G s before o i k N sees (a.Plain x) (Rooted c.variable) (Simple counts.base c.low c.high counts.start) test test low low (refl, counts.variable) refl)
       (simple_value Integer n) (refl, refl)
       (λ l own is. went G s before o N.part (put l (Ordinal n) s.store) after j
       (counted_on G (put l (Ordinal n) s.store) (set_word o at n) (i ∷ k) k (runs_written G s.store o (i ∷ k) N.on l at counts.base c.low c.high counts.start n own is)
@@ -137,8 +138,8 @@ for_steps G s before o x down e f st env k Y =
     let none = or_else_none (in_context (λ y. a.For x down y f st) (first_call here (a.Literal 0) e)) (in_context (λ y. a.For x down e y st) (first_call here (a.Literal 0) f)) Y.none in
     statement_steps G s before o (a.For x down e f st) env k Y (op.For h.1 h.2 h.3) refl refl (ap (operation_at G.program) Y.place ∙ h.8) refl
     (by _ _ _ _
-    (value_here G s before o (Do (a.For x down e f st) env) k N e h.2 h.4 o.place h.5 N.on.left.2.1 h.6 h.13 (in_context_none (λ y. a.For x down y f st) (first_call here (a.Literal 0) e) none.0))
-    (value_here G s before o (Do (a.For x down e f st) env) k N f h.3 h.4 h.5 h.0 h.6 N.on.running.unit.temps h.14 (in_context_none (λ y. a.For x down e y st) (first_call here (a.Literal 0) f) none.1)))
+    (value_here G s before o (Do (a.For x down e f st) env) k N N.sees e h.2 h.4 o.place h.5 N.on.left.2.1 h.6 h.13 (in_context_none (λ y. a.For x down y f st) (first_call here (a.Literal 0) e) none.0))
+    (value_here G s before o (Do (a.For x down e f st) env) k N N.sees f h.3 h.4 h.5 h.0 h.6 N.on.running.unit.temps h.14 (in_context_none (λ y. a.For x down e y st) (first_call here (a.Literal 0) f) none.1)))
   where
     here : Environment
     here = Y.now.on.running.env
@@ -164,7 +165,7 @@ for_steps G s before o x down e f st env k Y =
         (runs_moved G s.store o (Do (a.For x down e f st) env ∷ k) k Y.now.on.left.2.0 Y.now.on.left.2.1 Y.now.on refl refl refl Y.now.on.left.2.4 Y.now.on.left.2.2))
         record { number = refl; input = refl; consumed = refl; output = refl; activity = refl }
     both n l false =
-        counts_to G s before o (Do (a.For x down e f st) env) k Y.now x down st c Y.now.on.left.2.0 Y.now.on.left.2.1 Y.now.on.left.2.3.7 n l refl (λ store words. refl) refl
+        counts_to G s before o (Do (a.For x down e f st) env) k Y.now Y.now.sees x down st c Y.now.on.left.2.0 Y.now.on.left.2.1 Y.now.on.left.2.3.7 n l refl (λ store words. refl) refl
         counts Y.now.on.left.2.3.9 Y.now.on.left.2.3.15 Y.now.on.left.2.4
 
     by : (O : Outcome TypedValue) (r : Result ℤ machine.Fault) (P : Outcome TypedValue) (q : Result ℤ machine.Fault) → Agrees Y.now.on.left.2.3.4 O r → Agrees Y.now.on.left.2.3.4 P q
@@ -216,5 +217,5 @@ for_next_steps G s before o x down n last st env k N =
         (runs_moved G s.store o (ForNext x down n last st env ∷ k) k N.on.left.1.0 N.on.left.1.1 N.on refl refl refl N.on.left.1.4 (omega (arith, N.on.left.1.2))))
         record { number = refl; input = refl; consumed = refl; output = refl; activity = refl }
     by false =
-        counts_to G s before o (ForNext x down n last st env) k N x down st F.counting N.on.left.1.0 N.on.left.1.1 o.place (next_counter down n) last refl (λ store words. refl) refl
+        counts_to G s before o (ForNext x down n last st env) k N N.sees x down st F.counting N.on.left.1.0 N.on.left.1.1 o.place (next_counter down n) last refl (λ store words. refl) refl
         F.counts F.test F.again N.on.left.1.4

@@ -26,6 +26,7 @@ use Rattle.cp_steps.specs.Addresses.{Ground, activations, seen}
 use Rattle.cp_steps.specs.Left.{held_below, site}
 use Rattle.cp_steps.specs.PartOf.{PartOf, RunsOn}
 use Rattle.cp_steps.proofs.Evaluates.{place_agrees, value_agrees}
+use Rattle.cp_steps.proofs.Heres.{Sees}
 use Rattle.cp_steps.proofs.RunningOn.{runs_here, runs_moved}
 use Rattle.cp_steps.proofs.StatementCalls.{own_place}
 use Rattle.cp_steps.proofs.Stepping.{Now, Stepped, both_step, clock_of}
@@ -46,16 +47,16 @@ module _ (G : Ground) (s : State) (before : List ℕ) (o : PrivateState) (i : Ta
   abbrev pub view : View
   view = view_of (alone (realtime (clock_of G s)) o) o
 
-  pub value_here : (e : a.Expression) (c : Term) (b : BaseType) (at next low high : ℕ) → TermFor (site G N.on.running) known e c b at next low high
+  pub value_here : Sees G (is_own G.p) s.store N.on.running.env → (e : a.Expression) (c : Term) (b : BaseType) (at next low high : ℕ) → TermFor (site G N.on.running) known e c b at next low high
       → first_call N.on.running.env (a.Literal 0) e ≡ None → Agrees b (value (clock_of G s) N.on.running.env s.store e) (value_of view c)
-  value_here e c b at next low high h n =
-      value_agrees (site G N.on.running) (clock_of G s) s.store view _ _ (runs_here G s.store o (i ∷ k) (clock_of G s) N.on N.sees) e c b at next low high h n
+  value_here sees e c b at next low high h n =
+      value_agrees (site G N.on.running) (clock_of G s) s.store view _ _ (runs_here G s.store o (i ∷ k) (clock_of G s) N.on sees) e c b at next low high h n
 
-  pub place_here : (d : a.Designator) (c : Spot) (t : ResolvedType) (at next low high : ℕ) → SpotFor (site G N.on.running) known d c t at next low high
+  pub place_here : Sees G (is_own G.p) s.store N.on.running.env → (d : a.Designator) (c : Spot) (t : ResolvedType) (at next low high : ℕ) → SpotFor (site G N.on.running) known d c t at next low high
       → call_in_designator N.on.running.env (a.Literal 0) d ≡ None
       → PlaceAgrees (seen (is_own G.p) G (activations o.base o.frames (i ∷ k))) t (place (clock_of G s) N.on.running.env s.store d) (place_of view c)
-  place_here d c t at next low high h n =
-      place_agrees (site G N.on.running) (clock_of G s) s.store view _ _ (runs_here G s.store o (i ∷ k) (clock_of G s) N.on N.sees) d c t at next low high h n
+  place_here sees d c t at next low high h n =
+      place_agrees (site G N.on.running) (clock_of G s) s.store view _ _ (runs_here G s.store o (i ∷ k) (clock_of G s) N.on sees) d c t at next low high h n
 
 -- A statement of which no call is left to be made.
 pub record Ready (G : Ground) (s : State) (before : List ℕ) (o : PrivateState) (st : a.Statement) (env : Environment) (k : List Task) : Type 0 where

@@ -50,7 +50,7 @@ result_steps G s before o x e env k F Y lower upper c n there h =
     statement_steps G s before o (a.Assign (a.Plain x) e) env k Y (op.SetResult lower upper c n) refl refl there refl
     (subst (λ p. PartOf G (after_step s G.p (and_then (Gives p) (λ at. and_then (value (clock_of G s) here s.store e) (λ v. and_then (writes_of at.at at.type v) goes)))) before
     (act G.program (alone (realtime (clock_of G s)) o) o (op.SetResult lower upper c n)).0) (sym place_is)
-    (by _ _ (value_here G s before o (Do (a.Assign (a.Plain x) e) env) k N e c h.0 o.place N.on.left.2.3.0 N.on.left.2.1 N.on.running.unit.temps h.3
+    (by _ _ (value_here G s before o (Do (a.Assign (a.Plain x) e) env) k N N.sees e c h.0 o.place N.on.left.2.3.0 N.on.left.2.1 N.on.running.unit.temps h.3
     (in_context_none (a.Assign (a.Plain x)) (first_call N.on.running.env (a.Literal 0) e) Y.none))))
   where
     here : Environment

@@ -164,7 +164,7 @@ module _ (G : Ground) (s : State) (before : List ℕ) (o : PrivateState) (x : Na
       let N = Y.now in
       statement_steps G s before o (a.Perform (a.Plain x) (one e)) env k Y (op.Display c as_byte n) (not_called N.on.running.env (a.Plain x) (one e) h.1.1.0) refl h.0 refl
       (subst (λ z. PartOf G (after_step s G.p z) before (steps.with_value (steps.alone (realtime (clock_of G s)) o) o c (λ m. steps.display o m as_byte n)).0) (sym (displays (context G.setup s G.p) (configuration s G.p) N.on.running.env k x e h.1.1.1))
-      (by _ _ (value_here G s before o (Do (a.Perform (a.Plain x) (one e)) env) k N e c h.1.0 o.place N.on.left.2.3.0 N.on.left.2.1 N.on.running.unit.temps h.1.4
+      (by _ _ (value_here G s before o (Do (a.Perform (a.Plain x) (one e)) env) k N N.sees e c h.1.0 o.place N.on.left.2.3.0 N.on.left.2.1 N.on.running.unit.temps h.1.4
       (argument_none N.on.running.env e Y.none))))
     where
       shown : TypedValue → StepResult
@@ -201,7 +201,7 @@ module _ (G : Ground) (s : State) (before : List ℕ) (o : PrivateState) (x : Na
       (subst (λ z. PartOf G (after_step s G.p z) before (steps.with_place (steps.alone (realtime (clock_of G s)) o) o to (λ at. steps.accept o at lower upper n)).0) (sym (accepts (context G.setup s G.p) (configuration s G.p) N.on.running.env k x (a.Use d) h.1.1.1 h.1.1.2))
       (subst (λ z. PartOf G (after_step s G.p (and_then (place (clock_of G s) N.on.running.env s.store d) (taking z (s.consumed G.p)))) before (steps.with_place (steps.alone (realtime (clock_of G s)) o) o to (λ at. steps.accept o at lower upper n)).0) N.part.input
       (subst (λ z. PartOf G (after_step s G.p (and_then (place (clock_of G s) N.on.running.env s.store d) (taking o.input z))) before (steps.with_place (steps.alone (realtime (clock_of G s)) o) o to (λ at. steps.accept o at lower upper n)).0) N.part.consumed
-      (by _ _ (place_here G s before o (Do (a.Perform (a.Plain x) (one (a.Use d))) env) k N d to (Simple Char lower upper h.1.0) o.place N.on.left.2.3.0 N.on.left.2.1 N.on.running.unit.temps h.1.4
+      (by _ _ (place_here G s before o (Do (a.Perform (a.Plain x) (one (a.Use d))) env) k N N.sees d to (Simple Char lower upper h.1.0) o.place N.on.left.2.3.0 N.on.left.2.1 N.on.running.unit.temps h.1.4
       (used_none N.on.running.env d (argument_none N.on.running.env (a.Use d) Y.none)))))))
     where
       writing : List ℕ → ℕ → Writes → StepResult
@@ -260,7 +260,7 @@ module _ (G : Ground) (s : State) (before : List ℕ) (o : PrivateState) (x : Na
       (subst (λ z. PartOf G (after_step s G.p z) before (steps.with_place (steps.alone (realtime (clock_of G s)) o) o queue (λ at. steps.delay o at n)).0)
       (sym (delays (context G.setup s G.p) (configuration s G.p) N.on.running.env k x (a.Use d) h.1.0.1 h.1.0.2 h.1.0.3))
       (queue_rests d Y (λ at. delay G.p (configuration s G.p) k at.at (marked_monitors k)) _ (λ at. ap (delay G.p (configuration s G.p) k at.at) N.marks) _ _
-      (place_here G s before o (Do (a.Perform (a.Plain x) (one (a.Use d))) env) k N d queue Queue o.place N.on.left.2.3.0 N.on.left.2.1 N.on.running.unit.temps h.1.3
+      (place_here G s before o (Do (a.Perform (a.Plain x) (one (a.Use d))) env) k N N.sees d queue Queue o.place N.on.left.2.3.0 N.on.left.2.1 N.on.running.unit.temps h.1.3
       (used_none N.on.running.env d (argument_none N.on.running.env (a.Use d) Y.none)))))
 
   pub continue_steps : (d : a.Designator) (Y : Ready G s before o (a.Perform (a.Plain x) (one (a.Use d))) env k) (queue : Spot) (function : Bool)
@@ -271,7 +271,7 @@ module _ (G : Ground) (s : State) (before : List ℕ) (o : PrivateState) (x : Na
       (subst (λ z. PartOf G (after_step s G.p z) before (steps.with_place (steps.alone (realtime (clock_of G s)) o) o queue (λ at. steps.continue o at function)).0)
       (sym (continues (context G.setup s G.p) (configuration s G.p) N.on.running.env k x (a.Use d) h.1.0.1 h.1.0.2 h.1.0.3))
       (queue_rests d Y (λ at. calls.continue (configuration s G.p) at.at (innermost_call k)) _ (λ at. nothing_continues (configuration s G.p) at.at k N.marks) _ _
-      (place_here G s before o (Do (a.Perform (a.Plain x) (one (a.Use d))) env) k N d queue Queue o.place N.on.left.2.3.0 N.on.left.2.1 N.on.running.unit.temps h.1.2
+      (place_here G s before o (Do (a.Perform (a.Plain x) (one (a.Use d))) env) k N N.sees d queue Queue o.place N.on.left.2.3.0 N.on.left.2.1 N.on.running.unit.temps h.1.2
       (used_none N.on.running.env d (argument_none N.on.running.env (a.Use d) Y.none)))))
 
   pub wait_steps : (Y : Ready G s before o (a.Perform (a.Plain x) a.NoExpression) env k) (n : ℕ) → By a.NoExpression Y (op.Wait n) → Stepped G s before o

@@ -3,7 +3,7 @@ use Rattle.std.proofs.Common.{◌≡◌, ℕ, ℤ, List, [], ◌∷◌, ◌++◌
 use Rattle.std.specs.Prelude.{◌||◌, if◌then◌else◌, not}
 use Rattle.cp_model.specs.Actions.{Action, action, is_kernel_action}
 use Rattle.cp_model.specs.Configurations.{Faulted, Ready, own_step}
-use Rattle.cp_model.specs.Continuations.{Task, marked_monitors}
+use Rattle.cp_model.specs.Continuations.{EndBody, EndProcess, Task, marked_monitors}
 use Rattle.cp_model.specs.Operators.{Clock, realtime}
 use Rattle.cp_model.specs.Outcomes.{Fault}
 use Rattle.cp_model.specs.Parts.{is_own, private_status}
@@ -24,6 +24,12 @@ use Rattle.cp_steps.specs.Addresses.{Ground, activations}
 use Rattle.cp_steps.specs.PartOf.{DataMeans, PartOf, RunsOn, status_of}
 use Rattle.cp_steps.proofs.Heres.{Sees}
 
+-- What is said of tasks that stand in an environment.
+abbrev pub IfPlaced : Task → Type 0 → Type 0
+IfPlaced (EndBody gate) A = Unit {0}
+IfPlaced EndProcess A = Unit {0}
+IfPlaced _ A = A
+
 -- A process is ready and holds no gate, and this is the task in front.
 pub record Now (G : Ground) (s : State) (before : List ℕ) (o : PrivateState) (i : Task) (k : List Task) : Type 0 where
   pub part : PartOf G s before o
@@ -33,7 +39,7 @@ pub record Now (G : Ground) (s : State) (before : List ℕ) (o : PrivateState) (
   pub marks : marked_monitors (i ∷ k) ≡ []
   pub running : o.activity ≡ machine.Running
   pub gate : o.gate ≡ 0
-  pub sees : Sees G (is_own G.p) s.store on.running.env
+  pub sees : IfPlaced i (Sees G (is_own G.p) s.store on.running.env)
 
 abbrev pub clock_of : Ground → State → Clock
 clock_of G s = running_clock G.setup s

@@ -55,7 +55,7 @@ if_steps G s before o e t u env k Y =
     (tested G s before o (Do (a.If e t u) env) k N h.2 h.3 h.4 (push t N.on.running.env k) (push u N.on.running.env k)
     (runs_pushed G s.store o (Do (a.If e t u) env ∷ k) k t h.3 left.2.0 left.2.1 N.on refl refl refl h.7 left.2.4 left.2.2)
     (runs_pushed G s.store o (Do (a.If e t u) env ∷ k) k u h.4 left.2.0 left.2.1 N.on refl refl refl h.8 left.2.4 left.2.2)
-    _ _ (value_here G s before o (Do (a.If e t u) env) k N e h.1 h.2 o.place h.0 left.2.1 N.on.running.unit.temps h.6
+    _ _ (value_here G s before o (Do (a.If e t u) env) k N N.sees e h.1 h.2 o.place h.0 left.2.1 N.on.running.unit.temps h.6
     (in_context_none (λ y. a.If y t u) (first_call N.on.running.env (a.Literal 0) e) Y.none)))
 
 pub while_steps : (G : Ground) (s : State) (before : List ℕ) (o : PrivateState) (now e : a.Expression) (st : a.Statement) (env : Environment) (k : List Task)
@@ -90,7 +90,7 @@ while_steps G s before o now e st env k N at none =
     (tested G s before o (WhileTest now e st env) k N W.base W.way h.0 (push st here (WhileTest e e st here ∷ k)) k
     (runs_pushed G s.store o (WhileTest now e st env ∷ k) (WhileTest e e st here ∷ k) st W.way W.start h.1 N.on refl refl refl W.again again h.2)
     (runs_moved G s.store o (WhileTest now e st env ∷ k) k h.0 h.1 N.on refl refl refl h.4 h.2)
-    _ _ (value_here G s before o (WhileTest now e st env) k N now W.term W.base o.place W.last h.1 N.on.running.unit.temps W.rest none))
+    _ _ (value_here G s before o (WhileTest now e st env) k N N.sees now W.term W.base o.place W.last h.1 N.on.running.unit.temps W.rest none))
 
 pub repeat_steps : (G : Ground) (s : State) (before : List ℕ) (o : PrivateState) (now : a.Expression) (st : a.Statement) (e : a.Expression) (env : Environment) (k : List Task)
     → (N : Now G s before o (RepeatTest now st e env) k) → o.place ≡ N.on.left.1.3.last → first_call N.on.running.env (a.Literal 0) now ≡ None → Stepped G s before o
@@ -124,7 +124,7 @@ repeat_steps G s before o now st e env k N at none =
     (tested G s before o (RepeatTest now st e env) k N W.base h.0 W.way k (push st here (RepeatTest e st e here ∷ k))
     (runs_moved G s.store o (RepeatTest now st e env ∷ k) k h.0 h.1 N.on refl refl refl h.4 h.2)
     (runs_pushed G s.store o (RepeatTest now st e env ∷ k) (RepeatTest e st e here ∷ k) st W.way W.start h.1 N.on refl refl refl W.again again h.2)
-    _ _ (value_here G s before o (RepeatTest now st e env) k N now W.term W.base o.place W.last h.1 N.on.running.unit.temps W.rest none))
+    _ _ (value_here G s before o (RepeatTest now st e env) k N N.sees now W.term W.base o.place W.last h.1 N.on.running.unit.temps W.rest none))
 
 pub cycle_steps : (G : Ground) (s : State) (before : List ℕ) (o : PrivateState) (st : a.Statement) (env : Environment) (k : List Task)
     → Ready G s before o (a.Cycle st) env k → Stepped G s before o
