@@ -35,4 +35,7 @@ pub mod Ending
 pub mod Returning
 pub mod Resulting
 pub mod ResultSteps
+pub mod Declared
+pub mod Deciding
+pub mod PrivateSteps
 pub mod Passing

@@ -100,7 +100,7 @@ result_returns config env k f x = elim x [
 abbrev frame_returns : Configuration → Environment → List Task → Option Frame → Outcome Configuration
 frame_returns config env k x = elim x [ None ↦ Gives config | Some f ↦ result_returns config env k f f.routine.result ]
 
-text_is : (t : UnitText) (x : Option Frame) (f : Frame) → x ≡ Some f → FrameFor t x → (s : System) × (t ≡ RoutineOf s f.routine)
+pub text_is : (t : UnitText) (x : Option Frame) (f : Frame) → x ≡ Some f → FrameFor t x → (s : System) × (t ≡ RoutineOf s f.routine)
 text_is t None f e h = absurd (some_is_not_none f (sym e))
 text_is (RoutineOf s r) (Some g) f e h = (s, ap (RoutineOf s) (sym h ∙ ap (λ (y : Frame). y.routine) (same_some g f e)))
 text_is (BodyOf s) (Some g) f e h = absurd h

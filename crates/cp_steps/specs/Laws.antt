@@ -1,0 +1,36 @@
+-- The law of private steps, which the function of `src/law.rt` states.
+use Rattle.std.specs.Prelude.{List, Option, Some, None, ℕ}
+use Rattle.cp_model.specs.Invariant.{Invariant}
+use Rattle.cp_model.specs.Operators.{realtime}
+use Rattle.cp_model.specs.States.{Setup, State, running_clock}
+use Rattle.cp_model.specs.Turns as meaning
+use Rattle.cp_code.specs.Programs as op
+use Rattle.cp_code.specs.Programs.{Operation, Program}
+use Rattle.cp_code.specs.Sites.{operation_at}
+use Rattle.cp_code.specs.StandsFor.{StandsFor}
+use Rattle.cp_steps.specs.PrivateStates.{PrivateState}
+use Rattle.cp_steps.specs.Steps.{private_step}
+use Rattle.cp_steps.specs.Addresses.{Ground}
+use Rattle.cp_steps.specs.PartOf.{PartOf}
+
+-- The law tells of all operations but calls, `init` and copies of structured values.
+abbrev pub IsTold : Option Operation → Type 0
+IsTold None = Unit {0}
+IsTold (Some (op.Procedure call next)) = ⊥
+IsTold (Some (op.Function call into next)) = ⊥
+IsTold (Some (op.InitClass call next)) = ⊥
+IsTold (Some (op.InitMonitor call next)) = ⊥
+IsTold (Some (op.InitProcess r arguments words next)) = ⊥
+IsTold (Some (op.CopyWords to from size next)) = ⊥
+IsTold (Some _) = Unit {0}
+
+abbrev pub ground_of : (program : Program) (setup : Setup) → StandsFor program setup → (p own : ℕ) → Ground
+ground_of program setup F p own = record { program = program; texts = F.texts; setup = setup; p = p; own = own }
+
+-- Where o is the private state of p in a state with the invariant, its private step is that of p in the state after the meaning's private
+-- step, also where neither has one.
+abbrev pub PrivateStepIsStep : Type 0
+PrivateStepIsStep =
+    (program : Program) (setup : Setup) (F : StandsFor program setup) (p own : ℕ) (s : State) (before : List ℕ) (o : PrivateState)
+    → Invariant s → IsTold (operation_at program o.place) → PartOf (ground_of program setup F p own) s before o
+    → PartOf (ground_of program setup F p own) (meaning.private_step setup s p) before (private_step program (realtime (running_clock setup s)) o)
