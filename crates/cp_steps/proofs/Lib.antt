@@ -38,4 +38,5 @@ pub mod ResultSteps
 pub mod Declared
 pub mod Deciding
 pub mod PrivateSteps
+pub mod Entering
 pub mod Passing
