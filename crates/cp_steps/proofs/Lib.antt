@@ -39,4 +39,5 @@ pub mod Declared
 pub mod Deciding
 pub mod PrivateSteps
 pub mod Entering
+pub mod Invoking
 pub mod Passing
