@@ -40,4 +40,5 @@ pub mod Deciding
 pub mod PrivateSteps
 pub mod Entering
 pub mod Invoking
+pub mod StartLeaves
 pub mod Passing
