@@ -195,6 +195,7 @@ module _ (g : GlobalScope) (program : Program) (texts : List UnitText) where
               routine_starts g s r typed.distinct (variables_by_value g (declarations g r.variables) typed.variables) e.entry need.words need.temps need.frames,
               words_needed c.units scope.words e.operations,
               typed.distinct,
+              typed.variables,
               code,
             );
             grows = begins_on start.units c.units (c.units ++ unit ∷ []) so.grows (record { rest = unit ∷ []; is = refl });

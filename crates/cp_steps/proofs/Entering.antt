@@ -114,9 +114,9 @@ entered_on G store after o ws i k R call back s r at c place kept live W E calle
   gate = ap (λ g. innermost g o.gate) E.gate ∙ (held ∙ ap innermost_gate (sym (marks_push r.body env (EndCall env None ∷ k))));
   live = 0;
   left = left_afresh G o.temps o.limit 0 N (f ∷ o.frames) E.runs.unit.start 0 (push r.body env (EndCall env None ∷ k)) (omega arith)
-      (push_left G o.temps o.limit N (f ∷ o.frames) r.body E.runs.unit.start (E.stands.3 at (owner_of_call G k)).0 0 (EndCall env None ∷ k) (E.stands.3 at (owner_of_call G k)).2 (
+      (push_left G o.temps o.limit N (f ∷ o.frames) r.body E.runs.unit.start (E.stands.4 at (owner_of_call G k)).0 0 (EndCall env None ∷ k) (E.stands.4 at (owner_of_call G k)).2 (
         refl,
-        record { frame = record { owner = owner_of_call G k; routine = r }; runs = refl; owner = refl; return = (E.stands.3 at (owner_of_call G k)).1 },
+        record { frame = record { owner = owner_of_call G k; routine = r }; runs = refl; owner = refl; return = (E.stands.4 at (owner_of_call G k)).1 },
         (E.gate, held, tt),
         (
           R.running,
