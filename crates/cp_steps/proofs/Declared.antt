@@ -39,13 +39,37 @@ not_local_at g at (w ∷ vs) x h = by (bytes_eq x w.0) h (not_local_at g (at + l
     by true h go = absurd (some_is_not_none w.1 h)
     by false h go = go h
 
+-- What isn't found in two lists is found in neither, and each of them has distinct names where both have.
+pub absent_first : (y : Name) (vs ws : List (Name × Variable)) → lookup y (vs ++ ws) ≡ None → lookup y vs ≡ None
+absent_first y [] ws h = refl
+absent_first y (v ∷ vs) ws h = by (bytes_eq y v.0) h (absent_first y vs ws)
+  where
+    by : (b : Bool) → (if b then Some v.1 else lookup y (vs ++ ws)) ≡ None → (lookup y (vs ++ ws) ≡ None → lookup y vs ≡ None) → (if b then Some v.1 else lookup y vs) ≡ None
+    by true h go = absurd (some_is_not_none v.1 h)
+    by false h go = go h
+
+pub absent_later : (y : Name) (vs ws : List (Name × Variable)) → lookup y (vs ++ ws) ≡ None → lookup y ws ≡ None
+absent_later y [] ws h = h
+absent_later y (v ∷ vs) ws h = by (bytes_eq y v.0) h (absent_later y vs ws)
+  where
+    by : (b : Bool) → (if b then Some v.1 else lookup y (vs ++ ws)) ≡ None → (lookup y (vs ++ ws) ≡ None → lookup y ws ≡ None) → lookup y ws ≡ None
+    by true h go = absurd (some_is_not_none v.1 h)
+    by false h go = go h
+
+pub distinct_first : (vs ws : List (Name × Variable)) → Distinct (vs ++ ws) → Distinct vs
+distinct_first [] ws h = tt
+distinct_first (v ∷ vs) ws h = (absent_first v.0 vs ws h.0, distinct_first vs ws h.1)
+
+pub distinct_later : (vs ws : List (Name × Variable)) → Distinct (vs ++ ws) → Distinct ws
+distinct_later [] ws h = h
+distinct_later (v ∷ vs) ws h = distinct_later vs ws h.1
+
 -- No parameter or variable has the name of its function.
-pub no_local_result : (g : GlobalScope) (s : System) (r : Routine) (t : Name) → Distinct (local_variables g r ++ permanent_variables g s) → r.result ≡ Some t
-    → local g r r.name ≡ None
-no_local_result g s r t distinct is =
-    not_local_at g (result_words r.result) (locals g r) r.name
-    (distinct_before r.name (locals g r) (permanent_variables g s) (record { by_reference = false; type = named_type g t })
-    (subst Distinct (same (declarations g r.parameters) (declarations g r.variables) (permanent_variables g s)) distinct))
+pub result_unnamed : (g : GlobalScope) (s : System) (r : Routine) (t : Name) → Distinct (local_variables g r ++ permanent_variables g s) → r.result ≡ Some t
+    → lookup r.name (locals g r) ≡ None
+result_unnamed g s r t distinct is =
+    distinct_before r.name (locals g r) (permanent_variables g s) (record { by_reference = false; type = named_type g t })
+    (subst Distinct (same (declarations g r.parameters) (declarations g r.variables) (permanent_variables g s)) distinct)
   where
     one : List (Name × Variable)
     one = (r.name, record { by_reference = false; type = named_type g t }) ∷ []
@@ -54,3 +78,7 @@ no_local_result g s r t distinct is =
     same a b c =
         ap (λ z. (a ++ (b ++ result_variable g r.name z)) ++ c) is
         ∙ (ap (λ z. z ++ c) (sym (append_assoc a b one)) ∙ append_assoc (a ++ b) one c)
+
+pub no_local_result : (g : GlobalScope) (s : System) (r : Routine) (t : Name) → Distinct (local_variables g r ++ permanent_variables g s) → r.result ≡ Some t
+    → local g r r.name ≡ None
+no_local_result g s r t distinct is = not_local_at g (result_words r.result) (locals g r) r.name (result_unnamed g s r t distinct is)

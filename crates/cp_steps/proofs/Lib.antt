@@ -41,4 +41,5 @@ pub mod PrivateSteps
 pub mod Entering
 pub mod Invoking
 pub mod StartLeaves
+pub mod Opening
 pub mod Passing

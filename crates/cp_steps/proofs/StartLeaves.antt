@@ -78,21 +78,22 @@ index_in low high i h = let k = and_parts (int_le low i) (int_le i high) h in by
 
 -- ---- simple parts are leaves
 
-abbrev start_of : ResolvedType → ℤ
+abbrev pub start_of : ResolvedType → ℤ
 start_of (Simple b low high start) = start
 start_of _ = pos 0
 
-abbrev IsSimple : ResolvedType → Type 0
+abbrev pub IsSimple : ResolvedType → Type 0
 IsSimple (Simple b low high start) = Unit {0}
 IsSimple _ = ⊥
 
-type_is : (n : ℕ) (t : ResolvedType) (m : ℕ) (u : ResolvedType) → ◌≡◌ {A = Option Part} (Some (n, t)) (Some (m, u)) → t ≡ u
+pub type_is : (n : ℕ) (t : ResolvedType) (m : ℕ) (u : ResolvedType) → ◌≡◌ {A = Option Part} (Some (n, t)) (Some (m, u)) → t ≡ u
 type_is n t m u h = ap (λ z. z.1) (same_some {A = Part} (n, t) (m, u) h)
 
 -- What is found farther on is of the type that is found.
-found_farther : (n : ℕ) (x : Option Part) (m : ℕ) (t : ResolvedType) → farther n x ≡ Some (m, t) → (k : ℕ) × (x ≡ Some (k, t))
+pub found_farther : (n : ℕ) (x : Option Part) (m : ℕ) (t : ResolvedType) → farther n x ≡ Some (m, t) → (k : ℕ) × (x ≡ Some (k, t)) × (n + k ≡ m)
 found_farther n None m t h = absurd (some_is_not_none _ (sym h))
-found_farther n (Some p) m t h = (p.0, ap (λ u. Some (p.0, u)) (type_is (n + p.0) p.1 m t h))
+found_farther n (Some p) m t h =
+    (p.0, ap (λ u. Some (p.0, u)) (type_is (n + p.0) p.1 m t h), ap (λ z. z.0) (same_some {A = Part} (n + p.0, p.1) (m, t) h))
 
 mutual
   pub part_is_leaf : (g : GlobalScope) (t : ResolvedType) (path : Path) (m : ℕ) (b : BaseType) (low high start : ℤ) → SoundType t → part g t path ≡ Some (m, Simple b low high start)
