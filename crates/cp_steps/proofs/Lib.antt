@@ -42,4 +42,5 @@ pub mod Entering
 pub mod Invoking
 pub mod StartLeaves
 pub mod Opening
+pub mod Targets
 pub mod Passing
