@@ -1,9 +1,12 @@
 -- Which private step comes next, and that it is the meaning's: each kind of task and of operation.
-use Rattle.std.proofs.Common.{◌≡◌, ℕ, ℤ, List, [], ◌∷◌, true, Option, Some, None, refl, ap, sym, subst, ◌∙◌}
-use Rattle.std.specs.Prelude.{slice_get}
+use Rattle.std.proofs.Common.{Bool, ◌≡◌, ℕ, ℤ, List, [], ◌∷◌, true, Option, Some, None, refl, ap, sym, subst, ◌∙◌}
+use Rattle.std.specs.Prelude.{not, slice_get}
 use Rattle.std.proofs.lemmas.Bool.{eq-eqb, true≢false}
 use Rattle.cp_model.specs.Abstract as a
 use Rattle.cp_model.specs.Abstract.{Name}
+use Rattle.cp_model.specs.Actions.{Acts, action}
+use Rattle.cp_model.specs.Calls.{call_in_statement, first_call, in_context}
+use Rattle.cp_model.specs.Components.{Component, same_sort}
 use Rattle.cp_model.specs.Configurations as stage
 use Rattle.cp_model.specs.Continuations.{Do, EndBody, EndCall, EndProcess, ForNext, RepeatTest, Task, WhileTest, marked_monitors}
 use Rattle.cp_model.specs.Environments.{Environment, Frame}
@@ -22,25 +25,28 @@ use Rattle.cp_code.specs.TermsFor.{Knowns}
 use Rattle.cp_code.specs.StatementsFor.{AssignsBy, InitsBy, PerformsBy}
 use Rattle.cp_steps.specs.PrivateStates as machine
 use Rattle.cp_steps.specs.PrivateStates.{PrivateState}
+use Rattle.cp_steps.specs.Steps.{is_kernel_operation}
 use Rattle.cp_steps.specs.Addresses.{Ground, scope}
 use Rattle.cp_steps.specs.Laws.{IsTold}
-use Rattle.cp_steps.specs.Left.{Left, Running, held_below, innermost_gate, site}
+use Rattle.cp_steps.specs.Left.{Left, Running, held_below, innermost_gate, kept_below, site}
 use Rattle.cp_steps.specs.PartOf.{PartOf, RunsOn}
 use Rattle.cp_steps.proofs.AssignCalls.{StatementAdvances}
 use Rattle.cp_steps.proofs.Assigning.{set_steps}
+use Rattle.cp_steps.proofs.CallSteps.{UnitsStand, function_steps, procedure_steps}
 use Rattle.cp_steps.proofs.Choosing.{case_steps}
 use Rattle.cp_steps.proofs.Counting.{for_next_steps, for_steps}
 use Rattle.cp_steps.proofs.Declared.{no_local_result}
-use Rattle.cp_steps.proofs.Doing.{Ready, known}
+use Rattle.cp_steps.proofs.Doing.{Ready, acts_itself, known}
 use Rattle.cp_steps.proofs.Ending.{body_ends, process_ends}
 use Rattle.cp_steps.proofs.FirstCalls.{TermAdvances, term_next}
 use Rattle.cp_steps.proofs.Heres.{Sees}
+use Rattle.cp_steps.proofs.LeftKept.{held_within, left_kept}
 use Rattle.cp_steps.proofs.NextCalls.{AllMade, Calling}
 use Rattle.cp_steps.proofs.ResultSteps.{result_steps}
 use Rattle.cp_steps.proofs.Returning.{return_steps, text_is}
 use Rattle.cp_steps.proofs.Standards.{accept_steps, continue_steps, delay_steps, display_steps, wait_steps}
 use Rattle.cp_steps.proofs.StatementCalls.{own_place, statement_next}
-use Rattle.cp_steps.proofs.Stepping.{IfPlaced, Now, Stepped}
+use Rattle.cp_steps.proofs.Stepping.{IfPlaced, Now, Stepped, kernel_rests}
 use Rattle.cp_steps.proofs.Testing.{cycle_steps, if_steps, repeat_steps, while_steps}
 
 -- Where no monitor is entered, only what a process owns is in its reach.
@@ -55,8 +61,21 @@ end_environment : (G : Ground) (temps : List ℤ) (limit : ℕ) (K : Knowns) (R 
 end_environment G temps limit K R [] place low env gate k h = absurd h
 end_environment G temps limit K R (f ∷ fs) place low env gate k h = h.0
 
+abbrev SameSort : a.Sort → a.Sort → Type 0
+SameSort a.Class a.Class = Unit {0}
+SameSort a.Monitor a.Monitor = Unit {0}
+SameSort a.Process a.Process = Unit {0}
+SameSort _ _ = ⊥
+
+other_sort : (z y : a.Sort) → z ≡ y → SameSort z z → SameSort z y
+other_sort z y e h = subst (SameSort z) e h
+
 module _ (G : Ground) (s : State) (before : List ℕ) (o : PrivateState) (F : StandsFor G.program G.setup) (texts : F.texts ≡ G.texts) (part : PartOf G s before o) (I : Invariant s)
     (told : IsTold (operation_at G.program o.place)) where
+  units : UnitsStand G
+  units n u t unit text =
+      subst (λ ts. UnitStands G.program ts (scope G) u t) texts (F.units n u t unit (ap (λ ts. slice_get ts n) texts ∙ text))
+
   now_of : (i : Task) (k : List Task) (R : RunsOn G s.store o (i ∷ k)) → s.continuation G.p ≡ i ∷ k → s.status G.p ≡ stage.Ready → marked_monitors (i ∷ k) ≡ [] → o.activity ≡ machine.Running
       → IfPlaced i (Sees G (is_own G.p) s.store R.running.env) → Now G s before o i k
   now_of i k R left ready marks running sees = record {
@@ -83,7 +102,7 @@ module _ (G : Ground) (s : State) (before : List ℕ) (o : PrivateState) (F : St
   performs : (d : a.Designator) (es : a.Expressions) (env : Environment) (k : List Task) (Y : Ready G s before o (a.Perform d es) env k) (x : Operation) → operation_at G.program o.place ≡ Some x
       → PerformsBy (site G Y.now.on.running) (known G s before o (Do (a.Perform d es) env) k Y.now) d es x o.place Y.now.on.left.2.3.0 Y.now.on.left.2.0 Y.now.on.left.2.1
       → Stepped G s before o
-  performs d es env k Y (op.Procedure call n) there h = absurd (subst IsTold there told)
+  performs d es env k Y (op.Procedure call n) there h = procedure_steps G s before o d es env k I.store units Y call n there h (subst IsTold there told)
   performs (a.Plain x) (a.MoreExpressions e a.NoExpression) env k Y (op.Display c as_byte n) there h = display_steps G s before o x env k e Y c as_byte n (there, h)
   performs (a.Plain x) (a.MoreExpressions (a.Use d) a.NoExpression) env k Y (op.Accept to lower upper n) there h = accept_steps G s before o x env k d Y to lower upper n (there, h)
   performs (a.Plain x) (a.MoreExpressions (a.Use d) a.NoExpression) env k Y (op.Delay queue n) there h = delay_steps G s before o x env k d Y queue n (there, h)
@@ -91,12 +110,29 @@ module _ (G : Ground) (s : State) (before : List ℕ) (o : PrivateState) (F : St
   performs (a.Plain x) a.NoExpression env k Y (op.Wait n) there h = wait_steps G s before o x env k Y n (there, h)
   performs d es env k Y _ there h = absurd h
 
+  -- The `init` of a monitor or a process is the kernel's.
+  inits_by_kernel : (x : Name) (es : a.Expressions) (env : Environment) (k : List Task) (Y : Ready G s before o (a.Init x es) env k) (y : Operation) → operation_at G.program o.place ≡ Some y
+      → is_kernel_operation y ≡ true → (Y.now.on.left.2.3.2.system.sort ≡ a.Class → ⊥) → Stepped G s before o
+  inits_by_kernel x es env k Y y there own no_class =
+      kernel_rests G s before o (Do (a.Init x es) env) k Y.now (Acts (Do (a.Init x es) here) k) y
+      (ap (λ e. action (Do (a.Init x es) e ∷ k)) Y.now.on.left.0 ∙ acts_itself (Do (a.Init x es) here) k (ap (in_context (λ z. Do z here)) Y.none) refl)
+      (ap (λ (z : Option Component). not (elim z as (λ y. Bool) [ None ↦ true | Some c ↦ same_sort a.Class c.system.sort ])) Y.now.on.left.2.3.4 ∙ by Y.now.on.left.2.3.2.system.sort no_class)
+      there own
+    where
+      here : Environment
+      here = Y.now.on.running.env
+
+      by : (z : a.Sort) → (z ≡ a.Class → ⊥) → not (same_sort a.Class z) ≡ true
+      by a.Class h = absurd (h refl)
+      by a.Monitor h = refl
+      by a.Process h = refl
+
   inits : (x : Name) (es : a.Expressions) (env : Environment) (k : List Task) (Y : Ready G s before o (a.Init x es) env k) (y : Operation) → operation_at G.program o.place ≡ Some y
       → InitsBy (site G Y.now.on.running) (known G s before o (Do (a.Init x es) env) k Y.now) Y.now.on.left.2.3.2 es y o.place Y.now.on.left.2.3.0 Y.now.on.left.2.0 Y.now.on.left.2.1
       → Stepped G s before o
   inits x es env k Y (op.InitClass call m) there h = absurd (subst IsTold there told)
-  inits x es env k Y (op.InitMonitor call m) there h = absurd (subst IsTold there told)
-  inits x es env k Y (op.InitProcess r xs count m) there h = absurd (subst IsTold there told)
+  inits x es env k Y (op.InitMonitor call m) there h = inits_by_kernel x es env k Y (op.InitMonitor call m) there refl (λ e. other_sort a.Class a.Monitor (sym e ∙ h.0) tt)
+  inits x es env k Y (op.InitProcess r xs count m) there h = inits_by_kernel x es env k Y (op.InitProcess r xs count m) there refl (λ e. other_sort a.Class a.Process (sym e ∙ h.0) tt)
   inits x es env k Y _ there h = absurd h
 
   statement_steps : (st : a.Statement) (env : Environment) (k : List Task) → Ready G s before o st env k → Stepped G s before o
@@ -123,7 +159,13 @@ module _ (G : Ground) (s : State) (before : List ℕ) (o : PrivateState) (F : St
           (own_place (site G N.on.running) (known G s before o (Do st env) k N) st o.place N.on.left.2.0 N.on.left.2.1 N.on.left.2.3) N.on.left.2.0 N.on.left.2.1
           → Stepped G s before o
       by (AllMade p q r) = statement_steps st env k (record { now = N; place = p; none = q (a.Literal 0) })
-      by (Calling C) = absurd (subst IsTold C.ready.op told)
+      by (Calling C) =
+          function_steps G s before o (Do st env) k N N.sees I.store units C.user C.temp C.after C.base C.ready (Do (C.fill (a.Literal 0)) env)
+          (ap (λ e. in_context (λ y. Do y env) (call_in_statement e (a.Literal 0) st)) N.on.left.0 ∙ ap (in_context (λ y. Do y env)) (C.found (a.Literal 0)))
+          (let h = N.on.left in
+          left_kept G o.temps o.temps o.limit refl (known G s before o (Do st env) k N) (kept_below C.ready.low N.on.live o.temps N.on.running.temp) N.on.running o.frames o.place C.ready.low (Do st env ∷ k)
+          (held_within o.temps N.on.running.temp C.ready.low N.on.live) (λ n q. refl) (h.0, h.1, (h.2.0, h.2.1, C.keeps, h.2.3, h.2.4)))
+          (subst IsTold C.ready.op told)
 
   while_does : (now e : a.Expression) (st : a.Statement) (env : Environment) (k : List Task) → Now G s before o (WhileTest now e st env) k → Stepped G s before o
   while_does now e st env k N =
@@ -132,7 +174,13 @@ module _ (G : Ground) (s : State) (before : List ℕ) (o : PrivateState) (F : St
       by : TermAdvances (site G N.on.running) (known G s before o (WhileTest now e st env) k N) now N.on.left.1.3.term N.on.left.1.3.base o.place N.on.left.1.3.last N.on.left.1.1 N.on.running.unit.temps
           → Stepped G s before o
       by (AllMade p q r) = while_steps G s before o now e st env k N p (q (a.Literal 0))
-      by (Calling C) = absurd (subst IsTold C.ready.op told)
+      by (Calling C) =
+          function_steps G s before o (WhileTest now e st env) k N N.sees I.store units C.user C.temp C.after C.base C.ready (WhileTest (C.fill (a.Literal 0)) e st env)
+          (ap (λ z. in_context (λ y. WhileTest y e st env) (first_call z (a.Literal 0) now)) N.on.left.0 ∙ ap (in_context (λ y. WhileTest y e st env)) (C.found (a.Literal 0)))
+          (let h = N.on.left in
+          left_kept G o.temps o.temps o.limit refl (known G s before o (WhileTest now e st env) k N) (kept_below C.ready.low N.on.live o.temps N.on.running.temp) N.on.running o.frames o.place C.ready.low (WhileTest now e st env ∷ k)
+          (held_within o.temps N.on.running.temp C.ready.low N.on.live) (λ n q. refl) (h.0, (h.1.0, h.1.1, C.keeps, h.1.3, h.1.4)))
+          (subst IsTold C.ready.op told)
 
   repeat_does : (now : a.Expression) (st : a.Statement) (e : a.Expression) (env : Environment) (k : List Task) → Now G s before o (RepeatTest now st e env) k → Stepped G s before o
   repeat_does now st e env k N =
@@ -141,14 +189,15 @@ module _ (G : Ground) (s : State) (before : List ℕ) (o : PrivateState) (F : St
       by : TermAdvances (site G N.on.running) (known G s before o (RepeatTest now st e env) k N) now N.on.left.1.3.term N.on.left.1.3.base o.place N.on.left.1.3.last N.on.left.1.1 N.on.running.unit.temps
           → Stepped G s before o
       by (AllMade p q r) = repeat_steps G s before o now st e env k N p (q (a.Literal 0))
-      by (Calling C) = absurd (subst IsTold C.ready.op told)
+      by (Calling C) =
+          function_steps G s before o (RepeatTest now st e env) k N N.sees I.store units C.user C.temp C.after C.base C.ready (RepeatTest (C.fill (a.Literal 0)) st e env)
+          (ap (λ z. in_context (λ y. RepeatTest y st e env) (first_call z (a.Literal 0) now)) N.on.left.0 ∙ ap (in_context (λ y. RepeatTest y st e env)) (C.found (a.Literal 0)))
+          (let h = N.on.left in
+          left_kept G o.temps o.temps o.limit refl (known G s before o (RepeatTest now st e env) k N) (kept_below C.ready.low N.on.live o.temps N.on.running.temp) N.on.running o.frames o.place C.ready.low (RepeatTest now st e env ∷ k)
+          (held_within o.temps N.on.running.temp C.ready.low N.on.live) (λ n q. refl) (h.0, (h.1.0, h.1.1, C.keeps, h.1.3, h.1.4)))
+          (subst IsTold C.ready.op told)
 
   -- ---- tasks
-
-  unit_stands : (R : Running) → slice_get G.program.units R.number ≡ Some R.unit → slice_get G.texts R.number ≡ Some R.text → UnitStands G.program G.texts (scope G) R.unit R.text
-  unit_stands R unit text =
-      subst (λ ts. UnitStands G.program ts (scope G) R.unit R.text) texts
-      (F.units R.number R.unit R.text unit (ap (λ ts. slice_get ts R.number) texts ∙ text))
 
   return_does : (env : Environment) (gate : Option ℕ) (k : List Task) → Now G s before o (EndCall env gate) k → Stepped G s before o
   return_does env gate k N =
@@ -160,7 +209,7 @@ module _ (G : Ground) (s : State) (before : List ℕ) (o : PrivateState) (F : St
 
       names : (f : Frame) (t : Name) → (y : a.System) × (N.on.running.text ≡ RoutineOf y f.routine) → f.routine.result ≡ Some t → local (scope G) f.routine f.routine.name ≡ None
       names f t y result =
-          let stands = subst (UnitStands G.program G.texts (scope G) N.on.running.unit) y.1 (unit_stands N.on.running N.on.runs.unit N.on.runs.text) in
+          let stands = subst (UnitStands G.program G.texts (scope G) N.on.running.unit) y.1 (units N.on.running.number N.on.running.unit N.on.running.text N.on.runs.unit N.on.runs.text) in
           no_local_result (scope G) y.0 f.routine t stands.2 result
 
   -- What the process may see, where the task stands.

@@ -15,7 +15,6 @@ use Rattle.cp_code.specs.Sites as sites
 use Rattle.cp_code.specs.Sites.{RoutineOf}
 use Rattle.cp_code.specs.StandsFor.{UnitStands, routine_environment}
 use Rattle.cp_code.specs.Starts.{word}
-use Rattle.cp_code.specs.TermsFor.{nothing_known}
 use Rattle.cp_steps.specs.PrivateStates.{PrivateState}
 use Rattle.cp_steps.specs.PrivateStates as machine
 use Rattle.cp_steps.specs.Passing.{Called}

@@ -1,5 +1,5 @@
 -- A call, from what opens the new activation: the meaning's and the machine's.
-use Rattle.std.proofs.Common.{◌≡◌, inl, ℕ, ◌+◌, ◌≤◌, ◌<◌, ℤ, List, [], ◌∷◌, ◌++◌, length, Bool, true, false, Option, Some, None, refl, ap, sym, subst, ◌∙◌, arith}
+use Rattle.std.proofs.Common.{◌≡◌, inl, ℕ, ◌+◌, ◌≤◌, ◌<◌, ℤ, List, [], ◌∷◌, ◌++◌, length, Bool, true, false, Some, None, refl, ap, sym, subst, ◌∙◌, arith}
 use Rattle.std.specs.Prelude.{if◌then◌else◌, nat_lt}
 use Rattle.std.proofs.lemmas.Bool.{true≢false}
 use Rattle.cp_model.specs.Abstract as a
@@ -33,18 +33,19 @@ use Rattle.cp_code.specs.Sites as sites
 use Rattle.cp_code.specs.Sites.{RoutineOf, first_parameter, parameters, system_of_callee}
 use Rattle.cp_code.specs.StandsFor.{UnitStands}
 use Rattle.cp_code.specs.Starts.{started}
-use Rattle.cp_code.specs.TermsFor.{ArgumentsFor, Knowns}
-use Rattle.cp_steps.specs.PrivateStates.{Acting, Effect, Enters, Outside, PrivateState, fault_in, private_outcome, provided}
+use Rattle.cp_code.specs.TermsFor.{ArgumentsFor}
+use Rattle.cp_steps.specs.PrivateStates.{Acting, Enters, Outside, PrivateState, fault_in, private_outcome, provided}
 use Rattle.cp_steps.specs.Passing.{Called, Passing, component_called, pass_all, when_passed}
 use Rattle.cp_steps.specs.Calling.{Back, call_step, enter, frame_of, gate_effect, has_room, start_words}
 use Rattle.cp_steps.specs.Steps.{alone}
 use Rattle.cp_steps.specs.Addresses.{ComponentLies, Ground, activations, scope, seen}
+use Rattle.cp_steps.specs.Laws.{NoCopies}
 use Rattle.cp_steps.specs.Left.{CallerAt, held_below, kept_below, site}
 use Rattle.cp_steps.specs.PartOf.{DataMeans, PartOf, RunsOn}
-use Rattle.cp_steps.proofs.Entering.{Entered, Opened, Waits, entered_on, environment_of_call, owner_of_call}
+use Rattle.cp_steps.proofs.Entering.{Opened, Waits, entered_on, environment_of_call, owner_of_call}
 use Rattle.cp_steps.proofs.Heres.{Sees, depth_is}
 use Rattle.cp_steps.proofs.Holding.{SameBelow, SameLive}
-use Rattle.cp_steps.proofs.Passing.{Bound, KeptOutside, NoCopies, PassingAgrees, Stays, passes}
+use Rattle.cp_steps.proofs.Passing.{Bound, KeptOutside, PassingAgrees, Stays, passes}
 use Rattle.cp_steps.proofs.Returning.{forgotten}
 use Rattle.cp_steps.proofs.RunningOn.{runs_here, runs_over}
 use Rattle.cp_steps.proofs.Stepping.{Now, clock_of, faulted, stopped, went}

@@ -43,4 +43,5 @@ pub mod Invoking
 pub mod StartLeaves
 pub mod Opening
 pub mod Targets
+pub mod CallSteps
 pub mod Passing

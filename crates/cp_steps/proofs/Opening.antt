@@ -1,18 +1,17 @@
 -- A new activation holds its parameters, the start values of its variables and no result.
-use Rattle.std.proofs.Common.{◌≡◌, ◌⊎◌, inl, inr, ℕ, zero, suc, ◌+◌, ◌≤◌, ◌<◌, ℤ, Bool, true, false, List, [], ◌∷◌, ◌++◌, length, Option, Some, None, refl, ap, sym, subst, ◌∙◌, arith}
+use Rattle.std.proofs.Common.{◌≡◌, ◌⊎◌, inl, inr, ℕ, suc, ◌+◌, ◌≤◌, ℤ, Bool, true, false, List, [], ◌∷◌, ◌++◌, length, Option, Some, None, refl, ap, sym, subst, ◌∙◌, arith}
 use Rattle.std.specs.Prelude.{◌*◌, if◌then◌else◌, slice_get}
 use Rattle.std.proofs.lemmas.Bool.{eq-eqb, true≢false}
 use Rattle.std.specs.Str.{bytes_eq}
-use Rattle.cp_model.specs.Abstract.{BaseType, Name, Routine, System}
+use Rattle.cp_model.specs.Abstract.{Name, Routine, System}
 use Rattle.cp_model.specs.Assignments.{starting_writes}
-use Rattle.cp_model.specs.CallSteps.{result_location}
 use Rattle.cp_model.specs.Declarations.{Variable, declarations}
-use Rattle.cp_model.specs.Environments.{Frame, local_variables, permanent_variables, result_variable}
-use Rattle.cp_model.specs.Locations.{ByIndex, ByName, Location, OfActivation, Owner, Path, root, same_owner}
+use Rattle.cp_model.specs.Environments.{local_variables, permanent_variables, result_variable}
+use Rattle.cp_model.specs.Locations.{ByIndex, ByName, Location, OfActivation, Path, root}
 use Rattle.cp_model.specs.Names.{lookup}
 use Rattle.cp_model.specs.Places.{within}
 use Rattle.cp_model.specs.Stores.{Absent, Ordinal, Reference, Store, Value, Writes, forget, put_all}
-use Rattle.cp_model.specs.Types.{ArrayOf, ComponentOf, GlobalScope, Members, MoreMembers, NoMembers, NoType, Queue, RecordOf, ResolvedType, Simple, named_type}
+use Rattle.cp_model.specs.Types.{ArrayOf, ComponentOf, GlobalScope, Members, MoreMembers, NoMembers, NoType, Queue, RecordOf, ResolvedType, Simple}
 use Rattle.cp_typing.specs.Declared.{Distinct, Each, RoutineVariable}
 use Rattle.cp_typing.specs.Judgement.{has_queues}
 use Rattle.cp_typing.specs.Needs.{result_words}
@@ -21,14 +20,14 @@ use Rattle.cp_typing.specs.StartValues.{IsIn}
 use Rattle.cp_typing.specs.Words.{words}
 use Rattle.cp_typing.proofs.Names.{bytes_same}
 use Rattle.cp_code.specs.Programs.{CodeUnit}
-use Rattle.cp_code.specs.Layout.{Part, activation_words, distance, farther, local, local_at, local_words, locals_words, member_part, natural, part}
+use Rattle.cp_code.specs.Layout.{Part, activation_words, distance, farther, local, local_at, local_words, member_part, natural, part}
 use Rattle.cp_code.specs.Sites.{RoutineOf}
 use Rattle.cp_code.specs.StandsFor.{UnitStands}
-use Rattle.cp_code.specs.Starts.{started, unset, word}
+use Rattle.cp_code.specs.Starts.{started, word}
 use Rattle.cp_code.specs.StatementsFor.{either}
 use Rattle.cp_steps.specs.Means.{CellMeans, ReferenceMeans}
 use Rattle.cp_steps.specs.Addresses.{Activation, Ground, activation_at, lies, part_at, part_of_activation, part_of_local, scope}
-use Rattle.cp_steps.specs.PartOf.{ActivationMeans, ResultMeans}
+use Rattle.cp_steps.specs.PartOf.{ResultMeans}
 use Rattle.cp_steps.proofs.Apart.{IsCell}
 use Rattle.cp_steps.proofs.Declared.{absent_first, absent_later, distinct_first, distinct_later, result_unnamed}
 use Rattle.cp_steps.proofs.Entering.{Opened}

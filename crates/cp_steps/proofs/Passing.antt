@@ -32,6 +32,7 @@ use Rattle.cp_steps.specs.Values.{place_of, value_of}
 use Rattle.cp_code.specs.Layout.{Part, local_at, local_words, locals_words, natural}
 use Rattle.cp_code.specs.Sites.{Site}
 use Rattle.cp_code.specs.TermsFor.{Agrees, ArgumentsFor, Knowns}
+use Rattle.cp_steps.specs.Laws.{NoCopies}
 use Rattle.cp_steps.specs.Means.{Here, PlaceAgrees}
 use Rattle.cp_code.specs.StatementsFor.{either}
 use Rattle.cp_steps.specs.PrivateStates.{Outside, PrivateState, view_of}
@@ -53,12 +54,6 @@ KeptOutside from to ws us = (length us ≡ length ws) × SameOutside from to ws 
 abbrev pub ParameterHas : (Location → Option Part) → declared.Variable → StoreValue → ℤ → Type 0
 ParameterHas lies d v n =
     either d.by_reference ((j : Location) × (v ≡ Refers j) × (lies j ≡ Some (natural n, d.type))) (v ≡ Ordinal n)
-
--- No structured value is passed.
-abbrev pub NoCopies : List Argument → Type 0
-NoCopies [] = Unit {0}
-NoCopies (Copy at count from ∷ xs) = ⊥
-NoCopies (_ ∷ xs) = NoCopies xs
 
 abbrev pub parameter_at : Owner → Name → Location
 parameter_at n x = under (root n) (ByName x ∷ [])

@@ -1,5 +1,5 @@
 -- The start values of variables: each simple part is a leaf, and is written once.
-use Rattle.std.proofs.Common.{◌≡◌, ◌⊎◌, inl, inr, ℕ, zero, suc, ◌+◌, ◌<◌, ◌≤◌, ℤ, pos, negsuc, Bool, true, false, List, [], ◌∷◌, ◌++◌, map, flat_map, Option, Some, None, refl, ap, sym, subst, ◌∙◌, arith}
+use Rattle.std.proofs.Common.{◌≡◌, inl, inr, ℕ, zero, suc, ◌+◌, ◌<◌, ◌≤◌, ℤ, pos, negsuc, Bool, true, false, List, [], ◌∷◌, ◌++◌, map, Option, Some, None, refl, ap, sym, subst, ◌∙◌, arith}
 use Rattle.std.specs.Prelude.{◌-◌, ◌*◌, if◌then◌else◌, int_le, nat_eq, nat_le}
 use Rattle.std.proofs.lemmas.Bool.{and_parts, eqb-true, eq-eqb, leb-true, true≢false}
 use Rattle.std.specs.Str.{bytes_eq}
@@ -8,17 +8,17 @@ use Rattle.cp_model.specs.Assignments.{starting_writes}
 use Rattle.cp_model.specs.Declarations.{Variable}
 use Rattle.cp_model.specs.Integers.{count_between}
 use Rattle.cp_model.specs.Leaves.{Leaf, below_step, integers_from, leaves, leaves_of_members}
-use Rattle.cp_model.specs.Locations.{ByIndex, ByName, Location, Owner, Path, PathStep, root, same_location, under}
+use Rattle.cp_model.specs.Locations.{ByIndex, ByName, Location, Owner, Path, root, same_location, under}
 use Rattle.cp_model.specs.Names.{lookup}
 use Rattle.cp_model.specs.Places.{within}
 use Rattle.cp_model.specs.Stores.{Ordinal, Store, Value, Writes, put, put_all}
 use Rattle.cp_model.specs.Types.{ArrayOf, ComponentOf, GlobalScope, Members, MoreMembers, NoMembers, NoType, Queue, RecordOf, ResolvedType, Simple}
-use Rattle.cp_typing.specs.Declared.{Distinct, Each}
+use Rattle.cp_typing.specs.Declared.{Distinct}
 use Rattle.cp_typing.specs.SoundTypes.{SoundMembers, SoundType}
 use Rattle.cp_typing.specs.StartValues.{IsIn}
 use Rattle.cp_typing.specs.Words.{words}
 use Rattle.cp_typing.proofs.Leaves.{in_first, in_flat, in_mapped, in_second, of_flat, of_mapped, sound_functional}
-use Rattle.cp_typing.proofs.Names.{bytes_eq-refl, bytes_same}
+use Rattle.cp_typing.proofs.Names.{bytes_same}
 use Rattle.cp_typing.proofs.StartWrites.{found_in, written}
 use Rattle.cp_code.specs.Layout.{Part, distance, farther, member_part, part}
 use Rattle.cp_steps.proofs.Finding.{some_is_not_none}

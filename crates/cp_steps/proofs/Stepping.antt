@@ -131,3 +131,23 @@ module _ (G : Ground) (s : State) (before : List ℕ) (o : PrivateState) (i : Ta
       (sym (meaning_steps G.setup s G.p (i ∷ k) x N.left N.ready N.marks acts private))
       (subst (PartOf G (after_step s G.p (take_action (context G.setup s G.p) (configuration s G.p) x)) before)
       (sym (machine_steps G (realtime (clock_of G s)) o y N.running N.gate there own)) P)
+
+  -- Where the next step is the kernel's, neither steps.
+  pub kernel_rests : (x : Action) (y : Operation) → action (i ∷ k) ≡ x → is_kernel_action x ≡ true
+      → operation_at G.program o.place ≡ Some y → steps.is_kernel_operation y ≡ true → Stepped G s before o
+  kernel_rests x y acts kernel there own =
+      subst (λ (u : State). PartOf G u before (steps.private_step G.program (realtime (clock_of G s)) o)) (sym meaning_rests)
+      (subst (PartOf G s before) (sym machine_rests) N.part)
+    where
+      meaning_rests : private_step G.setup s G.p ≡ s
+      meaning_rests =
+          ap (λ z. if_private z (after_step s G.p (take_action (context G.setup s G.p) (configuration s G.p) (action (s.continuation G.p)))) s)
+          ((λ z. kind_of (N.ready z) (N.left z))
+          ∙ ((λ z. if (elim (N.marks z) as (λ x. Bool) [ [] ↦ false | m ∷ ms ↦ true ]) || is_kernel_action (acts z) then Kernel else Private)
+          ∙ ap (λ b. if b then Kernel else Private) kernel))
+
+      machine_rests : steps.private_step G.program (realtime (clock_of G s)) o ≡ o
+      machine_rests =
+          (λ z. if machine.is_running (N.running z) then (if steps.is_private o (there z) then (act_on G.program (alone (realtime (clock_of G s)) o) o (there z)).0 else o) else o)
+          ∙ ((λ z. if (if steps.is_held (N.gate z) then false else not (steps.is_kernel_operation y)) then (act G.program (alone (realtime (clock_of G s)) o) o y).0 else o)
+          ∙ ap (λ b. if not b then (act G.program (alone (realtime (clock_of G s)) o) o y).0 else o) own)

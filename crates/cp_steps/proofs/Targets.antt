@@ -5,23 +5,21 @@ use Rattle.std.proofs.lemmas.Bool.{true≢false}
 use Rattle.std.proofs.lemmas.Int.{ints}
 use Rattle.cp_model.specs.Abstract as a
 use Rattle.cp_model.specs.Abstract.{Class, Sort, System}
-use Rattle.cp_model.specs.CallSteps as calls
 use Rattle.cp_model.specs.CallSteps.{component_target, is_initialised, target}
-use Rattle.cp_model.specs.Components.{Component, class_or_here, name_location, same_sort}
+use Rattle.cp_model.specs.Components.{Component, class_or_here, name_location}
 use Rattle.cp_model.specs.Continuations.{Task}
-use Rattle.cp_model.specs.Declarations as declared
 use Rattle.cp_model.specs.Declarations.{reported_members}
 use Rattle.cp_model.specs.Environments.{Environment}
 use Rattle.cp_model.specs.Integers.{same_integer}
 use Rattle.cp_model.specs.Invariant.{StoreInvariant}
-use Rattle.cp_model.specs.Locations.{ByName, Location, under}
+use Rattle.cp_model.specs.Locations.{Location}
 use Rattle.cp_model.specs.Operators.{realtime}
 use Rattle.cp_model.specs.Parts.{is_own}
 use Rattle.cp_model.specs.States.{State, context}
 use Rattle.cp_model.specs.Stores.{Absent, ClassRight, Store, Value}
-use Rattle.cp_model.specs.Types.{ComponentOf, ResolvedType}
+use Rattle.cp_model.specs.Types.{ComponentOf}
 use Rattle.cp_code.specs.Terms as t
-use Rattle.cp_code.specs.Layout.{head_words, member, member_part, natural, right}
+use Rattle.cp_code.specs.Layout.{member, natural, right}
 use Rattle.cp_code.specs.Sites.{RightTo, TargetFor, TargetOf, system_of_callee}
 use Rattle.cp_code.specs.Starts.{word}
 use Rattle.cp_steps.specs.PrivateStates.{PrivateState}

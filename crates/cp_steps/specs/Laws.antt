@@ -1,9 +1,10 @@
 -- The law of private steps, which the function of `src/law.rt` states.
-use Rattle.std.specs.Prelude.{List, Option, Some, None, ℕ}
+use Rattle.std.specs.Prelude.{List, [], ◌∷◌, Option, Some, None, ℕ}
 use Rattle.cp_model.specs.Invariant.{Invariant}
 use Rattle.cp_model.specs.Operators.{realtime}
 use Rattle.cp_model.specs.States.{Setup, State, running_clock}
 use Rattle.cp_model.specs.Turns as meaning
+use Rattle.cp_code.specs.Terms.{Argument, Copy}
 use Rattle.cp_code.specs.Programs as op
 use Rattle.cp_code.specs.Programs.{Operation, Program}
 use Rattle.cp_code.specs.Sites.{operation_at}
@@ -13,14 +14,18 @@ use Rattle.cp_steps.specs.Steps.{private_step}
 use Rattle.cp_steps.specs.Addresses.{Ground}
 use Rattle.cp_steps.specs.PartOf.{PartOf}
 
--- The law tells of all operations but calls, `init` and copies of structured values.
+-- No structured value is passed.
+abbrev pub NoCopies : List Argument → Type 0
+NoCopies [] = Unit {0}
+NoCopies (Copy at size from ∷ xs) = ⊥
+NoCopies (_ ∷ xs) = NoCopies xs
+
+-- The law tells of all operations but `init` of a class and copies of structured values, also as arguments.
 abbrev pub IsTold : Option Operation → Type 0
 IsTold None = Unit {0}
-IsTold (Some (op.Procedure call next)) = ⊥
-IsTold (Some (op.Function call into next)) = ⊥
+IsTold (Some (op.Procedure call next)) = NoCopies call.arguments
+IsTold (Some (op.Function call into next)) = NoCopies call.arguments
 IsTold (Some (op.InitClass call next)) = ⊥
-IsTold (Some (op.InitMonitor call next)) = ⊥
-IsTold (Some (op.InitProcess r arguments words next)) = ⊥
 IsTold (Some (op.CopyWords to from size next)) = ⊥
 IsTold (Some _) = Unit {0}
 
