@@ -38,6 +38,7 @@ pub mod ResultSteps
 pub mod Declared
 pub mod Deciding
 pub mod PrivateSteps
+pub mod PrivateTurns
 pub mod Entering
 pub mod Invoking
 pub mod StartLeaves

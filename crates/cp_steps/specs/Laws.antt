@@ -10,7 +10,7 @@ use Rattle.cp_code.specs.Programs.{Operation, Program}
 use Rattle.cp_code.specs.Sites.{operation_at}
 use Rattle.cp_code.specs.StandsFor.{StandsFor}
 use Rattle.cp_steps.specs.PrivateStates.{PrivateState}
-use Rattle.cp_steps.specs.Steps.{private_step}
+use Rattle.cp_steps.specs.Steps.{private_step, private_steps}
 use Rattle.cp_steps.specs.Addresses.{Ground}
 use Rattle.cp_steps.specs.PartOf.{PartOf}
 
@@ -39,3 +39,14 @@ PrivateStepIsStep =
     (program : Program) (setup : Setup) (F : StandsFor program setup) (p own : ℕ) (s : State) (before : List ℕ) (o : PrivateState)
     → Invariant s → IsTold (operation_at program o.place) → PartOf (ground_of program setup F p own) s before o
     → PartOf (ground_of program setup F p own) (meaning.private_step setup s p) before (private_step program (realtime (running_clock setup s)) o)
+
+-- It tells of all operations of a program.
+abbrev pub AllTold : Program → Type 0
+AllTold program = (place : ℕ) → IsTold (operation_at program place)
+
+-- The same of a turn: of so many steps, which ends early where the next step isn't private.
+abbrev pub PrivateTurnIsTurn : Type 0
+PrivateTurnIsTurn =
+    (program : Program) (setup : Setup) (F : StandsFor program setup) (p own n : ℕ) (s : State) (before : List ℕ) (o : PrivateState)
+    → Invariant s → AllTold program → PartOf (ground_of program setup F p own) s before o
+    → PartOf (ground_of program setup F p own) (meaning.private_turn setup n s p) before (private_steps program (realtime (running_clock setup s)) n o)
