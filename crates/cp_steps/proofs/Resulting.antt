@@ -1,5 +1,5 @@
 -- The result of the running function is stored.
-use Rattle.std.proofs.Common.{◌≡◌, ◌⊎◌, inl, inr, ℕ, suc, ◌+◌, ◌<◌, ℤ, pos, List, [], ◌∷◌, length, Bool, true, false, Some, None, refl, ap, sym, subst, ◌∙◌, arith}
+use Rattle.std.proofs.Common.{◌≡◌, ◌⊎◌, inl, inr, ℕ, suc, ◌+◌, ◌≤◌, ◌<◌, ℤ, pos, List, [], ◌∷◌, length, Bool, true, false, Some, None, refl, ap, sym, subst, ◌∙◌, arith}
 use Rattle.std.specs.Prelude.{if◌then◌else◌, nat_eq, slice_set}
 use Rattle.std.proofs.lemmas.Bool.{eqb-true, eq-eqb, true≢false}
 use Rattle.std.proofs.lemmas.List.{get_or-set_same, length-set}
@@ -101,7 +101,7 @@ runs_resulted G store o k R f t v runs is none differs = record {
     owners at s n (ClassLies c i) e = absurd (omega (arith, live_owner G [] at _ (length T.rest) i e))
 
     right_apart : (at : Location) (s : System) (n m : ℕ) → is_own G.p at.owner ≡ true → n + m ≡ o.base
-        → OwnRight G (n + m) ⊎ ((lies G xs at ≡ Some (n, ComponentOf s (reported_members (scope G) s))) × InHead (scope G) (ComponentOf s (reported_members (scope G) s)) m) → ⊥
+        → OwnRight G (n + m) ⊎ ((lies G xs at ≡ Some (n, ComponentOf s (reported_members (scope G) s))) × InHead (scope G) (ComponentOf s (reported_members (scope G) s)) m × (1 ≤ m)) → ⊥
     right_apart at s n m mine e (inl r) = local_no_own_right G xs top stack (length T.rest) (n + m) z0 there0 (omega (arith, e)) r
     right_apart at s n m mine e (inr r) = cell_no_result G xs top stack at n (ComponentOf s (reported_members (scope G) s)) m (length T.rest) z0 t mine r.1 r.0 there0 is e
 

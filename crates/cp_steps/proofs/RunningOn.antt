@@ -8,18 +8,19 @@ use Rattle.cp_model.specs.Continuations.{Task, marked_monitors, push}
 use Rattle.cp_model.specs.Locations.{Location}
 use Rattle.cp_model.specs.Operators.{Clock, realtime}
 use Rattle.cp_model.specs.Parts.{is_own}
-use Rattle.cp_model.specs.Stores.{Ordinal, Store, put}
-use Rattle.cp_model.specs.Types.{Simple}
+use Rattle.cp_model.specs.Stores.{Ordinal, Store, Value, put}
+use Rattle.cp_model.specs.Types.{ResolvedType, Simple}
 use Rattle.cp_code.specs.TermsFor.{nothing_known}
 use Rattle.cp_code.specs.StatementsFor.{CodeFor}
 use Rattle.cp_steps.specs.PrivateStates.{PrivateState, go_to, set_word, view_of}
 use Rattle.cp_steps.specs.PrivateStates as machine
 use Rattle.cp_steps.specs.Steps.{alone}
 use Rattle.cp_steps.specs.Values.{View}
-use Rattle.cp_steps.specs.Means.{Here}
-use Rattle.cp_steps.specs.Addresses.{Ground, activations, lies, seen}
+use Rattle.cp_steps.specs.Means.{CellMeans, Here}
+use Rattle.cp_steps.specs.Addresses.{Ground, activations, lies, scope, seen}
 use Rattle.cp_steps.specs.Left.{Left, Running, held_below, innermost_gate, site}
 use Rattle.cp_steps.specs.PartOf.{ActivationsMean, DataMeans, RunsOn}
+use Rattle.cp_steps.proofs.Apart.{IsCell, cell_head}
 use Rattle.cp_steps.proofs.Heres.{Sees, here}
 use Rattle.cp_steps.proofs.Holding.{SameBelow, SameLive, activation_below, activation_written, data_below, data_written}
 use Rattle.cp_steps.proofs.Keeping.{activation_kept, activations_kept, data_kept}
@@ -95,15 +96,15 @@ runs_pushed G store o i k s place next low R same mean marks code left fits =
     (activations_push o.base o.frames s R.running.env k ∙ same) (mean_push G store o.words o.base o.frames s R.running.env k ∙ mean) (marks_push s R.running.env k ∙ marks)
     (push_left G o.temps o.limit R.running o.frames s place next low k code left) fits
 
--- A simple value is stored.
-abbrev pub runs_written : (G : Ground) (store : Store) (o : PrivateState) (k : List Task) (R : RunsOn G store o k) (l : Location) (n : ℕ) (b : BaseType) (low high start v : ℤ)
-    → is_own G.p l.owner ≡ true → lies G (activations o.base o.frames k) l ≡ Some (n, Simple b low high start)
-    → RunsOn G (put l (Ordinal v) store) (set_word o n v) k
-runs_written G store o k R l n b low high start v own is =
+-- A value of one word is stored.
+abbrev pub runs_stored : (G : Ground) (store : Store) (o : PrivateState) (k : List Task) (R : RunsOn G store o k) (l : Location) (n : ℕ) (u : ResolvedType) (w : Value) (v : ℤ)
+    → IsCell u → CellMeans u w v → is_own G.p l.owner ≡ true → lies G (activations o.base o.frames k) l ≡ Some (n, u)
+    → RunsOn G (put l w store) (set_word o n v) k
+runs_stored G store o k R l n u w v cell means own is =
     let xs = activations o.base o.frames k in
     let top = o.base + (site G R.running).words in
     let stack = runs_stacked G store o k R in
-    let below = cell_below G xs top stack l n (Simple b low high start) 0 own refl is in
+    let below = cell_below G xs top stack l n u 0 own (cell_head (scope G) u cell) is in
     record {
       running = R.running;
       runs = R.runs;
@@ -116,11 +117,17 @@ runs_written G store o k R l n b low high start v own is =
       next_value = R.next_value;
       count = length-set o.words n v ∙ R.count;
       activations_mean =
-          activations_kept G store (put l (Ordinal v) store) o.words (slice_set o.words n v) o.temps o.limit o.base (held_below R.live o.temps R.running.temp) R.running o.frames o.place R.running.unit.temps k R.left
-          (λ rest f c owner there. activation_kept G store (put l (Ordinal v) store) o.words (slice_set o.words n v) rest c (length rest) f owner
-          (activation_written G xs top stack store o.words l n b low high start v own is (length rest) (record { base = c; routine = f.routine }) there)) R.activations_mean;
-      data_means = data_written G xs top stack store o.words l n b low high start v own is (omega (arith, below, runs_room G store o k R)) R.data_means;
+          activations_kept G store (put l w store) o.words (slice_set o.words n v) o.temps o.limit o.base (held_below R.live o.temps R.running.temp) R.running o.frames o.place R.running.unit.temps k R.left
+          (λ rest f c owner there. activation_kept G store (put l w store) o.words (slice_set o.words n v) rest c (length rest) f owner
+          (activation_written G xs top stack store o.words l n u w v cell means own is (length rest) (record { base = c; routine = f.routine }) there)) R.activations_mean;
+      data_means = data_written G xs top stack store o.words l n u w v cell means own is (omega (arith, below, runs_room G store o k R)) R.data_means;
     }
+
+-- A simple value is stored.
+abbrev pub runs_written : (G : Ground) (store : Store) (o : PrivateState) (k : List Task) (R : RunsOn G store o k) (l : Location) (n : ℕ) (b : BaseType) (low high start v : ℤ)
+    → is_own G.p l.owner ≡ true → lies G (activations o.base o.frames k) l ≡ Some (n, Simple b low high start)
+    → RunsOn G (put l (Ordinal v) store) (set_word o n v) k
+runs_written G store o k R l n b low high start v own is = runs_stored G store o k R l n (Simple b low high start) (Ordinal v) v tt refl own is
 
 -- The store and the words change beyond all activations.
 abbrev pub runs_over : (G : Ground) (store after : Store) (o : PrivateState) (new : List ℤ) (k : List Task) (R : RunsOn G store o k)
