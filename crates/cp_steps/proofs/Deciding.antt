@@ -40,6 +40,7 @@ use Rattle.cp_steps.proofs.Doing.{Ready, acts_itself, known}
 use Rattle.cp_steps.proofs.Ending.{body_ends, process_ends}
 use Rattle.cp_steps.proofs.FirstCalls.{TermAdvances, term_next}
 use Rattle.cp_steps.proofs.Heres.{Sees}
+use Rattle.cp_steps.proofs.InitSteps.{init_steps}
 use Rattle.cp_steps.proofs.LeftKept.{held_within, left_kept}
 use Rattle.cp_steps.proofs.NextCalls.{AllMade, Calling}
 use Rattle.cp_steps.proofs.ResultSteps.{result_steps}
@@ -130,7 +131,7 @@ module _ (G : Ground) (s : State) (before : List ℕ) (o : PrivateState) (F : St
   inits : (x : Name) (es : a.Expressions) (env : Environment) (k : List Task) (Y : Ready G s before o (a.Init x es) env k) (y : Operation) → operation_at G.program o.place ≡ Some y
       → InitsBy (site G Y.now.on.running) (known G s before o (Do (a.Init x es) env) k Y.now) Y.now.on.left.2.3.2 es y o.place Y.now.on.left.2.3.0 Y.now.on.left.2.0 Y.now.on.left.2.1
       → Stepped G s before o
-  inits x es env k Y (op.InitClass call m) there h = absurd (subst IsTold there told)
+  inits x es env k Y (op.InitClass call m) there h = init_steps G s before o x es env k I.store units Y call m there h (subst IsTold there told)
   inits x es env k Y (op.InitMonitor call m) there h = inits_by_kernel x es env k Y (op.InitMonitor call m) there refl (λ e. other_sort a.Class a.Monitor (sym e ∙ h.0) tt)
   inits x es env k Y (op.InitProcess r xs count m) there h = inits_by_kernel x es env k Y (op.InitProcess r xs count m) there refl (λ e. other_sort a.Class a.Process (sym e ∙ h.0) tt)
   inits x es env k Y _ there h = absurd h

@@ -45,4 +45,5 @@ pub mod StartLeaves
 pub mod Opening
 pub mod Targets
 pub mod CallSteps
+pub mod InitSteps
 pub mod Passing

@@ -26,14 +26,14 @@ use Rattle.cp_steps.specs.PrivateStates.{PrivateState}
 use Rattle.cp_steps.specs.Passing.{Called, class_called, class_right, component_called}
 use Rattle.cp_steps.specs.Steps.{alone, is_monitor}
 use Rattle.cp_steps.specs.Means.{MarkMeans}
-use Rattle.cp_steps.specs.Addresses.{Activation, ClassLies, ComponentLies, Ground, RightMeans, RightOf, activations, component_type, lies, scope}
+use Rattle.cp_steps.specs.Addresses.{Activation, ClassLies, ComponentLies, Ground, RightMeans, RightOf, activations, component_type, lies}
 use Rattle.cp_steps.specs.PartOf.{DataMeans}
 use Rattle.cp_steps.proofs.Heres.{Sees, lies_any, member_lies}
 use Rattle.cp_steps.proofs.Invoking.{TargetIs}
 use Rattle.cp_steps.proofs.Stepping.{Now, clock_of}
 
 -- The mark of a class tells whether it was initialised.
-mark_is : (G : Ground) (xs : List Activation) (store : Store) (words : List ℤ) → DataMeans G xs (is_own G.p) store words
+pub mark_is : (G : Ground) (xs : List Activation) (store : Store) (words : List ℤ) → DataMeans G xs (is_own G.p) store words
     → (l : Location) (n : ℕ) (s : System) → is_own G.p l.owner ≡ true → s.sort ≡ Class → lies G [] l ≡ Some (n, component_type G s)
     → not (same_integer (word words n) (pos 0)) ≡ is_initialised (store l)
 mark_is G xs store words dm l n s m sort h =
@@ -51,25 +51,24 @@ module _ (G : Ground) (s : State) (before : List ℕ) (o : PrivateState) (i : Ta
   ClassTarget n at c =
       TargetIs G (record { component = at; system = n.system; is_callable = is_initialised (s.store at); gate = None }) c n.system
 
-  -- A class that is a variable of the running component.
+  -- A class that is a variable of the running component lies there.
+  pub class_lies : (n : Component) (at : ℕ) → member here.globals here.system n.name ≡ Some (at, ComponentOf n.system (reported_members here.globals n.system))
+      → lies G [] (name_location here n) ≡ Some (o.component + at, component_type G n.system)
+  class_lies n at h =
+      member_lies G [] here.component here.system N.on.running.component n.name at (component_type G n.system) N.on.runs.component
+      (ap (λ g. member g here.system n.name) (sym N.on.runs.globals) ∙ (h ∙ ap (λ g. Some (at, ComponentOf n.system (reported_members g n.system))) N.on.runs.globals))
+      ∙ ap (λ k. Some (k + at, component_type G n.system)) (sym N.on.component)
+
   class_variable : (n : Component) (at : ℕ) → n.system.sort ≡ Class
       → member here.globals here.system n.name ≡ Some (at, ComponentOf n.system (reported_members here.globals n.system))
       → ClassTarget n (name_location here n) (class_called o (o.component + at))
   class_variable n at sort h = record {
-    set_is = mark_is G (activations o.base o.frames (i ∷ l)) s.store o.words N.on.data_means (name_location here n) (o.component + at) n.system sees.component sort there;
+    set_is = mark_is G (activations o.base o.frames (i ∷ l)) s.store o.words N.on.data_means (name_location here n) (o.component + at) n.system sees.component sort (class_lies n at h);
     system = refl;
-    lies_there = λ callable. ClassLies sort there;
+    lies_there = λ callable. ClassLies sort (class_lies n at h);
     gate = refl;
     no_gate = refl;
   }
-    where
-      found : member (scope G) here.system n.name ≡ Some (at, component_type G n.system)
-      found = ap (λ g. member g here.system n.name) (sym N.on.runs.globals) ∙ (h ∙ ap (λ g. Some (at, ComponentOf n.system (reported_members g n.system))) N.on.runs.globals)
-
-      there : lies G [] (name_location here n) ≡ Some (o.component + at, component_type G n.system)
-      there =
-          member_lies G [] here.component here.system N.on.running.component n.name at (component_type G n.system) N.on.runs.component found
-          ∙ ap (λ k. Some (k + at, component_type G n.system)) (sym N.on.component)
 
   -- A class that a right of the running component names.
   class_by_right : (n : Component) (at : ℕ) → n.system.sort ≡ Class → RightTo here n at
