@@ -36,13 +36,15 @@ IsTold (Some _) = Unit {0}
 abbrev pub ground_of : (program : Program) (setup : Setup) → StandsFor program setup → (p own : ℕ) → Ground
 ground_of program setup F p own = record { program = program; texts = F.texts; setup = setup; p = p; own = own }
 
--- Where o is the private state of p in a state with the invariant, its private step is that of p in the state after the meaning's private
--- step, also where neither has one.
+-- Where o is the private state of p in a state with the invariant, its private step is that of p in the state after the
+-- meaning's private step, also where neither has one.
 abbrev pub PrivateStepIsStep : Type 0
 PrivateStepIsStep =
-    (program : Program) (setup : Setup) (F : StandsFor program setup) (p own : ℕ) (s : State) (before : List ℕ) (o : PrivateState)
-    → Invariant s → IsTold (operation_at program o.place) → PartOf (ground_of program setup F p own) s before o
-    → PartOf (ground_of program setup F p own) (meaning.private_step setup s p) before (private_step program (realtime (running_clock setup s)) o)
+    (program : Program) (setup : Setup) (F : StandsFor program setup) (p own : ℕ)
+    → (s : State) (before : List ℕ) (o : PrivateState)
+    → let G = ground_of program setup F p own in
+    Invariant s → IsTold (operation_at program o.place) → PartOf G s before o
+    → PartOf G (meaning.private_step setup s p) before (private_step program (realtime (running_clock setup s)) o)
 
 -- It tells of all operations of a program.
 abbrev pub AllTold : Program → Type 0
@@ -51,6 +53,9 @@ AllTold program = (place : ℕ) → IsTold (operation_at program place)
 -- The same of a turn: of so many steps, which ends early where the next step isn't private.
 abbrev pub PrivateTurnIsTurn : Type 0
 PrivateTurnIsTurn =
-    (program : Program) (setup : Setup) (F : StandsFor program setup) (p own n : ℕ) (s : State) (before : List ℕ) (o : PrivateState)
-    → Invariant s → AllTold program → PartOf (ground_of program setup F p own) s before o
-    → PartOf (ground_of program setup F p own) (meaning.private_turn setup n s p) before (private_steps program (realtime (running_clock setup s)) n o)
+    (program : Program) (setup : Setup) (F : StandsFor program setup) (p own n : ℕ)
+    → (s : State) (before : List ℕ) (o : PrivateState)
+    → let G = ground_of program setup F p own in
+    Invariant s → AllTold program → PartOf G s before o
+    → PartOf G (meaning.private_turn setup n s p) before
+    (private_steps program (realtime (running_clock setup s)) n o)
