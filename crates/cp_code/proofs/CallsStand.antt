@@ -1,5 +1,5 @@
 -- A call that is compiled calls what is meant, and its target is the component that is named.
-use Rattle.std.proofs.Common.{◌≡◌, ℕ, List, [], ◌∷◌, ◌++◌, if◌then◌else◌, Option, Some, None, refl, ap, sym, ◌∙◌, Bool, true, false, bytes_eq}
+use Rattle.std.proofs.Common.{◌≡◌, ℕ, List, [], ◌∷◌, ◌++◌, if◌then◌else◌, Option, Some, None, refl, ap, sym, subst, ◌∙◌, Bool, true, false, not, filter, bytes_eq}
 use Rattle.std.specs.Option.{option_or}
 use Rattle.cp_model.specs.Abstract as a
 use Rattle.cp_model.specs.Abstract.{Name, Routine, Sort, System}
@@ -14,12 +14,12 @@ use Rattle.cp_typing.specs.Judgement.{IsFunction, MayBeCalled}
 use Rattle.cp_typing.specs.StaticTypes.{answer_type}
 use Rattle.cp_code.specs.Terms.{Argument}
 use Rattle.cp_code.specs.Programs.{CodeUnit, Program}
-use Rattle.cp_code.specs.Sites.{Answers, Calls, RoutineOf, Site, TargetFor, TargetOf, UnitText, system_of_callee}
-use Rattle.cp_code.specs.Layout.{member, right, rights}
+use Rattle.cp_code.specs.Sites.{Answers, Calls, RightTo, RoutineOf, Site, TargetFor, TargetOf, UnitText, system_of_callee}
+use Rattle.cp_code.specs.Layout.{member, rights}
 use Rattle.cp_code.specs.Scopes.{Scope, environment, part_start, right_start, target_by, target_of, unit_of}
-use Rattle.cp_code.proofs.Found.{kept_found, right_found, variable_is_member}
+use Rattle.cp_code.proofs.Found.{kept_found, kept_none, not_a_member, right_found, variable_is_member}
 use Rattle.cp_typing.specs.Declared.{Distinct}
-use Rattle.cp_typing.proofs.Names.{bytes_same, lookup_later}
+use Rattle.cp_typing.proofs.Names.{bytes_same, lookup_first, lookup_later}
 use Rattle.cp_code.specs.CodedTerms.{call_of}
 use Rattle.cp_code.proofs.Environments.{environment_at}
 use Rattle.cp_code.proofs.Standing.{CallFits, Standing, UnitThere, place_at}
@@ -120,19 +120,68 @@ distinct_apart x (w ∷ vs) ws v d h = go (bytes_eq x w.0) refl (distinct_apart 
     go false is rest = rest
     go true is rest = absurd (cc (lookup_later x vs ws rest, h, ap (λ z. lookup z (vs ++ ws)) (bytes_same x w.0 is), d.0))
 
+distinct_first : (vs ws : List (Name × Variable)) → Distinct (vs ++ ws) → Distinct vs
+distinct_first [] ws d = tt
+distinct_first (w ∷ vs) ws d = (go (lookup w.0 vs) refl, distinct_first vs ws d.1)
+  where
+    go : (o : Option Variable) → lookup w.0 vs ≡ o → lookup w.0 vs ≡ None
+    go None e = e
+    go (Some v) e = absurd (cc (lookup_first w.0 vs ws v e, d.0))
+
+-- what is found in the first is not in the second
+distinct_later : (x : Name) (vs ws : List (Name × Variable)) (v : Variable) → Distinct (vs ++ ws) → lookup x vs ≡ Some v → lookup x ws ≡ None
+distinct_later x vs ws v d h = go (lookup x ws) refl
+  where
+    go : (o : Option Variable) → lookup x ws ≡ o → lookup x ws ≡ None
+    go None e = e
+    go (Some w) e = absurd (cc (distinct_apart x vs ws w d e, h))
+
+-- a variable that is dropped is found no more
+dropped : (x : Name) (keep : Name × Variable → Bool) (vs : List (Name × Variable)) (v : Variable) → Distinct vs → lookup x vs ≡ Some v → ((y : Name) → keep (y, v) ≡ false)
+    → lookup x (filter keep vs) ≡ None
+dropped x keep [] v d h k = absurd (cc)
+dropped x keep (w ∷ vs) v d h k = go (bytes_eq x w.0) refl (keep w) refl (λ g. dropped x keep vs v d.1 g k)
+  where
+    here : bytes_eq x w.0 ≡ true → w.1 ≡ v
+    here e = ap (λ o. elim o [ None ↦ v | Some z ↦ z ]) (sym (ap (λ b. if b then Some w.1 else lookup x vs) e) ∙ h)
+
+    after : bytes_eq x w.0 ≡ false → lookup x vs ≡ Some v
+    after e = sym (ap (λ b. if b then Some w.1 else lookup x vs) e) ∙ h
+
+    go : (b : Bool) → bytes_eq x w.0 ≡ b → (c : Bool) → keep w ≡ c → (lookup x vs ≡ Some v → lookup x (filter keep vs) ≡ None)
+        → lookup x (if c then w ∷ filter keep vs else filter keep vs) ≡ None
+    go true e true f rest = absurd (cc (f, ap (λ z. keep (w.0, z)) (here e), k w.0))
+    go true e false f rest = kept_none x keep vs (ap (λ z. lookup z vs) (bytes_same x w.0 e) ∙ d.0)
+    go false e true f rest = ap (λ b. if b then Some w.1 else lookup x (filter keep vs)) e ∙ rest (after e)
+    go false e false f rest = rest (after e)
+
 module _ (scope : Scope) (at : Location) (o : Owner) (distinct : Distinct (permanent_variables scope.globals scope.system))
     (reported : (x : Name) (v : Variable) (r : System) (inner : Members) → lookup x (declarations scope.globals scope.system.variables) ≡ Some v
     → v.type ≡ ComponentOf r inner → inner ≡ reported_members scope.globals r) where
   abbrev here : Environment
   here = environment_at scope at o
 
-  -- a right lies where the rights of its component lie
+  -- a right lies where the rights of its component lie, and hides no member
   right_there : (x : Name) (n : Component) (k : IsNamed here x n) → n.is_parameter ≡ true
-      → (m : ℕ) × (right scope.globals scope.system n.name ≡ Some (m, k.variable))
+      → (m : ℕ) × RightTo here n m
   right_there x n k is =
+      let found : lookup n.name (declarations scope.globals scope.system.parameters) ≡ Some k.variable =
+      ap (λ z. lookup z (declarations scope.globals scope.system.parameters)) k.name ∙ k.parameter is in
+      let m =
       right_found scope.globals n.name 1 (rights scope.globals scope.system) k.variable
-      (kept_found n.name (λ v. is_component v.1.type) (declarations scope.globals scope.system.parameters) k.variable
-      (ap (λ z. lookup z (declarations scope.globals scope.system.parameters)) k.name ∙ k.parameter is) (λ y. ap is_component k.type))
+      (kept_found n.name (λ v. is_component v.1.type) (declarations scope.globals scope.system.parameters) k.variable found (λ y. ap is_component k.type)) in (
+        m.0,
+        record {
+          variable = k.variable;
+          lies = m.1;
+          inner = k.inner;
+          type = k.type;
+          no_member = not_a_member scope.globals scope.system n.name
+              (dropped n.name (λ v. not (is_component v.1.type)) (declarations scope.globals scope.system.parameters) k.variable
+              (distinct_first (declarations scope.globals scope.system.parameters) (declarations scope.globals scope.system.variables) distinct) found (λ y. ap (λ t. not (is_component t)) k.type))
+              (distinct_later n.name (declarations scope.globals scope.system.parameters) (declarations scope.globals scope.system.variables) k.variable distinct found);
+        },
+      )
 
   class_there : (x : Name) (n : Component) (k : IsNamed here x n) → n.is_parameter ≡ false
       → (m : ℕ) × (member scope.globals scope.system n.name ≡ Some (m, ComponentOf n.system (reported_members scope.globals n.system)))
@@ -149,10 +198,10 @@ module _ (scope : Scope) (at : Location) (o : Owner) (distinct : Distinct (perma
       let m = class_there x n k is in
       m.1 ∙ ap (λ z. Some (z, ComponentOf n.system (reported_members scope.globals n.system))) (sym (ap part_start m.1))
   target_as x n k a.Class sort some true is =
-      let m = right_there x n k is in (k.variable, m.1 ∙ ap (λ z. Some (z, k.variable)) (sym (ap right_start m.1)))
+      let m = right_there x n k is in subst (RightTo here n) (sym (ap right_start m.1.lies)) m.1
   target_as x n k a.Monitor sort some false is = refl
   target_as x n k a.Monitor sort some true is =
-      let m = right_there x n k is in (k.variable, m.1 ∙ ap (λ z. Some (z, k.variable)) (sym (ap right_start m.1)))
+      let m = right_there x n k is in subst (RightTo here n) (sym (ap right_start m.1.lies)) m.1
   target_as x n k a.Process sort some b is = absurd (some refl)
 
   pub named_target : (x : Name) (n : Component) → component_named here x ≡ Some n → (n.system.sort ≡ a.Process → ⊥)

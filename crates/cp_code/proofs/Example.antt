@@ -52,7 +52,7 @@ type_of s = ComponentOf s (reported_members g s)
 
 get_code : (at : Location) (o : Owner) → CodeFor (site_of program texts (unit_at program 0) (RoutineOf c get) (routine_environment g c get at o)) nothing_known get.body 2 0 0
 get_code at o =
-    (1, (2, op.Set (Rooted (Member 1)) (negsuc 32767) (pos 32767) (Binary a.Add (Item (Rooted (Member 1))) (Item (Rooted (Local 1)))) 1, refl, (Integer, Integer, pos 0, 2, 0, refl, le 0 _ refl, le 0 _ refl, (refl, record { variable = one (int); means = refl; lies = refl; reference = refl; type = refl }), (Integer, Integer, 2, 0, refl, refl, le 0 _ refl, le 0 _ refl, (negsuc 32767, pos 32767, pos 0, refl, refl, (refl, record { variable = one (int); means = refl; lies = refl; reference = refl; type = refl })), (negsuc 32767, pos 32767, pos 0, refl, refl, (refl, record { frame = record { owner = o; routine = get }; runs = refl; variable = one (int); means = refl; lies = refl; reference = refl; type = refl }))))), (0, (1, op.SetResult (negsuc 32767) (pos 32767) (Item (Rooted (Member 1))) 0, refl, (Integer, refl, record { frame = record { owner = o; routine = get }; runs = refl; is_name = refl; variable = one int; means = refl; reference = refl; base = Integer; start = pos 0; type = refl; function = (codes "integer", refl); no_local = refl }, (negsuc 32767, pos 32767, pos 0, refl, refl, (refl, record { variable = one (int); means = refl; lies = refl; reference = refl; type = refl })))), refl))
+    (1, (2, op.Set (Rooted (Member 1)) (negsuc 32767) (pos 32767) (Binary a.Add (Item (Rooted (Member 1))) (Item (Rooted (Local 1)))) 1, refl, (Integer, Integer, pos 0, 2, 0, refl, le 0 _ refl, le 0 _ refl, (refl, record { variable = one (int); means = refl; lies = refl; reference = refl; type = refl }), (Integer, Integer, 2, 0, refl, refl, le 0 _ refl, le 0 _ refl, (negsuc 32767, pos 32767, pos 0, refl, refl, (refl, record { variable = one (int); means = refl; lies = refl; reference = refl; type = refl })), (negsuc 32767, pos 32767, pos 0, refl, refl, (refl, record { frame = record { owner = o; routine = get }; runs = refl; variable = one (int); means = refl; lies = refl; reference = refl; type = refl }))))), (0, (1, op.SetResult (negsuc 32767) (pos 32767) (Item (Rooted (Member 1))) 0, refl, (Integer, refl, record { frame = record { owner = o; routine = get }; runs = refl; is_name = refl; variable = one int; means = refl; reference = refl; base = Integer; start = pos 0; type = refl; function = (codes "integer", refl); named = refl; no_local = refl }, (negsuc 32767, pos 32767, pos 0, refl, refl, (refl, record { variable = one (int); means = refl; lies = refl; reference = refl; type = refl })))), refl))
 
 c_code : (at : Location) → CodeFor (site_of program texts (unit_at program 1) (BodyOf c) (body_environment g c at)) nothing_known c.body 4 3 0
 c_code at =
@@ -60,7 +60,7 @@ c_code at =
 
 go_code : (at : Location) (o : Owner) → CodeFor (site_of program texts (unit_at program 2) (RoutineOf b go) (routine_environment g b go at o)) nothing_known go.body 7 5 0
 go_code at o =
-    (5, (6, op.Set (Rooted (Through 0 0)) (negsuc 32767) (pos 32767) (Binary a.Add (Made 0) (Number (pos 2))) 5, refl, (Integer, Integer, pos 0, 7, 0, refl, le 0 _ refl, le 0 1 refl, (refl, (refl, record { frame = record { owner = o; routine = go }; runs = refl; variable = lent (int); means = refl; lies = refl; reference = refl; type = refl })), (Integer, Integer, 6, 1, refl, refl, le 0 1 refl, le 1 1 refl, (record { routine = get; of = Some (record { name = codes "a"; system = c; is_parameter = true }) }, record { routine = 0; target = target.ClassRight 1; arguments = Value 1 (negsuc 32767) (pos 32767) (Item (Rooted (Through 0 0))) ∷ []; words = 1; temps = 0 }, 7, 0, refl, record { means = refl; target = (one (type_of c), refl); runs = record { text = refl; unit = unit_at program 0; there = refl; fits = record { words = le _ _ refl; temps = le _ _ refl; frames = le _ _ refl }; words = refl; temps = refl } }, (Integer, pos 0, 7, 0, refl, refl, refl, le 0 _ refl, le 0 _ refl, (negsuc 32767, pos 32767, pos 0, refl, refl, (refl, (refl, record { frame = record { owner = o; routine = go }; runs = refl; variable = lent (int); means = refl; lies = refl; reference = refl; type = refl }))), refl), (codes "integer", refl, refl), le 0 _ refl, le 0 _ refl, le 1 1 refl), (refl, refl, refl)))), refl)
+    (5, (6, op.Set (Rooted (Through 0 0)) (negsuc 32767) (pos 32767) (Binary a.Add (Made 0) (Number (pos 2))) 5, refl, (Integer, Integer, pos 0, 7, 0, refl, le 0 _ refl, le 0 1 refl, (refl, (refl, record { frame = record { owner = o; routine = go }; runs = refl; variable = lent (int); means = refl; lies = refl; reference = refl; type = refl })), (Integer, Integer, 6, 1, refl, refl, le 0 1 refl, le 1 1 refl, (record { routine = get; of = Some (record { name = codes "a"; system = c; is_parameter = true }) }, record { routine = 0; target = target.ClassRight 1; arguments = Value 1 (negsuc 32767) (pos 32767) (Item (Rooted (Through 0 0))) ∷ []; words = 1; temps = 0 }, 7, 0, refl, record { means = refl; target = record { variable = one (type_of c); lies = refl; inner = reported_members g c; type = refl; no_member = refl }; runs = record { text = refl; unit = unit_at program 0; there = refl; fits = record { words = le _ _ refl; temps = le _ _ refl; frames = le _ _ refl }; words = refl; temps = refl } }, (Integer, pos 0, 7, 0, refl, refl, refl, le 0 _ refl, le 0 _ refl, (negsuc 32767, pos 32767, pos 0, refl, refl, (refl, (refl, record { frame = record { owner = o; routine = go }; runs = refl; variable = lent (int); means = refl; lies = refl; reference = refl; type = refl }))), refl), (codes "integer", refl, refl), le 0 _ refl, le 0 _ refl, le 1 1 refl), (refl, refl, refl)))), refl)
 
 b_code : (at : Location) → CodeFor (site_of program texts (unit_at program 3) (BodyOf b) (body_environment g b at)) nothing_known b.body 8 8 0
 b_code at =
@@ -72,7 +72,7 @@ run_code at o =
 
 d_code : (at : Location) → CodeFor (site_of program texts (unit_at program 5) (BodyOf d) (body_environment g d at)) nothing_known d.body 12 11 0
 d_code at =
-    (11, (11, (12, op.InitClass (record { routine = 3; target = target.Class 2; arguments = Right 1 (target.ClassRight 1) ∷ []; words = 0; temps = 0 }) 11, record { name = codes "k"; system = b; is_parameter = false }, refl, refl, (refl, refl, record { own = refl; target = refl; runs = record { text = refl; unit = unit_at program 3; there = refl; fits = record { words = le _ _ refl; temps = le _ _ refl; frames = le _ _ refl }; words = refl; temps = refl }; room = le _ _ refl }, (record { name = codes "a"; system = c; is_parameter = true }, reported_members g c, one (type_of c), refl, refl, refl, (one (type_of c), refl), refl, refl))), refl), refl)
+    (11, (11, (12, op.InitClass (record { routine = 3; target = target.Class 2; arguments = Right 1 (target.ClassRight 1) ∷ []; words = 0; temps = 0 }) 11, record { name = codes "k"; system = b; is_parameter = false }, refl, refl, (refl, refl, record { own = refl; target = refl; runs = record { text = refl; unit = unit_at program 3; there = refl; fits = record { words = le _ _ refl; temps = le _ _ refl; frames = le _ _ refl }; words = refl; temps = refl }; room = le _ _ refl }, (record { name = codes "a"; system = c; is_parameter = true }, reported_members g c, one (type_of c), refl, refl, refl, (record { variable = one (type_of c); lies = refl; inner = reported_members g c; type = refl; no_member = refl }), refl, refl))), refl), refl)
 
 add_code : (at : Location) (o : Owner) → CodeFor (site_of program texts (unit_at program 6) (RoutineOf m add) (routine_environment g m add at o)) nothing_known add.body 14 13 0
 add_code at o =
@@ -84,7 +84,7 @@ m_code at =
 
 p_code : (at : Location) → CodeFor (site_of program texts (unit_at program 8) (BodyOf p) (body_environment g p at)) nothing_known p.body 22 17 0
 p_code at =
-    (20, (21, (22, op.InitClass (record { routine = 1; target = target.Class 2; arguments = []; words = 0; temps = 0 }) 21, record { name = codes "s"; system = c; is_parameter = false }, refl, refl, (refl, refl, record { own = refl; target = refl; runs = record { text = refl; unit = unit_at program 1; there = refl; fits = record { words = le _ _ refl; temps = le _ _ refl; frames = le _ _ refl }; words = refl; temps = refl }; room = le _ _ refl }, refl)), (20, (21, op.InitClass (record { routine = 5; target = target.Class 4; arguments = Right 1 (target.Class 2) ∷ []; words = 0; temps = 0 }) 20, record { name = codes "u"; system = d; is_parameter = false }, refl, refl, (refl, refl, record { own = refl; target = refl; runs = record { text = refl; unit = unit_at program 5; there = refl; fits = record { words = le _ _ refl; temps = le _ _ refl; frames = le _ _ refl }; words = refl; temps = refl }; room = le _ _ refl }, (record { name = codes "s"; system = c; is_parameter = false }, reported_members g c, one (type_of c), refl, refl, refl, refl, refl, refl))), refl)), (19, (20, op.Set (Rooted (Member 8)) (negsuc 32767) (pos 32767) (Number (pos 3)) 19, refl, (Integer, Integer, pos 0, 20, 0, refl, le 0 _ refl, le 0 _ refl, (refl, record { variable = one (int); means = refl; lies = refl; reference = refl; type = refl }), (refl, refl, refl))), (18, (19, op.Procedure (record { routine = 4; target = target.Class 4; arguments = Reference 0 (Rooted (Member 8)) ∷ []; words = 0; temps = 0 }) 18, refl, (record { routine = run; of = Some (record { name = codes "u"; system = d; is_parameter = false }) }, 0, record { means = refl; target = refl; runs = record { text = refl; unit = unit_at program 4; there = refl; fits = record { words = le _ _ refl; temps = le _ _ refl; frames = le _ _ refl }; words = refl; temps = refl } }, refl, refl, le 0 _ refl, (19, 0, refl, refl, refl, le 0 _ refl, le 0 _ refl, (refl, record { variable = one (int); means = refl; lies = refl; reference = refl; type = refl }), refl))), (17, (18, op.Procedure (record { routine = 6; target = target.MonitorRight 1; arguments = Value 0 (negsuc 32767) (pos 32767) (Item (Rooted (Member 8))) ∷ []; words = 0; temps = 0 }) 17, refl, (record { routine = add; of = Some (record { name = codes "g"; system = m; is_parameter = true }) }, 0, record { means = refl; target = (one (type_of m), refl); runs = record { text = refl; unit = unit_at program 6; there = refl; fits = record { words = le _ _ refl; temps = le _ _ refl; frames = le _ _ refl }; words = refl; temps = refl } }, refl, refl, le 0 _ refl, (Integer, pos 0, 18, 0, refl, refl, refl, le 0 _ refl, le 0 _ refl, (negsuc 32767, pos 32767, pos 0, refl, refl, (refl, record { variable = one (int); means = refl; lies = refl; reference = refl; type = refl })), refl))), refl))))
+    (20, (21, (22, op.InitClass (record { routine = 1; target = target.Class 2; arguments = []; words = 0; temps = 0 }) 21, record { name = codes "s"; system = c; is_parameter = false }, refl, refl, (refl, refl, record { own = refl; target = refl; runs = record { text = refl; unit = unit_at program 1; there = refl; fits = record { words = le _ _ refl; temps = le _ _ refl; frames = le _ _ refl }; words = refl; temps = refl }; room = le _ _ refl }, refl)), (20, (21, op.InitClass (record { routine = 5; target = target.Class 4; arguments = Right 1 (target.Class 2) ∷ []; words = 0; temps = 0 }) 20, record { name = codes "u"; system = d; is_parameter = false }, refl, refl, (refl, refl, record { own = refl; target = refl; runs = record { text = refl; unit = unit_at program 5; there = refl; fits = record { words = le _ _ refl; temps = le _ _ refl; frames = le _ _ refl }; words = refl; temps = refl }; room = le _ _ refl }, (record { name = codes "s"; system = c; is_parameter = false }, reported_members g c, one (type_of c), refl, refl, refl, refl, refl, refl))), refl)), (19, (20, op.Set (Rooted (Member 8)) (negsuc 32767) (pos 32767) (Number (pos 3)) 19, refl, (Integer, Integer, pos 0, 20, 0, refl, le 0 _ refl, le 0 _ refl, (refl, record { variable = one (int); means = refl; lies = refl; reference = refl; type = refl }), (refl, refl, refl))), (18, (19, op.Procedure (record { routine = 4; target = target.Class 4; arguments = Reference 0 (Rooted (Member 8)) ∷ []; words = 0; temps = 0 }) 18, refl, (record { routine = run; of = Some (record { name = codes "u"; system = d; is_parameter = false }) }, 0, record { means = refl; target = refl; runs = record { text = refl; unit = unit_at program 4; there = refl; fits = record { words = le _ _ refl; temps = le _ _ refl; frames = le _ _ refl }; words = refl; temps = refl } }, refl, refl, le 0 _ refl, (19, 0, refl, refl, refl, le 0 _ refl, le 0 _ refl, (refl, record { variable = one (int); means = refl; lies = refl; reference = refl; type = refl }), refl))), (17, (18, op.Procedure (record { routine = 6; target = target.MonitorRight 1; arguments = Value 0 (negsuc 32767) (pos 32767) (Item (Rooted (Member 8))) ∷ []; words = 0; temps = 0 }) 17, refl, (record { routine = add; of = Some (record { name = codes "g"; system = m; is_parameter = true }) }, 0, record { means = refl; target = record { variable = one (type_of m); lies = refl; inner = reported_members g m; type = refl; no_member = refl }; runs = record { text = refl; unit = unit_at program 6; there = refl; fits = record { words = le _ _ refl; temps = le _ _ refl; frames = le _ _ refl }; words = refl; temps = refl } }, refl, refl, le 0 _ refl, (Integer, pos 0, 18, 0, refl, refl, refl, le 0 _ refl, le 0 _ refl, (negsuc 32767, pos 32767, pos 0, refl, refl, (refl, record { variable = one (int); means = refl; lies = refl; reference = refl; type = refl })), refl))), refl))))
 
 initial_code : (at : Location) → CodeFor (site_of program texts (unit_at program 9) (BodyOf initial) (body_environment g initial at)) nothing_known initial.body 25 23 0
 initial_code at =
@@ -133,14 +133,14 @@ stands n x u y t h hu ht =
 
 units_stand : (n : ℕ) (u : CodeUnit) (t : UnitText) → slice_get program.units n ≡ Some u → slice_get texts n ≡ Some t
     → UnitStands program texts g u t
-units_stand zero u t hu ht = stands 0 (unit_at program 0) u (RoutineOf c get) t (get_starts, le _ _ refl, λ at o. (0, refl, get_code at o)) hu ht
-units_stand (suc zero) u t hu ht = stands 1 (unit_at program 1) u (BodyOf c) t (refl, λ at. (3, refl, c_code at)) hu ht
-units_stand (suc (suc zero)) u t hu ht = stands 2 (unit_at program 2) u (RoutineOf b go) t (no_starts go (unit_at program 2) refl refl refl, le _ _ refl, λ at o. (5, refl, go_code at o)) hu ht
-units_stand (suc (suc (suc zero))) u t hu ht = stands 3 (unit_at program 3) u (BodyOf b) t (refl, λ at. (8, refl, b_code at)) hu ht
-units_stand (suc (suc (suc (suc zero)))) u t hu ht = stands 4 (unit_at program 4) u (RoutineOf d run) t (no_starts run (unit_at program 4) refl refl refl, le _ _ refl, λ at o. (9, refl, run_code at o)) hu ht
-units_stand (suc (suc (suc (suc (suc zero))))) u t hu ht = stands 5 (unit_at program 5) u (BodyOf d) t (refl, λ at. (11, refl, d_code at)) hu ht
-units_stand (suc (suc (suc (suc (suc (suc zero)))))) u t hu ht = stands 6 (unit_at program 6) u (RoutineOf m add) t (no_starts add (unit_at program 6) refl refl refl, le _ _ refl, λ at o. (13, refl, add_code at o)) hu ht
-units_stand (suc (suc (suc (suc (suc (suc (suc zero))))))) u t hu ht = stands 7 (unit_at program 7) u (BodyOf m) t (refl, λ at. (15, refl, m_code at)) hu ht
-units_stand (suc (suc (suc (suc (suc (suc (suc (suc zero)))))))) u t hu ht = stands 8 (unit_at program 8) u (BodyOf p) t (refl, λ at. (17, refl, p_code at)) hu ht
-units_stand (suc (suc (suc (suc (suc (suc (suc (suc (suc zero))))))))) u t hu ht = stands 9 (unit_at program 9) u (BodyOf initial) t (refl, λ at. (23, refl, initial_code at)) hu ht
+units_stand zero u t hu ht = stands 0 (unit_at program 0) u (RoutineOf c get) t (get_starts, le _ _ refl, (refl, (refl, (refl, tt))), tt, λ at o. (0, refl, get_code at o)) hu ht
+units_stand (suc zero) u t hu ht = stands 1 (unit_at program 1) u (BodyOf c) t (refl, (refl, tt), λ at. (3, refl, c_code at)) hu ht
+units_stand (suc (suc zero)) u t hu ht = stands 2 (unit_at program 2) u (RoutineOf b go) t (no_starts go (unit_at program 2) refl refl refl, le _ _ refl, (refl, (refl, tt)), tt, λ at o. (5, refl, go_code at o)) hu ht
+units_stand (suc (suc (suc zero))) u t hu ht = stands 3 (unit_at program 3) u (BodyOf b) t (refl, (refl, tt), λ at. (8, refl, b_code at)) hu ht
+units_stand (suc (suc (suc (suc zero)))) u t hu ht = stands 4 (unit_at program 4) u (RoutineOf d run) t (no_starts run (unit_at program 4) refl refl refl, le _ _ refl, (refl, (refl, (refl, tt))), tt, λ at o. (9, refl, run_code at o)) hu ht
+units_stand (suc (suc (suc (suc (suc zero))))) u t hu ht = stands 5 (unit_at program 5) u (BodyOf d) t (refl, (refl, (refl, tt)), λ at. (11, refl, d_code at)) hu ht
+units_stand (suc (suc (suc (suc (suc (suc zero)))))) u t hu ht = stands 6 (unit_at program 6) u (RoutineOf m add) t (no_starts add (unit_at program 6) refl refl refl, le _ _ refl, (refl, (refl, tt)), tt, λ at o. (13, refl, add_code at o)) hu ht
+units_stand (suc (suc (suc (suc (suc (suc (suc zero))))))) u t hu ht = stands 7 (unit_at program 7) u (BodyOf m) t (refl, (refl, tt), λ at. (15, refl, m_code at)) hu ht
+units_stand (suc (suc (suc (suc (suc (suc (suc (suc zero)))))))) u t hu ht = stands 8 (unit_at program 8) u (BodyOf p) t (refl, (refl, (refl, (refl, (refl, tt)))), λ at. (17, refl, p_code at)) hu ht
+units_stand (suc (suc (suc (suc (suc (suc (suc (suc (suc zero))))))))) u t hu ht = stands 9 (unit_at program 9) u (BodyOf initial) t (refl, (refl, (refl, tt)), λ at. (23, refl, initial_code at)) hu ht
 units_stand (suc (suc (suc (suc (suc (suc (suc (suc (suc (suc n)))))))))) u t hu ht = absurd (nothing_there u hu)

@@ -159,6 +159,12 @@ module _ (g : GlobalScope) (s : System) (x : Name) where
           let same : Some w ≡ Some v = sym (lookup_first x (declarations g s.parameters) (declarations g s.variables) w e) ∙ found in
           parameter_is_member v (e ∙ same) is_data
 
+  -- neither among its own parameters nor among its variables
+  pub not_a_member : lookup x (filter is_own (declarations g s.parameters)) ≡ None → lookup x (declarations g s.variables) ≡ None → member g s x ≡ None
+  not_a_member no_parameter no_variable =
+      of_own ∙ member_none g x (head_words g s) own
+      (lookup_later x (filter is_own (declarations g s.parameters)) (declarations g s.variables) no_parameter ∙ no_variable)
+
   pub no_member : lookup x (permanent_variables g s) ≡ None → member g s x ≡ None
   no_member none = go (lookup x (declarations g s.parameters)) refl
     where

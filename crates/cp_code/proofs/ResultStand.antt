@@ -61,6 +61,7 @@ module _ (scope : Scope) (at : Location) (o : Owner) (x : Name) where
           base = base_of_type (named_type scope.globals t);
           start = k.0;
           function = (t, of);
+          named = subst (λ z. named_type scope.globals t ≡ Simple (base_of_type (named_type scope.globals t)) (low_of z) (high_of z) k.0) (sym type) k.1;
           no_local = subst (λ y. local scope.globals r y ≡ None) is (local_none scope.globals x (result_words r.result) (locals scope.globals r) none);
           type = subst (λ z. named_type scope.globals t ≡ Simple (base_of_type (named_type scope.globals t)) (low_of z) (high_of z) k.0) (sym type) k.1;
         };

@@ -194,6 +194,8 @@ module _ (g : GlobalScope) (program : Program) (texts : List UnitText) where
             good = good_with c unit (RoutineOf s r) (c.operations ++ e.operations) so.good (ap (slice_get texts) so.count ∙ here.routines k r is) (
               routine_starts g s r typed.distinct (variables_by_value g (declarations g r.variables) typed.variables) e.entry need.words need.temps need.frames,
               words_needed c.units scope.words e.operations,
+              typed.distinct,
+              typed.variables,
               code,
             );
             grows = begins_on start.units c.units (c.units ++ unit ∷ []) so.grows (record { rest = unit ∷ []; is = refl });
@@ -242,7 +244,7 @@ module _ (g : GlobalScope) (program : Program) (texts : List UnitText) where
           [] (end_of s.sort) s.body at
           (all_there scope c.units unit c.operations e.operations within.operations) (λ l o. known.bodies.body l) in
           record {
-            good = good_with c unit (BodyOf s) (c.operations ++ e.operations) so.good (ap (slice_get texts) so.count ∙ here.body) (refl, λ l. code l (OfProcess 0));
+            good = good_with c unit (BodyOf s) (c.operations ++ e.operations) so.good (ap (slice_get texts) so.count ∙ here.body) (refl, known.bodies.distinct, λ l. code l (OfProcess 0));
             grows = begins_on start.units c.units (c.units ++ unit ∷ []) so.grows (record { rest = unit ∷ []; is = refl });
             count = length-append c.units (unit ∷ []) ∙ omega (arith, so.count);
           }

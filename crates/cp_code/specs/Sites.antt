@@ -2,7 +2,7 @@
 use Rattle.std.specs.Prelude.{◌≡◌, ◌≤◌, ℕ, ◌+◌, Bool, true, false, List, [], ◌∷◌, Option, Some, None, slice_get}
 use Rattle.cp_model.specs.Abstract as a
 use Rattle.cp_model.specs.Abstract.{BaseType, Name, Process, Routine, Sort, System}
-use Rattle.cp_model.specs.Types.{ComponentOf, ResolvedType, base_of_type, named_type}
+use Rattle.cp_model.specs.Types.{ComponentOf, Members, ResolvedType, base_of_type, named_type}
 use Rattle.cp_model.specs.Declarations.{Variable, declarations, reported_members}
 use Rattle.cp_model.specs.Environments.{Environment, Frame, IsVariable, meaning}
 use Rattle.cp_model.specs.Locations.{ByName, Location, under}
@@ -67,13 +67,21 @@ IsNoClock _ = Unit {0}
 
 -- ---- Targets
 
+-- A parameter of the running component is a right to a component of this type, and no member has its name.
+pub record RightTo (env : Environment) (n : Component) (at : ℕ) : Type 0 where
+  pub variable : Variable
+  pub lies : right env.globals env.system n.name ≡ Some (at, variable)
+  pub inner : Members
+  pub type : variable.type ≡ ComponentOf n.system inner
+  pub no_member : member env.globals env.system n.name ≡ None
+
 -- A component that is named is a variable of the running one, or one to which that has a right.
 abbrev pub TargetOf : Environment → Component → Sort → Bool → Target → Type 0
 TargetOf env n a.Class false (target.Class at) =
     member env.globals env.system n.name ≡ Some (at, ComponentOf n.system (reported_members env.globals n.system))
-TargetOf env n a.Class true (target.ClassRight at) = (v : Variable) × (right env.globals env.system n.name ≡ Some (at, v))
+TargetOf env n a.Class true (target.ClassRight at) = RightTo env n at
 TargetOf env n a.Monitor false (target.Monitor m) = declared_monitor env n ≡ m
-TargetOf env n a.Monitor true (target.MonitorRight at) = (v : Variable) × (right env.globals env.system n.name ≡ Some (at, v))
+TargetOf env n a.Monitor true (target.MonitorRight at) = RightTo env n at
 TargetOf env n _ _ _ = ⊥
 
 abbrev pub TargetFor : Environment → Option Component → Target → Type 0

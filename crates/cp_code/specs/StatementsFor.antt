@@ -6,7 +6,7 @@ use Rattle.std.specs.Prelude.{◌≡◌, ◌≤◌, ℕ, ◌+◌, suc, ℤ, Bool
 use Rattle.std.specs.Str.{bytes_eq}
 use Rattle.cp_model.specs.Abstract as a
 use Rattle.cp_model.specs.Abstract.{BaseType, Char, Class, Monitor, Name, Process, System}
-use Rattle.cp_model.specs.Types.{ArrayOf, ComponentOf, Members, MoreMembers, NoMembers, NoType, Queue, RecordOf, ResolvedType, Simple}
+use Rattle.cp_model.specs.Types.{ArrayOf, ComponentOf, Members, MoreMembers, NoMembers, NoType, Queue, RecordOf, ResolvedType, Simple, named_type}
 use Rattle.cp_model.specs.Declarations.{Variable, declarations}
 use Rattle.cp_model.specs.Environments.{Environment, Frame, IsVariable, meaning}
 use Rattle.cp_model.specs.Components.{Component, component_named, process_number}
@@ -52,6 +52,7 @@ pub record NamesResult (env : Environment) (x : Name) (low high : ℤ) : Type 0 
   pub start : ℤ
   pub type : variable.type ≡ Simple base low high start
   pub function : (t : Name) × (frame.routine.result ≡ Some t)
+  pub named : named_type env.globals function.0 ≡ Simple base low high start
   pub no_local : local env.globals frame.routine frame.routine.name ≡ None
 
 abbrev pub AssignsBy : Site → Knowns → a.Designator → a.Expression → Operation → ℕ → ℕ → ℕ → ℕ → Type 0

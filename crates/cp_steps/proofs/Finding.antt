@@ -1,5 +1,5 @@
 -- Look-ups, and calls that are found.
-use Rattle.std.proofs.Common.{◌≡◌, ℕ, ◌+◌, [], ◌∷◌, ◌++◌, Bool, true, false, Option, Some, None, refl, ap, sym, subst, ◌∙◌}
+use Rattle.std.proofs.Common.{◌≡◌, ℕ, ◌+◌, List, [], ◌∷◌, ◌++◌, Bool, true, false, Option, Some, None, refl, ap, sym, subst, ◌∙◌}
 use Rattle.std.specs.Prelude.{if◌then◌else◌}
 use Rattle.cp_model.specs.Abstract as a
 use Rattle.cp_model.specs.Abstract.{Name}
@@ -18,6 +18,13 @@ some_is_not_none {A = A} x h = subst (is_some {A = A}) h tt
     is_some : {A : Type 0} → Option A → Type 0
     is_some (Some y) = Unit {0}
     is_some None = ⊥
+
+pub cons_is_not_nil : {A : Type 0} (x : A) (xs : List A) → x ∷ xs ≡ [] → ⊥
+cons_is_not_nil {A = A} x xs h = subst (is_cons {A = A}) h tt
+  where
+    is_cons : {A : Type 0} → List A → Type 0
+    is_cons (x ∷ xs) = Unit {0}
+    is_cons [] = ⊥
 
 pub or_else_none : {A : Type 0} (x y : Found A) → or_else x y ≡ None → (x ≡ None) × (y ≡ None)
 or_else_none None y h = (refl, h)

@@ -2,20 +2,20 @@
 use Rattle.std.proofs.Common.{◌≡◌, ◌≢◌, ◌⊎◌, inl, inr, ℕ, suc, ◌+◌, ◌≤◌, ◌<◌, ℤ, List, [], ◌∷◌, length, Bool, true, false, Option, Some, None, refl, ap, sym, subst, ◌∙◌, arith}
 use Rattle.std.specs.Prelude.{if◌then◌else◌, nat_eq, slice_set}
 use Rattle.std.proofs.lemmas.Bool.{eq-eqb}
-use Rattle.cp_model.specs.Abstract.{BaseType, Name, System}
+use Rattle.cp_model.specs.Abstract.{Name, System}
 use Rattle.cp_model.specs.Declarations as declared
 use Rattle.cp_model.specs.Declarations.{reported_members}
 use Rattle.cp_model.specs.Locations.{ByIndex, ByName, Location, OfActivation, OfMonitor, OfProcess, Owner, Path, same_location, under}
 use Rattle.cp_model.specs.Parts.{is_own}
-use Rattle.cp_model.specs.Stores.{Ordinal, Store, Value, put}
-use Rattle.cp_model.specs.Types.{ComponentOf, ResolvedType, Simple}
+use Rattle.cp_model.specs.Stores.{Store, Value, put}
+use Rattle.cp_model.specs.Types.{ComponentOf, ResolvedType}
 use Rattle.cp_code.specs.Layout.{Part, activation_words, component_words, farther, local, part}
 use Rattle.cp_code.specs.Starts.{word}
 use Rattle.cp_steps.specs.Means.{CellMeans}
 use Rattle.cp_steps.specs.Addresses.{Activation, ClassLies, ComponentLies, Ground, MonitorLies, ProcessLies, activation_at, lies, part_at, part_of_activation, part_of_local, scope}
 use Rattle.cp_steps.specs.PartOf.{DataMeans}
 use Rattle.cp_code.specs.StandsFor.{system_of_process}
-use Rattle.cp_steps.proofs.Apart.{InHead, cell_head}
+use Rattle.cp_steps.proofs.Apart.{InHead, IsCell, cell_head}
 use Rattle.cp_steps.proofs.Finding.{some_is_not_none}
 use Rattle.cp_steps.proofs.Heres.{found_below, lies_any}
 use Rattle.cp_steps.proofs.Keeping.{KeepsActivation, KeepsData, depth_of, local_named, right_kept, right_no_variable, right_place}
@@ -69,7 +69,7 @@ module _ (G : Ground) (xs : List Activation) (top : ℕ) (stack : Stacked G top 
   }
     where
       by : (at : Location) (s : System) (n m : ℕ) → is_own G.p at.owner ≡ true
-          → OwnRight G (n + m) ⊎ ((lies G xs at ≡ Some (n, ComponentOf s (reported_members (scope G) s))) × InHead (scope G) (ComponentOf s (reported_members (scope G) s)) m)
+          → OwnRight G (n + m) ⊎ ((lies G xs at ≡ Some (n, ComponentOf s (reported_members (scope G) s))) × InHead (scope G) (ComponentOf s (reported_members (scope G) s)) m × (1 ≤ m))
           → n + m < top
       by at s n m mine (inl r) = omega (arith, r.2, bottom_below G xs top stack top xs stack r.0 r.1)
       by at s n m mine (inr r) = cell_below G xs top stack at n _ m mine r.1 r.0
@@ -87,11 +87,7 @@ module _ (G : Ground) (xs : List Activation) (top : ℕ) (stack : Stacked G top 
       there_live : (f : ℕ) → OfActivation G.p d ≡ OfActivation G.p f → f < length xs
       there_live f e = let s : d ≡ f = ap (depth_of 0) e in omega (arith, s, found_below d xs z there)
 
--- ---- a simple variable
-
-abbrev is_simple : ResolvedType → Type 0
-is_simple (Simple b low high start) = Unit {0}
-is_simple _ = ⊥
+-- ---- a variable of one word
 
 pub put_apart : (l k : Location) (v : Value) (store : Store) → (l ≡ k → ⊥) → put l v store k ≡ store k
 put_apart l k v store d = by (same_location l k) refl
@@ -115,38 +111,39 @@ result_no_variable G xs d z x there is =
     ∙ (ap (λ o. part_of_activation (scope G) o x []) there
     ∙ ap (λ o. farther z.base (part_of_local (scope G) o [])) is)
 
-module _ (G : Ground) (xs : List Activation) (top : ℕ) (stack : Stacked G top xs) (store : Store) (words : List ℤ) (l : Location) (n : ℕ) (b : BaseType) (low high start m : ℤ)
-    (own : is_own G.p l.owner ≡ true) (is : lies G xs l ≡ Some (n, Simple b low high start)) where
+module _ (G : Ground) (xs : List Activation) (top : ℕ) (stack : Stacked G top xs) (store : Store) (words : List ℤ) (l : Location) (n : ℕ) (u : ResolvedType) (w : Value) (m : ℤ)
+    (cell : IsCell u) (means : CellMeans u w m) (own : is_own G.p l.owner ≡ true) (is : lies G xs l ≡ Some (n, u)) where
   not_there : (k : Location) → lies G xs k ≡ None → l ≡ k → ⊥
   not_there k none e = absurd (some_is_not_none _ (sym (ap (lies G xs) (sym e) ∙ is) ∙ none))
 
-  pub data_written : n < length words → DataMeans G xs (is_own G.p) store words → DataMeans G xs (is_own G.p) (put l (Ordinal m) store) (slice_set words n m)
+  pub data_written : n < length words → DataMeans G xs (is_own G.p) store words → DataMeans G xs (is_own G.p) (put l w store) (slice_set words n m)
   data_written room D = record {
-    cells = cell_written G xs top store words l n b low high start m stack D.cells own is room;
+    cells = cell_written G xs top store words l n u w m cell means stack D.cells own is room;
     rights = λ at s k i x v mine cl r none.
-        right_kept G store (put l (Ordinal m) store) words (slice_set words n m) xs at s k i x v (
-          put_apart l (under at (ByName x ∷ [])) (Ordinal m) store (not_there (under at (ByName x ∷ [])) (right_no_variable G xs at s k x mine cl none)),
+        right_kept G store (put l w store) words (slice_set words n m) xs at s k i x v (
+          put_apart l (under at (ByName x ∷ [])) w store (not_there (under at (ByName x ∷ [])) (right_no_variable G xs at s k x mine cl none)),
           changed_other words (k + i) n m (by at s k i mine (right_place G xs at s k i x v mine cl r)),
         )
         (D.rights at s k i x v mine cl r none);
   }
     where
       by : (at : Location) (s : System) (k i : ℕ) → is_own G.p at.owner ≡ true
-          → OwnRight G (k + i) ⊎ ((lies G xs at ≡ Some (k, ComponentOf s (reported_members (scope G) s))) × InHead (scope G) (ComponentOf s (reported_members (scope G) s)) i)
+          → OwnRight G (k + i) ⊎ ((lies G xs at ≡ Some (k, ComponentOf s (reported_members (scope G) s))) × InHead (scope G) (ComponentOf s (reported_members (scope G) s)) i × (1 ≤ i))
           → k + i ≢ n
-      by at s k i mine (inl r) e = cell_no_own_right G xs top stack l n (k + i) (Simple b low high start) 0 own refl is r (omega (arith, e))
+      by at s k i mine (inl r) e = cell_no_own_right G xs top stack l n (k + i) u 0 own (cell_head (scope G) u cell) is r (omega (arith, e))
       by at s k i mine (inr r) e =
-          let same : l ≡ at = separate G xs top stack l at n k (Simple b low high start) (ComponentOf s (reported_members (scope G) s)) 0 i own mine refl r.1 is r.0 (omega (arith, e)) in
-          subst is_simple (ap (λ z. z.1) (same_some {A = Part} (n, Simple b low high start) (k, ComponentOf s (reported_members (scope G) s)) (sym is ∙ (ap (lies G xs) same ∙ r.0)))) tt
+          let same : l ≡ at = separate G xs top stack l at n k u (ComponentOf s (reported_members (scope G) s)) 0 i own mine (cell_head (scope G) u cell) r.1 is r.0 (omega (arith, e)) in
+          let here : n ≡ k = ap (λ z. z.0) (same_some {A = Part} (n, u) (k, ComponentOf s (reported_members (scope G) s)) (sym is ∙ (ap (lies G xs) same ∙ r.0))) in
+          absurd (omega (arith, e, here, r.2))
 
-  pub activation_written : (d : ℕ) (z : Activation) → activation_at d xs ≡ Some z → KeepsActivation G store (put l (Ordinal m) store) words (slice_set words n m) d z
+  pub activation_written : (d : ℕ) (z : Activation) → activation_at d xs ≡ Some z → KeepsActivation G store (put l w store) words (slice_set words n m) d z
   activation_written d z there = (
     λ x at v found by_reference. (
-      put_apart l (local_named G d x) (Ordinal m) store (not_there (local_named G d x) (reference_no_variable G xs d z x at v there found by_reference)),
-      changed_other words (z.base + at) n m (λ e. cell_no_reference G xs top stack l n (Simple b low high start) 0 d z x at v own refl is there found by_reference (omega (arith, e))),
+      put_apart l (local_named G d x) w store (not_there (local_named G d x) (reference_no_variable G xs d z x at v there found by_reference)),
+      changed_other words (z.base + at) n m (λ e. cell_no_reference G xs top stack l n u 0 d z x at v own (cell_head (scope G) u cell) is there found by_reference (omega (arith, e))),
     ),
     λ t found none. (
-      put_apart l (local_named G d z.routine.name) (Ordinal m) store (not_there (local_named G d z.routine.name) (result_no_variable G xs d z z.routine.name there none)),
-      changed_other words z.base n m (λ e. cell_no_result G xs top stack l n (Simple b low high start) 0 d z t own refl is there found (omega (arith, e))),
+      put_apart l (local_named G d z.routine.name) w store (not_there (local_named G d z.routine.name) (result_no_variable G xs d z z.routine.name there none)),
+      changed_other words z.base n m (λ e. cell_no_result G xs top stack l n u 0 d z t own (cell_head (scope G) u cell) is there found (omega (arith, e))),
     ),
   )

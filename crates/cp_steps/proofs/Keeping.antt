@@ -46,14 +46,14 @@ right_within k (y ∷ vs) x m v h = by (bytes_eq x y.0) h (right_within (suc k) 
 -- A right of the process's own component, or one of a class.
 pub right_place : (G : Ground) (xs : List Activation) (at : Location) (s : System) (n m : ℕ) (x : Name) (v : declared.Variable)
     → is_own G.p at.owner ≡ true → ComponentLies G at s n → right (scope G) s x ≡ Some (m, v)
-    → OwnRight G (n + m) ⊎ ((lies G xs at ≡ Some (n, ComponentOf s (reported_members (scope G) s))) × InHead (scope G) (ComponentOf s (reported_members (scope G) s)) m)
+    → OwnRight G (n + m) ⊎ ((lies G xs at ≡ Some (n, ComponentOf s (reported_members (scope G) s))) × InHead (scope G) (ComponentOf s (reported_members (scope G) s)) m × (1 ≤ m))
 right_place G xs at s n m x v mine (ProcessLies where' is zero') r =
     let w = right_within 1 (rights (scope G) s) x m v r in
     inl (s, is, omega (arith, w.1, zero'))
 right_place G xs at s n m x v mine (MonitorLies k where' is from) r = absurd (true≢false (sym mine ∙ ap (λ l. is_own G.p l.owner) where'))
 right_place G xs at s n m x v mine (ClassLies sort is) r =
     let w = right_within 1 (rights (scope G) s) x m v r in
-    inr (lies_any G xs at _ is, (subst IsClass (sym sort) tt, omega (arith, w.1)))
+    inr (lies_any G xs at _ is, (subst IsClass (sym sort) tt, omega (arith, w.1)), w.0)
 
 -- No variable lies at the name of a right that no member has.
 pub right_no_variable : (G : Ground) (xs : List Activation) (at : Location) (s : System) (n : ℕ) (x : Name)

@@ -99,7 +99,7 @@ run_call_code : CodeFor (site ground in_process) nothing_known (a.Perform (a.Par
 run_call_code = (19, op.Procedure (record { routine = 4; target = target.Class 4; arguments = Reference 0 (Rooted (Member 8)) ∷ []; words = 0; temps = 0 }) 18, refl, (record { routine = run; of = Some (record { name = codes "u"; system = d; is_parameter = false }) }, 0, record { means = refl; target = refl; runs = record { text = refl; unit = unit_at program 4; there = refl; fits = record { words = le _ _ refl; temps = le _ _ refl; frames = le _ _ refl }; words = refl; temps = refl } }, refl, refl, le 0 _ refl, (19, 0, refl, refl, refl, le 0 _ refl, le 0 _ refl, (refl, v_named), refl)))
 
 adds_code : CodeFor (site ground in_process) nothing_known adds 18 17 0
-adds_code = (18, op.Procedure (record { routine = 6; target = target.MonitorRight 1; arguments = Value 0 (negsuc 32767) (pos 32767) (Item (Rooted (Member 8))) ∷ []; words = 0; temps = 0 }) 17, refl, (record { routine = add; of = Some (record { name = codes "g"; system = m; is_parameter = true }) }, 0, record { means = refl; target = (one (type_of m), refl); runs = record { text = refl; unit = unit_at program 6; there = refl; fits = record { words = le _ _ refl; temps = le _ _ refl; frames = le _ _ refl }; words = refl; temps = refl } }, refl, refl, le 0 _ refl, (Integer, pos 0, 18, 0, refl, refl, refl, le 0 _ refl, le 0 _ refl, (negsuc 32767, pos 32767, pos 0, refl, refl, (refl, v_named)), refl)))
+adds_code = (18, op.Procedure (record { routine = 6; target = target.MonitorRight 1; arguments = Value 0 (negsuc 32767) (pos 32767) (Item (Rooted (Member 8))) ∷ []; words = 0; temps = 0 }) 17, refl, (record { routine = add; of = Some (record { name = codes "g"; system = m; is_parameter = true }) }, 0, record { means = refl; target = record { variable = one (type_of m); lies = refl; inner = reported_members g m; type = refl; no_member = refl }; runs = record { text = refl; unit = unit_at program 6; there = refl; fits = record { words = le _ _ refl; temps = le _ _ refl; frames = le _ _ refl }; words = refl; temps = refl } }, refl, refl, le 0 _ refl, (Integer, pos 0, 18, 0, refl, refl, refl, le 0 _ refl, le 0 _ refl, (negsuc 32767, pos 32767, pos 0, refl, refl, (refl, v_named)), refl)))
 
 abbrev EndLeft : List ℤ → Type 0
 EndLeft temps = Left ground temps frames_limit nothing_known in_process [] 17 0 (EndProcess ∷ [])
@@ -183,7 +183,7 @@ run_left : (n : ℤ) → Left ground (n ∷ []) frames_limit nothing_known in_ru
 run_left n = (
   refl,
   record { frame = run_frame; runs = refl; owner = refl; return = refl },
-  (refl, refl),
+  (refl, refl, tt),
   (
     in_process,
     18,
@@ -191,7 +191,7 @@ run_left n = (
     0,
     process_runs,
     record { base = refl; temp = refl; component = refl; words_apart = le _ _ refl; temps_apart = le _ _ refl; kept_fit = le 0 _ refl },
-    refl,
+    (refl, refl),
     (refl, tt, (17, 0, le 0 0 refl, adds_code, end_left (n ∷ []))),
   ),
 )
@@ -255,7 +255,7 @@ go_end_left : (n : ℤ) → Left ground (n ∷ []) frames_limit nothing_known in
 go_end_left n = (
   refl,
   record { frame = go_frame; runs = refl; owner = refl; return = refl },
-  (refl, refl),
+  (refl, refl, tt),
   (
     in_run,
     9,
@@ -263,13 +263,13 @@ go_end_left n = (
     0,
     run_runs,
     record { base = refl; temp = refl; component = refl; words_apart = le _ _ refl; temps_apart = le _ _ refl; kept_fit = le 0 _ refl },
-    refl,
+    (refl, refl),
     run_left n,
   ),
 )
 
 sums_code : (K : ℕ → ℤ → Type 0) → CodeFor (site ground in_go) K sums 7 5 0
-sums_code K = (6, op.Set (Rooted (Through 0 0)) (negsuc 32767) (pos 32767) (Binary a.Add (Made 0) (Number (pos 2))) 5, refl, (Integer, Integer, pos 0, 7, 0, refl, le 0 _ refl, le 0 _ refl, (refl, (refl, t_named)), (Integer, Integer, 6, 1, refl, refl, le 0 1 refl, le 1 1 refl, (record { routine = get; of = Some (record { name = codes "a"; system = c; is_parameter = true }) }, call_of_get, 7, 0, refl, record { means = refl; target = (one (type_of c), refl); runs = record { text = refl; unit = unit_at program 0; there = refl; fits = record { words = le _ _ refl; temps = le _ _ refl; frames = le _ _ refl }; words = refl; temps = refl } }, (Integer, pos 0, 7, 0, refl, refl, refl, le 0 _ refl, le 0 _ refl, (negsuc 32767, pos 32767, pos 0, refl, refl, (refl, (refl, t_named))), refl), (codes "integer", refl, refl), le 0 _ refl, le 0 _ refl, le 1 1 refl), (refl, refl, refl))))
+sums_code K = (6, op.Set (Rooted (Through 0 0)) (negsuc 32767) (pos 32767) (Binary a.Add (Made 0) (Number (pos 2))) 5, refl, (Integer, Integer, pos 0, 7, 0, refl, le 0 _ refl, le 0 _ refl, (refl, (refl, t_named)), (Integer, Integer, 6, 1, refl, refl, le 0 1 refl, le 1 1 refl, (record { routine = get; of = Some (record { name = codes "a"; system = c; is_parameter = true }) }, call_of_get, 7, 0, refl, record { means = refl; target = record { variable = one (type_of c); lies = refl; inner = reported_members g c; type = refl; no_member = refl }; runs = record { text = refl; unit = unit_at program 0; there = refl; fits = record { words = le _ _ refl; temps = le _ _ refl; frames = le _ _ refl }; words = refl; temps = refl } }, (Integer, pos 0, 7, 0, refl, refl, refl, le 0 _ refl, le 0 _ refl, (negsuc 32767, pos 32767, pos 0, refl, refl, (refl, (refl, t_named))), refl), (codes "integer", refl, refl), le 0 _ refl, le 0 _ refl, le 1 1 refl), (refl, refl, refl))))
 
 go_left : (K : ℕ → ℤ → Type 0) (n : ℤ) → Left ground (n ∷ []) frames_limit K in_go go_frames 7 0 (Do sums go_env ∷ after_go)
 go_left K n = (refl, tt, (5, 0, le 0 0 refl, sums_code K, go_end_left n))
@@ -308,7 +308,7 @@ pub get_left : (n : ℤ)
 get_left n = (
   refl,
   record { frame = get_frame; runs = refl; owner = refl; return = refl },
-  (refl, refl),
+  (refl, refl, tt),
   (
     in_go,
     7,

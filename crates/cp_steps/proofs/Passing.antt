@@ -15,6 +15,7 @@ use Rattle.cp_model.specs.Locations.{ByName, Location, Owner, root, under}
 use Rattle.cp_model.specs.Names.{lookup}
 use Rattle.std.specs.Str.{bytes_eq}
 use Rattle.cp_typing.proofs.Names.{bytes_eq-refl, bytes_same}
+use Rattle.cp_typing.specs.Declared.{Distinct}
 use Rattle.cp_typing.specs.Words.{words}
 use Rattle.cp_model.specs.Operators.{Clock}
 use Rattle.cp_model.specs.Outcomes as outcomes
@@ -31,6 +32,7 @@ use Rattle.cp_steps.specs.Values.{place_of, value_of}
 use Rattle.cp_code.specs.Layout.{Part, local_at, local_words, locals_words, natural}
 use Rattle.cp_code.specs.Sites.{Site}
 use Rattle.cp_code.specs.TermsFor.{Agrees, ArgumentsFor, Knowns}
+use Rattle.cp_steps.specs.Laws.{NoCopies}
 use Rattle.cp_steps.specs.Means.{Here, PlaceAgrees}
 use Rattle.cp_code.specs.StatementsFor.{either}
 use Rattle.cp_steps.specs.PrivateStates.{Outside, PrivateState, view_of}
@@ -44,21 +46,14 @@ use Rattle.cp_steps.proofs.Writing.{changed_other, same_owner_itself}
 abbrev pub SameOutside : ℕ → ℕ → List ℤ → List ℤ → Type 0
 SameOutside from to ws us = (i : ℕ) → (i < from) ⊎ (to ≤ i) → word us i ≡ word ws i
 
+-- As many words, of which those outside are as they were.
+abbrev pub KeptOutside : ℕ → ℕ → List ℤ → List ℤ → Type 0
+KeptOutside from to ws us = (length us ≡ length ws) × SameOutside from to ws us
+
 -- One place of a parameter in the store, and its word in the new activation.
 abbrev pub ParameterHas : (Location → Option Part) → declared.Variable → StoreValue → ℤ → Type 0
 ParameterHas lies d v n =
     either d.by_reference ((j : Location) × (v ≡ Refers j) × (lies j ≡ Some (natural n, d.type))) (v ≡ Ordinal n)
-
--- Names that are declared once.
-abbrev pub Distinct : List (Name × declared.Variable) → Type 0
-Distinct [] = Unit {0}
-Distinct (p ∷ ps) = (lookup p.0 ps ≡ None) × Distinct ps
-
--- No structured value is passed.
-abbrev pub NoCopies : List Argument → Type 0
-NoCopies [] = Unit {0}
-NoCopies (Copy at count from ∷ xs) = ⊥
-NoCopies (_ ∷ xs) = NoCopies xs
 
 abbrev pub parameter_at : Owner → Name → Location
 parameter_at n x = under (root n) (ByName x ∷ [])
@@ -101,10 +96,10 @@ has_transport lies d v u n m p q h = subst (λ z. ParameterHas lies d z m) (sym 
 prepend : (site : Site) (lies : Location → Option Part) (n : Owner) (to at : ℕ) (p : Name × declared.Variable) (ps : List (Name × declared.Variable)) (v : StoreValue) (m : ℤ) (top : ℕ) (ws : List ℤ)
     (x : PrivateState) (O : Outcome Writes) (P : Passing)
     → local_words site.env.globals p.1 ≡ 1 → Distinct (p ∷ ps) → to + at < top → top ≤ length ws → ParameterHas lies p.1 v m
-    → PassingAgrees (λ us new. Bound site lies n to (at + local_words site.env.globals p.1) ps us (slice_set ws (to + at) m) new) (SameOutside to top (slice_set ws (to + at) m)) x O P
-    → PassingAgrees (λ us new. Bound site lies n to at (p ∷ ps) us ws new) (SameOutside to top ws) x (and_then O (λ more. Gives (((parameter_at n p.0, v) ∷ []) ++ more))) P
+    → PassingAgrees (λ us new. Bound site lies n to (at + local_words site.env.globals p.1) ps us (slice_set ws (to + at) m) new) (KeptOutside to top (slice_set ws (to + at) m)) x O P
+    → PassingAgrees (λ us new. Bound site lies n to at (p ∷ ps) us ws new) (KeptOutside to top ws) x (and_then O (λ more. Gives (((parameter_at n p.0, v) ∷ []) ++ more))) P
 prepend site lies n to at p ps v m top ws x (Fault k) P one distinct room in_words has h =
-    (h.0, h.1, h.2, h.3, λ i g. h.4 i g ∙ changed_other ws i (to + at) m (λ e. away i e g))
+    (h.0, h.1, h.2, h.3, (h.4.0 ∙ length-set ws (to + at) m, λ i g. h.4.1 i g ∙ changed_other ws i (to + at) m (λ e. away i e g)))
   where
     away : (i : ℕ) → i ≡ to + at → (i < to) ⊎ (top ≤ i) → ⊥
     away i e (inl q) = absurd (omega (arith, e, q))
@@ -162,7 +157,7 @@ Stays env clock store w K lies to o =
 module _ (site : Site) (clock : Clock) (store : Store) (w : Outside) (K : Knowns) (lies : Location → Option Part) (n : Owner) (to : ℕ) (o : PrivateState)
     (stays : Stays site.env clock store w K lies to o) where
   abbrev pub Passes : List (Name × declared.Variable) → ℕ → List ℤ → Outcome Writes → Passing → Type 0
-  Passes ps at ws O P = PassingAgrees (λ us new. Bound site lies n to at ps us ws new) (SameOutside to w.own ws) (record o { words = ws }) O P
+  Passes ps at ws O P = PassingAgrees (λ us new. Bound site lies n to at ps us ws new) (KeptOutside to w.own ws) (record o { words = ws }) O P
 
   still_same : (ws : List ℤ) (at : ℕ) (m : ℤ) → SameOutside to w.own o.words ws → to + at < w.own → SameOutside to w.own o.words (slice_set ws (to + at) m)
   still_same ws at m h room i g = changed_other ws i (to + at) m (λ e. away i e g) ∙ h i g
@@ -179,7 +174,7 @@ module _ (site : Site) (clock : Clock) (store : Store) (w : Outside) (K : Knowns
       → Passes (p ∷ ps) at ws
       (and_then (and_then O (writes_of (parameter_at n p.0) (Simple b lower upper start))) (λ us. and_then more (λ vs. Gives (us ++ vs))))
       (unless_fault (pass_result (record o { words = ws }) r (λ m. if within lower upper m then pass_word (record o { words = ws }) (to + at) m else record { own = record o { words = ws }; fault = Some fault.Range })) (pass_all w to to xs))
-  value_passes p ps b of lower upper start at ws xs passive type distinct room in_words (Fault k) (Err f) more h go = (f, refl, h, refl, λ i g. refl)
+  value_passes p ps b of lower upper start at ws xs passive type distinct room in_words (Fault k) (Err f) more h go = (f, refl, h, refl, (refl, λ i g. refl))
   value_passes p ps b of lower upper start at ws xs passive type distinct room in_words (Fault k) (Ok m) more h go = absurd h
   value_passes p ps b of lower upper start at ws xs passive type distinct room in_words (Gives v) (Err f) more h go = absurd h
   value_passes p ps b of lower upper start at ws xs passive type distinct room in_words (Gives v) (Ok m) more h go =
@@ -195,7 +190,7 @@ module _ (site : Site) (clock : Clock) (store : Store) (w : Outside) (K : Knowns
       by : (t : Bool) → within lower upper m ≡ t
           → Passes (p ∷ ps) at ws (and_then (outcomes.provided t 1 ((parameter_at n p.0, Ordinal m) ∷ [])) (λ us. and_then more (λ vs. Gives (us ++ vs))))
           (unless_fault (if t then pass_word (record o { words = ws }) (to + at) m else record { own = record o { words = ws }; fault = Some fault.Range }) (pass_all w to to xs))
-      by false e = (fault.Range, refl, refl, refl, λ i g. refl)
+      by false e = (fault.Range, refl, refl, refl, (refl, λ i g. refl))
       by true e = prepend site lies n to at p ps (Ordinal m) m w.own ws (record o { words = ws }) more (pass_all w to to xs (record o { words = slice_set ws (to + at) m })) one distinct room in_words
           (subst (λ t. either t ((j : Location) × (Ordinal m ≡ Refers j) × (lies j ≡ Some (natural m, p.1.type))) (Ordinal m ≡ Ordinal m)) (sym passive) refl) (go m)
 
@@ -207,7 +202,7 @@ module _ (site : Site) (clock : Clock) (store : Store) (w : Outside) (K : Knowns
       → Passes (p ∷ ps) at ws
       (and_then (reference_writes (parameter_at n p.0) O) (λ us. and_then more (λ vs. Gives (us ++ vs))))
       (unless_fault (pass_result (record o { words = ws }) r (λ m. pass_word (record o { words = ws }) (to + at) (pos m))) (pass_all w to to xs))
-  reference_passes p ps at ws xs by_reference distinct room in_words (Fault k) (Err f) more h go = (f, refl, h, refl, λ i g. refl)
+  reference_passes p ps at ws xs by_reference distinct room in_words (Fault k) (Err f) more h go = (f, refl, h, refl, (refl, λ i g. refl))
   reference_passes p ps at ws xs by_reference distinct room in_words (Fault k) (Ok m) more h go = absurd h
   reference_passes p ps at ws xs by_reference distinct room in_words (Gives v) (Err f) more h go = absurd h
   reference_passes p ps at ws xs by_reference distinct room in_words (Gives v) (Ok m) more h go =

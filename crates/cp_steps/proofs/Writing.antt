@@ -3,10 +3,10 @@ use Rattle.std.proofs.Common.{◌≡◌, ◌≢◌, ◌⊎◌, inl, inr, ℕ, �
 use Rattle.std.specs.Prelude.{◌&&◌, if◌then◌else◌, nat_eq, slice_set}
 use Rattle.std.proofs.lemmas.Bool.{eq-eqb, eqb-true, true≢false}
 use Rattle.std.proofs.lemmas.List.{get_or-set_other, get_or-set_same}
-use Rattle.cp_model.specs.Abstract.{BaseType, Class, Sort}
+use Rattle.cp_model.specs.Abstract.{Class, Sort}
 use Rattle.cp_model.specs.Locations.{ByIndex, ByName, Location, OfActivation, OfMonitor, OfProcess, Owner, Path, PathStep, same_location, same_owner, same_path, same_path_step}
 use Rattle.cp_model.specs.Parts.{is_own}
-use Rattle.cp_model.specs.Stores.{Ordinal, Store, Value, put}
+use Rattle.cp_model.specs.Stores.{Store, Value, put}
 use Rattle.cp_model.specs.Types.{ArrayOf, ComponentOf, NoType, Queue, RecordOf, ResolvedType, Simple}
 use Rattle.cp_code.specs.Layout.{Part}
 use Rattle.cp_code.specs.Starts.{word}
@@ -98,31 +98,32 @@ is_cell (ComponentOf s inner) = by s.sort
     by Class = inl tt
     by _ = inr (λ v n. tt)
 
-pub cell_written : (G : Ground) (xs : List Activation) (top : ℕ) (store : Store) (words : List ℤ) (l : Location) (n : ℕ) (b : BaseType) (low high start m : ℤ)
+pub cell_written : (G : Ground) (xs : List Activation) (top : ℕ) (store : Store) (words : List ℤ) (l : Location) (n : ℕ) (u : ResolvedType) (w : Value) (m : ℤ) → IsCell u → CellMeans u w m
     → Stacked G top xs → ((k : Location) (i : ℕ) (t : ResolvedType) → is_own G.p k.owner ≡ true → lies G xs k ≡ Some (i, t) → CellMeans t (store k) (word words i))
-    → is_own G.p l.owner ≡ true → lies G xs l ≡ Some (n, Simple b low high start) → n < length words
+    → is_own G.p l.owner ≡ true → lies G xs l ≡ Some (n, u) → n < length words
     → (k : Location) (i : ℕ) (t : ResolvedType) → is_own G.p k.owner ≡ true → lies G xs k ≡ Some (i, t)
-    → CellMeans t (put l (Ordinal m) store k) (word (slice_set words n m) i)
-cell_written G xs top store words l n b low high start m stack cells own is room k i t mine there = by (is_cell t) (nat_eq i n) refl
+    → CellMeans t (put l w store k) (word (slice_set words n m) i)
+cell_written G xs top store words l n u w m cell means stack cells own is room k i t mine there = by (is_cell t) (nat_eq i n) refl
   where
-    other : (x : Bool) → same_location l k ≡ x → i ≢ n → CellMeans t (if x then Ordinal m else store k) (word (slice_set words n m) i)
+    other : (x : Bool) → same_location l k ≡ x → i ≢ n → CellMeans t (if x then w else store k) (word (slice_set words n m) i)
     other true e d = absurd (d (sym (ap (λ z. z.0) (same_part (sym is ∙ (ap (lies G xs) (location_is l k e) ∙ there))))))
       where
-        same_part : ◌≡◌ {A = Option Part} (Some (n, Simple b low high start)) (Some (i, t)) → ◌≡◌ {A = Part} (n, Simple b low high start) (i, t)
-        same_part h = same_some (n, Simple b low high start) (i, t) h
+        same_part : ◌≡◌ {A = Option Part} (Some (n, u)) (Some (i, t)) → ◌≡◌ {A = Part} (n, u) (i, t)
+        same_part h = same_some (n, u) (i, t) h
     other false e d = subst (λ z. CellMeans t (store k) z) (sym (changed_other words i n m d)) (cells k i t mine there)
 
-    by : IsCell t ⊎ ((v : Value) (z : ℤ) → CellMeans t v z) → (x : Bool) → nat_eq i n ≡ x → CellMeans t (put l (Ordinal m) store k) (word (slice_set words n m) i)
-    by (inr f) x e = f (put l (Ordinal m) store k) (word (slice_set words n m) i)
+    by : IsCell t ⊎ ((v : Value) (z : ℤ) → CellMeans t v z) → (x : Bool) → nat_eq i n ≡ x → CellMeans t (put l w store k) (word (slice_set words n m) i)
+    by (inr f) x e = f (put l w store k) (word (slice_set words n m) i)
     by (inl c) false e = other (same_location l k) refl (λ q. true≢false (sym (eq-eqb i n q) ∙ e))
     by (inl c) true e =
         let here : i ≡ n = eqb-true i n e in
         let found : lies G xs k ≡ Some (n, t) = there ∙ ap (λ z. Some (z, t)) here in
-        let same : l ≡ k = separate G xs top stack l k n n (Simple b low high start) t 0 0 own mine refl (cell_head (scope G) t c) is found refl in
-        let type : Simple b low high start ≡ t = ap (λ z. z.1) (same_part n t (sym is ∙ (ap (lies G xs) same ∙ found))) in
-        let stored : put l (Ordinal m) store k ≡ Ordinal m = ap (λ z. if z then Ordinal m else store k) (ap (same_location l) (sym same) ∙ location_itself l) in
+        let same : l ≡ k = separate G xs top stack l k n n u t 0 0 own mine (cell_head (scope G) u cell) (cell_head (scope G) t c) is found refl in
+        let type : u ≡ t = ap (λ z. z.1) (same_part n t (sym is ∙ (ap (lies G xs) same ∙ found))) in
+        let stored : put l w store k ≡ w = ap (λ z. if z then w else store k) (ap (same_location l) (sym same) ∙ location_itself l) in
         let held : word (slice_set words n m) i ≡ m = ap (word (slice_set words n m)) here ∙ get_or-set_same words n m (pos 0) room in
-        subst (λ z. CellMeans z (put l (Ordinal m) store k) (word (slice_set words n m) i)) type (stored ∙ ap Ordinal (sym held))
+        subst (λ z. CellMeans z (put l w store k) (word (slice_set words n m) i)) type
+        (subst (λ z. CellMeans u z (word (slice_set words n m) i)) (sym stored) (subst (CellMeans u w) (sym held) means))
       where
-        same_part : (j : ℕ) (t : ResolvedType) → ◌≡◌ {A = Option Part} (Some (n, Simple b low high start)) (Some (j, t)) → ◌≡◌ {A = Part} (n, Simple b low high start) (j, t)
-        same_part j t h = same_some (n, Simple b low high start) (j, t) h
+        same_part : (j : ℕ) (t : ResolvedType) → ◌≡◌ {A = Option Part} (Some (n, u)) (Some (j, t)) → ◌≡◌ {A = Part} (n, u) (j, t)
+        same_part j t h = same_some (n, u) (j, t) h

@@ -124,9 +124,14 @@ abbrev pub innermost_gate : List ℕ → ℕ
 innermost_gate [] = 0
 innermost_gate (m ∷ ms) = m
 
--- A frame keeps the gate that its end mark names, and the one that is held behind it.
+-- Monitors are numbered from 1.
+abbrev pub IsGate : Option ℕ → Type 0
+IsGate None = Unit {0}
+IsGate (Some m) = 1 ≤ m
+
+-- A frame keeps the gate that its end mark names, and the one that is held after it.
 abbrev pub GatesKept : machine.Frame → Option ℕ → List Task → Type 0
-GatesKept f gate k = (f.gate ≡ gate_number gate) × (f.held ≡ innermost_gate (marked_monitors k))
+GatesKept f gate k = (f.gate ≡ gate_number gate) × (f.held ≡ innermost_gate (marked_monitors k)) × IsGate gate
 
 -- A frame keeps the registers of the caller, whose activation and kept temps end before those of the unit that runs.
 pub record Keeps (G : Ground) (f : machine.Frame) (C R : Running) (kept : ℕ) : Type 0 where
@@ -137,9 +142,9 @@ pub record Keeps (G : Ground) (f : machine.Frame) (C R : Running) (kept : ℕ) :
   pub temps_apart : C.temp + kept ≤ R.temp
   pub kept_fit : kept ≤ C.unit.temps
 
--- The caller waits at its call for a value, or goes on behind it. The value goes to a temp behind all that were alive.
+-- The caller waits at its call for a value, or goes on after it, where no value is alive. The value goes to a temp after all that were alive.
 abbrev pub CallerAt : Ground → ℕ → ℕ → ℕ → Option Name → machine.Frame → ℕ → Type 0
-CallerAt G n kept live None f place = place ≡ f.place
+CallerAt G n kept live None f place = (place ≡ f.place) × (live ≡ 0)
 CallerAt G n kept live (Some t) f place =
     (call : Call) × (into : ℕ) × (call.routine ≡ n) × (call.temps ≡ kept) × (live ≤ into)
     × (operation_at G.program place ≡ Some (op.Function call into f.place)) × (f.into ≡ f.temp + into)

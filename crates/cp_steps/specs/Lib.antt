@@ -10,3 +10,4 @@ pub mod PartOf
 pub mod KernelSteps
 pub mod Machines
 pub mod Beginning
+pub mod Laws

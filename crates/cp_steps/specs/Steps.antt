@@ -68,15 +68,25 @@ accept o at low high next =
     let taken = record (set_word o at n) { consumed = next_place o.input o.consumed } in
     provided (within low high n) o fault.Range (private_outcome (go_to next taken))
 
+abbrev pub is_held : ℕ → Bool
+is_held zero = false
+is_held (suc g) = true
+
+-- Outside all monitors nothing is done.
+abbrev pub in_monitor : PrivateState → Acting → Acting
+in_monitor o x = if is_held o.gate then x else private_outcome o
+
 abbrev pub delay : PrivateState → ℕ → ℕ → Acting
 delay o at next =
-    provided (int_le (word o.words at) (pos 0)) o fault.QueueTaken
-    (go_to next (set_word o at (pos o.number)), Delays o.gate at)
+    in_monitor o
+    (provided (int_le (word o.words at) (pos 0)) o fault.QueueTaken
+    (go_to next (set_word o at (pos o.number)), Delays o.gate at))
 
 abbrev pub continue : PrivateState → ℕ → Bool → Acting
 continue o at function =
-    with_frame o o.frames (λ f fs.
-    return_with o (set_word o at (pos 0)) f fs function (Continues f.gate (word o.words at)))
+    in_monitor o
+    (with_frame o o.frames (λ f fs.
+    return_with o (set_word o at (pos 0)) f fs function (Continues f.gate (word o.words at))))
 
 -- ---- All operations
 
@@ -125,10 +135,6 @@ is_kernel_operation (op.Function call into next) = is_monitor call.target
 is_kernel_operation (op.InitMonitor call next) = true
 is_kernel_operation (op.InitProcess r arguments words next) = true
 is_kernel_operation _ = false
-
-abbrev pub is_held : ℕ → Bool
-is_held zero = false
-is_held (suc g) = true
 
 abbrev pub operation_of : Program → PrivateState → Option Operation
 operation_of program o = slice_get program.operations o.place

@@ -1,3 +1,13 @@
 //! The steps of a machine of the whole language on plain data, and when a private state is that of its process in a state of the
 //! meaning.
+//!
+//! `specs/` hold it from the bottom up:
+//!
+//! - **The steps.** `Values`, `PrivateStates`, `Passing` and `Calling` say what terms, arguments and calls do to the words of a process,
+//!   `Steps` is one step of any operation, `KernelSteps` adds gates and stages, `Machines` whole rounds.
+//! - **The relation.** `PartOf`: a private state is that of its process in a state of the system. `Addresses` say where variables lie,
+//!   `Means` what words mean, `Left` when a place and frames are what is left to do. `Beginning` tells of a process that hasn't begun.
+//! - **The laws.** `Laws`, which `law::private_steps` states: private steps and turns are the meaning's.
 #![tactic(auto)]
+
+pub mod law;

@@ -1,0 +1,269 @@
+-- A call, from what opens the new activation: the meaning's and the machine's.
+use Rattle.std.proofs.Common.{◌≡◌, inl, ℕ, ◌+◌, ◌≤◌, ◌<◌, ℤ, List, [], ◌∷◌, ◌++◌, length, Bool, true, false, Some, None, refl, ap, sym, subst, ◌∙◌, arith}
+use Rattle.std.specs.Prelude.{if◌then◌else◌, nat_lt}
+use Rattle.std.proofs.lemmas.Bool.{true≢false}
+use Rattle.cp_model.specs.Abstract as a
+use Rattle.cp_model.specs.Abstract.{Name, System}
+use Rattle.cp_model.specs.Arguments.{argument_writes, bind, designator_of, reference_writes}
+use Rattle.cp_model.specs.Assignments.{starting_writes, writes_of}
+use Rattle.cp_model.specs.Calls.{UserCall, call_in_arguments}
+use Rattle.cp_model.specs.CallSteps as calls
+use Rattle.cp_model.specs.CallSteps.{activation_environment, called_configuration, entering, target}
+use Rattle.cp_model.specs.Continuations.{EndCall, Task, depth, push}
+use Rattle.cp_model.specs.Declarations as declared
+use Rattle.cp_model.specs.Declarations.{declarations}
+use Rattle.cp_model.specs.Environments.{Environment}
+use Rattle.cp_model.specs.Expressions.{place, value}
+use Rattle.cp_model.specs.Locations.{Location, OfActivation, Owner, root, same_location, same_owner}
+use Rattle.cp_model.specs.Operators.{Clock, realtime}
+use Rattle.cp_model.specs.Outcomes.{Fault, Gives, Outcome, and_then}
+use Rattle.cp_model.specs.Parts.{is_own}
+use Rattle.cp_model.specs.Places.{Place, TypedValue}
+use Rattle.cp_model.specs.States.{State, configuration, context}
+use Rattle.cp_model.specs.Stores.{Store, Writes, forget, put, put_all}
+use Rattle.cp_model.specs.Turns.{after_step}
+use Rattle.cp_model.specs.Types.{GlobalScope}
+use Rattle.cp_model.specs.declared.state.Fault.TheVariants as fault
+use Rattle.cp_model.proofs.ExpressionReach.{IfGives}
+use Rattle.cp_model.proofs.WriteReach.{WritesIn, bind_in, starting_writes_in, writes_in}
+use Rattle.cp_typing.specs.Declared.{Distinct}
+use Rattle.cp_code.specs.Programs.{Call, CodeUnit}
+use Rattle.cp_code.specs.Layout.{locals_words}
+use Rattle.cp_code.specs.Sites as sites
+use Rattle.cp_code.specs.Sites.{RoutineOf, first_parameter, parameters, system_of_callee}
+use Rattle.cp_code.specs.StandsFor.{UnitStands}
+use Rattle.cp_code.specs.Starts.{started}
+use Rattle.cp_code.specs.TermsFor.{ArgumentsFor}
+use Rattle.cp_steps.specs.PrivateStates.{Acting, Enters, Outside, PrivateState, fault_in, private_outcome, provided}
+use Rattle.cp_steps.specs.Passing.{Called, Passing, component_called, pass_all, when_passed}
+use Rattle.cp_steps.specs.Calling.{Back, call_step, enter, frame_of, gate_effect, has_room, start_words}
+use Rattle.cp_steps.specs.Steps.{alone}
+use Rattle.cp_steps.specs.Addresses.{ComponentLies, Ground, activations, scope, seen}
+use Rattle.cp_steps.specs.Laws.{NoCopies}
+use Rattle.cp_steps.specs.Left.{CallerAt, held_below, kept_below, site}
+use Rattle.cp_steps.specs.PartOf.{DataMeans, PartOf, RunsOn}
+use Rattle.cp_steps.proofs.Entering.{Opened, Waits, entered_on, environment_of_call, owner_of_call}
+use Rattle.cp_steps.proofs.Heres.{Sees, depth_is}
+use Rattle.cp_steps.proofs.Holding.{SameBelow, SameLive}
+use Rattle.cp_steps.proofs.Passing.{Bound, KeptOutside, PassingAgrees, Stays, passes}
+use Rattle.cp_steps.proofs.Returning.{forgotten}
+use Rattle.cp_steps.proofs.RunningOn.{runs_here, runs_over}
+use Rattle.cp_steps.proofs.Stepping.{Now, clock_of, faulted, stopped, went}
+use Rattle.cp_steps.proofs.Writing.{location_is, owner_is, same_owner_itself}
+
+-- ---- writes of one owner
+
+argument_in : (t : Owner → Bool) (clock : Clock) (env : Environment) (store : Store) (l : Location) (v : declared.Variable) (e : a.Expression) → t l.owner ≡ true
+    → IfGives (WritesIn t) (argument_writes clock env store l v e)
+argument_in t clock env store l v e h = by v.by_reference (place clock env store (designator_of e)) (value clock env store e)
+  where
+    by : (b : Bool) (P : Outcome Place) (O : Outcome TypedValue) → IfGives (WritesIn t) (if b then reference_writes l P else and_then O (writes_of l v.type))
+    by true (Gives p) O = (h, tt)
+    by true (Fault i) O = tt
+    by false P (Gives x) = writes_in t l v.type x h
+    by false P (Fault i) = tt
+
+put_outside : (t : Owner → Bool) (ws : Writes) (st : Store) (l : Location) → WritesIn t ws → t l.owner ≡ false → put_all ws st l ≡ st l
+put_outside t [] st l h n = refl
+put_outside t (w ∷ ws) st l h n = put_outside t ws (put w.0 w.1 st) l h.1 n ∙ by (same_location w.0 l) refl
+  where
+    by : (b : Bool) → same_location w.0 l ≡ b → (if b then w.1 else st l) ≡ st l
+    by true e = absurd (true≢false (sym h.0 ∙ (ap (λ (k : Location). t k.owner) (location_is w.0 l e) ∙ n)))
+    by false e = refl
+
+locals_two : (g : GlobalScope) (xs ys : List (Name × declared.Variable)) → locals_words g (xs ++ ys) ≡ locals_words g xs + locals_words g ys
+locals_two g [] ys = omega arith
+locals_two g (x ∷ xs) ys = let e = locals_two g xs ys in omega (arith, e)
+
+-- ---- targets
+
+-- The machine calls where the meaning does, and no gate is entered.
+pub record TargetIs (G : Ground) (t : calls.Target) (c : Called) (s : System) : Type 0 where
+  pub set_is : c.is_set ≡ t.is_callable
+  pub system : t.system ≡ s
+  pub lies_there : t.is_callable ≡ true → ComponentLies G t.component s c.component
+  pub gate : c.gate ≡ 0
+  pub no_gate : t.gate ≡ None
+
+-- ---- calls
+
+module _ (G : Ground) (s : State) (before : List ℕ) (o : PrivateState) (i : Task) (l : List Task) (N : Now G s before o i l) (sees : Sees G (is_own G.p) s.store N.on.running.env)
+    (k : List Task) (v : UserCall) (call : Call) (back : Back) (place kept live : ℕ) where
+  abbrev pub callee_system : System
+  callee_system = system_of_callee N.on.running.env v.callee.of
+
+  abbrev pub opened_store : Writes → Store
+  opened_store ws =
+      put_all (starting_writes (root (owner_of_call G k)) (declarations N.on.running.env.globals v.callee.routine.variables)) (put_all ws (forget (owner_of_call G k) s.store))
+
+  abbrev pub Bounds : Writes → List ℤ → Type 0
+  Bounds ws new =
+      Bound (site G N.on.running) (seen (is_own G.p) G (activations o.base o.frames (i ∷ l))) (owner_of_call G k) (o.base + (site G N.on.running).words) (first_parameter v.callee)
+      (parameters (site G N.on.running) v.callee) ws o.words new
+
+  -- What is left to show of a routine: its new activation holds its parameters, its start values and no result.
+  abbrev pub Opens : CodeUnit → Type 0
+  Opens u =
+      (ws : Writes) (new : List ℤ) → length new ≡ length o.words → Bounds ws new
+      → Opened G (activations o.base o.frames k) (opened_store ws) (started (o.base + call.words) u.starts new) (o.base + call.words) (record { owner = owner_of_call G k; routine = v.callee.routine })
+
+  -- What a call needs.
+  pub record Invocation (from last low high : ℕ) : Type 1 where
+    pub waits : Waits G o (i ∷ l) k N.on.running place kept live
+    pub runs : sites.Runs (site G N.on.running) (RoutineOf callee_system v.callee.routine) kept call
+    pub stands : UnitStands G.program G.texts (scope G) runs.unit (RoutineOf callee_system v.callee.routine)
+    pub arguments : ArgumentsFor (site G N.on.running) (held_below N.on.live o.temps N.on.running.temp) (parameters (site G N.on.running) v.callee) v.arguments call.arguments (first_parameter v.callee) from last low high
+    pub made : call_in_arguments N.on.running.env (a.Literal 0) v.arguments ≡ None
+    pub where_is : v.environment ≡ N.on.running.env
+    pub no_copies : NoCopies call.arguments
+    pub distinct : Distinct (parameters (site G N.on.running) v.callee)
+    pub target_is : TargetIs G (target (context G.setup s G.p) s.store N.on.running.env v.callee.of) (component_called G.program (alone (realtime (clock_of G s)) o) o call.target) callee_system
+    pub caller : CallerAt G call.routine kept live v.callee.routine.result (frame_of o (component_called G.program (alone (realtime (clock_of G s)) o) o call.target) back) place
+    pub opens : Opens runs.unit
+
+  pub invoked : (from last low high : ℕ) → Invocation from last low high
+      → PartOf G (after_step s G.p (calls.call (context G.setup s G.p) (configuration s G.p) v k)) before (call_step G.program (alone (realtime (clock_of G s)) o) o call back).0
+  invoked from last low high I =
+      subst (λ e. PartOf G (defined e) before (call_step G.program w o call back).0) (sym I.where_is)
+      (subst (PartOf G (defined N.on.running.env) before) (sym computed)
+      (subst (λ b. PartOf G (defined N.on.running.env) before (provided b o fault.NotInitialised passing).0) (sym I.target_is.set_is) (by t.is_callable refl)))
+    where
+      w : Outside
+      w = alone (realtime (clock_of G s)) o
+
+      t : calls.Target
+      t = target (context G.setup s G.p) s.store N.on.running.env v.callee.of
+
+      c : Called
+      c = component_called G.program w o call.target
+
+      owner : Owner
+      owner = owner_of_call G k
+
+      top : ℕ
+      top = o.base + (site G N.on.running).words
+
+      defined : Environment → State
+      defined e = after_step s G.p (calls.call (context G.setup s G.p) (configuration s G.p) (record v { environment = e }) k)
+
+      entering_by : CodeUnit → PrivateState → Acting
+      entering_by u p = (enter (start_words (o.base + call.words) u p) c u call back, gate_effect c.gate Enters)
+
+      passing : Acting
+      passing = when_passed (pass_all w (o.base + call.words) (o.base + call.words) call.arguments o) (entering_by I.runs.unit)
+
+      room : nat_lt (length o.frames) o.limit ≡ true
+      room = inner (nat_lt (length o.frames) o.limit) refl
+        where
+          less : length o.frames < o.limit
+          less = omega (arith, N.on.runs.frames_fit, I.runs.fits.frames)
+
+          inner : (b : Bool) → nat_lt (length o.frames) o.limit ≡ b → b ≡ true
+          inner true e = refl
+          inner false e = absurd (Prim.grind (arith, e, less))
+
+      computed : (call_step G.program w o call back).0 ≡ (provided c.is_set o fault.NotInitialised passing).0
+      computed =
+          (λ z. (elim (I.runs.there z) as (λ x. Acting) [
+            | None ↦ private_outcome o
+            | Some u ↦ if has_room o then provided c.is_set o fault.NotInitialised (when_passed (pass_all w (o.base + call.words) (o.base + call.words) call.arguments o) (entering_by u)) else private_outcome o
+          ]).0)
+          ∙ ap (λ b. (if b then provided c.is_set o fault.NotInitialised passing else private_outcome o).0) room
+
+      deep : depth k ≡ length (activations o.base o.frames (i ∷ l))
+      deep =
+          sym (depth_is G o.temps o.limit o.base (kept_below kept live o.temps N.on.running.temp) N.on.running o.frames place kept k I.waits.left) ∙ ap length I.waits.same
+
+      live_same : (ws : Writes) → WritesIn (same_owner owner) ws → SameLive G (activations o.base o.frames (i ∷ l)) s.store (opened_store ws)
+      live_same ws inside at h =
+          put_outside (same_owner owner) (starting_writes (root owner) vars) (put_all ws (forget owner s.store)) at (starting_writes_in (same_owner owner) (root owner) vars (same_owner_itself owner)) other
+          ∙ (put_outside (same_owner owner) ws (forget owner s.store) at inside other ∙ forgotten G (activations o.base o.frames (i ∷ l)) owner s.store (ap (OfActivation G.p) deep) at h)
+        where
+          vars : List (Name × declared.Variable)
+          vars = declarations N.on.running.env.globals v.callee.routine.variables
+
+          other : same_owner owner at.owner ≡ false
+          other = inner (same_owner owner at.owner) refl
+            where
+              inner : (b : Bool) → same_owner owner at.owner ≡ b → b ≡ false
+              inner false e = refl
+              inner true e = absurd (omega (arith, h (depth k) (sym (owner_is owner at.owner e)), deep))
+
+      stays : Stays N.on.running.env (clock_of G s) s.store w (held_below N.on.live o.temps N.on.running.temp) (seen (is_own G.p) G (activations o.base o.frames (i ∷ l))) top o
+      stays ws len same =
+          runs_here G s.store (record o { words = ws }) (i ∷ l) (clock_of G s) (runs_over G s.store s.store o ws (i ∷ l) N.on (λ at h. refl) (λ n q. same n (inl q)) len) sees
+
+      sized : top + (first_parameter v.callee + locals_words N.on.running.env.globals (parameters (site G N.on.running) v.callee)) ≤ length o.words
+      sized =
+          let g = ap (λ z. locals_words z (declarations z v.callee.routine.parameters)) N.on.runs.globals in
+          omega (arith, g, locals_two (scope G) (declarations (scope G) v.callee.routine.parameters) (declarations (scope G) v.callee.routine.variables), I.stands.1, I.runs.fits.words, N.on.runs.words_fit, N.on.count, N.on.base)
+
+      passed_ok : PassingAgrees Bounds (KeptOutside top (length o.words) o.words) o
+          (bind (argument_writes (clock_of G s) N.on.running.env s.store) (root owner) (parameters (site G N.on.running) v.callee) v.arguments)
+          (pass_all w top top call.arguments o)
+      passed_ok =
+          passes (site G N.on.running) (clock_of G s) s.store w (held_below N.on.live o.temps N.on.running.temp) (seen (is_own G.p) G (activations o.base o.frames (i ∷ l))) owner top o stays
+          (parameters (site G N.on.running) v.callee) v.arguments call.arguments (first_parameter v.callee) from last low high o.words I.arguments I.made I.no_copies I.distinct sized (omega arith) refl (λ z q. refl)
+
+      env : Environment
+      env = environment_of_call G k callee_system v.callee.routine t.component
+
+      env_is : activation_environment (record v { environment = N.on.running.env }) t owner ≡ env
+      env_is = λ z. record { globals = N.on.runs.globals z; system = I.target_is.system z; component = t.component; frame = Some (record { owner = owner; routine = v.callee.routine }) }
+
+      entered : (ws : Writes) (new : List ℤ) → WritesIn (same_owner owner) ws → Bounds ws new → t.is_callable ≡ true
+          → PartOf G (after_step s G.p (Gives (called_configuration (configuration s G.p) (record v { environment = N.on.running.env }) k t owner ws))) before
+          (enter (record o { words = started (o.base + call.words) I.runs.unit.starts new }) c I.runs.unit call back)
+      entered ws new inside B callable =
+          subst (λ g. PartOf G (after_step s G.p (Gives (record (configuration s G.p) { store = opened_store ws; continuation = push v.callee.routine.body here (EndCall here g ∷ k) }, entering g))) before after) (sym I.target_is.no_gate)
+          (subst (λ e. PartOf G (after_step s G.p (Gives (record (configuration s G.p) { store = opened_store ws; continuation = push v.callee.routine.body e (EndCall e None ∷ k) }, entering None))) before after) (sym env_is)
+          (went G s before o N.part (opened_store ws) after (push v.callee.routine.body env (EndCall env None ∷ k))
+          (entered_on G s.store (opened_store ws) o new_words (i ∷ l) k N.on call back callee_system v.callee.routine t.component c place kept live I.waits
+          (record { runs = I.runs; stands = I.stands; lies_there = I.target_is.lies_there callable; gate = I.target_is.gate })
+          I.caller (live_same ws inside) below (I.stands.0.length_is (o.base + call.words) new ∙ B.length_is) (I.opens ws new B.length_is B))
+          record { number = refl; input = refl; consumed = refl; output = refl; activity = refl }))
+        where
+          here : Environment
+          here = activation_environment (record v { environment = N.on.running.env }) t owner
+
+          new_words : List ℤ
+          new_words = started (o.base + call.words) I.runs.unit.starts new
+
+          after : PrivateState
+          after = enter (record o { words = started (o.base + call.words) I.runs.unit.starts new }) c I.runs.unit call back
+
+          below : SameBelow (o.base + (site G N.on.running).words) o.words (started (o.base + call.words) I.runs.unit.starts new)
+          below z q =
+              I.stands.0.outside (o.base + call.words) new z
+              (omega (arith, I.stands.1, I.runs.fits.words, N.on.runs.words_fit, N.on.count, N.on.base, I.runs.words, B.length_is))
+              (inl (omega (arith, q, I.runs.words))) (λ n e f. absurd (omega (arith, q, f, I.runs.words)))
+              ∙ B.outside z (inl (omega (arith, q)))
+
+      by : (b : Bool) → t.is_callable ≡ b
+          → PartOf G (after_step s G.p (if b then and_then (bind (argument_writes (clock_of G s) N.on.running.env s.store) (root owner) (parameters (site G N.on.running) v.callee) v.arguments)
+          (λ ws. Gives (called_configuration (configuration s G.p) (record v { environment = N.on.running.env }) k t owner ws)) else Fault 6)) before
+          (provided b o fault.NotInitialised passing).0
+      by false e = faulted G s before o i l N 6 fault.NotInitialised refl
+      by true e =
+          inner (bind (argument_writes (clock_of G s) N.on.running.env s.store) (root owner) (parameters (site G N.on.running) v.callee) v.arguments)
+          (pass_all w (o.base + call.words) (o.base + call.words) call.arguments o)
+          (bind_in (same_owner owner) (argument_writes (clock_of G s) N.on.running.env s.store) (λ at d x h. argument_in (same_owner owner) (clock_of G s) N.on.running.env s.store at d x h) (root owner)
+          (parameters (site G N.on.running) v.callee) v.arguments (same_owner_itself owner))
+          (subst (λ z. PassingAgrees Bounds (KeptOutside top (length o.words) o.words) o
+          (bind (argument_writes (clock_of G s) N.on.running.env s.store) (root owner) (parameters (site G N.on.running) v.callee) v.arguments)
+          (pass_all w z z call.arguments o)) (ap (λ z. o.base + z) (sym I.runs.words)) passed_ok)
+        where
+          inner : (O : Outcome Writes) (P : Passing) → IfGives (WritesIn (same_owner owner)) O → PassingAgrees Bounds (KeptOutside top (length o.words) o.words) o O P
+              → PartOf G (after_step s G.p (and_then O (λ ws. Gives (called_configuration (configuration s G.p) (record v { environment = N.on.running.env }) k t owner ws)))) before (when_passed P (entering_by I.runs.unit)).0
+          inner (Fault j) P inside h =
+              subst (λ x. PartOf G (after_step s G.p (Fault j)) before (elim x as (λ y. Acting) [ None ↦ entering_by I.runs.unit P.own | Some f ↦ fault_in P.own f ]).0) (sym h.1)
+              (subst (λ p. PartOf G (after_step s G.p (Fault j)) before (fault_in p h.0).0) (sym h.3)
+              (stopped G s before o N.part P.own.words j h.0 h.2 over.count
+              (subst (λ x. DataMeans G (activations o.base o.frames x) (is_own G.p) s.store P.own.words) (sym N.left) over.data_means)))
+            where
+              over : RunsOn G s.store (record o { words = P.own.words }) (i ∷ l)
+              over = runs_over G s.store s.store o P.own.words (i ∷ l) N.on (λ at q. refl) (λ n q. h.4.1 n (inl q)) h.4.0
+          inner (Gives ws) P inside h =
+              subst (λ x. PartOf G (after_step s G.p (Gives (called_configuration (configuration s G.p) (record v { environment = N.on.running.env }) k t owner ws))) before (elim x as (λ y. Acting) [ None ↦ entering_by I.runs.unit P.own | Some f ↦ fault_in P.own f ]).0) (sym h.0)
+              (subst (λ p. PartOf G (after_step s G.p (Gives (called_configuration (configuration s G.p) (record v { environment = N.on.running.env }) k t owner ws))) before (entering_by I.runs.unit p).0) (sym h.1)
+              (entered ws P.own.words inside h.2 e))

@@ -1,0 +1,61 @@
+-- The law of private steps, which the function of `src/law.rt` states.
+use Rattle.std.specs.Prelude.{List, [], ◌∷◌, Option, Some, None, ℕ}
+use Rattle.cp_model.specs.Invariant.{Invariant}
+use Rattle.cp_model.specs.Operators.{realtime}
+use Rattle.cp_model.specs.States.{Setup, State, running_clock}
+use Rattle.cp_model.specs.Turns as meaning
+use Rattle.cp_code.specs.Terms.{Argument, Copy}
+use Rattle.cp_code.specs.Programs as op
+use Rattle.cp_code.specs.Programs.{Operation, Program}
+use Rattle.cp_code.specs.Sites.{operation_at}
+use Rattle.cp_code.specs.StandsFor.{StandsFor}
+use Rattle.cp_steps.specs.PrivateStates.{PrivateState}
+use Rattle.cp_steps.specs.Steps.{private_step, private_steps}
+use Rattle.cp_steps.specs.Addresses.{Ground}
+use Rattle.cp_steps.specs.PartOf.{PartOf}
+
+-- No structured value is passed.
+abbrev pub NoCopies : List Argument → Type 0
+NoCopies [] = Unit {0}
+NoCopies (Copy at size from ∷ xs) = ⊥
+NoCopies (_ ∷ xs) = NoCopies xs
+
+abbrev pub AreNone : List Argument → Type 0
+AreNone [] = Unit {0}
+AreNone (x ∷ xs) = ⊥
+
+-- The law tells of all operations but `init` of a class with arguments and copies of structured values, also as arguments.
+abbrev pub IsTold : Option Operation → Type 0
+IsTold None = Unit {0}
+IsTold (Some (op.Procedure call next)) = NoCopies call.arguments
+IsTold (Some (op.Function call into next)) = NoCopies call.arguments
+IsTold (Some (op.InitClass call next)) = AreNone call.arguments
+IsTold (Some (op.CopyWords to from size next)) = ⊥
+IsTold (Some _) = Unit {0}
+
+abbrev pub ground_of : (program : Program) (setup : Setup) → StandsFor program setup → (p own : ℕ) → Ground
+ground_of program setup F p own = record { program = program; texts = F.texts; setup = setup; p = p; own = own }
+
+-- Where o is the private state of p in a state with the invariant, its private step is that of p in the state after the
+-- meaning's private step, also where neither has one.
+abbrev pub PrivateStepIsStep : Type 0
+PrivateStepIsStep =
+    (program : Program) (setup : Setup) (F : StandsFor program setup) (p own : ℕ)
+    → (s : State) (before : List ℕ) (o : PrivateState)
+    → let G = ground_of program setup F p own in
+    Invariant s → IsTold (operation_at program o.place) → PartOf G s before o
+    → PartOf G (meaning.private_step setup s p) before (private_step program (realtime (running_clock setup s)) o)
+
+-- It tells of all operations of a program.
+abbrev pub AllTold : Program → Type 0
+AllTold program = (place : ℕ) → IsTold (operation_at program place)
+
+-- The same of a turn: of so many steps, which ends early where the next step isn't private.
+abbrev pub PrivateTurnIsTurn : Type 0
+PrivateTurnIsTurn =
+    (program : Program) (setup : Setup) (F : StandsFor program setup) (p own n : ℕ)
+    → (s : State) (before : List ℕ) (o : PrivateState)
+    → let G = ground_of program setup F p own in
+    Invariant s → AllTold program → PartOf G s before o
+    → PartOf G (meaning.private_turn setup n s p) before
+    (private_steps program (realtime (running_clock setup s)) n o)
