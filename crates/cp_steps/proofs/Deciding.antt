@@ -34,6 +34,7 @@ use Rattle.cp_steps.proofs.AssignCalls.{StatementAdvances}
 use Rattle.cp_steps.proofs.Assigning.{set_steps}
 use Rattle.cp_steps.proofs.CallSteps.{UnitsStand, function_steps, procedure_steps}
 use Rattle.cp_steps.proofs.Choosing.{case_steps}
+use Rattle.cp_steps.proofs.CopySteps.{copy_steps}
 use Rattle.cp_steps.proofs.Counting.{for_next_steps, for_steps}
 use Rattle.cp_steps.proofs.Declared.{no_local_result}
 use Rattle.cp_steps.proofs.Doing.{Ready, acts_itself, known}
@@ -97,7 +98,7 @@ module _ (G : Ground) (s : State) (before : List ℕ) (o : PrivateState) (F : St
       → Stepped G s before o
   assigns d e env k Y (op.Set to lower upper c n) there h = set_steps G s before o d e env k Y to lower upper c n there h
   assigns (a.Plain x) e env k Y (op.SetResult lower upper c n) there h = result_steps G s before o x e env k F Y lower upper c n there h
-  assigns d (a.Use e) env k Y (op.CopyWords to from size n) there h = absurd (subst IsTold there told)
+  assigns d (a.Use e) env k Y (op.CopyWords to from size n) there h = copy_steps G s before o d e env k Y to from size n there h
   assigns d e env k Y _ there h = absurd h
 
   performs : (d : a.Designator) (es : a.Expressions) (env : Environment) (k : List Task) (Y : Ready G s before o (a.Perform d es) env k) (x : Operation) → operation_at G.program o.place ≡ Some x

@@ -42,6 +42,9 @@ pub mod PrivateTurns
 pub mod Entering
 pub mod Invoking
 pub mod StartLeaves
+pub mod LeafWords
+pub mod Copying
+pub mod CopySteps
 pub mod Opening
 pub mod Targets
 pub mod CallSteps

@@ -147,7 +147,7 @@ abbrev writes_at : Owner → Name × Variable → Writes
 writes_at o v = map (λ leaf. (under (root o) (ByName v.0 ∷ leaf.0), leaf.1)) (leaves v.1.type)
 
 -- A location that isn't written keeps its value.
-not_written : (ws : Writes) (st : Store) (l : Location) → ((v : Value) → IsIn (l, v) ws → ⊥) → put_all ws st l ≡ st l
+pub not_written : (ws : Writes) (st : Store) (l : Location) → ((v : Value) → IsIn (l, v) ws → ⊥) → put_all ws st l ≡ st l
 not_written [] st l none = refl
 not_written (w ∷ ws) st l none = not_written ws (put w.0 w.1 st) l (λ v h. none v (inr h)) ∙ by (same_location w.0 l) refl
   where

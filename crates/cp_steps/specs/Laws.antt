@@ -24,13 +24,12 @@ abbrev pub AreNone : List Argument → Type 0
 AreNone [] = Unit {0}
 AreNone (x ∷ xs) = ⊥
 
--- The law tells of all operations but `init` of a class with arguments and copies of structured values, also as arguments.
+-- The law tells of all operations but `init` of a class with arguments and calls that are passed structured values.
 abbrev pub IsTold : Option Operation → Type 0
 IsTold None = Unit {0}
 IsTold (Some (op.Procedure call next)) = NoCopies call.arguments
 IsTold (Some (op.Function call into next)) = NoCopies call.arguments
 IsTold (Some (op.InitClass call next)) = AreNone call.arguments
-IsTold (Some (op.CopyWords to from size next)) = ⊥
 IsTold (Some _) = Unit {0}
 
 abbrev pub ground_of : (program : Program) (setup : Setup) → StandsFor program setup → (p own : ℕ) → Ground
