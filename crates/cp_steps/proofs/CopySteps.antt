@@ -36,7 +36,7 @@ use Rattle.cp_steps.specs.Left.{held_below, site}
 use Rattle.cp_steps.specs.PartOf.{PartOf, RunsOn}
 use Rattle.cp_steps.proofs.Apart.{cell_has_word, cell_head}
 use Rattle.cp_steps.proofs.Bounds.{part_fits}
-use Rattle.cp_steps.proofs.Copying.{activation_changed, copied_length, copied_outside, copied_word, data_changed, leaf_writes, simple_cell, simple_holds, structure_writes}
+use Rattle.cp_steps.proofs.Copying.{activation_changed, copied_length, copied_outside, copied_word, data_changed, leaf_writes, read_below, simple_cell, simple_holds, structure_writes}
 use Rattle.cp_steps.proofs.Doing.{Ready, known, place_here, statement_steps, view}
 use Rattle.cp_steps.proofs.Evaluates.{value_reads}
 use Rattle.cp_steps.proofs.Finding.{in_context_none, or_else_none}
@@ -49,10 +49,6 @@ use Rattle.cp_steps.proofs.Separate.{cell_below}
 use Rattle.cp_steps.proofs.Stacks.{Stacked}
 use Rattle.cp_steps.proofs.StartLeaves.{IsSimple}
 use Rattle.cp_steps.proofs.Stepping.{Now, Stepped, clock_of, faulted, went}
-
--- What is read at a path below a location.
-abbrev pub read_below : Store → Location → Path → ℤ
-read_below store from path = ordinal_in (store (under from path))
 
 -- A plain variable lies below the top, if it has words.
 pub plain_below : (G : Ground) (store : Store) (o : PrivateState) (k : List Task) (R : RunsOn G store o k) (l : Location) (n : ℕ) (t : ResolvedType) → SoundType t → has_queues t ≡ false → is_own G.p l.owner ≡ true

@@ -68,6 +68,10 @@ copied_length ws us to from n = paste_length to (block us from n) ws
 abbrev pub leaf_writes : Location → (Path → ℤ) → List Leaf → Writes
 leaf_writes to f ls = map (λ leaf. (under to leaf.0, Ordinal (f leaf.0))) ls
 
+-- What is read at a path below a location.
+abbrev pub read_below : Store → Location → Path → ℤ
+read_below store from path = ordinal_in (store (under from path))
+
 -- What is read leaf by leaf is stored leaf by leaf.
 read_is_written : (to from : Location) (store : Store) (ls : List Leaf)
     → zip (map (λ leaf. under to leaf.0) ls) (map (λ x. Ordinal (ordinal_in x)) (map (λ leaf. store (under from leaf.0)) ls))

@@ -4,7 +4,7 @@ use Rattle.cp_model.specs.Invariant.{Invariant}
 use Rattle.cp_model.specs.Operators.{realtime}
 use Rattle.cp_model.specs.States.{Setup, State, running_clock}
 use Rattle.cp_model.specs.Turns as meaning
-use Rattle.cp_code.specs.Terms.{Argument, Copy}
+use Rattle.cp_code.specs.Terms.{Argument}
 use Rattle.cp_code.specs.Programs as op
 use Rattle.cp_code.specs.Programs.{Operation, Program}
 use Rattle.cp_code.specs.Sites.{operation_at}
@@ -14,21 +14,13 @@ use Rattle.cp_steps.specs.Steps.{private_step, private_steps}
 use Rattle.cp_steps.specs.Addresses.{Ground}
 use Rattle.cp_steps.specs.PartOf.{PartOf}
 
--- No structured value is passed.
-abbrev pub NoCopies : List Argument → Type 0
-NoCopies [] = Unit {0}
-NoCopies (Copy at size from ∷ xs) = ⊥
-NoCopies (_ ∷ xs) = NoCopies xs
-
 abbrev pub AreNone : List Argument → Type 0
 AreNone [] = Unit {0}
 AreNone (x ∷ xs) = ⊥
 
--- The law tells of all operations but `init` of a class with arguments and calls that are passed structured values.
+-- The law tells of all operations but `init` of a class with arguments.
 abbrev pub IsTold : Option Operation → Type 0
 IsTold None = Unit {0}
-IsTold (Some (op.Procedure call next)) = NoCopies call.arguments
-IsTold (Some (op.Function call into next)) = NoCopies call.arguments
 IsTold (Some (op.InitClass call next)) = AreNone call.arguments
 IsTold (Some _) = Unit {0}
 
