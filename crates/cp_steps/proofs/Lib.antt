@@ -45,6 +45,7 @@ pub mod StartLeaves
 pub mod LeafWords
 pub mod Copying
 pub mod CopySteps
+pub mod InitOffsets
 pub mod Opening
 pub mod Targets
 pub mod CallSteps
