@@ -1,11 +1,12 @@
 -- Where the parameters of a class lie in it: they have the words after its mark, one each.
-use Rattle.std.proofs.Common.{◌≡◌, ◌⊎◌, inl, inr, ℕ, zero, suc, ◌+◌, ◌-◌, ◌≤◌, ◌<◌, Bool, true, false, List, [], ◌∷◌, length, Option, Some, None, refl, ap, sym, subst, ◌∙◌, arith}
+use Rattle.std.proofs.Common.{◌≡◌, ◌⊎◌, inl, inr, ℕ, zero, suc, ◌+◌, ◌-◌, ◌≤◌, ◌<◌, Bool, true, false, List, [], ◌∷◌, ◌++◌, length, Option, Some, None, refl, ap, sym, subst, ◌∙◌, arith}
 use Rattle.std.specs.Prelude.{filter, if◌then◌else◌, nat_lt, not}
 use Rattle.std.proofs.lemmas.Bool.{true≢false}
 use Rattle.std.specs.Str.{bytes_eq}
 use Rattle.cp_model.specs.Abstract.{Name, System}
 use Rattle.cp_model.specs.Declarations.{Variable, declarations, is_component, members_from, reported_members}
 use Rattle.cp_model.specs.Locations.{ByName}
+use Rattle.cp_model.specs.Environments.{permanent_variables}
 use Rattle.cp_model.specs.Names.{lookup}
 use Rattle.cp_model.specs.Types.{GlobalScope, Members, NoMembers, ResolvedType}
 use Rattle.cp_typing.specs.Declared.{Distinct}
@@ -15,6 +16,7 @@ use Rattle.cp_typing.proofs.Names.{bytes_eq-refl, bytes_same}
 use Rattle.cp_typing.proofs.StartWrites.{found_in}
 use Rattle.cp_code.specs.Layout.{Part, farther, head_words, member, member_part, part, right, right_at, rights}
 use Rattle.cp_steps.proofs.Apart.{IsCell, cell_head, member_above, member_apart}
+use Rattle.cp_steps.proofs.Declared.{absent_later, distinct_first}
 use Rattle.cp_steps.proofs.Finding.{part_whole, some_is_not_none}
 use Rattle.cp_steps.proofs.StartLeaves.{first_name}
 use Rattle.cp_steps.proofs.Layouts.{same_some}
@@ -92,7 +94,7 @@ right_index at (suc j) (w ∷ vs) d h =
     (r.0, inr r.1, ap (λ b. if b then Some (at, w.1) else right_at (suc at) vs r.0.0) (other_name w r.0 vs d r.1) ∙ (r.2 ∙ ap (λ k. Some (k, r.0.1)) (omega arith)))
 
 -- A right is found where it stands.
-right_is : (at : ℕ) (vs : List (Name × Variable)) (x : Name) (k : ℕ) (v : Variable) → right_at at vs x ≡ Some (k, v) → (at ≤ k) × (k < at + length vs) × IsIn (x, v) vs
+pub right_is : (at : ℕ) (vs : List (Name × Variable)) (x : Name) (k : ℕ) (v : Variable) → right_at at vs x ≡ Some (k, v) → (at ≤ k) × (k < at + length vs) × IsIn (x, v) vs
 right_is at [] x k v h = absurd (some_is_not_none (k, v) (sym h))
 right_is at (w ∷ vs) x k v h = by (bytes_eq x w.0) refl h (right_is (suc at) vs x k v)
   where
@@ -105,7 +107,7 @@ right_is at (w ∷ vs) x k v h = by (bytes_eq x w.0) refl h (right_is (suc at) v
     by false e h go = let r = go h in (omega (arith, r.0), omega (arith, r.1), inr r.2)
 
 -- No two rights have one word.
-right_same : (at : ℕ) (vs : List (Name × Variable)) (x y : Name) (k : ℕ) (v w : Variable) → right_at at vs x ≡ Some (k, v) → right_at at vs y ≡ Some (k, w) → (x ≡ y) × (v ≡ w)
+pub right_same : (at : ℕ) (vs : List (Name × Variable)) (x y : Name) (k : ℕ) (v w : Variable) → right_at at vs x ≡ Some (k, v) → right_at at vs y ≡ Some (k, w) → (x ≡ y) × (v ≡ w)
 right_same at [] x y k v w h g = absurd (some_is_not_none (k, v) (sym h))
 right_same at (z ∷ vs) x y k v w h g = by (bytes_eq x z.0) (bytes_eq y z.0) refl refl h g (right_same (suc at) vs x y k v w)
   where
@@ -225,3 +227,45 @@ module _ (g : GlobalScope) (s : System) (distinct : Distinct (declarations g s.p
   right_of p k v i h =
       let r = of_filter (λ z. is_component z.1.type) passed (p.0, v) (right_is 1 (rights g s) p.0 k v h).2 in
       same_some v p.1 (sym (found_in passed p.0 v distinct r.0) ∙ found_in passed p.0 p.1 distinct i)
+
+-- ---- names
+
+lookup_in : (x : Name) (vs : List (Name × Variable)) (v : Variable) → lookup x vs ≡ Some v → IsIn (x, v) vs
+lookup_in x [] v h = absurd (some_is_not_none v (sym h))
+lookup_in x (w ∷ vs) v h = by (bytes_eq x w.0) refl h (lookup_in x vs v)
+  where
+    by : (b : Bool) → bytes_eq x w.0 ≡ b → (if b then Some w.1 else lookup x vs) ≡ Some v → (lookup x vs ≡ Some v → IsIn (x, v) vs) → IsIn (x, v) (w ∷ vs)
+    by true e h go = inl (λ i. (bytes_same x w.0 e i, sym (same_some w.1 v h) i))
+    by false e h go = inr (go h)
+
+no_member : (g : GlobalScope) (at : ℕ) (vs : List (Name × Variable)) (rest : Members) (x : Name) → lookup x vs ≡ None → ((n : ℕ) → member_part g n rest x [] ≡ None)
+    → member_part g at (members_from vs rest) x [] ≡ None
+no_member g at [] rest x h none = none at
+no_member g at (w ∷ vs) rest x h none = by (bytes_eq x w.0) h (λ q. no_member g (at + words g w.1.type) vs rest x q none)
+  where
+    by : (b : Bool) → (if b then Some w.1 else lookup x vs) ≡ None → (lookup x vs ≡ None → member_part g (at + words g w.1.type) (members_from vs rest) x [] ≡ None)
+        → (if b then farther at (part g w.1.type []) else member_part g (at + words g w.1.type) (members_from vs rest) x []) ≡ None
+    by true h go = absurd (some_is_not_none w.1 h)
+    by false h go = go h
+
+-- The name of a right is none of a member.
+pub right_is_no_member : (g : GlobalScope) (s : System) (p : Name × Variable) → Distinct (permanent_variables g s) → IsIn p (declarations g s.parameters) → is_component p.1.type ≡ true → member g s p.0 ≡ None
+right_is_no_member g s p distinct i component =
+    no_member g (head_words g s) (filter (λ v. not (is_component v.1.type)) (declarations g s.parameters)) (members_from (declarations g s.variables) NoMembers) p.0
+    (by (lookup p.0 (filter (λ v. not (is_component v.1.type)) (declarations g s.parameters))) refl)
+    (λ n. no_member g n (declarations g s.variables) NoMembers p.0 (later (declarations g s.parameters) distinct i) (λ m. refl))
+  where
+    own : Distinct (declarations g s.parameters)
+    own = distinct_first (declarations g s.parameters) (declarations g s.variables) distinct
+
+    by : (o : Option Variable) → lookup p.0 (filter (λ v. not (is_component v.1.type)) (declarations g s.parameters)) ≡ o → o ≡ None
+    by None e = refl
+    by (Some v) e =
+        let k = of_filter (λ v. not (is_component v.1.type)) (declarations g s.parameters) (p.0, v) (lookup_in p.0 (filter (λ v. not (is_component v.1.type)) (declarations g s.parameters)) v e) in
+        let same : v ≡ p.1 = same_some v p.1 (sym (found_in (declarations g s.parameters) p.0 v own k.0) ∙ found_in (declarations g s.parameters) p.0 p.1 own i) in
+        absurd (true≢false (sym k.1 ∙ (ap (λ (z : Variable). not (is_component z.type)) same ∙ ap not component)))
+
+    later : (vs : List (Name × Variable)) → Distinct (vs ++ declarations g s.variables) → IsIn p vs → lookup p.0 (declarations g s.variables) ≡ None
+    later [] d i = absurd i
+    later (w ∷ vs) d (inl e) = ap (λ (z : Name × Variable). lookup z.0 (declarations g s.variables)) e ∙ absent_later w.0 vs (declarations g s.variables) d.0
+    later (w ∷ vs) d (inr i) = later vs d.1 i

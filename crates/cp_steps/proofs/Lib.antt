@@ -46,6 +46,7 @@ pub mod LeafWords
 pub mod Copying
 pub mod CopySteps
 pub mod InitOffsets
+pub mod Settling
 pub mod Opening
 pub mod Targets
 pub mod CallSteps
