@@ -47,6 +47,7 @@ pub mod Copying
 pub mod CopySteps
 pub mod InitOffsets
 pub mod Settling
+pub mod InitPassing
 pub mod Opening
 pub mod Targets
 pub mod CallSteps

@@ -62,7 +62,7 @@ never_empty : (q : Path) (y : Name) → ◌≡◌ {A = Path} [] (q ++ (ByName y 
 never_empty [] y e = cc
 never_empty (u ∷ q) y e = cc
 
-snoc_same : (p q : Path) (x y : Name) → p ++ (ByName x ∷ []) ≡ q ++ (ByName y ∷ []) → (p ≡ q) × (x ≡ y)
+pub snoc_same : (p q : Path) (x y : Name) → p ++ (ByName x ∷ []) ≡ q ++ (ByName y ∷ []) → (p ≡ q) × (x ≡ y)
 snoc_same [] [] x y e = (refl, ap last_name e)
 snoc_same [] (t ∷ q) x y e = absurd (never_empty q y (step_same (ByName x) t [] (q ++ (ByName y ∷ [])) e).1)
 snoc_same (s ∷ p) [] x y e = absurd (never_empty p x (sym (step_same s (ByName y) (p ++ (ByName x ∷ [])) [] e).1))

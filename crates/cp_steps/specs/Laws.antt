@@ -4,7 +4,7 @@ use Rattle.cp_model.specs.Invariant.{Invariant}
 use Rattle.cp_model.specs.Operators.{realtime}
 use Rattle.cp_model.specs.States.{Setup, State, running_clock}
 use Rattle.cp_model.specs.Turns as meaning
-use Rattle.cp_code.specs.Terms.{Argument}
+use Rattle.cp_code.specs.Terms.{Argument, ClassRight, Right, Target}
 use Rattle.cp_code.specs.Programs as op
 use Rattle.cp_code.specs.Programs.{Operation, Program}
 use Rattle.cp_code.specs.Sites.{operation_at}
@@ -13,6 +13,16 @@ use Rattle.cp_steps.specs.PrivateStates.{PrivateState}
 use Rattle.cp_steps.specs.Steps.{private_step, private_steps}
 use Rattle.cp_steps.specs.Addresses.{Ground}
 use Rattle.cp_steps.specs.PartOf.{PartOf}
+
+-- Of the rights that are passed, none is to a class to which the running component has a right itself.
+abbrev pub IsNotHandedOn : Target → Type 0
+IsNotHandedOn (ClassRight at) = ⊥
+IsNotHandedOn _ = Unit {0}
+
+abbrev pub HandsOnNoClass : List Argument → Type 0
+HandsOnNoClass [] = Unit {0}
+HandsOnNoClass (Right at t ∷ xs) = IsNotHandedOn t × HandsOnNoClass xs
+HandsOnNoClass (_ ∷ xs) = HandsOnNoClass xs
 
 abbrev pub AreNone : List Argument → Type 0
 AreNone [] = Unit {0}
