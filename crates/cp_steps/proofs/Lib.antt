@@ -48,6 +48,7 @@ pub mod CopySteps
 pub mod InitOffsets
 pub mod Settling
 pub mod InitPassing
+pub mod InitRights
 pub mod Opening
 pub mod Targets
 pub mod CallSteps
