@@ -49,6 +49,7 @@ pub mod InitOffsets
 pub mod Settling
 pub mod InitPassing
 pub mod InitRights
+pub mod InitSettled
 pub mod Opening
 pub mod Targets
 pub mod CallSteps
