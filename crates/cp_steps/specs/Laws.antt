@@ -24,15 +24,10 @@ HandsOnNoClass [] = Unit {0}
 HandsOnNoClass (Right at t ∷ xs) = IsNotHandedOn t × HandsOnNoClass xs
 HandsOnNoClass (_ ∷ xs) = HandsOnNoClass xs
 
-abbrev pub AreNone : List Argument → Type 0
-AreNone [] = Unit {0}
-AreNone (x ∷ xs) = ⊥
-
--- The law tells of all operations but `init` of a class with arguments.
+-- The law tells of all operations but `init` of a class to which a right to a class is handed on.
 abbrev pub IsTold : Option Operation → Type 0
-IsTold None = Unit {0}
-IsTold (Some (op.InitClass call next)) = AreNone call.arguments
-IsTold (Some _) = Unit {0}
+IsTold (Some (op.InitClass call next)) = HandsOnNoClass call.arguments
+IsTold _ = Unit {0}
 
 abbrev pub ground_of : (program : Program) (setup : Setup) → StandsFor program setup → (p own : ℕ) → Ground
 ground_of program setup F p own = record { program = program; texts = F.texts; setup = setup; p = p; own = own }
