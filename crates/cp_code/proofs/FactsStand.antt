@@ -11,7 +11,7 @@ use Rattle.cp_model.specs.Locations.{Location, Owner}
 use Rattle.cp_model.specs.Places.{field_type, member_type, within}
 use Rattle.cp_model.specs.States.{Setup}
 use Rattle.cp_typing.specs.Declared.{AllFormed, Each, InitialVariable, IsData, IsReported, IsSystem, ResultFits, RoutineParameter, RoutineVariable, SystemParameter, SystemVariable, is_function}
-use Rattle.cp_typing.specs.Judgement.{HasField, IsArray, TypedPlace, find_member, has_queues, is_structured}
+use Rattle.cp_typing.specs.Judgement.{HasField, IsArray, TypedPlace, find_member, is_structured}
 use Rattle.cp_typing.specs.Magnitudes.{AreNegativesWithin, IsAbove}
 use Rattle.cp_typing.specs.Needs.{some_environment}
 use Rattle.cp_typing.specs.SoundTypes.{SoundMembers, SoundType}

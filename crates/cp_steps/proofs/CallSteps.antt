@@ -1,5 +1,5 @@
 -- Whole private steps of calls: of functions, which any task can make, and of procedures.
-use Rattle.std.proofs.Common.{◌≡◌, inl, inr, ℕ, ◌+◌, ℤ, List, [], ◌∷◌, length, Bool, true, false, Option, Some, None, refl, ap, sym, subst, ◌∙◌, arith}
+use Rattle.std.proofs.Common.{◌≡◌, inl, inr, ℕ, ◌+◌, List, [], ◌∷◌, length, Bool, true, false, Option, Some, None, refl, ap, sym, subst, ◌∙◌, arith}
 use Rattle.std.specs.Prelude.{◌++◌, if◌then◌else◌, slice_get}
 use Rattle.std.proofs.lemmas.Bool.{true≢false}
 use Rattle.std.specs.Str.{bytes_eq}
@@ -15,7 +15,7 @@ use Rattle.cp_model.specs.Declarations as declared
 use Rattle.cp_model.specs.Declarations.{declarations}
 use Rattle.cp_model.specs.Environments.{Environment, local_variables, permanent_variables, result_variable}
 use Rattle.cp_model.specs.Invariant.{StoreInvariant}
-use Rattle.cp_model.specs.Locations.{Location, OfActivation, root}
+use Rattle.cp_model.specs.Locations.{OfActivation, root}
 use Rattle.cp_model.specs.Names.{lookup}
 use Rattle.cp_model.specs.Operators.{realtime}
 use Rattle.cp_model.specs.Parts.{is_own}
@@ -33,7 +33,7 @@ use Rattle.cp_code.specs.Sites as sites
 use Rattle.cp_code.specs.Sites.{RoutineOf, Site, UnitText, TargetFor, TargetOf, first_parameter, operation_at, parameters, system_of_callee}
 use Rattle.cp_code.specs.StandsFor.{UnitStands}
 use Rattle.cp_code.specs.Starts.{started, word}
-use Rattle.cp_code.specs.StatementsFor.{PerformsBy, either}
+use Rattle.cp_code.specs.StatementsFor.{PerformsBy}
 use Rattle.cp_code.specs.TermsFor.{ArgumentsFor, Knowns, nothing_known}
 use Rattle.cp_steps.specs.PrivateStates.{PrivateState}
 use Rattle.cp_steps.specs.Passing.{component_called}

@@ -1,12 +1,12 @@
 -- Whole private steps that copy a structured value.
-use Rattle.std.proofs.Common.{◌≡◌, ◌⊎◌, ℕ, suc, ◌+◌, ◌-◌, ◌≤◌, ◌<◌, ℤ, List, ◌∷◌, length, Bool, true, false, None, Some, Result, Ok, Err, refl, ap, sym, subst, ◌∙◌, arith}
+use Rattle.std.proofs.Common.{◌≡◌, ◌⊎◌, ℕ, ◌+◌, ◌-◌, ◌≤◌, ◌<◌, List, ◌∷◌, length, true, false, Some, Result, Ok, Err, refl, ap, sym, subst, ◌∙◌, arith}
 use Rattle.cp_model.specs.Abstract as a
 use Rattle.cp_model.specs.Assignments.{writes_of}
 use Rattle.cp_model.specs.Calls.{call_in_designator, first_call, in_context, user_call}
 use Rattle.cp_model.specs.Configurations.{StepResult, own_step, with_writes}
 use Rattle.cp_model.specs.Continuations.{Do, Task}
 use Rattle.cp_model.specs.Environments.{Environment}
-use Rattle.cp_model.specs.Expressions.{place, value}
+use Rattle.cp_model.specs.Expressions.{place}
 use Rattle.cp_model.specs.Leaves.{leaves}
 use Rattle.cp_model.specs.Locations.{Location, Path, under}
 use Rattle.cp_model.specs.Outcomes.{Fault, Gives, Outcome, and_then}
@@ -17,7 +17,7 @@ use Rattle.cp_model.specs.Stores.{Store, Writes, put_all}
 use Rattle.cp_model.specs.Turns.{after_step}
 use Rattle.cp_model.specs.Types.{ResolvedType}
 use Rattle.cp_model.specs.declared.state.Fault as machine
-use Rattle.cp_typing.specs.Judgement.{has_queues, is_structured}
+use Rattle.cp_typing.specs.Judgement.{has_queues}
 use Rattle.cp_typing.specs.SoundTypes.{SoundType}
 use Rattle.cp_typing.specs.Words.{words}
 use Rattle.cp_code.specs.Terms.{Spot}
@@ -26,8 +26,7 @@ use Rattle.cp_code.specs.Layout.{part}
 use Rattle.cp_code.specs.Sites.{operation_at}
 use Rattle.cp_code.specs.Starts.{block, paste, word}
 use Rattle.cp_code.specs.StatementsFor.{AssignsBy}
-use Rattle.cp_code.specs.TermsFor.{IsPlainStructure}
-use Rattle.cp_steps.specs.PrivateStates.{PrivateState, go_to, with_result}
+use Rattle.cp_steps.specs.PrivateStates.{PrivateState, with_result}
 use Rattle.cp_steps.specs.Steps.{copy_words}
 use Rattle.cp_steps.specs.Values.{place_of}
 use Rattle.cp_steps.specs.Means.{PlaceAgrees}
@@ -46,18 +45,21 @@ use Rattle.cp_steps.proofs.Layouts.{lies_under}
 use Rattle.cp_steps.proofs.LeafWords.{word_is_part}
 use Rattle.cp_steps.proofs.RunningOn.{runs_here, runs_moved, runs_room, runs_stacked}
 use Rattle.cp_steps.proofs.Separate.{cell_below}
-use Rattle.cp_steps.proofs.Stacks.{Stacked}
 use Rattle.cp_steps.proofs.StartLeaves.{IsSimple}
-use Rattle.cp_steps.proofs.Stepping.{Now, Stepped, clock_of, faulted, went}
+use Rattle.cp_steps.proofs.Stepping.{Stepped, clock_of, faulted, went}
 
 -- A plain variable lies below the top, if it has words.
 pub plain_below : (G : Ground) (store : Store) (o : PrivateState) (k : List Task) (R : RunsOn G store o k) (l : Location) (n : ℕ) (t : ResolvedType) → SoundType t → has_queues t ≡ false → is_own G.p l.owner ≡ true
     → lies G (activations o.base o.frames k) l ≡ Some (n, t) → 1 ≤ words (scope G) t → n + words (scope G) t ≤ length o.words
 plain_below G store o k R l n t sound free own is some =
     let p = word_is_part (scope G) t (words (scope G) t - 1) sound free (omega (arith, some)) in
-    omega (arith, some, runs_room G store o k R,
+    omega (
+      arith,
+      some,
+      runs_room G store o k R,
       cell_below G (activations o.base o.frames k) _ (runs_stacked G store o k R) (under l p.0) (n + (words (scope G) t - 1)) p.1 0 own (cell_head (scope G) p.1 (simple_cell p.1 p.2))
-      (lies_under G (activations o.base o.frames k) l p.0 n (words (scope G) t - 1) t p.1 is p.3))
+          (lies_under G (activations o.base o.frames k) l p.0 n (words (scope G) t - 1) t p.1 is p.3),
+    )
 
 -- A plain variable is copied to another of its type.
 abbrev pub runs_copied : (G : Ground) (store : Store) (o : PrivateState) (k : List Task) (R : RunsOn G store o k) (to from : Location) (n b : ℕ) (t : ResolvedType)

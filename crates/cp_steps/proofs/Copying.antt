@@ -1,15 +1,14 @@
 -- Values that are stored leaf by leaf, and word by word.
-use Rattle.std.proofs.Common.{◌≡◌, ◌≢◌, ◌⊎◌, inl, inr, ℕ, zero, suc, ◌+◌, ◌-◌, ◌≤◌, ◌<◌, ℤ, pos, Bool, true, false, List, [], ◌∷◌, ◌++◌, length, map, Option, Some, None, refl, ap, sym, subst, ◌∙◌, arith}
+use Rattle.std.proofs.Common.{◌≡◌, ◌⊎◌, inl, inr, ℕ, zero, suc, ◌+◌, ◌-◌, ◌≤◌, ◌<◌, ℤ, pos, Bool, true, false, List, [], ◌∷◌, ◌++◌, length, map, Some, None, refl, ap, sym, subst, ◌∙◌, arith}
 use Rattle.std.specs.Prelude.{nat_le, nat_lt, slice_index_or, zip}
-use Rattle.cp_model.specs.Abstract.{BaseType, Name, System}
+use Rattle.cp_model.specs.Abstract.{System}
 use Rattle.cp_model.specs.Assignments.{writes_of}
-use Rattle.cp_model.specs.Declarations as declared
 use Rattle.cp_model.specs.Declarations.{reported_members}
 use Rattle.cp_model.specs.Leaves.{Leaf, leaves}
-use Rattle.cp_model.specs.Locations.{ByName, Location, Path, PathStep, under}
-use Rattle.cp_model.specs.Outcomes.{Gives, Outcome}
+use Rattle.cp_model.specs.Locations.{ByName, Location, Path, under}
+use Rattle.cp_model.specs.Outcomes.{Gives}
 use Rattle.cp_model.specs.Parts.{is_own}
-use Rattle.cp_model.specs.Places.{TypedValue, ordinal_in}
+use Rattle.cp_model.specs.Places.{ordinal_in}
 use Rattle.cp_model.specs.Stores.{Ordinal, Store, Value, Writes, put_all}
 use Rattle.cp_model.specs.Types.{ArrayOf, ComponentOf, GlobalScope, NoType, Queue, RecordOf, ResolvedType, Simple}
 use Rattle.cp_typing.specs.Judgement.{has_queues, is_structured}
@@ -18,12 +17,12 @@ use Rattle.cp_typing.specs.StartValues.{IsIn}
 use Rattle.cp_typing.specs.Words.{words}
 use Rattle.cp_typing.proofs.Leaves.{in_mapped, of_mapped}
 use Rattle.cp_typing.proofs.StartWrites.{written}
-use Rattle.cp_code.specs.Layout.{Part, local, part}
+use Rattle.cp_code.specs.Layout.{Part, part}
 use Rattle.cp_code.specs.Starts.{block, paste, word}
 use Rattle.cp_code.proofs.Pasting.{paste_inside, paste_length, paste_outside}
 use Rattle.std.proofs.lemmas.Bool.{true≢false}
 use Rattle.cp_steps.specs.Means.{CellMeans}
-use Rattle.cp_steps.specs.Addresses.{Activation, ComponentLies, Ground, activation_at, lies, scope}
+use Rattle.cp_steps.specs.Addresses.{Activation, Ground, activation_at, lies, scope}
 use Rattle.cp_steps.specs.PartOf.{DataMeans}
 use Rattle.cp_steps.proofs.Apart.{InHead, IsCell, cell_has_word, cell_head}
 use Rattle.cp_steps.proofs.Bounds.{part_fits}

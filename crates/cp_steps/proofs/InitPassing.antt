@@ -11,21 +11,20 @@ use Rattle.cp_model.specs.Calls.{call_in_arguments, first_call, in_context}
 use Rattle.cp_model.specs.Components.{Component}
 use Rattle.cp_model.specs.Declarations.{Variable, declarations, is_component}
 use Rattle.cp_model.specs.Expressions.{value}
-use Rattle.cp_model.specs.Locations.{Location, Path}
+use Rattle.cp_model.specs.Locations.{Location}
 use Rattle.cp_model.specs.Names.{lookup}
 use Rattle.cp_model.specs.Operators.{Clock}
 use Rattle.cp_model.specs.Outcomes as outcomes
 use Rattle.cp_model.specs.Outcomes.{Fault, Gives, Outcome, and_then}
 use Rattle.cp_model.specs.Places.{TypedValue, within}
 use Rattle.cp_model.specs.Stores.{Ordinal, Store, Value as StoreValue, Writes, put, put_all}
-use Rattle.cp_model.specs.Types.{ComponentOf, Members, ResolvedType, Simple}
+use Rattle.cp_model.specs.Types.{ComponentOf, Members, Simple}
 use Rattle.cp_model.specs.declared.state.Fault as machine
 use Rattle.cp_model.specs.declared.state.Fault.TheVariants as fault
 use Rattle.cp_typing.specs.Declared.{Distinct}
 use Rattle.cp_typing.specs.StartValues.{IsIn}
 use Rattle.cp_typing.specs.Words.{words}
 use Rattle.cp_typing.proofs.StartWrites.{found_in}
-use Rattle.cp_code.specs.Terms as target
 use Rattle.cp_code.specs.Terms.{Argument, Right, Target, Value}
 use Rattle.cp_code.specs.Layout.{Part, member, right}
 use Rattle.cp_code.specs.Sites.{Site, TargetFor}
@@ -45,7 +44,7 @@ use Rattle.cp_steps.proofs.Holding.{put_apart}
 use Rattle.cp_steps.proofs.InitOffsets.{Offset, offset_same, offset_within, right_of}
 use Rattle.cp_steps.proofs.Layouts.{same_some}
 use Rattle.cp_steps.proofs.Passing.{KeptOutside, PassingAgrees, SameOutside, Stays}
-use Rattle.cp_steps.proofs.Settling.{last_name, snoc_same, stored_at}
+use Rattle.cp_steps.proofs.Settling.{snoc_same, stored_at}
 use Rattle.cp_steps.proofs.Writing.{changed_other, location_itself}
 
 module _ (G : Ground) (sys : System) (at : Location) (c from : ℕ) (distinct : Distinct (declarations (scope G) sys.parameters))

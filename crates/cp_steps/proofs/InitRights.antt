@@ -1,5 +1,5 @@
 -- Rights that are passed to a class.
-use Rattle.std.proofs.Common.{◌≡◌, ◌⊎◌, inl, inr, ℕ, ◌+◌, ◌≤◌, ◌<◌, ℤ, pos, List, [], ◌∷◌, Bool, true, false, Option, Some, None, refl, ap, sym, subst, ◌∙◌, arith}
+use Rattle.std.proofs.Common.{◌≡◌, ◌⊎◌, inl, inr, ℕ, ◌+◌, ◌≤◌, ◌<◌, ℤ, pos, List, [], ◌∷◌, Bool, true, false, Some, refl, ap, sym, subst, ◌∙◌, arith}
 use Rattle.std.specs.Prelude.{if◌then◌else◌, ◌+ℤ◌, ◌-ℤ◌}
 use Rattle.std.proofs.lemmas.Int.{ints}
 use Rattle.cp_model.specs.Abstract as a
@@ -7,7 +7,6 @@ use Rattle.cp_model.specs.Abstract.{Class, Sort, System}
 use Rattle.cp_model.specs.Arguments.{right_writes}
 use Rattle.cp_model.specs.Components.{Component, class_or_here, declared_monitor, monitor_right, name_location}
 use Rattle.cp_model.specs.Continuations.{Task}
-use Rattle.cp_model.specs.Declarations.{reported_members}
 use Rattle.cp_model.specs.Environments.{Environment}
 use Rattle.cp_model.specs.Invariant.{StoreInvariant}
 use Rattle.cp_model.specs.Locations.{Location}
@@ -50,8 +49,11 @@ module _ (G : Ground) (s : State) (before : List ℕ) (o : PrivateState) (i : Ta
           → o.component + off < o.base + (site G N.on.running).words
       by (inl q) = omega (arith, N.on.component, q.2, bottom_below G (activations o.base o.frames (i ∷ l)) _ (runs_stacked G s.store o (i ∷ l) N.on) _ _ (runs_stacked G s.store o (i ∷ l) N.on) q.0 q.1)
       by (inr q) =
-          omega (arith, N.on.component,
-            cell_below G (activations o.base o.frames (i ∷ l)) _ (runs_stacked G s.store o (i ∷ l) N.on) here.component N.on.running.component (component_type G here.system) off sees.component q.1 q.0)
+          omega (
+            arith,
+            N.on.component,
+            cell_below G (activations o.base o.frames (i ∷ l)) _ (runs_stacked G s.store o (i ∷ l) N.on) here.component N.on.running.component (component_type G here.system) off sees.component q.1 q.0,
+          )
 
   -- What a right to a monitor holds.
   monitor_held : (n : Component) (off : ℕ) → n.system.sort ≡ a.Monitor → RightTo here n off → word o.words (o.component + off) ≡ pos (monitor_right (s.store (name_location here n)))

@@ -6,7 +6,7 @@ use Rattle.cp_model.specs.Abstract.{Class, Name, Sort, System}
 use Rattle.cp_model.specs.Arguments.{bind, init_argument_writes}
 use Rattle.cp_model.specs.CallSteps.{is_initialised}
 use Rattle.cp_model.specs.Components.{Component, class_or_here, component_named, name_location, same_sort}
-use Rattle.cp_model.specs.Configurations.{Configuration, StepResult, own_step, with_continuation}
+use Rattle.cp_model.specs.Configurations.{StepResult, own_step, with_continuation}
 use Rattle.cp_model.specs.Continuations.{Do, EndBody, Task, marked_monitors, push}
 use Rattle.cp_model.specs.Calls.{call_in_arguments}
 use Rattle.cp_model.specs.Declarations.{Variable, declarations, is_component, reported_members}

@@ -1,7 +1,7 @@
 -- The words of a plain variable are those of its leaves.
-use Rattle.std.proofs.Common.{◌≡◌, ◌⊎◌, inl, inr, ℕ, zero, suc, ◌+◌, ◌-◌, ◌*◌, ◌≤◌, ◌<◌, ℤ, pos, negsuc, Bool, true, false, List, [], ◌∷◌, Option, Some, None, map, refl, ap, sym, subst, ◌∙◌, arith}
-use Rattle.std.specs.Prelude.{if◌then◌else◌, int_le, nat_lt, ◌+ℤ◌, ◌||◌}
-use Rattle.std.proofs.lemmas.Bool.{and_from, true≢false}
+use Rattle.std.proofs.Common.{◌≡◌, ◌⊎◌, inl, inr, ℕ, zero, suc, ◌+◌, ◌-◌, ◌*◌, ◌≤◌, ◌<◌, ℤ, pos, negsuc, Bool, true, false, [], ◌∷◌, Some, None, map, refl, ap, sym, subst, ◌∙◌, arith}
+use Rattle.std.specs.Prelude.{if◌then◌else◌, int_le, nat_lt, ◌||◌}
+use Rattle.std.proofs.lemmas.Bool.{true≢false}
 use Rattle.std.proofs.lemmas.Int.{ints}
 use Rattle.std.specs.Str.{bytes_eq}
 use Rattle.cp_model.specs.Abstract.{Name}
@@ -17,7 +17,7 @@ use Rattle.cp_typing.specs.StartValues.{IsIn}
 use Rattle.cp_typing.specs.Words.{words, words_of_members}
 use Rattle.cp_typing.proofs.Leaves.{in_either, member_named, of_below, of_flat}
 use Rattle.cp_typing.proofs.Names.{bytes_eq-refl, bytes_same}
-use Rattle.cp_code.specs.Layout.{Part, distance, farther, member_part, part}
+use Rattle.cp_code.specs.Layout.{distance, farther, member_part, part}
 use Rattle.cp_steps.proofs.StartLeaves.{IsSimple}
 
 -- ---- indices

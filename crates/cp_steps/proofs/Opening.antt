@@ -7,10 +7,10 @@ use Rattle.cp_model.specs.Abstract.{Name, Routine, System}
 use Rattle.cp_model.specs.Assignments.{starting_writes}
 use Rattle.cp_model.specs.Declarations.{Variable, declarations}
 use Rattle.cp_model.specs.Environments.{local_variables, permanent_variables, result_variable}
-use Rattle.cp_model.specs.Locations.{ByIndex, ByName, Location, OfActivation, Path, root, under}
+use Rattle.cp_model.specs.Locations.{ByIndex, ByName, OfActivation, Path, root, under}
 use Rattle.cp_model.specs.Names.{lookup}
 use Rattle.cp_model.specs.Places.{within}
-use Rattle.cp_model.specs.Stores.{Absent, Ordinal, Reference, Store, Value, Writes, forget, put_all}
+use Rattle.cp_model.specs.Stores.{Absent, Ordinal, Store, Writes, forget, put_all}
 use Rattle.cp_model.specs.Types.{ArrayOf, ComponentOf, GlobalScope, Members, MoreMembers, NoMembers, NoType, Queue, RecordOf, ResolvedType, Simple}
 use Rattle.cp_typing.specs.Declared.{Distinct, Each, RoutineVariable}
 use Rattle.cp_typing.specs.Judgement.{has_queues}
@@ -20,11 +20,10 @@ use Rattle.cp_typing.specs.StartValues.{IsIn}
 use Rattle.cp_typing.specs.Words.{words}
 use Rattle.cp_typing.proofs.Names.{bytes_same}
 use Rattle.cp_code.specs.Programs.{CodeUnit}
-use Rattle.cp_code.specs.Layout.{Part, activation_words, distance, farther, local, local_at, local_words, member_part, natural, part}
+use Rattle.cp_code.specs.Layout.{activation_words, distance, farther, local, local_at, local_words, member_part, natural, part}
 use Rattle.cp_code.specs.Sites.{RoutineOf}
 use Rattle.cp_code.specs.StandsFor.{UnitStands}
 use Rattle.cp_code.specs.Starts.{started, word}
-use Rattle.cp_code.specs.StatementsFor.{either}
 use Rattle.cp_steps.specs.Means.{CellMeans, ReferenceMeans}
 use Rattle.cp_steps.specs.Addresses.{Activation, Ground, activation_at, lies, part_at, part_of_activation, part_of_local, scope}
 use Rattle.cp_steps.specs.PartOf.{ResultMeans}
@@ -38,7 +37,7 @@ use Rattle.cp_steps.proofs.Passing.{Has, ParameterHas, parameter_at}
 use Rattle.cp_steps.proofs.Separate.{local_inside}
 use Rattle.cp_steps.proofs.Apart.{cell_has_word}
 use Rattle.cp_steps.proofs.Bounds.{part_fits}
-use Rattle.cp_steps.proofs.Copying.{holds_simple, simple_cell}
+use Rattle.cp_steps.proofs.Copying.{holds_simple}
 use Rattle.cp_steps.proofs.StartLeaves.{IsSimple, found_farther, simple_part, starts_keep, starts_write, type_is}
 use Rattle.cp_steps.proofs.Writing.{same_owner_itself}
 

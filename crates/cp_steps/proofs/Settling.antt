@@ -1,12 +1,10 @@
 -- The parameters of a class are stored in it, in the words after its mark.
-use Rattle.std.proofs.Common.{◌≡◌, ◌⊎◌, inl, inr, ℕ, suc, ◌+◌, ◌≤◌, ◌<◌, ℤ, List, [], ◌∷◌, ◌++◌, length, Bool, true, false, Option, Some, None, refl, ap, sym, subst, ◌∙◌, arith}
-use Rattle.std.proofs.lemmas.Bool.{true≢false}
+use Rattle.std.proofs.Common.{◌≡◌, ◌⊎◌, inl, inr, ℕ, suc, ◌+◌, ◌≤◌, ◌<◌, ℤ, List, [], ◌∷◌, ◌++◌, length, true, false, Some, None, refl, ap, sym, subst, ◌∙◌, arith}
 use Rattle.cp_model.specs.Abstract.{Class, Name, System}
 use Rattle.cp_model.specs.Continuations.{Task}
-use Rattle.cp_model.specs.Declarations as declared
-use Rattle.cp_model.specs.Declarations.{Variable, declarations, is_component, reported_members}
+use Rattle.cp_model.specs.Declarations.{Variable, declarations, is_component}
 use Rattle.cp_model.specs.Environments.{permanent_variables}
-use Rattle.cp_model.specs.Locations.{ByName, Location, OfActivation, Path, PathStep, under}
+use Rattle.cp_model.specs.Locations.{ByName, Location, Path, under}
 use Rattle.cp_model.specs.Parts.{is_own}
 use Rattle.cp_model.specs.Stores.{Store, Value}
 use Rattle.cp_model.specs.Types.{ComponentOf, ResolvedType}
@@ -15,7 +13,7 @@ use Rattle.cp_typing.specs.StartValues.{IsIn}
 use Rattle.cp_typing.specs.Words.{words}
 use Rattle.cp_typing.proofs.Leaves.{step_same}
 use Rattle.cp_code.specs.StandsFor.{system_of_process}
-use Rattle.cp_code.specs.Layout.{Part, activation_words, component_words, local, member, right, rights}
+use Rattle.cp_code.specs.Layout.{Part, activation_words, component_words, member, right, rights}
 use Rattle.cp_code.specs.Starts.{word}
 use Rattle.cp_steps.specs.PrivateStates.{PrivateState}
 use Rattle.cp_steps.specs.Means.{CellMeans}
@@ -27,11 +25,11 @@ use Rattle.cp_steps.proofs.Copying.{Inside, inside_or_not}
 use Rattle.cp_steps.proofs.Declared.{distinct_first}
 use Rattle.cp_steps.proofs.Finding.{some_is_not_none}
 use Rattle.cp_steps.proofs.Heres.{lies_any, member_lies}
-use Rattle.cp_steps.proofs.Holding.{live_owner, reference_no_variable, result_no_variable}
+use Rattle.cp_steps.proofs.Holding.{live_owner}
 use Rattle.cp_steps.proofs.InitOffsets.{Offset, offset_at, offset_within, right_is, right_is_no_member, right_same}
 use Rattle.cp_steps.proofs.Keeping.{KeepsActivation, activation_kept, activations_kept, local_named, right_kept, right_no_variable, right_place}
 use Rattle.cp_steps.proofs.Layouts.{same_some}
-use Rattle.cp_steps.proofs.RunningOn.{runs_room, runs_stacked}
+use Rattle.cp_steps.proofs.RunningOn.{runs_stacked}
 use Rattle.cp_steps.proofs.Separate.{OwnRight, bottom_below, cell_below, cell_no_own_right, cell_no_reference, cell_no_result, reference_inside, result_inside, separate}
 use Rattle.cp_steps.proofs.Stacks.{Stacked, found_inside}
 use Rattle.cp_steps.proofs.Writing.{is_cell}

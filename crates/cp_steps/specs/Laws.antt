@@ -1,5 +1,5 @@
 -- The law of private steps, which the function of `src/law.rt` states.
-use Rattle.std.specs.Prelude.{List, [], ◌∷◌, Option, Some, None, ℕ}
+use Rattle.std.specs.Prelude.{List, [], ◌∷◌, Option, Some, ℕ}
 use Rattle.cp_model.specs.Invariant.{Invariant}
 use Rattle.cp_model.specs.Operators.{realtime}
 use Rattle.cp_model.specs.States.{Setup, State, running_clock}
