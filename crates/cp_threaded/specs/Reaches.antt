@@ -6,7 +6,7 @@ use Rattle.cp_model.specs.Places.{within}
 use Rattle.cp_code.specs.Functions.{unless}
 use Rattle.cp_code.specs.Layout.{distance}
 use Rattle.cp_steps.specs.Values.{View, apply, bind, value_of}
-use Rattle.cp_threaded.specs.declared.evaluation.Reach.{Reach}
+use Rattle.cp_threaded.specs.declared.reach.Reach.{Reach}
 use Rattle.cp_threaded.specs.View.{PlainApplication, PlainIndex}
 
 abbrev pub view_of : Reach → View
@@ -32,9 +32,12 @@ abbrev pub chain_value : View → ℤ → List PlainApplication → Result ℤ F
 chain_value v x [] = Ok x
 chain_value v x (o ∷ os) = bind (value_of v o.operand) (λ y. bind (apply o.operator x y) (λ z. chain_value v z os))
 
--- The place of an element, where that of what it is an element of is this one.
+-- How far a value of an index leads, in words.
+abbrev pub offset_of : PlainIndex → ℤ → Result ℕ Fault
+offset_of i n = unless (within i.low i.high n) fault.Index (distance i.low n * i.size + i.plus)
+
+-- The place to which indices lead from this one.
 abbrev pub elements_place : View → ℕ → List PlainIndex → Result ℕ Fault
 elements_place v at [] = Ok at
 elements_place v at (i ∷ is) =
-    bind (value_of v i.value) (λ n.
-    bind (unless (within i.low i.high n) fault.Index (at + (distance i.low n * i.size + i.plus))) (λ b. elements_place v b is))
+    bind (value_of v i.value) (λ n. bind (offset_of i n) (λ far. elements_place v (at + far) is))

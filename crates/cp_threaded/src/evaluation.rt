@@ -2,35 +2,23 @@
 //!
 //! Words have 32 bits: an ordinal of a long enumeration and an address need them. The results of arithmetic are within -32768..32767.
 
-ghost use Rattle.std.specs.Prelude.{◌≡◌, ◌<◌, ◌^◌, ◌++◌};
+ghost use Rattle.std.specs.Prelude.{◌≡◌, ℕ, ◌+◌, ◌*◌, ◌<◌, ◌^◌, ◌++◌, length, map};
 ghost use Rattle.cp_code.specs.Functions as functions;
 ghost use Rattle.cp_code.specs.Layout as layout;
 ghost use Rattle.cp_code.specs.Starts as starts;
 ghost use Rattle.cp_code.specs.Terms as terms;
 ghost use Rattle.cp_model.specs.Abstract as abstract;
 ghost use Rattle.cp_model.specs.Erase.{operator_of};
+ghost use Rattle.cp_model.specs.Places.{within};
+ghost use Rattle.cp_model.specs.declared.state.Fault.TheVariants as fault;
 ghost use Rattle.cp_steps.specs.Values as values;
-ghost use Rattle.cp_threaded.specs.Reaches.{capped_result, view_of};
+ghost use Rattle.cp_threaded.specs.Reaches.{capped, capped_result, chain_value, elements_place, offset_of, view_of};
 ghost use Rattle.cp_threaded.specs.View as view;
 
-use crate::term::{Function, Operand, Root, Spot, Term};
+use crate::reach::Reach;
+use crate::term::{Application, Function, Index, Operand, Root, Spot, Term};
 use cp_model::state::Fault;
 use cp_model::tree::Operator;
-
-/// What evaluation reads. The shared words follow after the process's own; a private step has none.
-#[derive(Clone, Copy)]
-pub struct Reach<'a> {
-    pub own: &'a [i32],
-    pub shared: &'a [i32],
-    pub temps: &'a [i32],
-    /// The first word of the running activation.
-    pub base: u32,
-    /// The first temp of the running activation.
-    pub temp: u32,
-    /// The first word of the running component.
-    pub component: u32,
-    pub clock: u64,
-}
 
 fn in_range(n: i64) -> Result<i32, Fault>
     ensures { result ≡ functions.in_range n }
@@ -51,21 +39,25 @@ fn truth(b: bool) -> i32
 fn quotient(a: i32, b: i32) -> Result<i32, Fault>
     ensures { result ≡ values.apply abstract.Divide a b }
 {
-    match b {
-        0 => Err(Fault::DivisionByZero),
-        -1 => in_range(-i64::from(a)),
-        _ => in_range(i64::from(a / b)),
+    if b == 0 {
+        return Err(Fault::DivisionByZero);
     }
+    if b == -1 {
+        return in_range(-i64::from(a));
+    }
+    in_range(i64::from(a / b))
 }
 
 fn remainder(a: i32, b: i32) -> Result<i32, Fault>
     ensures { result ≡ values.apply abstract.Modulo a b }
 {
-    match b {
-        0 => Err(Fault::DivisionByZero),
-        -1 => Ok(0),
-        _ => in_range(i64::from(a % b)),
+    if b == 0 {
+        return Err(Fault::DivisionByZero);
     }
+    if b == -1 {
+        return Ok(0);
+    }
+    in_range(i64::from(a % b))
 }
 
 // `div` cuts toward zero, and `mod` is the rest of it.
@@ -90,6 +82,23 @@ fn apply(operator: Operator, a: i32, b: i32) -> Result<i32, Fault>
     }
 }
 
+// A number within bounds.
+fn bounded(n: i64, low: i32, high: i32) -> Result<i32, Fault>
+    ensures { result ≡ functions.unless (within low high n) fault.Range n }
+{
+    if i64::from(low) <= n && n <= i64::from(high) {
+        Ok(n as i32)
+    } else {
+        Err(Fault::Range)
+    }
+}
+
+fn shifted(n: i32, by: i32, low: i32, high: i32) -> Result<i32, Fault>
+    ensures { result ≡ functions.standard (terms.Shift by low high) n }
+{
+    bounded(i64::from(n) + i64::from(by), low, high)
+}
+
 fn standard(function: Function, n: i32) -> Result<i32, Fault>
     ensures { result ≡ functions.standard (view.function function) n }
 {
@@ -99,21 +108,8 @@ fn standard(function: Function, n: i32) -> Result<i32, Fault>
             in_range(if n < 0 { -n } else { n })
         }
         Function::Ord => in_range(i64::from(n)),
-        Function::Chr => {
-            if 0 <= n && n <= 127 {
-                Ok(n)
-            } else {
-                Err(Fault::Range)
-            }
-        }
-        Function::Shift { by, low, high } => {
-            let shifted = i64::from(n) + i64::from(by);
-            if i64::from(low) <= shifted && shifted <= i64::from(high) {
-                Ok(shifted as i32)
-            } else {
-                Err(Fault::Range)
-            }
-        }
+        Function::Chr => bounded(i64::from(n), 0, 127),
+        Function::Shift { by, low, high } => shifted(n, by, low, high),
     }
 }
 
@@ -137,10 +133,11 @@ fn natural(n: i32) -> usize
 }
 
 impl<'a> Reach<'a> {
-    // The word at a place, or 0 where it is missing.
+    // The word at a place, or 0 where it is missing. The place may be told as the greatest number.
     #[inline(always)]
     fn word(&self, at: usize) -> i32
-        ensures { result ≡ starts.word (self.now.own.now ++ self.now.shared.now) at }
+        ensures word { result ≡ starts.word (self.now.own.now ++ self.now.shared.now) at }
+        ensures capped { (place : ℕ) → capped place ≡ at → result ≡ starts.word (self.now.own.now ++ self.now.shared.now) place }
     {
         match self.own.get(at) {
             Some(n) => *n,
@@ -162,6 +159,14 @@ impl<'a> Reach<'a> {
         ensures small { result < 2 ^ 33 }
     {
         self.component as usize + at as usize
+    }
+
+    // The temp of this number.
+    #[inline(always)]
+    fn made(&self, temp: u32) -> i32
+        ensures { result ≡ starts.word self.now.temps.now (self.now.temp + temp) }
+    {
+        word(self.temps, self.temp as usize + temp as usize)
     }
 
     fn through(&self, parameter: u32, plus: u32) -> usize
@@ -212,11 +217,14 @@ impl Operand {
                 *parameter, *plus,
             ))),
             Operand::Realtime => reach.realtime(),
-            _ => Ok(0),
+            Operand::Number(n) => Ok(*n),
+            Operand::Made(temp) => Ok(reach.made(*temp)),
+            Operand::Local(at) => Ok(reach.word(reach.local(*at))),
+            Operand::Member(at) => Ok(reach.word(reach.member(*at))),
         }
     }
 
-    /// The value of an operand.
+    /// The value of an operand. A number and a variable's word are the first to be told apart, since they are the most common.
     #[cycle(value)]
     #[inline(always)]
     pub fn value(&self, reach: &Reach) -> Result<i32, Fault>
@@ -224,12 +232,36 @@ impl Operand {
     {
         match self {
             Operand::Number(n) => Ok(*n),
-            Operand::Made(temp) => Ok(word(reach.temps, reach.temp as usize + *temp as usize)),
             Operand::Local(at) => Ok(reach.word(reach.local(*at))),
             Operand::Member(at) => Ok(reach.word(reach.member(*at))),
+            _ => self.nested_value(reach),
+        }
+    }
+
+    #[cycle(value)]
+    #[inline(always)]
+    fn nested_value(&self, reach: &Reach) -> Result<i32, Fault>
+        ensures { result ≡ values.value_of (view_of reach.now) (view.operand self.now) }
+    {
+        match self {
+            Operand::Nested(t) => t.value(reach),
             _ => self.deep_value(reach),
         }
     }
+}
+
+// The value of a chain whose first operands have this value.
+#[cycle(value)]
+#[inline(always)]
+fn value_of_chain(first: i32, rest: &[Application], reach: &Reach) -> Result<i32, Fault>
+    ensures { result ≡ chain_value (view_of reach.now) first (map view.application rest.now) }
+{
+    let mut n = first;
+    for x in rest {
+        let operand = x.operand.value(reach)?;
+        n = apply(x.operator, n, operand)?;
+    }
+    Ok(n)
 }
 
 impl Term {
@@ -242,13 +274,33 @@ impl Term {
     pub fn value(&self, reach: &Reach) -> Result<i32, Fault>
         ensures { result ≡ values.value_of (view_of reach.now) (view.term self.now) }
     {
-        let mut n = self.first.value(reach)?;
-        for x in &self.rest {
-            let operand = x.operand.value(reach)?;
-            n = apply(x.operator, n, operand)?;
-        }
-        Ok(n)
+        let first = self.first.value(reach)?;
+        value_of_chain(first, &self.rest, reach)
     }
+}
+
+// How far an index is from the lowest, in words.
+fn offset(i: &Index, n: i32) -> Result<usize, Fault>
+    ensures { result ≡ offset_of (view.index i.now) n }
+{
+    if n < i.low || i.high < n {
+        return Err(Fault::Index);
+    }
+    let distance = (i64::from(n) - i64::from(i.low)) as usize;
+    Ok(distance * i.size as usize + i.plus as usize)
+}
+
+// The place to which indices lead from this one.
+#[cycle(value)]
+fn place_of_element(from: usize, indices: &[Index], reach: &Reach) -> Result<usize, Fault>
+    ensures { result ≡ capped_result (elements_place (view_of reach.now) from (map view.index indices.now)) }
+{
+    let mut at = from;
+    for i in indices {
+        let n = i.value.value(reach)?;
+        at = at.saturating_add(offset(i, n)?);
+    }
+    Ok(at)
 }
 
 impl Spot {
@@ -258,19 +310,14 @@ impl Spot {
     ///
     /// The first fault that is met from left to right.
     #[cycle(value)]
+    #[inline(always)]
     pub fn place(&self, reach: &Reach) -> Result<usize, Fault>
         ensures { result ≡ capped_result (values.place_of (view_of reach.now) (view.spot self.now)) }
     {
-        let mut at = reach.root_place(self.root);
-        for i in &self.indices {
-            let n = i.value.value(reach)?;
-            if n < i.low || i.high < n {
-                return Err(Fault::Index);
-            }
-            let distance = (i64::from(n) - i64::from(i.low)) as usize;
-            let far = distance * i.size as usize + i.plus as usize;
-            at = at.saturating_add(far);
+        let from = reach.root_place(self.root);
+        if self.indices.is_empty() {
+            return Ok(from);
         }
-        Ok(at)
+        place_of_element(from, &self.indices, reach)
     }
 }

@@ -3,7 +3,7 @@
 //! - `term`: expressions as chains of operands, and spots, the places of variables.
 //! - `operation`: operations, each of which is one step and knows where it leads.
 //! - `program`: units of code, the words of components, and the program, with what components of one type share kept once.
-//! - `evaluation`: the values of terms and the places of spots, over words.
+//! - `evaluation`: the values of terms and the places of spots, over what `reach` tells of words.
 //!
 //! `specs/View.antt` says what each is as the plain data of `cp_code`, of which the definitions of steps speak.
 #![tactic(auto)]
@@ -11,4 +11,5 @@
 pub mod evaluation;
 pub mod operation;
 pub mod program;
+pub mod reach;
 pub mod term;

@@ -1,0 +1,97 @@
+-- Chains of operands and of indices: what they are as terms and spots, and their values.
+use Rattle.std.proofs.Common.{arith, Bool, true, false, ◌≡◌, ◌+◌, ◌*◌, ℕ, ℤ, map, List, [], ◌∷◌, ◌++◌, Result, Ok, Err, Box, Vec, Global, refl, sym, ap, ◌∙◌}
+use Rattle.cp_model.specs.declared.state.Fault.{Fault}
+use Rattle.cp_model.specs.declared.state.Fault.TheVariants as fault
+use Rattle.cp_model.specs.Erase.{operator_of}
+use Rattle.cp_model.specs.Places.{within}
+use Rattle.cp_code.specs.Functions.{unless}
+use Rattle.cp_code.specs.Layout.{distance}
+use Rattle.cp_code.specs.Terms as plain
+use Rattle.cp_steps.specs.Values.{View, apply, bind, place_of, root_place, value_of}
+use Rattle.cp_threaded.specs.declared.term.Term.{Term, out-Term}
+use Rattle.cp_threaded.specs.declared.term.Spot.{Spot, out-Spot}
+use Rattle.cp_threaded.specs.declared.term.Index.{Index, out-Index}
+use Rattle.cp_threaded.specs.declared.term.Application.{Application}
+use Rattle.cp_threaded.specs.declared.term.Operand.TheFolds.{fold_out-Application, fold_out-Index, fold_out-Spot, fold_out-Term}
+use Rattle.cp_threaded.specs.Reaches.{capped, capped_result, chain_value, elements_place, offset_of}
+use Rattle.cp_threaded.specs.View.{PlainApplication, PlainIndex, application, application_layer, chain_of, elements_of, index, index_layer, operand, operand_layer, root, spot, spot_layer, term, term_layer}
+
+-- The value of a chain is that of its first operand and then of the others.
+pub value_chain : (v : View) (e : plain.Term) (xs : List PlainApplication)
+    → value_of v (chain_of e xs) ≡ bind (value_of v e) (λ x. chain_value v x xs)
+value_chain v e [] = keep (value_of v e)
+  where
+    keep : (r : Result ℤ Fault) → r ≡ bind r (λ x. Ok x)
+    keep (Ok x) = refl
+    keep (Err f) = refl
+value_chain v e (o ∷ os) = value_chain v (plain.Binary o.operator e o.operand) os ∙ after (value_of v e)
+  where
+    last : (r : Result ℤ Fault) (x : ℤ) → bind (bind r (λ y. apply o.operator x y)) (λ z. chain_value v z os)
+        ≡ bind r (λ y. bind (apply o.operator x y) (λ z. chain_value v z os))
+    last (Ok y) x = refl
+    last (Err f) x = refl
+
+    after : (r : Result ℤ Fault)
+        → bind (bind r (λ x. bind (value_of v o.operand) (λ y. apply o.operator x y))) (λ z. chain_value v z os)
+        ≡ bind r (λ x. bind (value_of v o.operand) (λ y. bind (apply o.operator x y) (λ z. chain_value v z os)))
+    after (Ok x) = last (value_of v o.operand) x
+    after (Err f) = refl
+
+-- The place of an element is that of what it is an element of, and then as far as the indices lead.
+pub place_elements : (v : View) (s : plain.Spot) (is : List PlainIndex)
+    → place_of v (elements_of s is) ≡ bind (place_of v s) (λ at. elements_place v at is)
+place_elements v s [] = keep (place_of v s)
+  where
+    keep : (r : Result ℕ Fault) → r ≡ bind r (λ x. Ok x)
+    keep (Ok x) = refl
+    keep (Err f) = refl
+place_elements v s (i ∷ is) = place_elements v (plain.Element s i.low i.high i.size i.plus i.value) is ∙ after (place_of v s)
+  where
+    moved : (b : Bool) (a far : ℕ) → bind (unless b fault.Index (a + far)) (λ c. elements_place v c is)
+        ≡ bind (unless b fault.Index far) (λ k. elements_place v (a + k) is)
+    moved true a far = refl
+    moved false a far = refl
+
+    last : (r : Result ℤ Fault) (a : ℕ)
+        → bind (bind r (λ n. unless (within i.low i.high n) fault.Index (a + (distance i.low n * i.size + i.plus)))) (λ b. elements_place v b is)
+        ≡ bind r (λ n. bind (offset_of i n) (λ k. elements_place v (a + k) is))
+    last (Ok y) a = moved (within i.low i.high y) a (distance i.low y * i.size + i.plus)
+    last (Err f) a = refl
+
+    after : (r : Result ℕ Fault)
+        → bind (bind r (λ a. bind (value_of v i.value) (λ n. unless (within i.low i.high n) fault.Index (a + (distance i.low n * i.size + i.plus))))) (λ b. elements_place v b is)
+        ≡ bind r (λ a. bind (value_of v i.value) (λ n. bind (offset_of i n) (λ k. elements_place v (a + k) is)))
+    after (Ok x) = last (value_of v i.value) x
+    after (Err f) = refl
+
+-- Indices lead to the same from a place that is told as the greatest number.
+pub elements_capped : (v : View) (a b : ℕ) (is : List PlainIndex) → capped a ≡ capped b
+    → capped_result (elements_place v a is) ≡ capped_result (elements_place v b is)
+elements_capped v a b [] h = ap (λ n. Ok n) h
+elements_capped v a b (i ∷ is) h = by (value_of v i.value) (λ k. elements_capped v (a + k) (b + k) is (farther a b k h))
+  where
+    farther : (a b far : ℕ) → capped a ≡ capped b → capped (a + far) ≡ capped (b + far)
+    farther a b far e = omega arith
+
+    next : (r : Result ℕ Fault) → ((k : ℕ) → capped_result (elements_place v (a + k) is) ≡ capped_result (elements_place v (b + k) is))
+        → capped_result (bind r (λ k. elements_place v (a + k) is)) ≡ capped_result (bind r (λ k. elements_place v (b + k) is))
+    next (Ok k) rest = rest k
+    next (Err f) rest = refl
+
+    by : (r : Result ℤ Fault) → ((k : ℕ) → capped_result (elements_place v (a + k) is) ≡ capped_result (elements_place v (b + k) is))
+        → capped_result (bind r (λ n. bind (offset_of i n) (λ k. elements_place v (a + k) is)))
+        ≡ capped_result (bind r (λ n. bind (offset_of i n) (λ k. elements_place v (b + k) is)))
+    by (Ok n) rest = next (offset_of i n) rest
+    by (Err f) rest = refl
+
+pub term_is : (t : Term) → term t ≡ chain_of (operand (out-Term t).first) (map application (out-Term t).rest.items)
+term_is = fold_out-Term plain.Term PlainApplication PlainIndex plain.Spot plain.Term operand_layer application_layer index_layer spot_layer term_layer
+
+pub spot_is : (s : Spot) → spot s ≡ elements_of (plain.Rooted (root (out-Spot s).root)) (map index (out-Spot s).indices.items)
+spot_is = fold_out-Spot plain.Term PlainApplication PlainIndex plain.Spot plain.Term operand_layer application_layer index_layer spot_layer term_layer
+
+pub application_is : (x : Application) → application x ≡ record { operator = operator_of x.operator; operand = operand x.operand }
+application_is = fold_out-Application plain.Term PlainApplication PlainIndex plain.Spot plain.Term operand_layer application_layer index_layer spot_layer term_layer
+
+pub index_is : (i : Index) → index i ≡ (let x = out-Index i in record { low = x.low; high = x.high; size = x.size; plus = x.plus; value = term x.value })
+index_is = fold_out-Index plain.Term PlainApplication PlainIndex plain.Spot plain.Term operand_layer application_layer index_layer spot_layer term_layer
