@@ -1,5 +1,6 @@
 -- Chains of operands and of indices: what they are as terms and spots, and their values.
-use Rattle.std.proofs.Common.{arith, Bool, true, false, ◌≡◌, ◌+◌, ◌*◌, ℕ, ℤ, map, List, [], ◌∷◌, ◌++◌, Result, Ok, Err, Box, Vec, Global, refl, sym, ap, ◌∙◌}
+use Rattle.std.proofs.Math.ListN.{get_or, set}
+use Rattle.std.proofs.Common.{arith, Bool, true, false, zero, suc, length, ◌≡◌, ◌+◌, ◌*◌, ℕ, ℤ, map, List, [], ◌∷◌, ◌++◌, Result, Ok, Err, Box, Vec, Global, refl, sym, ap, ◌∙◌}
 use Rattle.cp_model.specs.declared.state.Fault.{Fault}
 use Rattle.cp_model.specs.declared.state.Fault.TheVariants as fault
 use Rattle.cp_model.specs.Erase.{operator_of}
@@ -7,12 +8,15 @@ use Rattle.cp_model.specs.Places.{within}
 use Rattle.cp_code.specs.Functions.{unless}
 use Rattle.cp_code.specs.Layout.{distance}
 use Rattle.cp_code.specs.Terms as plain
+use Rattle.cp_code.specs.TermsFor.{moved}
 use Rattle.cp_steps.specs.Values.{View, apply, bind, place_of, root_place, value_of}
-use Rattle.cp_threaded.specs.declared.term.Term.{Term, out-Term}
-use Rattle.cp_threaded.specs.declared.term.Spot.{Spot, out-Spot}
-use Rattle.cp_threaded.specs.declared.term.Index.{Index, out-Index}
+use Rattle.cp_threaded.specs.declared.term.Operand.{Operand}
+use Rattle.cp_threaded.specs.declared.term.Root.{Root}
+use Rattle.cp_threaded.specs.declared.term.Term.{Term, out-Term, roll-Term}
+use Rattle.cp_threaded.specs.declared.term.Spot.{Spot, out-Spot, roll-Spot}
+use Rattle.cp_threaded.specs.declared.term.Index.{Index, out-Index, roll-Index}
 use Rattle.cp_threaded.specs.declared.term.Application.{Application}
-use Rattle.cp_threaded.specs.declared.term.Operand.TheFolds.{fold_out-Application, fold_out-Index, fold_out-Spot, fold_out-Term}
+use Rattle.cp_threaded.specs.declared.term.Operand.TheFolds.{fold-roll-Index, fold-roll-Spot, fold-roll-Term, fold_out-Application, fold_out-Index, fold_out-Spot, fold_out-Term}
 use Rattle.cp_threaded.specs.Reaches.{capped, capped_result, chain_value, elements_place, offset_of}
 use Rattle.cp_threaded.specs.View.{PlainApplication, PlainIndex, application, application_layer, chain_of, elements_of, index, index_layer, operand, operand_layer, root, spot, spot_layer, term, term_layer}
 
@@ -95,3 +99,41 @@ application_is = fold_out-Application plain.Term PlainApplication PlainIndex pla
 
 pub index_is : (i : Index) → index i ≡ (let x = out-Index i in record { low = x.low; high = x.high; size = x.size; plus = x.plus; value = term x.value })
 index_is = fold_out-Index plain.Term PlainApplication PlainIndex plain.Spot plain.Term operand_layer application_layer index_layer spot_layer term_layer
+
+-- ---- Chains that grow
+
+pub chain_more : (e : plain.Term) (xs : List PlainApplication) (x : PlainApplication)
+    → chain_of e (xs ++ x ∷ []) ≡ plain.Binary x.operator (chain_of e xs) x.operand
+chain_more e [] x = refl
+chain_more e (y ∷ ys) x = chain_more (plain.Binary y.operator e y.operand) ys x
+
+pub elements_more : (s : plain.Spot) (is : List PlainIndex) (i : PlainIndex)
+    → elements_of s (is ++ i ∷ []) ≡ plain.Element (elements_of s is) i.low i.high i.size i.plus i.value
+elements_more s [] i = refl
+elements_more s (j ∷ js) i = elements_more (plain.Element s j.low j.high j.size j.plus j.value) js i
+
+pub term_rolled : (first : Operand) (rest : Vec Application Global)
+    → term (roll-Term (record { first = first; rest = rest })) ≡ chain_of (operand first) (map application rest.items)
+term_rolled first rest = fold-roll-Term plain.Term PlainApplication PlainIndex plain.Spot plain.Term operand_layer application_layer index_layer spot_layer term_layer _
+
+pub spot_rolled : (r : Root) (is : Vec Index Global)
+    → spot (roll-Spot (record { root = r; indices = is })) ≡ elements_of (plain.Rooted (root r)) (map index is.items)
+spot_rolled r is = fold-roll-Spot plain.Term PlainApplication PlainIndex plain.Spot plain.Term operand_layer application_layer index_layer spot_layer term_layer _
+
+pub index_rolled : (low high : ℤ) (size plus : ℕ) (value : Term)
+    → index (roll-Index (record { low = low; high = high; size = size; plus = plus; value = value }))
+    ≡ record { low = low; high = high; size = size; plus = plus; value = term value }
+index_rolled low high size plus value =
+    fold-roll-Index plain.Term PlainApplication PlainIndex plain.Spot plain.Term operand_layer application_layer index_layer spot_layer term_layer _
+
+-- The last index leads further on.
+pub elements_moved : (n : ℕ) (s : plain.Spot) (xs : List Index) (j : ℕ) (y d : Index) → suc j ≡ length xs
+    → index y ≡ (let i = index (get_or xs j d) in record { low = i.low; high = i.high; size = i.size; plus = i.plus + n; value = i.value })
+    → elements_of s (map index (set xs j y)) ≡ moved n (elements_of s (map index xs))
+elements_moved n s [] j y d h e = absurd (omega arith)
+elements_moved n s (x ∷ []) zero y d h e = ap (λ i. plain.Element s i.low i.high i.size i.plus i.value) e
+elements_moved n s (x ∷ []) (suc j) y d h e = absurd (omega arith)
+elements_moved n s (x ∷ z ∷ zs) zero y d h e = absurd (omega arith)
+elements_moved n s (x ∷ z ∷ zs) (suc j) y d h e =
+    let i = index x in
+    elements_moved n (plain.Element s i.low i.high i.size i.plus i.value) (z ∷ zs) j y d (omega arith) e
