@@ -1,1 +1,2 @@
+pub mod PlainNeeds
 pub mod Emission

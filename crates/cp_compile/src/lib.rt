@@ -7,7 +7,10 @@
 //! Each equals a function of `cp_code`'s definitions, over the plain data that `cp_threaded` makes of operations.
 #![tactic(auto)]
 
+pub mod emission;
+pub mod emitter;
 pub mod error;
 pub mod need;
 
+pub use emitter::{CodedCall, Emitter};
 pub use error::CompileError;

@@ -2,7 +2,7 @@
 
 ghost use Rattle.std.specs.Prelude.{◌≡◌, ◌+◌, max, suc, IfOk, map, length};
 ghost use Rattle.cp_code.specs.CodeNeeds as needs;
-ghost use Rattle.cp_compile.specs.Emission.{plain_need};
+ghost use Rattle.cp_compile.specs.PlainNeeds.{plain_need};
 ghost use Rattle.cp_threaded.specs.View as view;
 
 use crate::error::CompileError;

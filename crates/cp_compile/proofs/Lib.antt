@@ -1,0 +1,2 @@
+pub mod Needing
+pub mod Changing
