@@ -48,6 +48,17 @@ impl Need {
         }
     }
 
+    /// An activation of so many words.
+    pub fn of_activation(words: u32) -> Need
+        ensures { plain_need result ≡ record { words = words; temps = 0; frames = 0 } }
+    {
+        Need {
+            words,
+            temps: 0,
+            frames: 0,
+        }
+    }
+
     /// The greater of two.
     pub fn greater(self, other: Need) -> Need
         ensures { plain_need result ≡ needs.greater_need (plain_need self) (plain_need other) }
