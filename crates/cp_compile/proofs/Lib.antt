@@ -1,3 +1,4 @@
 pub mod Needing
 pub mod Changing
 pub mod CallsEmitted
+pub mod Placing

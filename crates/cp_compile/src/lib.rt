@@ -11,6 +11,7 @@ pub mod emission;
 pub mod emitter;
 pub mod error;
 pub mod need;
+pub mod table;
 pub mod unit;
 
 pub use emitter::{CodedCall, Emitter};

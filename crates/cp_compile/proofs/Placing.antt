@@ -1,0 +1,66 @@
+-- The places of numbers, as arms are put among them.
+use Rattle.std.proofs.Common.{◌≡◌, ◌≤◌, ◌<◌, ◌+◌, ℕ, zero, suc, ℤ, pos, negsuc, List, [], ◌∷◌, Option, Some, None, refl, ap, sym, ◌∙◌, Bool, true, false, if◌then◌else◌, length, arith, eqb-true}
+use Prim.{grind}
+use Rattle.std.specs.Prelude.{◌+ℤ◌, ◌-ℤ◌, int_le, replicate}
+use Rattle.std.proofs.Math.ListN.{set}
+use Rattle.std.proofs.lemmas.Bool.{true≢false}
+use Rattle.std.proofs.lemmas.Int.{ints}
+use Rattle.cp_model.specs.Integers.{same_integer}
+use Rattle.cp_code.specs.Programs.{Arm}
+use Rattle.cp_code.specs.Layout.{distance, natural}
+use Rattle.cp_code.specs.Tables.{arm_at}
+use Rattle.cp_code.specs.CodedStatements.{places_from}
+
+-- ---- Integers
+
+equal_integers : (m n : ℤ) → same_integer m n ≡ true → m ≡ n
+equal_integers (pos m) (pos n) h = ap pos (eqb-true m n h)
+equal_integers (negsuc m) (negsuc n) h = ap negsuc (eqb-true m n h)
+equal_integers (pos m) (negsuc n) h = absurd (cc)
+equal_integers (negsuc m) (pos n) h = absurd (cc)
+
+differ : (a b : ℤ) → (a ≡ b → ⊥) → same_integer a b ≡ false
+differ a b h = go (same_integer a b) refl
+  where
+    go : (t : Bool) → same_integer a b ≡ t → t ≡ false
+    go true e = absurd (h (equal_integers a b e))
+    go false e = refl
+
+alike : (a : ℤ) → same_integer a a ≡ true
+alike (pos n) = grind (arith)
+alike (negsuc n) = grind (arith)
+
+-- ---- Places
+
+-- An arm whose label lies below leads from none of the numbers.
+none_put : (xs : List Arm) (x : Arm) (low : ℤ) (n : ℕ) → int_le low x.label ≡ false → places_from xs low n ≡ places_from (x ∷ xs) low n
+none_put xs x low zero h = refl
+none_put xs x low (suc n) h = λ i.
+    (if sym (differ x.label low (λ e. grind (arith, h, e))) i then Some x.place else arm_at xs low)
+    ∷ none_put xs x (low +ℤ pos 1) n (grind (arith, ints, h)) i
+
+one_put : (xs : List Arm) (x : Arm) (k : ℕ) (low : ℤ) (n : ℕ) → x.label ≡ low +ℤ pos k
+    → set (places_from xs low n) k (Some x.place) ≡ places_from (x ∷ xs) low n
+one_put xs x k low zero e = refl
+one_put xs x zero low (suc n) e =
+    let there : x.label ≡ low = grind (arith, ints, e) in
+    λ i. (if sym (ap (λ a. same_integer a low) there ∙ alike low) i then Some x.place else arm_at xs low)
+    ∷ none_put xs x (low +ℤ pos 1) n (grind (arith, ints, there)) i
+one_put xs x (suc k) low (suc n) e = λ i.
+    (if sym (differ x.label low (λ h. grind (arith, ints, e, h))) i then Some x.place else arm_at xs low)
+    ∷ one_put xs x k (low +ℤ pos 1) n (grind (arith, ints, e)) i
+
+pub arm_put : (xs : List Arm) (x : Arm) (low : ℤ) (n : ℕ)
+    → (if int_le low x.label then set (places_from xs low n) (distance low x.label) (Some x.place) else places_from xs low n)
+    ≡ places_from (x ∷ xs) low n
+arm_put xs x low n = go (int_le low x.label) refl
+  where
+    go : (b : Bool) → int_le low x.label ≡ b
+        → (if b then set (places_from xs low n) (distance low x.label) (Some x.place) else places_from xs low n) ≡ places_from (x ∷ xs) low n
+    go true h = one_put xs x (distance low x.label) low n (grind (arith, ints, h))
+    go false h = none_put xs x low n h
+
+-- Without arms no number has a place.
+pub none_left : (low : ℤ) (n : ℕ) → replicate n None ≡ places_from [] low n
+none_left low zero = refl
+none_left low (suc n) = ap (λ ps. None ∷ ps) (none_left (low +ℤ pos 1) n)
