@@ -212,6 +212,9 @@ process plans p = record {
   starts = plan_at plans p.plan;
 }
 
+abbrev pub plans_of : Program → List Plan
+plans_of p = p.plans.items
+
 abbrev pub program : Program → code.Program
 program p = record {
   operations = map operation p.operations.items;

@@ -24,11 +24,11 @@ returns c =
     let new : PlainIndex = record { low = low; high = high; size = c.args.size; plus = 0; value = term c.args.value } in
     let item : Index-F Operand Application Index Spot Term = record { low = low; high = high; size = c.args.size; plus = 0; value = c.args.value } in
     let pushed : map index c.push.new.self.items ≡ is ++ new ∷ [] =
-        ap (map index) c.in_ok-push.ensures.items
-        ∙ map-append index s.indices.items (roll-Index item ∷ [])
-        ∙ ap (λ x. is ++ x ∷ []) (index_rolled low high c.args.size 0 c.args.value) in
+    ap (map index) c.in_ok-push.ensures.items
+    ∙ map-append index s.indices.items (roll-Index item ∷ [])
+    ∙ ap (λ x. is ++ x ∷ []) (index_rolled low high c.args.size 0 c.args.value) in
     spot_rolled s.root _
     ∙ (ap (elements_of of) pushed
     ∙ (elements_more of is new
     ∙ (λ i. plain.Element (sym (spot_is c.args.self) i) (to_z-of_z w32 c.args.low c.ranges.low i) (to_z-of_z w32 c.args.high c.ranges.high i)
-      c.args.size 0 (term c.args.value))))
+    c.args.size 0 (term c.args.value))))
