@@ -6,29 +6,11 @@ use Rattle.std.proofs.Math.ListN.{set}
 use Rattle.std.proofs.lemmas.Bool.{true≢false}
 use Rattle.std.proofs.lemmas.Int.{ints}
 use Rattle.cp_model.specs.Integers.{same_integer}
+use Rattle.cp_threaded.proofs.SameIntegers.{alike, differ}
 use Rattle.cp_code.specs.Programs.{Arm}
 use Rattle.cp_code.specs.Layout.{distance, natural}
 use Rattle.cp_code.specs.Tables.{arm_at}
 use Rattle.cp_code.specs.CodedStatements.{places_from}
-
--- ---- Integers
-
-equal_integers : (m n : ℤ) → same_integer m n ≡ true → m ≡ n
-equal_integers (pos m) (pos n) h = ap pos (eqb-true m n h)
-equal_integers (negsuc m) (negsuc n) h = ap negsuc (eqb-true m n h)
-equal_integers (pos m) (negsuc n) h = absurd (cc)
-equal_integers (negsuc m) (pos n) h = absurd (cc)
-
-differ : (a b : ℤ) → (a ≡ b → ⊥) → same_integer a b ≡ false
-differ a b h = go (same_integer a b) refl
-  where
-    go : (t : Bool) → same_integer a b ≡ t → t ≡ false
-    go true e = absurd (h (equal_integers a b e))
-    go false e = refl
-
-alike : (a : ℤ) → same_integer a a ≡ true
-alike (pos n) = grind (arith)
-alike (negsuc n) = grind (arith)
 
 -- ---- Places
 

@@ -5,15 +5,18 @@ ghost use Rattle.cp_code.specs.CodedStatements as coded;
 ghost use Rattle.cp_code.specs.Layout.{distance};
 ghost use Rattle.cp_compile.specs.Arms.{bounds_of};
 ghost use Rattle.cp_model.specs.Integers as integers;
+ghost use Rattle.cp_threaded.specs.Labels.{arm};
 ghost use Rattle.cp_threaded.specs.View as view;
 
 use crate::error::CompileError;
-use cp_threaded::operation::{Arm, Table};
+use cp_threaded::arm::Arm;
+use cp_threaded::arms::Arms;
+use cp_threaded::operation::Table;
 use std::alloc::Global;
 
 // The lowest of a number and labels.
 fn lowest(n: i32, arms: &[Arm]) -> i32
-    ensures { result ≡ coded.lowest n (map view.arm arms.now) }
+    ensures { result ≡ coded.lowest n (map arm arms.now) }
 {
     let mut least = n;
     for x in arms {
@@ -24,7 +27,7 @@ fn lowest(n: i32, arms: &[Arm]) -> i32
 
 // The highest of a number and labels.
 fn highest(n: i32, arms: &[Arm]) -> i32
-    ensures { result ≡ coded.highest n (map view.arm arms.now) }
+    ensures { result ≡ coded.highest n (map arm arms.now) }
 {
     let mut greatest = n;
     for x in arms {
@@ -35,7 +38,7 @@ fn highest(n: i32, arms: &[Arm]) -> i32
 
 // The lowest and the highest label, where there is one.
 fn bounds(arms: &[Arm]) -> Option<(i32, i32)>
-    ensures { result ≡ bounds_of (map view.arm arms.now) }
+    ensures { result ≡ bounds_of (map arm arms.now) }
 {
     let first = arms.first()?;
     Some((lowest(first.label, &arms[1..]), highest(first.label, &arms[1..])))
@@ -78,7 +81,7 @@ fn places(
     low: i32,
     count: usize,
 ) -> Result<Vec<Option<u32>>, CompileError>
-    ensures { IfOk result (λ places. places.items ≡ coded.places_from (map view.arm arms.now) low count) }
+    ensures { IfOk result (λ places. places.items ≡ coded.places_from (map arm arms.now) low count) }
 {
     let mut places = no_places(alloc, count)?;
     for i in (0..arms.len()).rev() {
@@ -89,14 +92,14 @@ fn places(
 
 /// The table of a `case` with these arms. One with a place for each number has at most four places a label.
 pub fn table_of(alloc: Global, arms: Vec<Arm>) -> Result<Table, CompileError>
-    ensures { IfOk result (λ table. view.table table ≡ coded.table_of (map view.arm arms.items)) }
+    ensures { IfOk result (λ table. view.table table ≡ coded.table_of (map arm arms.items)) }
 {
     let Some((low, high)) = bounds(&arms) else {
-        return Ok(Table::Sparse(arms));
+        return Ok(Table::Sparse(Arms::new(alloc, arms)?));
     };
     let count = count_between(low, high);
     if count > 4 * arms.len() {
-        return Ok(Table::Sparse(arms));
+        return Ok(Table::Sparse(Arms::new(alloc, arms)?));
     }
     let places = places(alloc, &arms, low, count)?;
     Ok(Table::Dense { low, places })

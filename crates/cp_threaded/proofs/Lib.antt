@@ -1,2 +1,3 @@
 pub mod Wide
+pub mod SameIntegers
 pub mod Chains

@@ -21,7 +21,7 @@ use Rattle.cp_threaded.specs.declared.operation.Target.TheVariants as target_cas
 use Rattle.cp_threaded.specs.declared.operation.Argument.{Argument}
 use Rattle.cp_threaded.specs.declared.operation.Argument.TheVariants as argument_case
 use Rattle.cp_threaded.specs.declared.operation.Call.{Call}
-use Rattle.cp_threaded.specs.declared.operation.Arm.{Arm}
+use Rattle.cp_threaded.specs.Labels.{arm}
 use Rattle.cp_threaded.specs.declared.operation.Table.{Table}
 use Rattle.cp_threaded.specs.declared.operation.Table.TheVariants as table_case
 use Rattle.cp_threaded.specs.declared.operation.Counting.{Counting}
@@ -135,12 +135,9 @@ call c = record {
   temps = c.temps;
 }
 
-abbrev pub arm : Arm → code.Arm
-arm x = record { label = x.label; place = x.place }
-
 abbrev pub table : Table → code.Table
 table (table_case.Dense low places) = code.Dense low places.items
-table (table_case.Sparse arms) = code.Sparse (map arm arms.items)
+table (table_case.Sparse xs) = code.Sparse (map arm xs.arms.items)
 
 abbrev pub counting : Counting → code.Counting
 counting c = record {

@@ -1,5 +1,6 @@
 //! Operations: one is one step, and names the place to which it leads. A place is an index of the program's operations.
 
+use crate::arms::Arms;
 use crate::term::{Root, Spot, Term};
 
 /// The component whose routine is called.
@@ -55,18 +56,11 @@ pub struct Call {
     pub temps: u32,
 }
 
-/// A label of a `case`, and the place to which it leads.
-#[derive(Clone, Copy, Debug, PartialEq, Eq)]
-pub struct Arm {
-    pub label: i32,
-    pub place: u32,
-}
-
 /// Where a `case` leads: the place of each number from the lowest label on, or of each label.
 #[derive(Debug, Drop)]
 pub enum Table {
     Dense { low: i32, places: Vec<Option<u32>> },
-    Sparse(Vec<Arm>),
+    Sparse(Arms),
 }
 
 /// A `for`. Its counter is in the temp of this number, and its last value in the one after it.

@@ -37,12 +37,12 @@ pub enum Function {
 #[derive(Debug, Drop)]
 pub enum Operand {
     Number(i32),
-    /// The value of a call, in the temp of this number.
-    Made(u32),
     /// The word of the activation.
     Local(u32),
     /// The word of the component.
     Member(u32),
+    /// The value of a call, in the temp of this number.
+    Made(u32),
     /// The word so many after the one to which a reference points, which this word of the activation holds.
     Through { parameter: u32, plus: u32 },
     /// The word at a place.
