@@ -7,6 +7,7 @@
 //! Each equals a function of `cp_code`'s definitions, over the plain data that `cp_threaded` makes of operations.
 #![tactic(auto)]
 
+pub mod call;
 pub mod emission;
 pub mod emitter;
 pub mod error;
