@@ -1,11 +1,7 @@
 -- Calls that are emitted from the last one on.
-use Rattle.std.proofs.Common.{◌≡◌, ℕ, List, [], ◌∷◌, ◌++◌, length, map, drop, take, refl, ap, sym, subst, ◌∙◌, append_assoc, arith, length-append}
+use Rattle.std.proofs.Common.{◌≡◌, List, [], ◌∷◌, ◌++◌, length, drop, take, ap, sym, ◌∙◌, append_assoc}
 use Rattle.std.proofs.Math.Seq.{drop-append_seam, take-append_seam}
 use Rattle.std.proofs.lemmas.List.{take-append-drop}
-use Rattle.cp_code.specs.CodedStatements.{calls_at}
-use Rattle.cp_compile.specs.declared.emitter.CodedCall.{CodedCall}
-use Rattle.cp_compile.specs.declared.emitter.Emitter.{Emitter}
-use Rattle.cp_compile.specs.Emission.{Emits, coded_call, operations_of, place_of}
 
 module _ {A : Type 0} (all left rest : List A) (x : A) (front : left ≡ take (length left) all) (last : left ≡ rest ++ x ∷ []) where
   parted : all ≡ rest ++ (x ∷ drop (length left) all)

@@ -1,5 +1,5 @@
 -- A loop: the operation that closes it is emitted first, with its calls, and completed once the body stands.
-use Rattle.std.proofs.Common.{◌≡◌, ◌+◌, ℕ, suc, List, [], ◌∷◌, ◌++◌, length, ap, ◌∙◌, append_assoc, arith, length-append}
+use Rattle.std.proofs.Common.{◌≡◌, ◌+◌, suc, List, ◌∷◌, ◌++◌, length, ap, ◌∙◌, append_assoc, arith, length-append}
 use Rattle.cp_code.specs.CodedTerms.{CodedCall}
 use Rattle.cp_code.specs.CodedStatements.{calls_at, with_calls}
 use Rattle.cp_code.specs.Programs.{Operation}

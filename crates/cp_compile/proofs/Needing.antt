@@ -1,5 +1,5 @@
 -- What operations need, as one is emitted or completed.
-use Rattle.std.proofs.Common.{◌≡◌, ◌≤◌, ℕ, zero, suc, List, [], ◌∷◌, ◌++◌, length, map, drop, max, refl, ap, sym, ◌∙◌, arith}
+use Rattle.std.proofs.Common.{◌≡◌, ℕ, zero, suc, List, [], ◌∷◌, ◌++◌, drop, max, refl, ap, ◌∙◌, arith}
 use Rattle.cp_code.specs.CodeNeeds.{Need, greater_need, need_of, need_of_all}
 use Rattle.cp_code.specs.Programs as op
 use Rattle.cp_code.specs.Programs.{CodeUnit, Operation}

@@ -1,14 +1,13 @@
 -- The places of numbers, as arms are put among them.
-use Rattle.std.proofs.Common.{◌≡◌, ◌≤◌, ◌<◌, ◌+◌, ℕ, zero, suc, ℤ, pos, negsuc, List, [], ◌∷◌, Option, Some, None, refl, ap, sym, ◌∙◌, Bool, true, false, if◌then◌else◌, length, arith, eqb-true}
+use Rattle.std.proofs.Common.{◌≡◌, ℕ, zero, suc, ℤ, pos, List, [], ◌∷◌, Some, None, refl, ap, sym, ◌∙◌, Bool, true, false, if◌then◌else◌, arith}
 use Prim.{grind}
-use Rattle.std.specs.Prelude.{◌+ℤ◌, ◌-ℤ◌, int_le, replicate}
+use Rattle.std.specs.Prelude.{◌+ℤ◌, int_le, replicate}
 use Rattle.std.proofs.Math.ListN.{set}
-use Rattle.std.proofs.lemmas.Bool.{true≢false}
 use Rattle.std.proofs.lemmas.Int.{ints}
 use Rattle.cp_model.specs.Integers.{same_integer}
 use Rattle.cp_threaded.proofs.SameIntegers.{alike, differ}
 use Rattle.cp_code.specs.Programs.{Arm}
-use Rattle.cp_code.specs.Layout.{distance, natural}
+use Rattle.cp_code.specs.Layout.{distance}
 use Rattle.cp_code.specs.Tables.{arm_at}
 use Rattle.cp_code.specs.CodedStatements.{places_from}
 

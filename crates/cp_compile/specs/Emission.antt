@@ -2,7 +2,6 @@
 use Rattle.std.specs.Prelude.{◌≡◌, ℕ, zero, suc, List, [], ◌∷◌, ◌++◌, length, map}
 use Rattle.cp_code.specs.Programs as op
 use Rattle.cp_code.specs.CodedTerms as coded
-use Rattle.cp_code.specs.Terms as plain
 use Rattle.cp_threaded.specs.View as view
 use Rattle.cp_compile.specs.declared.emitter.CodedCall.{CodedCall}
 use Rattle.cp_compile.specs.declared.emitter.Emitter.{Emitter}

@@ -107,11 +107,7 @@ impl Emitter {
     }
 
     /// Emits an operation after the calls of its terms, and answers where they are entered.
-    pub fn emit(
-        &mut self,
-        calls: Vec<CodedCall>,
-        operation: Operation,
-    ) -> Result<u32, CompileError>
+    pub fn emit(&mut self, calls: Vec<CodedCall>, operation: Operation) -> Result<u32, CompileError>
         ensures entry { IfOk result (λ entry. entry ≡ (coded.with_calls (map coded_call calls.items) (view.operation operation) (place_of self.old)).entry) }
         ensures emits { OnOk result (Emits self.old self.new (coded.with_calls (map coded_call calls.items) (view.operation operation) (place_of self.old)).operations) }
     {

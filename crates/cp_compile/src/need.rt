@@ -125,7 +125,9 @@ impl Need {
             Operation::InitClass { call, .. } => Need::of_init(units, call),
             Operation::InitMonitor { call, .. } => Need::of_init(units, call),
             Operation::InitProcess {
-                arguments, words, ..
+                arguments,
+                words,
+                ..
             } => Need::none().with_room(*words, arguments),
             Operation::For { counting, .. } => {
                 Ok(Need::none().with_temps(sum(counting.temp, 2)?))

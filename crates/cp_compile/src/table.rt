@@ -31,7 +31,11 @@ fn highest(n: i32, arms: &[Arm]) -> i32
 {
     let mut greatest = n;
     for x in arms {
-        greatest = if greatest <= x.label { x.label } else { greatest };
+        greatest = if greatest <= x.label {
+            x.label
+        } else {
+            greatest
+        };
     }
     greatest
 }
@@ -41,7 +45,10 @@ fn bounds(arms: &[Arm]) -> Option<(i32, i32)>
     ensures { result ≡ bounds_of (map arm arms.now) }
 {
     let first = arms.first()?;
-    Some((lowest(first.label, &arms[1..]), highest(first.label, &arms[1..])))
+    Some((
+        lowest(first.label, &arms[1..]),
+        highest(first.label, &arms[1..]),
+    ))
 }
 
 // How many numbers lie from one to another.

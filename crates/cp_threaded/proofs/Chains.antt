@@ -1,6 +1,6 @@
 -- Chains of operands and of indices: what they are as terms and spots, and their values.
 use Rattle.std.proofs.Math.ListN.{get_or, set}
-use Rattle.std.proofs.Common.{arith, Bool, true, false, zero, suc, length, ◌≡◌, ◌+◌, ◌*◌, ℕ, ℤ, map, List, [], ◌∷◌, ◌++◌, Result, Ok, Err, Box, Vec, Global, refl, sym, ap, ◌∙◌}
+use Rattle.std.proofs.Common.{arith, Bool, true, false, zero, suc, length, ◌≡◌, ◌+◌, ◌*◌, ℕ, ℤ, map, List, [], ◌∷◌, ◌++◌, Result, Ok, Err, Vec, Global, refl, ap, ◌∙◌}
 use Rattle.cp_model.specs.declared.state.Fault.{Fault}
 use Rattle.cp_model.specs.declared.state.Fault.TheVariants as fault
 use Rattle.cp_model.specs.Erase.{operator_of}
@@ -9,7 +9,7 @@ use Rattle.cp_code.specs.Functions.{unless}
 use Rattle.cp_code.specs.Layout.{distance}
 use Rattle.cp_code.specs.Terms as plain
 use Rattle.cp_code.specs.TermsFor.{moved}
-use Rattle.cp_steps.specs.Values.{View, apply, bind, place_of, root_place, value_of}
+use Rattle.cp_steps.specs.Values.{View, apply, bind, place_of, value_of}
 use Rattle.cp_threaded.specs.declared.term.Operand.{Operand}
 use Rattle.cp_threaded.specs.declared.term.Root.{Root}
 use Rattle.cp_threaded.specs.declared.term.Term.{Term, out-Term, roll-Term}

@@ -1,4 +1,4 @@
-use Rattle.std.proofs.Common.{◌≡◌, ◌∷◌, ◌+◌, ◌-◌, ◌<◌, ◌≤◌, ℤ, List, Option, Some, ℕ, drop, get_or, length, map, pos, ap, sym, ◌∙◌, arith}
+use Rattle.std.proofs.Common.{◌≡◌, ◌∷◌, ◌+◌, ◌-◌, ◌<◌, ◌≤◌, List, Option, Some, ℕ, drop, get_or, length, map, pos, ap, sym, ◌∙◌, arith}
 use Rattle.std.proofs.Math.ListN.{set}
 use Rattle.std.specs.Prelude.{int_le, if◌then◌else◌}
 use Rattle.std.proofs.lemmas.List.{at_drop_all, at_drop_more}
@@ -29,7 +29,7 @@ loop-i-preserved c =
     let within : i - 1 < length all = omega arith in
     let next : i - 1 + 1 ≡ i = omega arith in
     let split = at_drop_more (λ xs. places_from (map arm xs) low c.args.count) all (i - 1) none within
-        ∙ ap (λ k. places_from (map arm (x ∷ drop k all)) low c.args.count) next in
+    ∙ ap (λ k. places_from (map arm (x ∷ drop k all)) low c.args.count) next in
     c.put.ensures
     ∙ (ap (λ (ps : List (Option ℕ)). if int_le low x.label then set ps (distance low x.label) (Some x.place) else ps) c.loop-i.invariant
     ∙ (arm_put (map arm (drop i all)) (arm x) low c.args.count

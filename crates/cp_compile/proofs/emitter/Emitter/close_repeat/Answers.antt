@@ -1,4 +1,4 @@
-use Rattle.std.proofs.Common.{◌≡◌, ◌≤◌, length, map, drop, ap, sym, ◌∙◌, arith}
+use Rattle.std.proofs.Common.{◌≡◌, length, drop, ap, sym, ◌∙◌, arith}
 use Rattle.std.proofs.lemmas.List.{length-map}
 use Rattle.cp_code.specs.CodeNeeds.{need_of_all}
 use Rattle.cp_threaded.specs.View as view
@@ -12,10 +12,10 @@ invariant_of-self c =
     let e = c.args.self.now in
     let f = with_repeated c.args.body in
     let as_long : length c.complete_repeat_at.new.operations.items ≡ length e.operations.items =
-        sym (length-map c.complete_repeat_at.new.operations.items view.operation)
-        ∙ ap length c.complete_repeat_at.ensures
-        ∙ length-changed c.args.place f (operations_of e)
-        ∙ length-map e.operations.items view.operation in
+    sym (length-map c.complete_repeat_at.new.operations.items view.operation)
+    ∙ ap length c.complete_repeat_at.ensures
+    ∙ length-changed c.args.place f (operations_of e)
+    ∙ length-map e.operations.items view.operation in
     record {
       begun = omega (arith, e.begun, as_long);
       needed =

@@ -1,6 +1,5 @@
 use Rattle.std.proofs.Common.{rules, ◌≡◌, ◌+◌, [], ◌∷◌, ◌++◌, length, map, drop, ap, sym, ◌∙◌, append_assoc, length-append}
-use Rattle.cp_code.specs.CodedStatements.{Emitted, calls_at}
-use Rattle.cp_code.specs.CodedTerms as plain
+use Rattle.cp_code.specs.CodedStatements.{calls_at}
 use Rattle.cp_code.specs.Programs as code
 use Rattle.cp_threaded.specs.View as view
 use Rattle.cp_compile.specs.Emission.{coded_call, operations_of, place_of}
@@ -18,7 +17,7 @@ loop-made-preserved c =
     let i = c.loop-made.invariant in
     let last : left ≡ rest ++ c.in-Some.made ∷ [] = search rules in
     let back : calls_at (map coded_call (drop (length rest) all)) at c.args.next ≡ calls_at (coded_call c.in-Some.made ∷ map coded_call (drop (length left) all)) at c.args.next =
-        ap (λ xs. calls_at (map coded_call xs) at c.args.next) (back_of all left rest c.in-Some.made i.left last) in
+    ap (λ xs. calls_at (map coded_call xs) at c.args.next) (back_of all left rest c.in-Some.made i.left last) in
     let place : place_of c.loop-made.self ≡ at + length before.operations = ap length i.emits.operations_are ∙ length-append old before.operations in
     let made = view.call c.in-Some.made.call in
     let into = c.in-Some.made.into in

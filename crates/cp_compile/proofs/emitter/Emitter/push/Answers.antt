@@ -11,7 +11,7 @@ invariant_of-self-2 c =
     let e = c.args.self.now in
     let o = view.operation c.args.operation in
     let all : map view.operation c.push.new.self.items ≡ operations_of e ++ o ∷ [] =
-        ap (map view.operation) c.in_ok-push.ensures.items ∙ map-append view.operation e.operations.items (c.args.operation ∷ []) in
+    ap (map view.operation) c.in_ok-push.ensures.items ∙ map-append view.operation e.operations.items (c.args.operation ∷ []) in
     let longer : length c.push.new.self.items ≡ length (e.operations.items ++ c.args.operation ∷ []) = ap length c.in_ok-push.ensures.items in
     let within : e.first ≤ length (operations_of e) = omega (arith, e.begun, length-map e.operations.items view.operation) in
     let own = c.in_ok-own.ensures ∙ ap (λ us. need_of (map view.code_unit us) o) c.deref.ensures.value in

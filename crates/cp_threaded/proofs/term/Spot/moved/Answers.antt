@@ -1,7 +1,7 @@
-use Rattle.std.proofs.Common.{arith, rules, ℕ, suc, ◌≡◌, ◌+◌, ◌-◌, length, map, ap, sym, ◌∙◌}
+use Rattle.std.proofs.Common.{rules, ℕ, suc, ◌≡◌, ◌+◌, ◌-◌, length, ap, sym, ◌∙◌}
 use Rattle.cp_code.specs.Terms as plain
 use Rattle.cp_code.specs.TermsFor.{moved}
-use Rattle.cp_threaded.specs.View.{PlainIndex, elements_of, index, root, term}
+use Rattle.cp_threaded.specs.View.{PlainIndex, index, root, term}
 use Rattle.cp_threaded.specs.declared.term.Index.{out-Index}
 use Rattle.cp_threaded.specs.declared.term.Spot.{out-Spot}
 use Rattle.cp_threaded.proofs.Chains.{elements_moved, index_is, index_rolled, spot_is, spot_rolled}
