@@ -3,7 +3,6 @@ use Rattle.std.proofs.Math.ListN.{get_or, set}
 use Rattle.std.proofs.Common.{arith, Bool, true, false, zero, suc, length, ◌≡◌, ◌+◌, ◌*◌, ℕ, ℤ, map, List, [], ◌∷◌, ◌++◌, Result, Ok, Err, Vec, Global, refl, ap, ◌∙◌}
 use Rattle.cp_model.specs.declared.state.Fault.{Fault}
 use Rattle.cp_model.specs.declared.state.Fault.TheVariants as fault
-use Rattle.cp_model.specs.Erase.{operator_of}
 use Rattle.cp_model.specs.Places.{within}
 use Rattle.cp_code.specs.Functions.{unless}
 use Rattle.cp_code.specs.Layout.{distance}
@@ -16,8 +15,8 @@ use Rattle.cp_threaded.specs.declared.term.Term.{Term, out-Term, roll-Term}
 use Rattle.cp_threaded.specs.declared.term.Spot.{Spot, out-Spot, roll-Spot}
 use Rattle.cp_threaded.specs.declared.term.Index.{Index, out-Index, roll-Index}
 use Rattle.cp_threaded.specs.declared.term.Application.{Application}
-use Rattle.cp_threaded.specs.declared.term.Operand.TheFolds.{fold-roll-Index, fold-roll-Spot, fold-roll-Term, fold_out-Application, fold_out-Index, fold_out-Spot, fold_out-Term}
-use Rattle.cp_threaded.specs.Reaches.{capped, capped_result, chain_value, elements_place, offset_of}
+use Rattle.cp_threaded.specs.declared.term.Application.TheFolds.{fold-roll-Index, fold-roll-Spot, fold-roll-Term, fold_out-Index, fold_out-Spot, fold_out-Term}
+use Rattle.cp_threaded.specs.Reaches.{applied, capped, capped_result, chain_value, elements_place, offset_of}
 use Rattle.cp_threaded.specs.View.{PlainApplication, PlainIndex, application, application_layer, chain_of, elements_of, index, index_layer, operand, operand_layer, root, spot, spot_layer, term, term_layer}
 
 -- The value of a chain is that of its first operand and then of the others.
@@ -30,15 +29,10 @@ value_chain v e [] = keep (value_of v e)
     keep (Err f) = refl
 value_chain v e (o ∷ os) = value_chain v (plain.Binary o.operator e o.operand) os ∙ after (value_of v e)
   where
-    last : (r : Result ℤ Fault) (x : ℤ) → bind (bind r (λ y. apply o.operator x y)) (λ z. chain_value v z os)
-        ≡ bind r (λ y. bind (apply o.operator x y) (λ z. chain_value v z os))
-    last (Ok y) x = refl
-    last (Err f) x = refl
-
     after : (r : Result ℤ Fault)
         → bind (bind r (λ x. bind (value_of v o.operand) (λ y. apply o.operator x y))) (λ z. chain_value v z os)
-        ≡ bind r (λ x. bind (value_of v o.operand) (λ y. bind (apply o.operator x y) (λ z. chain_value v z os)))
-    after (Ok x) = last (value_of v o.operand) x
+        ≡ bind r (λ x. bind (applied v x o) (λ z. chain_value v z os))
+    after (Ok x) = refl
     after (Err f) = refl
 
 -- The place of an element is that of what it is an element of, and then as far as the indices lead.
@@ -89,16 +83,13 @@ elements_capped v a b (i ∷ is) h = by (value_of v i.value) (λ k. elements_cap
     by (Err f) rest = refl
 
 pub term_is : (t : Term) → term t ≡ chain_of (operand (out-Term t).first) (map application (out-Term t).rest.items)
-term_is = fold_out-Term plain.Term PlainApplication PlainIndex plain.Spot plain.Term operand_layer application_layer index_layer spot_layer term_layer
+term_is = fold_out-Term PlainApplication plain.Term PlainIndex plain.Spot plain.Term application_layer operand_layer index_layer spot_layer term_layer
 
 pub spot_is : (s : Spot) → spot s ≡ elements_of (plain.Rooted (root (out-Spot s).root)) (map index (out-Spot s).indices.items)
-spot_is = fold_out-Spot plain.Term PlainApplication PlainIndex plain.Spot plain.Term operand_layer application_layer index_layer spot_layer term_layer
-
-pub application_is : (x : Application) → application x ≡ record { operator = operator_of x.operator; operand = operand x.operand }
-application_is = fold_out-Application plain.Term PlainApplication PlainIndex plain.Spot plain.Term operand_layer application_layer index_layer spot_layer term_layer
+spot_is = fold_out-Spot PlainApplication plain.Term PlainIndex plain.Spot plain.Term application_layer operand_layer index_layer spot_layer term_layer
 
 pub index_is : (i : Index) → index i ≡ (let x = out-Index i in record { low = x.low; high = x.high; size = x.size; plus = x.plus; value = term x.value })
-index_is = fold_out-Index plain.Term PlainApplication PlainIndex plain.Spot plain.Term operand_layer application_layer index_layer spot_layer term_layer
+index_is = fold_out-Index PlainApplication plain.Term PlainIndex plain.Spot plain.Term application_layer operand_layer index_layer spot_layer term_layer
 
 -- ---- Chains that grow
 
@@ -114,17 +105,17 @@ elements_more s (j ∷ js) i = elements_more (plain.Element s j.low j.high j.siz
 
 pub term_rolled : (first : Operand) (rest : Vec Application Global)
     → term (roll-Term (record { first = first; rest = rest })) ≡ chain_of (operand first) (map application rest.items)
-term_rolled first rest = fold-roll-Term plain.Term PlainApplication PlainIndex plain.Spot plain.Term operand_layer application_layer index_layer spot_layer term_layer _
+term_rolled first rest = fold-roll-Term PlainApplication plain.Term PlainIndex plain.Spot plain.Term application_layer operand_layer index_layer spot_layer term_layer _
 
 pub spot_rolled : (r : Root) (is : Vec Index Global)
     → spot (roll-Spot (record { root = r; indices = is })) ≡ elements_of (plain.Rooted (root r)) (map index is.items)
-spot_rolled r is = fold-roll-Spot plain.Term PlainApplication PlainIndex plain.Spot plain.Term operand_layer application_layer index_layer spot_layer term_layer _
+spot_rolled r is = fold-roll-Spot PlainApplication plain.Term PlainIndex plain.Spot plain.Term application_layer operand_layer index_layer spot_layer term_layer _
 
 pub index_rolled : (low high : ℤ) (size plus : ℕ) (value : Term)
     → index (roll-Index (record { low = low; high = high; size = size; plus = plus; value = value }))
     ≡ record { low = low; high = high; size = size; plus = plus; value = term value }
 index_rolled low high size plus value =
-    fold-roll-Index plain.Term PlainApplication PlainIndex plain.Spot plain.Term operand_layer application_layer index_layer spot_layer term_layer _
+    fold-roll-Index PlainApplication plain.Term PlainIndex plain.Spot plain.Term application_layer operand_layer index_layer spot_layer term_layer _
 
 -- The last index leads further on.
 pub elements_moved : (n : ℕ) (s : plain.Spot) (xs : List Index) (j : ℕ) (y d : Index) → suc j ≡ length xs

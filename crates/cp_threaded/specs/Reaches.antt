@@ -27,10 +27,14 @@ abbrev pub capped_result : Result ℕ Fault → Result ℕ Fault
 capped_result (Ok n) = Ok (capped n)
 capped_result (Err f) = Err f
 
+-- The value of an operator between a left operand of this value and its right operand.
+abbrev pub applied : View → ℤ → PlainApplication → Result ℤ Fault
+applied v x o = bind (value_of v o.operand) (λ y. apply o.operator x y)
+
 -- The value of a chain whose first operands have this value.
 abbrev pub chain_value : View → ℤ → List PlainApplication → Result ℤ Fault
 chain_value v x [] = Ok x
-chain_value v x (o ∷ os) = bind (value_of v o.operand) (λ y. bind (apply o.operator x y) (λ z. chain_value v z os))
+chain_value v x (o ∷ os) = bind (applied v x o) (λ z. chain_value v z os)
 
 -- How far a value of an index leads, in words.
 abbrev pub offset_of : PlainIndex → ℤ → Result ℕ Fault

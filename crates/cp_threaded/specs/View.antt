@@ -14,8 +14,8 @@ use Rattle.cp_threaded.specs.declared.term.Application.{Application}
 use Rattle.cp_threaded.specs.declared.term.Index.{Index}
 use Rattle.cp_threaded.specs.declared.term.Spot.{Spot}
 use Rattle.cp_threaded.specs.declared.term.Term.{Term}
-use Rattle.cp_threaded.specs.declared.term.Operand.TheOpen.{Application-F, Index-F, Operand-F, Spot-F, Term-F}
-use Rattle.cp_threaded.specs.declared.term.Operand.TheFolds.{fold-Application, fold-Index, fold-Operand, fold-Spot, fold-Term}
+use Rattle.cp_threaded.specs.declared.term.Application.TheOpen.{Application-F, Index-F, Operand-F, Spot-F, Term-F}
+use Rattle.cp_threaded.specs.declared.term.Application.TheFolds.{fold-Application, fold-Index, fold-Operand, fold-Spot, fold-Term}
 use Rattle.cp_threaded.specs.declared.operation.Target.{Target}
 use Rattle.cp_threaded.specs.declared.operation.Target.TheVariants as target_case
 use Rattle.cp_threaded.specs.declared.operation.Argument.{Argument}
@@ -70,7 +70,7 @@ abbrev pub elements_of : plain.Spot → List PlainIndex → plain.Spot
 elements_of s [] = s
 elements_of s (i ∷ is) = elements_of (plain.Element s i.low i.high i.size i.plus i.value) is
 
-abbrev pub operand_layer : Operand-F plain.Term PlainApplication PlainIndex plain.Spot plain.Term → plain.Term
+abbrev pub operand_layer : Operand-F PlainApplication plain.Term PlainIndex plain.Spot plain.Term → plain.Term
 operand_layer (Operand-F.Number n) = plain.Number n
 operand_layer (Operand-F.Made temp) = plain.Made temp
 operand_layer (Operand-F.Local at) = plain.Item (plain.Rooted (plain.Local at))
@@ -84,32 +84,33 @@ operand_layer (Operand-F.Standard f t) = plain.Standard (function f) t.value
 operand_layer (Operand-F.Empty s) = plain.Empty s.value
 operand_layer Operand-F.Realtime = plain.Realtime
 
-abbrev pub application_layer : Application-F plain.Term PlainApplication PlainIndex plain.Spot plain.Term → PlainApplication
-application_layer x = record { operator = operator_of x.operator; operand = x.operand }
+abbrev pub application_layer : Application-F PlainApplication plain.Term PlainIndex plain.Spot plain.Term → PlainApplication
+application_layer (Application-F.WithNumber o n) = record { operator = operator_of o; operand = plain.Number n }
+application_layer (Application-F.WithOperand o x) = record { operator = operator_of o; operand = x }
 
-abbrev pub index_layer : Index-F plain.Term PlainApplication PlainIndex plain.Spot plain.Term → PlainIndex
+abbrev pub index_layer : Index-F PlainApplication plain.Term PlainIndex plain.Spot plain.Term → PlainIndex
 index_layer i = record { low = i.low; high = i.high; size = i.size; plus = i.plus; value = i.value }
 
-abbrev pub spot_layer : Spot-F plain.Term PlainApplication PlainIndex plain.Spot plain.Term → plain.Spot
+abbrev pub spot_layer : Spot-F PlainApplication plain.Term PlainIndex plain.Spot plain.Term → plain.Spot
 spot_layer s = elements_of (plain.Rooted (root s.root)) s.indices.items
 
-abbrev pub term_layer : Term-F plain.Term PlainApplication PlainIndex plain.Spot plain.Term → plain.Term
+abbrev pub term_layer : Term-F PlainApplication plain.Term PlainIndex plain.Spot plain.Term → plain.Term
 term_layer t = chain_of t.first t.rest.items
 
 abbrev pub operand : Operand → plain.Term
-operand = fold-Operand plain.Term PlainApplication PlainIndex plain.Spot plain.Term operand_layer application_layer index_layer spot_layer term_layer
+operand = fold-Operand PlainApplication plain.Term PlainIndex plain.Spot plain.Term application_layer operand_layer index_layer spot_layer term_layer
 
 abbrev pub application : Application → PlainApplication
-application = fold-Application plain.Term PlainApplication PlainIndex plain.Spot plain.Term operand_layer application_layer index_layer spot_layer term_layer
+application = fold-Application PlainApplication plain.Term PlainIndex plain.Spot plain.Term application_layer operand_layer index_layer spot_layer term_layer
 
 abbrev pub index : Index → PlainIndex
-index = fold-Index plain.Term PlainApplication PlainIndex plain.Spot plain.Term operand_layer application_layer index_layer spot_layer term_layer
+index = fold-Index PlainApplication plain.Term PlainIndex plain.Spot plain.Term application_layer operand_layer index_layer spot_layer term_layer
 
 abbrev pub spot : Spot → plain.Spot
-spot = fold-Spot plain.Term PlainApplication PlainIndex plain.Spot plain.Term operand_layer application_layer index_layer spot_layer term_layer
+spot = fold-Spot PlainApplication plain.Term PlainIndex plain.Spot plain.Term application_layer operand_layer index_layer spot_layer term_layer
 
 abbrev pub term : Term → plain.Term
-term = fold-Term plain.Term PlainApplication PlainIndex plain.Spot plain.Term operand_layer application_layer index_layer spot_layer term_layer
+term = fold-Term PlainApplication plain.Term PlainIndex plain.Spot plain.Term application_layer operand_layer index_layer spot_layer term_layer
 
 -- ---- Operations
 

@@ -12,7 +12,7 @@ ghost use Rattle.cp_model.specs.Erase.{operator_of};
 ghost use Rattle.cp_model.specs.Places.{within};
 ghost use Rattle.cp_model.specs.declared.state.Fault.TheVariants as fault;
 ghost use Rattle.cp_steps.specs.Values as values;
-ghost use Rattle.cp_threaded.specs.Reaches.{capped, capped_result, chain_value, elements_place, offset_of, view_of};
+ghost use Rattle.cp_threaded.specs.Reaches.{applied, capped, capped_result, chain_value, elements_place, offset_of, view_of};
 ghost use Rattle.cp_threaded.specs.View as view;
 
 use crate::reach::Reach;
@@ -250,6 +250,23 @@ impl Operand {
     }
 }
 
+impl Application {
+    // The value with a left operand of this value.
+    #[cycle(value)]
+    #[inline(always)]
+    fn applied(&self, left: i32, reach: &Reach) -> Result<i32, Fault>
+        ensures { result ≡ applied (view_of reach.now) left (view.application self.now) }
+    {
+        match self {
+            Application::WithNumber(operator, number) => apply(*operator, left, *number),
+            Application::WithOperand(operator, operand) => {
+                let right = operand.value(reach)?;
+                apply(*operator, left, right)
+            }
+        }
+    }
+}
+
 // The value of a chain whose first operands have this value.
 #[cycle(value)]
 #[inline(always)]
@@ -258,8 +275,7 @@ fn value_of_chain(first: i32, rest: &[Application], reach: &Reach) -> Result<i32
 {
     let mut n = first;
     for x in rest {
-        let operand = x.operand.value(reach)?;
-        n = apply(x.operator, n, operand)?;
+        n = x.applied(n, reach)?;
     }
     Ok(n)
 }

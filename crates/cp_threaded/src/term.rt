@@ -56,12 +56,12 @@ pub enum Operand {
     Realtime,
 }
 
-/// An operator and its right operand.
+/// An operator and its right operand. Most are numbers, which are told apart first.
 #[cycle(terms)]
 #[derive(Debug, Drop)]
-pub struct Application {
-    pub operator: Operator,
-    pub operand: Operand,
+pub enum Application {
+    WithNumber(Operator, i32),
+    WithOperand(Operator, Operand),
 }
 
 /// An index, with the bounds of its array, the words of an element, and how far within the element the part lies.
@@ -148,6 +148,17 @@ impl Spot {
         let index = &mut indices[last];
         index.plus = index.plus.checked_add(words)?;
         Some(Spot { root, indices })
+    }
+}
+
+impl Application {
+    fn new(operator: Operator, operand: Operand) -> Application
+        ensures { view.application result ≡ record { operator = operator_of operator; operand = view.operand operand } }
+    {
+        match operand {
+            Operand::Number(number) => Application::WithNumber(operator, number),
+            operand => Application::WithOperand(operator, operand),
+        }
     }
 }
 
@@ -248,7 +259,7 @@ impl Term {
     {
         let operand = right.into_operand(alloc)?;
         let Term { first, mut rest } = self;
-        rest.push(Application { operator, operand })?;
+        rest.push(Application::new(operator, operand))?;
         Ok(Term { first, rest })
     }
 }

@@ -6,7 +6,7 @@ use Rattle.cp_code.specs.Terms as plain
 use Rattle.cp_threaded.specs.View.{PlainIndex, elements_of, index, root, term}
 use Rattle.cp_threaded.specs.declared.term.Index.{Index, roll-Index}
 use Rattle.cp_threaded.specs.declared.term.Operand.{Operand}
-use Rattle.cp_threaded.specs.declared.term.Operand.TheOpen.{Index-F}
+use Rattle.cp_threaded.specs.declared.term.Application.TheOpen.{Index-F}
 use Rattle.cp_threaded.specs.declared.term.Application.{Application}
 use Rattle.cp_threaded.specs.declared.term.Term.{Term}
 use Rattle.cp_threaded.specs.declared.term.Spot.{Spot, out-Spot}
@@ -22,7 +22,7 @@ returns c =
     let low = narrow c.args.low in
     let high = narrow c.args.high in
     let new : PlainIndex = record { low = low; high = high; size = c.args.size; plus = 0; value = term c.args.value } in
-    let item : Index-F Operand Application Index Spot Term = record { low = low; high = high; size = c.args.size; plus = 0; value = c.args.value } in
+    let item : Index-F Application Operand Index Spot Term = record { low = low; high = high; size = c.args.size; plus = 0; value = c.args.value } in
     let pushed : map index c.push.new.self.items ≡ is ++ new ∷ [] =
     ap (map index) c.in_ok-push.ensures.items
     ∙ map-append index s.indices.items (roll-Index item ∷ [])

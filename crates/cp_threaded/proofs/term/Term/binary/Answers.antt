@@ -4,7 +4,7 @@ use Rattle.cp_code.specs.Terms as plain
 use Rattle.cp_model.specs.Erase.{operator_of}
 use Rattle.cp_threaded.specs.View.{PlainApplication, application, chain_of, operand}
 use Rattle.cp_threaded.specs.declared.term.Term.{out-Term}
-use Rattle.cp_threaded.proofs.Chains.{application_is, chain_more, term_is, term_rolled}
+use Rattle.cp_threaded.proofs.Chains.{chain_more, term_is, term_rolled}
 use Rattle.cp_threaded.proofs.term.Term.binary.Goals as goal
 
 pub returns : goal.returns
@@ -15,7 +15,7 @@ returns c =
     let pushed : map application c.push.new.self.items ≡ xs ++ new ∷ [] =
     ap (map application) c.in_ok-push.ensures.items
     ∙ map-append application t.rest.items _
-    ∙ ap (λ x. xs ++ x ∷ []) (application_is _) in
+    ∙ ap (λ x. xs ++ x ∷ []) c.new.ensures in
     term_rolled t.first _
     ∙ (ap (chain_of (operand t.first)) pushed
     ∙ (chain_more (operand t.first) xs new
