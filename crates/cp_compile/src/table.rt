@@ -1,8 +1,9 @@
 //! Where a `case` leads: by a place for each number where the labels lie close to one another, else by the labels.
 
-ghost use Rattle.std.specs.Prelude.{◌≡◌, ℕ, ◌*◌, None, Some, IfOk, IfSome, IsNone, [], if◌then◌else◌, int_le, length, map, replicate, slice_set};
+ghost use Rattle.std.specs.Prelude.{◌≡◌, ℕ, ◌*◌, None, Some, IfErr, IfOk, [], if◌then◌else◌, int_le, length, map, replicate, slice_set};
 ghost use Rattle.cp_code.specs.CodedStatements as coded;
 ghost use Rattle.cp_code.specs.Layout.{distance};
+ghost use Rattle.cp_compile.specs.declared.error.CompileError.TheVariants as error;
 ghost use Rattle.cp_compile.specs.Arms.{bounds_of};
 ghost use Rattle.cp_model.specs.Integers as integers;
 ghost use Rattle.cp_threaded.specs.Labels.{arm};
@@ -76,7 +77,8 @@ fn put(places: &mut Vec<Option<u32>>, low: i32, arm: Arm)
 
 // No place for each of so many numbers.
 fn no_places(alloc: Global, count: usize) -> Result<Vec<Option<u32>>, CompileError>
-    ensures { IfOk result (λ places. places.items ≡ replicate count None) }
+    ensures places { IfOk result (λ places. places.items ≡ replicate count None) }
+    ensures memory { IfErr result (λ e. e ≡ error.Memory) }
 {
     Ok(vec![in alloc; None; count]?)
 }
@@ -88,7 +90,8 @@ fn places(
     low: i32,
     count: usize,
 ) -> Result<Vec<Option<u32>>, CompileError>
-    ensures { IfOk result (λ places. places.items ≡ coded.places_from (map arm arms.now) low count) }
+    ensures places { IfOk result (λ places. places.items ≡ coded.places_from (map arm arms.now) low count) }
+    ensures memory { IfErr result (λ e. e ≡ error.Memory) }
 {
     let mut places = no_places(alloc, count)?;
     for i in (0..arms.len()).rev() {
@@ -99,7 +102,8 @@ fn places(
 
 /// The table of a `case` with these arms. One with a place for each number has at most four places a label.
 pub fn table_of(alloc: Global, arms: Vec<Arm>) -> Result<Table, CompileError>
-    ensures { IfOk result (λ table. view.table table ≡ coded.table_of (map arm arms.items)) }
+    ensures table { IfOk result (λ table. view.table table ≡ coded.table_of (map arm arms.items)) }
+    ensures memory { IfErr result (λ e. e ≡ error.Memory) }
 {
     let Some((low, high)) = bounds(&arms) else {
         return Ok(Table::Sparse(Arms::new(alloc, arms)?));
