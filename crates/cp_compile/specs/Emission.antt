@@ -1,7 +1,12 @@
 -- What the emitter holds, as the plain data of the definitions, and what each call adds to it.
-use Rattle.std.specs.Prelude.{◌≡◌, ℕ, zero, suc, List, [], ◌∷◌, ◌++◌, length, map}
+use Rattle.std.specs.Prelude.{◌≡◌, ℕ, zero, suc, List, [], ◌∷◌, ◌++◌, drop, length, map}
 use Rattle.cp_code.specs.Programs as op
 use Rattle.cp_code.specs.CodedTerms as coded
+use Rattle.cp_code.specs.CodeNeeds.{need_of_all}
+use Rattle.cp_code.specs.CodedStatements.{Emitted, calls_at, with_calls}
+use Rattle.cp_code.specs.Compile.{code_unit}
+use Rattle.cp_threaded.specs.declared.operation.Operation.{Operation}
+use Rattle.cp_threaded.specs.declared.program.Start.{Start}
 use Rattle.cp_threaded.specs.View as view
 use Rattle.cp_compile.specs.declared.emitter.CodedCall.{CodedCall}
 use Rattle.cp_compile.specs.declared.emitter.Emitter.{Emitter}
@@ -29,6 +34,19 @@ pub record Goes (old new : Emitter) (operations : List op.Operation) : Type 0 wh
 -- These operations were emitted.
 abbrev pub Emits : Emitter → Emitter → List op.Operation → Type 0
 Emits old new os = Goes old new (operations_of old ++ os)
+
+-- The operations of calls that lead to a place, and where they are entered.
+abbrev pub calls_from : Emitter → List CodedCall → ℕ → Emitted
+calls_from e cs next = calls_at (map coded_call cs) (place_of e) next
+
+-- Those of an operation after its calls.
+abbrev pub operation_from : Emitter → List CodedCall → Operation → Emitted
+operation_from e cs o = with_calls (map coded_call cs) (view.operation o) (place_of e)
+
+-- The unit under way, once it ends.
+abbrev pub unit_ended : Emitter → ℕ → List Start → op.CodeUnit
+unit_ended e entry starts =
+    code_unit entry (map view.start starts) (need_of_all (units_of e) e.words (drop e.first (operations_of e)))
 
 -- ---- Loops
 

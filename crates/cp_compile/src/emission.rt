@@ -1,8 +1,7 @@
 //! Operations as they are emitted: with their calls, and loops that are closed once their body stands.
 
 ghost use Rattle.std.specs.Prelude.{◌≡◌, [], ◌∷◌, ◌++◌, IfOk, OnOk, length, map};
-ghost use Rattle.cp_code.specs.CodedStatements as coded;
-ghost use Rattle.cp_compile.specs.Emission.{Emits, Goes, changed_at, coded_call, operations_of, place_of, units_of, with_body, with_repeated};
+ghost use Rattle.cp_compile.specs.Emission.{Emits, Goes, calls_from, changed_at, operation_from, operations_of, place_of, with_body, with_repeated};
 ghost use Rattle.cp_threaded.specs.View as view;
 
 use crate::emitter::{CodedCall, Emitter};
@@ -91,8 +90,8 @@ impl Emitter {
 
     // Emits calls that lead to the next place, the last one first, and answers where they are entered.
     fn emit_calls(&mut self, calls: Vec<CodedCall>, next: u32) -> Result<u32, CompileError>
-        ensures entry { IfOk result (λ entry. entry ≡ (coded.calls_at (map coded_call calls.items) (place_of self.old) next).entry) }
-        ensures emits { OnOk result (Emits self.old self.new (coded.calls_at (map coded_call calls.items) (place_of self.old) next).operations) }
+        ensures entry { IfOk result (λ entry. entry ≡ (calls_from self.old calls.items next).entry) }
+        ensures emits { OnOk result (Emits self.old self.new (calls_from self.old calls.items next).operations) }
     {
         let mut left = calls;
         let mut entry = next;
@@ -108,8 +107,8 @@ impl Emitter {
 
     /// Emits an operation after the calls of its terms, and answers where they are entered.
     pub fn emit(&mut self, calls: Vec<CodedCall>, operation: Operation) -> Result<u32, CompileError>
-        ensures entry { IfOk result (λ entry. entry ≡ (coded.with_calls (map coded_call calls.items) (view.operation operation) (place_of self.old)).entry) }
-        ensures emits { OnOk result (Emits self.old self.new (coded.with_calls (map coded_call calls.items) (view.operation operation) (place_of self.old)).operations) }
+        ensures entry { IfOk result (λ entry. entry ≡ (operation_from self.old calls.items operation).entry) }
+        ensures emits { OnOk result (Emits self.old self.new (operation_from self.old calls.items operation).operations) }
     {
         let place = self.push(operation)?;
         self.emit_calls(calls, place)

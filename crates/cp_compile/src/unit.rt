@@ -1,10 +1,8 @@
 //! Units: an emitter begins one, emits its operations, and ends it.
 
-ghost use Rattle.std.specs.Prelude.{◌≡◌, [], ◌∷◌, ◌++◌, IfErr, OnOk, drop, map};
-ghost use Rattle.cp_code.specs.CodeNeeds.{need_of_all};
-ghost use Rattle.cp_code.specs.Compile.{code_unit};
+ghost use Rattle.std.specs.Prelude.{◌≡◌, [], ◌∷◌, ◌++◌, IfErr, OnOk, map};
 ghost use Rattle.cp_compile.specs.declared.error.CompileError.TheVariants as error;
-ghost use Rattle.cp_compile.specs.Emission.{operations_of, place_of, units_of};
+ghost use Rattle.cp_compile.specs.Emission.{operations_of, place_of, unit_ended, units_of};
 ghost use Rattle.cp_threaded.specs.View as view;
 
 use crate::emitter::Emitter;
@@ -45,7 +43,7 @@ impl Emitter {
     pub fn end(&mut self, entry: u32, starts: Vec<Start>) -> Result<(), CompileError>
         ensures memory { IfErr result (λ e. e ≡ error.Memory) }
         ensures operations { OnOk result (operations_of self.new ≡ operations_of self.old) }
-        ensures unit { OnOk result (units_of self.new ≡ units_of self.old ++ code_unit entry (map view.start starts.items) (need_of_all (units_of self.old) self.old.words (drop self.old.first (operations_of self.old))) ∷ []) }
+        ensures unit { OnOk result (units_of self.new ≡ units_of self.old ++ unit_ended self.old entry starts.items ∷ []) }
     {
         let need = self.need;
         self.units.push(CodeUnit {
