@@ -11,6 +11,7 @@
 mod choice;
 mod components;
 mod excerpt;
+mod expected;
 pub mod explain;
 mod finder;
 pub mod graph;

@@ -2,13 +2,14 @@
 
 use crate::components::{Components, Systems};
 use crate::excerpt::excerpt;
+use crate::expected::push_expected;
 use crate::finder::Finder;
 use crate::messages::{self, Message};
 use crate::page::Page;
 use crate::position::Position;
 use crate::scope::{Declaration, Kind};
 use crate::site::Site;
-use cp_execute::refusal::Refusal;
+use cp_execute::refusal::{Refusal, scan_number};
 use cp_model::rules::{Rule, Violation};
 use cp_model::tree::{Identifier, Sort, Tree};
 use cp_scan::Cause;
@@ -108,6 +109,18 @@ pub fn of_no_tree(
 ) -> Result<Page, AllocError> {
     let mut page = Page::new(alloc);
     push_message(&mut page, text, at, of_syntax(refusal), None)?;
+    match refusal {
+        Refusal::Scan { cause, .. } => push_hint(&mut page, "S", scan_number(cause))?,
+        Refusal::Unfinished { .. } => {
+            push_expected(alloc, &mut page, text, at)?;
+            push_hint(&mut page, "Y", 2)?;
+        }
+        Refusal::TooDeep { .. } => push_hint(&mut page, "Y", 3)?,
+        _ => {
+            push_expected(alloc, &mut page, text, at)?;
+            push_hint(&mut page, "Y", 1)?;
+        }
+    }
     Ok(page)
 }
 
