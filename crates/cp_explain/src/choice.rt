@@ -54,6 +54,14 @@ impl<'t> Site<'t> {
         }
     }
 
+    /// The declaration of a name that can't be seen at the place, since the initial process keeps it for itself.
+    pub fn hidden_declaration(&self) -> Option<Declaration<'t>> {
+        match self.name? {
+            (_, NameRole::Member(..) | NameRole::Declared(_)) => None,
+            (x, _) => self.scope.hidden(Wanted::other_than(x)),
+        }
+    }
+
     fn kind(&self) -> Option<Kind> {
         Some(self.declaration()?.kind)
     }

@@ -15,6 +15,7 @@ mod expected;
 pub mod explain;
 mod finder;
 pub mod graph;
+pub mod law;
 mod messages;
 mod page;
 mod pages;

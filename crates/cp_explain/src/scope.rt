@@ -234,6 +234,15 @@ impl<'t> Scope<'t> {
         }
     }
 
+    /// What the initial process declares a name as, where that can't be seen in a system type.
+    pub fn hidden(&self, wanted: Wanted<'_>) -> Option<Declaration<'t>> {
+        let _system = self.system?;
+        match wanted.in_groups(&self.tree.variables) {
+            Some(found) => Some(found),
+            None => wanted.in_routines(&self.tree.routines),
+        }
+    }
+
     /// The system type of a component that is declared here.
     pub fn system_of(&self, x: &Identifier) -> Option<&'t System> {
         let of = self.find(Wanted::other_than(x))?.of?;

@@ -92,6 +92,17 @@ fn push_declaration(
     })
 }
 
+// Where the initial process declares a name that can't be seen here.
+fn push_hidden(page: &mut Page, text: &[u8], declared: Declaration<'_>) -> Result<(), AllocError> {
+    page.bytes(b"  ")?;
+    page.name(declared.name)?;
+    page.text(" is declared by the initial process at ")?;
+    page.position(Position::of(text, declared.name.at))?;
+    page.text(
+        ", and can't be seen here. Processes share monitors alone: hand over the right to one by `init`.\n",
+    )
+}
+
 // That a page tells more.
 fn push_hint(page: &mut Page, letter: &str, number: u8) -> Result<(), AllocError> {
     page.text("  `cpm explain ")?;
@@ -156,8 +167,10 @@ pub fn of_violation(
     }
     let mut page = Page::new(alloc);
     push_message(&mut page, text, at, site.message(rule), name)?;
-    if let Some(declared) = site.declaration() {
-        push_declaration(&mut page, text, at, declared)?;
+    match (site.declaration(), site.hidden_declaration()) {
+        (Some(declared), _) => push_declaration(&mut page, text, at, declared)?,
+        (None, Some(declared)) => push_hidden(&mut page, text, declared)?,
+        _ => {}
     }
     push_hint(&mut page, "C", rule.number())?;
     Ok(page)

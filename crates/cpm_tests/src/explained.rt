@@ -129,6 +129,19 @@ fn a_name_that_is_declared_later_is_told(rt: HostRuntime) {
 }
 
 #[test]
+fn a_name_of_the_initial_process_is_told(rt: HostRuntime) {
+    let text = b"type p = process;\nbegin n := 1 end;\nvar n: integer;\nbegin end.\n";
+    let (_, out) = explained(rt.alloc(), text, Form::Lines);
+    assert!(rt; out.as_slice() == b"t.cp:2:7: C1: `n` is not declared
+  2 | begin n := 1 end;
+    |       ^
+  A name is declared before it is used. Spell it as it is declared, or declare it.
+  `n` is declared by the initial process at 3:5, and can't be seen here. Processes share monitors alone: hand over the right to one by `init`.
+  `cpm explain C1` tells more.
+".as_slice());
+}
+
+#[test]
 fn excerpts_show_any_line(rt: HostRuntime) -> Result<(), Fail> {
     // The end of a text, on the line after the last line feed.
     let (_, out) = explained(rt.alloc(), b"begin\n", Form::Lines);
