@@ -1,0 +1,6 @@
+-- What holds of an answer that isn't refused.
+use Rattle.std.proofs.Common.{Result, Ok, Err, IfOk}
+
+pub if_ok : {A E : Type 0} {P Q : A → Type 0} (r : Result A E) → ((x : A) → P x → Q x) → IfOk r P → IfOk r Q
+if_ok (Ok x) f h = f x h
+if_ok (Err e) f h = h
