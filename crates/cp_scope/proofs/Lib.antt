@@ -1,3 +1,5 @@
 pub mod Standing
 pub mod Unrefused
 pub mod Written
+pub mod Groups
+pub mod Defining

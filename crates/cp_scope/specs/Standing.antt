@@ -1,5 +1,5 @@
 -- When numbers, rows and names stand for what the meaning says.
-use Rattle.std.specs.Prelude.{◌≡◌, ◌++◌, ℕ, ℤ, List, [], ◌∷◌, Option, None, Some, map, option_map, slice_get, Vec}
+use Rattle.std.specs.Prelude.{◌≡◌, ◌++◌, ℕ, ℤ, List, [], ◌∷◌, Option, None, Some, filter, if◌then◌else◌, map, not, option_map, slice_get, Vec}
 use Rattle.std.specs.Global.{Global}
 use Rattle.std.specs.Borrow.{Bor}
 use Rattle.cp_model.specs.Abstract as a
@@ -7,10 +7,12 @@ use Rattle.cp_model.specs.Abstract.{Name, Range, TypeName}
 use Rattle.cp_model.specs.Erase as erase
 use Rattle.cp_model.specs.View as view
 use Rattle.cp_model.specs.Names.{lookup}
+use Rattle.cp_model.specs.Declarations.{declarations, is_component, members_from}
 use Rattle.cp_model.specs.Types.{ArrayOf, ComponentOf, GlobalScope, Members, MoreMembers, NoMembers, NoType, Queue, RecordOf, ResolvedType, Simple, array_type, members_of, resolved_type, with_members}
 use Rattle.cp_model.specs.declared.tree.Constant.{Constant}
 use Rattle.cp_model.specs.declared.tree.Fields.{Fields}
 use Rattle.cp_model.specs.declared.tree.Identifier.{Identifier}
+use Rattle.cp_model.specs.declared.tree.Parameters.{Parameters}
 use Rattle.cp_model.specs.declared.tree.System.{System}
 use Rattle.cp_model.specs.declared.tree.TypeExpression.{TypeExpression}
 use Rattle.cp_scope.specs.declared.types.Base.{Base}
@@ -70,6 +72,12 @@ pub record Grows (old new : Types) : Type 0 where
 pub record Adds (old new : Types) (r : TypeRow) (n : ℕ) : Type 0 where
   pub grows : Grows old new
   pub added : row_at new n ≡ Some r
+
+pub record AddsSystem (old new : Types) (y : System) (k : ℕ) : Type 0 where
+  pub grows : Grows old new
+  pub system : Bor System
+  pub added : system_at new k ≡ Some system
+  pub is : system.now ≡ y
 
 -- ---- Names
 
@@ -154,3 +162,12 @@ with_groups (f ∷ fs) g ms = with_group f g (with_groups fs g ms)
 
 abbrev pub recorded : List Fields → GlobalScope → ResolvedType
 recorded groups g = RecordOf (fields_of groups g)
+
+-- ---- Definitions
+
+abbrev pub with_parameters : List Parameters → GlobalScope → Members → Members
+with_parameters groups g ms =
+    members_from (filter (λ v. not (is_component v.1.type)) (declarations g (map erase.parameter_group (map view.parameters groups)))) ms
+
+abbrev pub with_parameter : Parameters → GlobalScope → Members → Members
+with_parameter p g ms = if is_component (named p.of.name g) then ms else with_members (map erase.name p.names.items) (named p.of.name g) ms

@@ -3,9 +3,11 @@
 
 mod error;
 mod names;
+mod outer;
 mod resolving;
 mod types;
 
 pub use error::TableError;
 pub use names::{Names, Value};
+pub use outer::Outer;
 pub use types::{Base, Field, Simple, TypeRow, Types};

@@ -1,8 +1,9 @@
 //! The names of constants and types in the outermost scope.
 
-ghost use Rattle.std.specs.Prelude.{◌≡◌, [], OnOk, option_map};
-ghost use Rattle.cp_model.specs.Abstract.{};
+ghost use Rattle.std.specs.Prelude.{◌≡◌, [], OnOk};
+ghost use Rattle.cp_scope.specs.Tables.{InFront};
 
+use crate::error::TableError;
 use crate::types::Base;
 use cp_names::NameTable;
 use std::alloc::Global;
@@ -19,4 +20,32 @@ pub struct Value<'t> {
 pub struct Names<'t> {
     pub constants: NameTable<'t, Value<'t>>,
     pub types: NameTable<'t, usize>,
+}
+
+impl<'t> Names<'t> {
+    /// No names.
+    pub fn new(alloc: Global) -> Names<'t>
+        ensures constants { result.constants ≡ [] }
+        ensures types { result.types ≡ [] }
+    {
+        Names {
+            constants: NameTable::new(alloc),
+            types: NameTable::new(alloc),
+        }
+    }
+}
+
+/// Adds a name. It is refused where it is there already.
+pub fn add_name<'t, A: Copy>(
+    table: &mut NameTable<'t, A>,
+    name: &'t [u8],
+    value: A,
+) -> Result<(), TableError>
+    ensures { OnOk result (InFront name.now value table.old table.new) }
+{
+    if table.find(name).is_some() {
+        return Err(TableError::Unaccepted);
+    }
+    table.add(name, value)?;
+    Ok(())
 }

@@ -4,7 +4,7 @@ ghost use Rattle.std.specs.Prelude.{◌≡◌, ◌++◌, IfOk, OnOk, map, option
 ghost use Rattle.cp_model.specs.Abstract.{Integer};
 ghost use Rattle.cp_model.specs.Types.{GlobalScope, constant_value};
 ghost use Rattle.cp_model.specs.Erase as erase;
-ghost use Rattle.cp_scope.specs.Standing.{Adds, ConstantsStand, Makes, MakesArray, MakesFields, MakesIndexed, array_row, entries_of, entry, named, ranged, recorded, row_at, subrange_row, value_of, with_group, written};
+ghost use Rattle.cp_scope.specs.Standing.{Adds, ConstantsStand, Makes, MakesArray, MakesFields, MakesIndexed, array_row, entries_of, entry, named, ranged, recorded, row_at, subrange_row, value_of, with_group, with_groups, written};
 
 use crate::error::TableError;
 use crate::names::{Names, Value};
@@ -36,8 +36,8 @@ fn subrange_row<'t>(low: Option<Value<'t>>, high: Option<Value<'t>>) -> TypeRow<
     }
 }
 
-// Adds fields of one type.
-fn add_fields<'t>(
+/// Adds fields of one type.
+pub fn add_fields<'t>(
     fields: &mut Vec<Field<'t>>,
     names: &'t [Identifier],
     of: usize,
@@ -158,10 +158,24 @@ impl<'t> Types<'t> {
         ensures { IfOk result (λ n. Makes names.now self.old self.new (recorded groups.now) n) }
     {
         let mut fields = Vec::new(self.alloc);
-        for group in groups {
-            self.group(names, group, &mut fields)?;
-        }
+        self.fields(names, groups, &mut fields)?;
         self.add(TypeRow::Record(fields))
+    }
+
+    /// Adds the fields of these groups.
+    #[cycle(types)]
+    pub fn fields(
+        &mut self,
+        names: &Names<'t>,
+        groups: &'t [Fields],
+        fields: &mut Vec<Field<'t>>,
+    ) -> Result<(), TableError>
+        ensures { OnOk result (MakesFields names.now self.old self.new (map entry fields.old.items) (map entry fields.new.items) (with_groups groups.now)) }
+    {
+        for group in groups {
+            self.group(names, group, fields)?;
+        }
+        Ok(())
     }
 
     // Adds fields of one type.

@@ -1,7 +1,7 @@
 //! Types, by their numbers: each has a row, which names the types of its parts by their numbers.
 
 ghost use Rattle.std.specs.Prelude.{◌≡◌, [], IfOk, option_map};
-ghost use Rattle.cp_scope.specs.Standing.{Adds, row_at};
+ghost use Rattle.cp_scope.specs.Standing.{Adds, AddsSystem, row_at};
 
 use crate::error::TableError;
 use cp_model::tree::System;
@@ -86,6 +86,15 @@ impl<'t> Types<'t> {
     {
         let number = self.rows.len();
         self.rows.push(row)?;
+        Ok(number)
+    }
+
+    /// Adds a system type, and answers its number.
+    pub fn add_system(&mut self, system: &'t System) -> Result<usize, TableError>
+        ensures { IfOk result (λ k. AddsSystem self.old self.new system.now k) }
+    {
+        let number = self.systems.len();
+        self.systems.push(system)?;
         Ok(number)
     }
 }

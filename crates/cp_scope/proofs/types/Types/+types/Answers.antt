@@ -6,6 +6,8 @@ use Rattle.cp_model.specs.Types.{GlobalScope, NoMembers}
 use Rattle.cp_model.specs.declared.tree.Fields.{Fields}
 use Rattle.cp_scope.specs.Standing.{AreMembers, MakesIndexed, entries_of, entry, with_groups, written}
 use Rattle.cp_scope.proofs.Standing.{grows_more, indexed_more, indexed_none, still_scope, still_stands}
+use Rattle.cp_scope.specs.declared.types.Field.{Field}
+use Rattle.cp_scope.proofs.Groups.{GroupsAdded, all_added, none_added, one_added}
 use Rattle.cp_scope.proofs.Unrefused.{if_ok}
 use Rattle.cp_scope.proofs.Written.{array_written, groups_written, names_written, record_written}
 use Rattle.cp_scope.proofs.types.Types.+types.Goals as goal
@@ -25,44 +27,47 @@ group-returns t c =
           (still_stands new later grows n (written c.args.group.now.of g) (c.in_ok-of.ensures.stands g scope)) r;
     }
 
-pub record-returns : goal.record-returns
-record-returns t c =
-    let all = c.args.groups.now in
-    let fields = c.loop-group.fields in
-    let last = c.loop-group.self in
-    let new = c.add.new.self in
-    let before = c.loop-group.invariant in
-    if_ok c.add.result
-    (λ n adds. record {
-      grows = grows_more c.args.self.now last new before.grows adds.grows;
-      stands = λ g scope.
-          let members : AreMembers new (map entry fields.items ++ []) (with_groups all g NoMembers) =
-          before.stands g new [] scope adds.grows
-          (subst (λ (fs : List Fields). AreMembers new [] (with_groups fs g NoMembers)) (sym (drop_all c.loop-group.group-index all c.loop-group-test.false)) tt) in
-          (fields, adds.added, rw (← append-nil (map entry fields.items), ← groups_written g all) members);
-    })
-    c.add.ensures
+pub fields-loop-group-init : goal.fields-loop-group-init
+fields-loop-group-init t c = ([], none_added c.args.names.now c.args.self.now (map entry c.args.fields.now.items) c.args.groups.now)
 
-pub record-loop-group-preserved : goal.record-loop-group-preserved
-record-loop-group-preserved t c =
+pub fields-loop-group-preserved : goal.fields-loop-group-preserved
+fields-loop-group-preserved t c =
     let all = c.args.groups.now in
     let i = c.loop-group.group-index in
     let f = c.group-item.result in
     let rest = drop (i + 1) all in
-    let one = c.in_ok-group.ensures in
-    let before = c.loop-group.invariant in
-    let step : (g : GlobalScope) → with_groups (drop i all) g NoMembers ≡ with_groups (f ∷ rest) g NoMembers =
-    λ g. at_drop_more (λ (fs : List Fields). with_groups fs g NoMembers) all i f c.loop-group-test.true
-    ∙ ap (λ (h : Fields). with_groups (h ∷ rest) g NoMembers) (sym c.group-item.is) in
-    record {
-      grows = grows_more c.args.self.now c.loop-group.self c.group.new.self before.grows one.grows;
-      stands = λ g later more scope grows r.
-          let own = one.stands g later more (with_groups rest g NoMembers) (still_scope c.args.self.now c.loop-group.self before.grows c.args.names.now g scope) grows r in
-          let fields = before.stands g later (one.added ++ more) scope (grows_more c.loop-group.self c.group.new.self later one.grows grows)
-          (subst (AreMembers later (one.added ++ more)) (sym (step g)) own) in
-          subst (λ fs. AreMembers later fs (with_groups all g NoMembers))
-          (sym (append_assoc (map entry c.loop-group.fields.items) one.added more) ∙ ap (λ fs. fs ++ more) (sym one.all)) fields;
-    }
+    let names = c.args.names.now in
+    let before = map entry c.args.fields.now.items in
+    let now = map entry c.loop-group.fields.items in
+    let step : drop i all ≡ f ∷ rest =
+    at_drop_more (λ (fs : List Fields). fs) all i f c.loop-group-test.true ∙ ap (λ (h : Fields). h ∷ rest) (sym c.group-item.is) in
+    let some = subst (GroupsAdded names c.args.self.now c.loop-group.self before now c.loop-group.invariant.0 all) step c.loop-group.invariant.1 in
+    (_, one_added names c.args.self.now c.loop-group.self c.group.new.self before now (map entry c.group.new.fields.items)
+    c.loop-group.invariant.0 all rest f some c.in_ok-group.ensures)
+
+pub fields-returns : goal.fields-returns
+fields-returns t c =
+    let all = c.args.groups.now in
+    all_added c.args.names.now c.args.self.now c.loop-group.self (map entry c.args.fields.now.items) (map entry c.loop-group.fields.items)
+    c.loop-group.invariant.0 all (drop c.loop-group.group-index all) (drop_all c.loop-group.group-index all c.loop-group-test.false) c.loop-group.invariant.1
+
+pub record-returns : goal.record-returns
+record-returns t c =
+    let all = c.args.groups.now in
+    let fields = c.fields.new.fields in
+    let last = c.fields.new.self in
+    let new = c.add.new.self in
+    let made = c.in_ok-fields.ensures in
+    if_ok c.add.result
+    (λ n adds. record {
+      grows = grows_more c.args.self.now last new made.grows adds.grows;
+      stands = λ g scope.
+          let members : AreMembers new (made.added ++ []) (with_groups all g NoMembers) = made.stands g new [] NoMembers scope adds.grows tt in
+          let same : map entry fields.items ≡ made.added ++ [] =
+          made.all ∙ ap (λ (fs : List Field). map entry fs ++ made.added) c.new-fields.ensures.items ∙ sym (append-nil made.added) in
+          (fields, adds.added, rw (same, ← groups_written g all) members);
+    })
+    c.add.ensures
 
 pub arrays-loop-left-init : goal.arrays-loop-left-init
 arrays-loop-left-init t c = record {
