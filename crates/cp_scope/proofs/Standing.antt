@@ -1,7 +1,6 @@
 -- What stands for something stands for it still, where types were added.
-use Rattle.std.proofs.Common.{◌≡◌, ◌++◌, ◌∷◌, ◌∙◌, ℕ, ℤ, List, [], Option, None, Some, Vec, Global, Bor, ap, map, refl, subst, sym, append_assoc}
+use Rattle.std.proofs.Common.{◌≡◌, ◌++◌, ◌∷◌, ◌∙◌, ℕ, zero, suc, ℤ, List, [], Option, None, Some, ap, length, map, refl, slice_get}
 use Rattle.cp_model.specs.Abstract.{BaseType, Name}
-use Rattle.cp_model.specs.Names.{lookup}
 use Rattle.cp_model.specs.Types.{ArrayOf, ComponentOf, GlobalScope, Members, MoreMembers, NoMembers, NoType, Queue, RecordOf, ResolvedType, Simple, array_type}
 use Rattle.cp_model.specs.declared.tree.TypeExpression.{TypeExpression}
 use Rattle.cp_scope.specs.declared.types.Simple as plain
@@ -45,6 +44,17 @@ module _ (old new : Types) (grows : Grows old new) where
 
   pub still_scope : (names : Names) (g : GlobalScope) → ScopeStands names old g → ScopeStands names new g
   still_scope names g s = record { constants = s.constants; types = λ x. still_means _ _ (s.types x) }
+
+-- ---- One item more
+
+pub still_item : {A : Type 0} (xs : List A) (d : A) (i : ℕ) (x : A) → slice_get xs i ≡ Some x → slice_get (xs ++ d ∷ []) i ≡ Some x
+still_item [] d i x h = absurd (cc)
+still_item (y ∷ ys) d zero x h = h
+still_item (y ∷ ys) d (suc i) x h = still_item ys d i x h
+
+pub last_item : {A : Type 0} (xs : List A) (d : A) → slice_get (xs ++ d ∷ []) (length xs) ≡ Some d
+last_item [] d = refl
+last_item (x ∷ xs) d = last_item xs d
 
 -- ---- Arrays
 

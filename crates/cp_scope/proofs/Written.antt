@@ -5,7 +5,7 @@ use Rattle.cp_model.specs.Erase as erase
 use Rattle.cp_model.specs.Syntax as s
 use Rattle.cp_model.specs.View as view
 use Rattle.cp_model.specs.View.{fields_layer, type_expression, type_layer, types_of}
-use Rattle.cp_model.specs.Types.{GlobalScope, Members, MoreMembers, NoMembers, RecordOf, ResolvedType, resolved_type, with_members}
+use Rattle.cp_model.specs.Types.{GlobalScope, Members, NoMembers, ResolvedType, resolved_type, with_members}
 use Rattle.cp_model.specs.declared.tree.Fields.{Fields}
 use Rattle.cp_model.specs.declared.tree.Identifier.{Identifier}
 use Rattle.cp_model.specs.declared.tree.TypeExpression.{TypeExpression}
@@ -25,7 +25,7 @@ view_record : (at : ℕ) (groups : Vec Fields Global)
 view_record at groups =
     ap type_expression (sym (rolls-Record at groups)) ∙ fold-roll-TypeExpression s.TypeExpression s.Variables type_layer fields_layer _
 
-view_fields : (f : Fields) → view.variables f ≡ record { names = f.names.items; of = view.type_expression f.of }
+pub view_fields : (f : Fields) → view.variables f ≡ record { names = f.names.items; of = view.type_expression f.of }
 view_fields = fold_out-Fields s.TypeExpression s.Variables type_layer fields_layer
 
 pub array_written : (g : GlobalScope) (at : ℕ) (indices : Vec TypeExpression Global) (element : Box TypeExpression Global)

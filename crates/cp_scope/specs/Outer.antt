@@ -1,5 +1,5 @@
 -- The outermost scope: when the tables stand for it, and what definitions make of them.
-use Rattle.std.specs.Prelude.{◌≡◌, ◌++◌, ◌∷◌, [], ℕ, ℤ, List, map}
+use Rattle.std.specs.Prelude.{◌++◌, ◌∷◌, ℕ, ℤ, List, map}
 use Rattle.cp_model.specs.Abstract as a
 use Rattle.cp_model.specs.Abstract.{Definition, Name}
 use Rattle.cp_model.specs.Declarations.{define, define_all, enumeration_constants, reported_members}

@@ -8,7 +8,7 @@ ghost use Rattle.cp_model.specs.Types.{ResolvedType, standard_scope};
 ghost use Rattle.cp_model.specs.Erase as erase;
 ghost use Rattle.cp_model.specs.View as view;
 ghost use Rattle.cp_scope.specs.Outer.{Defines, NamesType, OuterStands, component_of, defining, defining_all, with_type, with_value, with_values};
-ghost use Rattle.cp_scope.specs.Standing.{Makes, MakesFields, Stands, base_of, entry, with_parameter, with_parameters, written};
+ghost use Rattle.cp_scope.specs.Standing.{Makes, MakesFields, Stands, base_of, entry, simple_of, value_of, with_parameter, with_parameters, written};
 
 use crate::error::TableError;
 use crate::names::{Names, Value, add_name};
@@ -35,6 +35,40 @@ fn ordinal(n: usize) -> Result<i32, TableError>
         return Err(TableError::Unaccepted);
     }
     Ok(n as i32)
+}
+
+fn value<'t>(base: Base<'t>, ordinal: i32) -> Value<'t>
+    ensures { value_of result ≡ (base_of base.entry, ordinal) }
+{
+    Value { base, ordinal }
+}
+
+// A base type itself: it starts at 0.
+fn simple<'t>(base: Base<'t>, low: i32, high: i32) -> Simple<'t>
+    ensures { simple_of result ≡ t.Simple (base_of base.entry) low high (pos 0) }
+{
+    Simple {
+        base,
+        low,
+        high,
+        start: 0,
+    }
+}
+
+// The value of an enumeration with this number.
+fn numbered<'t>(base: Base<'t>, number: usize) -> Result<Value<'t>, TableError>
+    ensures { IfOk result (λ v. value_of v ≡ (base_of base.entry, pos number)) }
+{
+    let ordinal = ordinal(number)?;
+    Ok(value(base, ordinal))
+}
+
+// An enumeration whose last value has this number.
+fn enumeration<'t>(base: Base<'t>, last: usize) -> Result<Simple<'t>, TableError>
+    ensures { IfOk result (λ s. simple_of s ≡ t.Simple (base_of base.entry) (pos 0) (pos last) (pos 0)) }
+{
+    let last = ordinal(last)?;
+    Ok(simple(base, 0, last))
 }
 
 impl<'t> Types<'t> {
@@ -93,15 +127,10 @@ impl<'t> Types<'t> {
 
 impl<'t> Outer<'t> {
     // Adds a constant.
-    fn add_constant(
-        &mut self,
-        name: &'t [u8],
-        base: Base<'t>,
-        ordinal: i32,
-    ) -> Result<(), TableError>
-        ensures { OnOk result (Defines self.old self.new (with_value name.now (base_of base.entry, ordinal))) }
+    fn add_constant(&mut self, name: &'t [u8], value: Value<'t>) -> Result<(), TableError>
+        ensures { OnOk result (Defines self.old self.new (with_value name.now (value_of value.entry))) }
     {
-        add_name(&mut self.names.constants, name, Value { base, ordinal })
+        add_name(&mut self.names.constants, name, value)
     }
 
     // Adds the name of a type.
@@ -112,15 +141,10 @@ impl<'t> Outer<'t> {
     }
 
     // Adds a base type.
-    fn add_base(&mut self, name: &'t [u8], base: Base<'t>, low: i32, high: i32) -> Result<(), TableError>
-        ensures { OnOk result (Defines self.old self.new (with_type name.now (λ g. t.Simple (base_of base.entry) low high (pos 0)))) }
+    fn add_base(&mut self, name: &'t [u8], base: Simple<'t>) -> Result<(), TableError>
+        ensures { OnOk result (Defines self.old self.new (with_type name.now (λ g. simple_of base.entry))) }
     {
-        let of = self.types.add(TypeRow::Simple(Simple {
-            base,
-            low,
-            high,
-            start: 0,
-        }))?;
+        let of = self.types.add(TypeRow::Simple(base))?;
         self.add_type(name, of)
     }
 
@@ -134,11 +158,11 @@ impl<'t> Outer<'t> {
         };
         let queue = outer.types.add(TypeRow::Queue)?;
         outer.add_type(b"queue", queue)?;
-        outer.add_base(b"char", Base::Char, 0, 127)?;
-        outer.add_base(b"boolean", Base::Boolean, 0, 1)?;
-        outer.add_base(b"integer", Base::Integer, -32768, 32767)?;
-        outer.add_constant(b"true", Base::Boolean, 1)?;
-        outer.add_constant(b"false", Base::Boolean, 0)?;
+        outer.add_base(b"char", simple(Base::Char, 0, 127))?;
+        outer.add_base(b"boolean", simple(Base::Boolean, 0, 1))?;
+        outer.add_base(b"integer", simple(Base::Integer, -32768, 32767))?;
+        outer.add_constant(b"true", value(Base::Boolean, 1))?;
+        outer.add_constant(b"false", value(Base::Boolean, 0))?;
         Ok(outer)
     }
 
@@ -146,7 +170,7 @@ impl<'t> Outer<'t> {
         ensures { OnOk result (Defines self.old self.new (defining (erase.constant_definition d.now))) }
     {
         match self.names.value(&d.value) {
-            Some(value) => self.add_constant(d.name.name.as_bytes(), value.base, value.ordinal),
+            Some(value) => self.add_constant(d.name.name.as_bytes(), value),
             None => Ok(()),
         }
     }
@@ -165,7 +189,8 @@ impl<'t> Outer<'t> {
         let mut left = values.len();
         while left > 0 {
             left -= 1;
-            self.add_constant(values[left].name.as_bytes(), base, ordinal(left)?)?;
+            let value = numbered(base, left)?;
+            self.add_constant(values[left].name.as_bytes(), value)?;
         }
         Ok(())
     }
@@ -180,7 +205,7 @@ impl<'t> Outer<'t> {
         let last = values.len().saturating_sub(1);
         let name = x.name.as_bytes();
         let base = Base::Enumeration { name, last };
-        self.add_base(name, base, 0, ordinal(last)?)?;
+        self.add_base(name, enumeration(base, last)?)?;
         self.add_values(base, values)
     }
 

@@ -1,10 +1,9 @@
-use Rattle.std.proofs.Common.{◌≡◌, ◌++◌, ◌∷◌, ◌≤◌, ◌∙◌, ◌-◌, ◌+◌, ℕ, List, [], drop, get_or, map, length, ap, arith, refl, sym, subst, append_assoc}
+use Rattle.std.proofs.Common.{◌≡◌, ◌++◌, ◌∷◌, ◌≤◌, ◌∙◌, ◌-◌, ◌+◌, ℕ, List, [], drop, get_or, map, length, ap, arith, refl, sym, subst}
 use Rattle.cp_model.specs.declared.tree.TypeExpression.{TypeExpression}
 use Rattle.std.proofs.lemmas.List.{append-nil, at_drop_more, drop_all}
-use Rattle.cp_model.specs.Abstract.{Name}
-use Rattle.cp_model.specs.Types.{GlobalScope, NoMembers}
+use Rattle.cp_model.specs.Types.{NoMembers}
 use Rattle.cp_model.specs.declared.tree.Fields.{Fields}
-use Rattle.cp_scope.specs.Standing.{AreMembers, MakesIndexed, entries_of, entry, with_groups, written}
+use Rattle.cp_scope.specs.Standing.{AreMembers, MakesIndexed, entries_of, entry, with_group, with_groups, written}
 use Rattle.cp_scope.proofs.Standing.{grows_more, indexed_more, indexed_none, still_scope, still_stands}
 use Rattle.cp_scope.specs.declared.types.Field.{Field}
 use Rattle.cp_scope.proofs.Groups.{GroupsAdded, all_added, none_added, one_added}
@@ -28,7 +27,7 @@ group-returns t c =
     }
 
 pub fields-loop-group-init : goal.fields-loop-group-init
-fields-loop-group-init t c = ([], none_added c.args.names.now c.args.self.now (map entry c.args.fields.now.items) c.args.groups.now)
+fields-loop-group-init t c = ([], none_added with_groups c.args.names.now c.args.self.now (map entry c.args.fields.now.items) c.args.groups.now)
 
 pub fields-loop-group-preserved : goal.fields-loop-group-preserved
 fields-loop-group-preserved t c =
@@ -41,15 +40,17 @@ fields-loop-group-preserved t c =
     let now = map entry c.loop-group.fields.items in
     let step : drop i all ≡ f ∷ rest =
     at_drop_more (λ (fs : List Fields). fs) all i f c.loop-group-test.true ∙ ap (λ (h : Fields). h ∷ rest) (sym c.group-item.is) in
-    let some = subst (GroupsAdded names c.args.self.now c.loop-group.self before now c.loop-group.invariant.0 all) step c.loop-group.invariant.1 in
-    (_, one_added names c.args.self.now c.loop-group.self c.group.new.self before now (map entry c.group.new.fields.items)
-    c.loop-group.invariant.0 all rest f some c.in_ok-group.ensures)
+    let some = subst (GroupsAdded names c.args.self.now c.loop-group.self before now c.loop-group.invariant.0 all) step c.loop-group.invariant.1 in (
+      _,
+      one_added with_groups names c.args.self.now c.loop-group.self c.group.new.self before now (map entry c.group.new.fields.items)
+          c.loop-group.invariant.0 all rest f (with_group f) (λ g ms. refl) some c.in_ok-group.ensures,
+    )
 
 pub fields-returns : goal.fields-returns
 fields-returns t c =
     let all = c.args.groups.now in
-    all_added c.args.names.now c.args.self.now c.loop-group.self (map entry c.args.fields.now.items) (map entry c.loop-group.fields.items)
-    c.loop-group.invariant.0 all (drop c.loop-group.group-index all) (drop_all c.loop-group.group-index all c.loop-group-test.false) c.loop-group.invariant.1
+    all_added with_groups c.args.names.now c.args.self.now c.loop-group.self (map entry c.args.fields.now.items) (map entry c.loop-group.fields.items)
+    c.loop-group.invariant.0 all (drop c.loop-group.group-index all) (drop_all c.loop-group.group-index all c.loop-group-test.false) (λ g ms. refl) c.loop-group.invariant.1
 
 pub record-returns : goal.record-returns
 record-returns t c =
