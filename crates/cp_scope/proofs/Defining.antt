@@ -1,5 +1,5 @@
 -- A name that is added: what is found afterwards.
-use Rattle.std.proofs.Common.{◌≡◌, ◌++◌, ◌∷◌, ◌∙◌, Bool, true, false, ℕ, List, [], None, Some, ap, option_map, refl, subst, sym, if◌then◌else◌}
+use Rattle.std.proofs.Common.{◌≡◌, ◌++◌, ◌∷◌, ◌∙◌, Bool, true, false, ℕ, List, [], Option, None, Some, ap, option_map, refl, subst, sym, if◌then◌else◌}
 use Rattle.std.specs.Str.{bytes_eq}
 use Rattle.std.proofs.lemmas.Slice.Eq.{bytes_eq-Decides}
 use Rattle.cp_model.specs.Abstract.{Name}
@@ -10,7 +10,7 @@ use Rattle.cp_scope.specs.declared.names.Names.{Names}
 use Rattle.cp_scope.specs.declared.names.Value.{Value}
 use Rattle.cp_scope.specs.Outer.{with_type, with_value}
 use Rattle.cp_scope.specs.Standing.{ScopeStands, Stands, TypeMeans, value_of}
-use Rattle.cp_scope.specs.Tables.{InFront}
+use Rattle.cp_scope.specs.Tables.{InFront, or_last}
 
 -- A new name behind the others is found as in front of them.
 pub behind_as_in_front : {A : Type 0} (es : List (Name × A)) (x : Name) (v : A) → lookup x es ≡ None
@@ -29,6 +29,32 @@ behind_as_in_front {A} (e ∷ es) x v new y = go (bytes_eq x e.0) (bytes_eq y x)
     go false true false is_a is_b is_c more h = more h ∙ ap (λ b. if b then Some v else lookup y es) is_b
     go false false true is_a is_b is_c more h = refl
     go false false false is_a is_b is_c more h = more h ∙ ap (λ b. if b then Some v else lookup y es) is_b
+
+pub behind_others : {A : Type 0} (es : List (Name × A)) (x : Name) (v : A) (y : Name)
+    → lookup y (es ++ (x, v) ∷ []) ≡ or_last (lookup y es) (bytes_eq y x) v
+behind_others [] x v y = go (bytes_eq y x)
+  where
+    go : (b : Bool) → (if b then Some v else None) ≡ or_last None b v
+    go true = refl
+    go false = refl
+behind_others {A} (e ∷ es) x v y = go (bytes_eq y e.0) (behind_others es x v y)
+  where
+    go : (b : Bool) → lookup y (es ++ (x, v) ∷ []) ≡ or_last (lookup y es) (bytes_eq y x) v
+        → (if b then Some e.1 else lookup y (es ++ (x, v) ∷ [])) ≡ or_last (if b then Some e.1 else lookup y es) (bytes_eq y x) v
+    go true h = refl
+    go false h = h
+
+-- A name that is there already.
+pub behind_itself : {A : Type 0} (es : List (Name × A)) (x : Name) (v w : A) (y : Name) → lookup x es ≡ Some w
+    → lookup y es ≡ or_last (lookup y es) (bytes_eq y x) v
+behind_itself {A} es x v w y there = go (lookup y es) (bytes_eq y x) refl refl
+  where
+    go : (o : Option A) (b : Bool) → lookup y es ≡ o → bytes_eq y x ≡ b → o ≡ or_last o b v
+    go (Some a) b is same = refl
+    go None false is same = refl
+    go None true is same =
+        let found : lookup y es ≡ Some w = ap (λ z. lookup z es) ((bytes_eq-Decides y x).0 same) ∙ there in
+        absurd (let both : None ≡ Some w = sym is ∙ found in cc)
 
 -- ---- The scope with one more name
 

@@ -3,3 +3,4 @@ pub mod Unrefused
 pub mod Written
 pub mod Groups
 pub mod Defining
+pub mod Laying

@@ -1,3 +1,4 @@
 pub mod Tables
 pub mod Standing
 pub mod Outer
+pub mod Layouts

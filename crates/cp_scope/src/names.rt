@@ -1,7 +1,7 @@
 //! The names of constants and types in the outermost scope.
 
 ghost use Rattle.std.specs.Prelude.{◌≡◌, [], OnOk};
-ghost use Rattle.cp_scope.specs.Tables.{InFront};
+ghost use Rattle.cp_scope.specs.Tables.{Behind, InFront};
 
 use crate::error::TableError;
 use crate::types::Base;
@@ -47,5 +47,19 @@ pub fn add_name<'t, A: Copy>(
         return Err(TableError::Unaccepted);
     }
     table.add(name, value)?;
+    Ok(())
+}
+
+/// Adds a name behind the others, where it is found unless it is there already.
+pub fn add_first<'t, A: Copy>(
+    table: &mut NameTable<'t, A>,
+    name: &'t [u8],
+    value: A,
+) -> Result<(), TableError>
+    ensures { OnOk result (Behind name.now value table.old table.new) }
+{
+    if table.find(name).is_none() {
+        table.add(name, value)?;
+    }
     Ok(())
 }

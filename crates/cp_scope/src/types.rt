@@ -1,7 +1,7 @@
 //! Types, by their numbers: each has a row, which names the types of its parts by their numbers.
 
 ghost use Rattle.std.specs.Prelude.{◌≡◌, [], IfOk, option_map};
-ghost use Rattle.cp_scope.specs.Standing.{Adds, AddsSystem, row_at};
+ghost use Rattle.cp_scope.specs.Standing.{Adds, AddsSystem, row_at, system_at};
 
 use crate::error::TableError;
 use cp_model::tree::System;
@@ -78,6 +78,13 @@ impl<'t> Types<'t> {
         ensures { option_map (λ r. r.now) result ≡ row_at self.now number }
     {
         self.rows.get(number)
+    }
+
+    /// The system type of a number, if there is one.
+    pub fn system(&self, number: usize) -> Option<&'t System>
+        ensures { result ≡ system_at self.now number }
+    {
+        self.systems.get(number).copied()
     }
 
     /// Adds a type, and answers its number.
