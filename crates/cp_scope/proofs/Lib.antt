@@ -4,3 +4,5 @@ pub mod Written
 pub mod Groups
 pub mod Defining
 pub mod Laying
+pub mod Declaring
+pub mod LocalsLaid

@@ -2,3 +2,5 @@ pub mod Tables
 pub mod Standing
 pub mod Outer
 pub mod Layouts
+pub mod Variables
+pub mod Locals

@@ -145,13 +145,18 @@ fields_of groups g = members_of g (erase.fields (view.fields_of (map view.variab
 abbrev pub entries_of : List Identifier → ℕ → List (Name × ℕ)
 entries_of xs n = map (λ x. (x.name, n)) xs
 
--- Behind the fields that were there, those of these groups are added: in front of others, they stand for the members that the groups make.
-pub record MakesFields (names : Names) (old new : Types) (before after : List (Name × ℕ)) (make : GlobalScope → Members → Members) : Type 0 where
+-- Behind what was there, what a group makes is added: in front of others, it stands for what the group makes of them.
+pub record MakesList {E M : Type 0} (are : Types → List E → M → Type 0) (names : Names) (old new : Types) (before after : List E) (make : GlobalScope → M → M)
+    : Type 0 where
   pub grows : Grows old new
-  pub added : List (Name × ℕ)
+  pub added : List E
   pub all : after ≡ before ++ added
-  pub stands : (g : GlobalScope) (later : Types) (rest : List (Name × ℕ)) (ms : Members) → ScopeStands names old g → Grows new later
-      → AreMembers later rest ms → AreMembers later (added ++ rest) (make g ms)
+  pub stands : (g : GlobalScope) (later : Types) (rest : List E) (ms : M) → ScopeStands names old g → Grows new later
+      → are later rest ms → are later (added ++ rest) (make g ms)
+
+-- Of fields: the members.
+abbrev pub MakesFields : Names → Types → Types → List (Name × ℕ) → List (Name × ℕ) → (GlobalScope → Members → Members) → Type 0
+MakesFields = MakesList AreMembers
 
 abbrev pub with_group : Fields → GlobalScope → Members → Members
 with_group f g ms = with_members (map erase.name f.names.items) (written f.of g) ms

@@ -3,13 +3,17 @@
 
 mod error;
 mod layout;
+mod locals;
 mod names;
 mod outer;
 mod resolving;
 mod types;
+mod variables;
 
 pub use error::TableError;
 pub use layout::{Layout, Layouts, Part};
+pub use locals::{Local, Locals};
 pub use names::{Names, Value};
 pub use outer::Outer;
 pub use types::{Base, Field, Simple, TypeRow, Types};
+pub use variables::Declared;

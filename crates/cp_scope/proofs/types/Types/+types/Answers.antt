@@ -27,7 +27,7 @@ group-returns t c =
     }
 
 pub fields-loop-group-init : goal.fields-loop-group-init
-fields-loop-group-init t c = ([], none_added with_groups c.args.names.now c.args.self.now (map entry c.args.fields.now.items) c.args.groups.now)
+fields-loop-group-init t c = ([], none_added AreMembers with_groups c.args.names.now c.args.self.now (map entry c.args.fields.now.items) c.args.groups.now)
 
 pub fields-loop-group-preserved : goal.fields-loop-group-preserved
 fields-loop-group-preserved t c =
@@ -42,14 +42,14 @@ fields-loop-group-preserved t c =
     at_drop_more (λ (fs : List Fields). fs) all i f c.loop-group-test.true ∙ ap (λ (h : Fields). h ∷ rest) (sym c.group-item.is) in
     let some = subst (GroupsAdded names c.args.self.now c.loop-group.self before now c.loop-group.invariant.0 all) step c.loop-group.invariant.1 in (
       _,
-      one_added with_groups names c.args.self.now c.loop-group.self c.group.new.self before now (map entry c.group.new.fields.items)
+      one_added AreMembers with_groups names c.args.self.now c.loop-group.self c.group.new.self before now (map entry c.group.new.fields.items)
           c.loop-group.invariant.0 all rest f (with_group f) (λ g ms. refl) some c.in_ok-group.ensures,
     )
 
 pub fields-returns : goal.fields-returns
 fields-returns t c =
     let all = c.args.groups.now in
-    all_added with_groups c.args.names.now c.args.self.now c.loop-group.self (map entry c.args.fields.now.items) (map entry c.loop-group.fields.items)
+    all_added AreMembers with_groups c.args.names.now c.args.self.now c.loop-group.self (map entry c.args.fields.now.items) (map entry c.loop-group.fields.items)
     c.loop-group.invariant.0 all (drop c.loop-group.group-index all) (drop_all c.loop-group.group-index all c.loop-group-test.false) (λ g ms. refl) c.loop-group.invariant.1
 
 pub record-returns : goal.record-returns

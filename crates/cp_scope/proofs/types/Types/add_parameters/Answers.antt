@@ -5,7 +5,7 @@ use Rattle.cp_model.specs.Declarations.{Variable, declared_group, is_component, 
 use Rattle.cp_model.specs.Erase as erase
 use Rattle.cp_model.specs.Types.{Members, ResolvedType, with_members}
 use Rattle.cp_model.specs.declared.tree.Parameters.{Parameters}
-use Rattle.cp_scope.specs.Standing.{entry, named, with_parameter, with_parameters}
+use Rattle.cp_scope.specs.Standing.{AreMembers, entry, named, with_parameter, with_parameters}
 use Rattle.cp_scope.proofs.Groups.{ParametersAdded, all_added, none_added, one_added}
 use Rattle.cp_scope.proofs.types.Types.add_parameters.Goals as goal
 
@@ -22,7 +22,7 @@ group_first r false t is (x ∷ xs) vs ms = rw is (rw (group_first r false t is 
 
 pub loop-group-init : goal.loop-group-init
 loop-group-init c =
-    ([], none_added with_parameters c.args.names.now c.args.self.now (map entry c.args.members.now.items) c.args.groups.now)
+    ([], none_added AreMembers with_parameters c.args.names.now c.args.self.now (map entry c.args.members.now.items) c.args.groups.now)
 
 pub loop-group-preserved : goal.loop-group-preserved
 loop-group-preserved c =
@@ -37,7 +37,7 @@ loop-group-preserved c =
     at_drop_more (λ (ps : List Parameters). ps) all i p c.loop-group-test.true ∙ ap (λ (q : Parameters). q ∷ rest) (sym c.group-item.is) in
     let some = subst (ParametersAdded names c.args.self.now c.loop-group.self before now c.loop-group.invariant.0 all) step c.loop-group.invariant.1 in (
       _,
-      one_added with_parameters names c.args.self.now c.loop-group.self c.add_parameter.new.self before now (map entry c.add_parameter.new.members.items)
+      one_added AreMembers with_parameters names c.args.self.now c.loop-group.self c.add_parameter.new.self before now (map entry c.add_parameter.new.members.items)
           c.loop-group.invariant.0 all rest p (with_parameter p)
           (λ g ms. group_first _ (is_component (named p.of.name g)) (named p.of.name g) refl (map erase.name p.names.items) _ ms)
           some c.in_ok-add_parameter.ensures,
@@ -46,6 +46,6 @@ loop-group-preserved c =
 pub returns : goal.returns
 returns c =
     let all = c.args.groups.now in
-    all_added with_parameters c.args.names.now c.args.self.now c.loop-group.self (map entry c.args.members.now.items) (map entry c.loop-group.members.items)
+    all_added AreMembers with_parameters c.args.names.now c.args.self.now c.loop-group.self (map entry c.args.members.now.items) (map entry c.loop-group.members.items)
     c.loop-group.invariant.0 all (drop c.loop-group.group-index all) (drop_all c.loop-group.group-index all c.loop-group-test.false) (λ g ms. refl)
     c.loop-group.invariant.1

@@ -1,0 +1,31 @@
+-- Declared names, one after another.
+use Rattle.std.proofs.Common.{◌≡◌, ◌++◌, ◌∷◌, Bool, false, ℕ, List, [], ap, map, refl, sym}
+use Rattle.cp_model.specs.Abstract.{Name}
+use Rattle.cp_model.specs.Declarations.{Variable, declared_group}
+use Rattle.cp_model.specs.Erase as erase
+use Rattle.cp_model.specs.Types.{GlobalScope, ResolvedType}
+use Rattle.cp_model.specs.declared.tree.Fields.{Fields}
+use Rattle.cp_model.specs.declared.tree.Identifier.{Identifier}
+use Rattle.cp_model.specs.declared.tree.Parameters.{Parameters}
+use Rattle.cp_scope.specs.declared.types.Types.{Types}
+use Rattle.cp_scope.specs.Variables.{AreDeclared, Entry, declared_entries, parameters_of, variables_of, with_declared_groups, with_declared_parameters}
+use Rattle.cp_scope.specs.Standing.{Stands, written}
+use Rattle.cp_scope.proofs.Written.{view_fields}
+
+pub each_declared : (types : Types) (xs : List Identifier) (r : Bool) (n : ℕ) (t : ResolvedType) (rest : List Entry) (vs : List (Name × Variable)) → Stands types n t
+    → AreDeclared types rest vs → AreDeclared types (declared_entries xs r n ++ rest) (declared_group r t (map erase.name xs) vs)
+each_declared types [] r n t rest vs s d = d
+each_declared types (x ∷ xs) r n t rest vs s d = (refl, refl, s, each_declared types xs r n t rest vs s d)
+
+group_behind : (r : Bool) (t : ResolvedType) (xs : List Name) (us vs : List (Name × Variable)) → declared_group r t xs us ++ vs ≡ declared_group r t xs (us ++ vs)
+group_behind r t [] us vs = refl
+group_behind r t (x ∷ xs) us vs = ap (λ ws. (x, record { by_reference = r; type = t }) ∷ ws) (group_behind r t xs us vs)
+
+pub parameters_declared : (g : GlobalScope) (ps : List Parameters) (vs : List (Name × Variable)) → with_declared_parameters ps g vs ≡ parameters_of g ps ++ vs
+parameters_declared g [] vs = refl
+parameters_declared g (p ∷ ps) vs = rw (parameters_declared g ps vs) (sym (group_behind _ _ _ (parameters_of g ps) vs))
+
+pub variables_declared : (g : GlobalScope) (fs : List Fields) (vs : List (Name × Variable)) → with_declared_groups fs g vs ≡ variables_of g fs ++ vs
+variables_declared g [] vs = refl
+variables_declared g (f ∷ fs) vs =
+    rw (variables_declared g fs vs, view_fields f) (sym (group_behind false (written f.of g) (map erase.name f.names.items) (variables_of g fs) vs))
