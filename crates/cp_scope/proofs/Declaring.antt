@@ -1,15 +1,17 @@
 -- Declared names, one after another.
-use Rattle.std.proofs.Common.{◌≡◌, ◌++◌, ◌∷◌, Bool, false, ℕ, List, [], ap, map, refl, sym}
+use Rattle.std.proofs.Common.{◌≡◌, ◌++◌, ◌∷◌, Bool, false, ℕ, List, [], Option, None, Some, ap, map, refl, sym}
 use Rattle.cp_model.specs.Abstract.{Name}
 use Rattle.cp_model.specs.Declarations.{Variable, declared_group}
 use Rattle.cp_model.specs.Erase as erase
-use Rattle.cp_model.specs.Types.{GlobalScope, ResolvedType}
+use Rattle.cp_model.specs.Types.{GlobalScope, ResolvedType, named_type}
 use Rattle.cp_model.specs.declared.tree.Fields.{Fields}
 use Rattle.cp_model.specs.declared.tree.Identifier.{Identifier}
 use Rattle.cp_model.specs.declared.tree.Parameters.{Parameters}
 use Rattle.cp_scope.specs.declared.types.Types.{Types}
 use Rattle.cp_scope.specs.Variables.{AreDeclared, Entry, declared_entries, parameters_of, variables_of, with_declared_groups, with_declared_parameters}
-use Rattle.cp_scope.specs.Standing.{Stands, written}
+use Rattle.cp_scope.specs.Routines.{ResultIs}
+use Rattle.cp_scope.specs.Standing.{Grows, Stands, written}
+use Rattle.cp_scope.proofs.Standing.{still_stands}
 use Rattle.cp_scope.proofs.Written.{view_fields}
 
 pub each_declared : (types : Types) (xs : List Identifier) (r : Bool) (n : ℕ) (t : ResolvedType) (rest : List Entry) (vs : List (Name × Variable)) → Stands types n t
@@ -29,3 +31,9 @@ pub variables_declared : (g : GlobalScope) (fs : List Fields) (vs : List (Name �
 variables_declared g [] vs = refl
 variables_declared g (f ∷ fs) vs =
     rw (variables_declared g fs vs, view_fields f) (sym (group_behind false (written f.of g) (map erase.name f.names.items) (variables_of g fs) vs))
+
+pub result_still : (g : GlobalScope) (old new : Types) → Grows old new → (r : Option ℕ) (x : Option Name) → ResultIs g old r x → ResultIs g new r x
+result_still g old new grows None None h = tt
+result_still g old new grows (Some n) (Some x) h = still_stands old new grows n (named_type g x) h
+result_still g old new grows None (Some x) h = absurd h
+result_still g old new grows (Some n) None h = absurd h

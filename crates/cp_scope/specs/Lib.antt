@@ -4,3 +4,4 @@ pub mod Outer
 pub mod Layouts
 pub mod Variables
 pub mod Locals
+pub mod Routines

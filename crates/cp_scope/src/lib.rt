@@ -7,6 +7,7 @@ mod locals;
 mod names;
 mod outer;
 mod resolving;
+mod routines;
 mod types;
 mod variables;
 
@@ -15,5 +16,6 @@ pub use layout::{Layout, Layouts, Part};
 pub use locals::{Local, Locals};
 pub use names::{Names, Value};
 pub use outer::Outer;
+pub use routines::RoutineTable;
 pub use types::{Base, Field, Simple, TypeRow, Types};
 pub use variables::Declared;
