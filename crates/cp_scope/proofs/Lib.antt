@@ -6,3 +6,5 @@ pub mod Defining
 pub mod Laying
 pub mod Declaring
 pub mod LocalsLaid
+pub mod Members
+pub mod Picking

@@ -5,3 +5,4 @@ pub mod Layouts
 pub mod Variables
 pub mod Locals
 pub mod Routines
+pub mod Components

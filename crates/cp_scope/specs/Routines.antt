@@ -1,5 +1,5 @@
 -- When a table tells what is known of a routine.
-use Rattle.std.specs.Prelude.{◌≡◌, ℕ, List, Option, None, Some, map}
+use Rattle.std.specs.Prelude.{ℕ, List, Option, None, Some, map}
 use Rattle.cp_model.specs.Abstract.{Name, Routine}
 use Rattle.cp_model.specs.Declarations.{declarations}
 use Rattle.cp_model.specs.Erase as erase

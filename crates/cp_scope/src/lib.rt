@@ -1,6 +1,7 @@
 //! Tables
 #![tactic(auto)]
 
+mod components;
 mod error;
 mod layout;
 mod locals;
@@ -11,6 +12,7 @@ mod routines;
 mod types;
 mod variables;
 
+pub use components::Right;
 pub use error::TableError;
 pub use layout::{Layout, Layouts, Part};
 pub use locals::{Local, Locals};

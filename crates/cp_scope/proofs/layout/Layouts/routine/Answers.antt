@@ -1,9 +1,8 @@
-use Rattle.std.proofs.Common.{◌≡◌, ◌++◌, ◌∙◌, List, [], ap, map, refl, subst, sym}
+use Rattle.std.proofs.Common.{◌≡◌, ◌++◌, ◌∙◌, List, [], ap, map, subst, sym}
 use Rattle.std.proofs.lemmas.List.{append-nil}
 use Rattle.cp_scope.specs.declared.variables.Declared.{Declared}
 use Rattle.cp_model.specs.Erase as erase
-use Rattle.cp_scope.specs.Layouts.{Counts}
-use Rattle.cp_scope.specs.Variables.{AreDeclared, declared_entry, parameters_of, variables_of, with_declared_groups, with_declared_parameters}
+use Rattle.cp_scope.specs.Variables.{AreDeclared, declared_entry, parameters_of, variables_of, with_declared_groups}
 use Rattle.cp_typing.specs.Needs.{result_words}
 use Rattle.cp_scope.proofs.Declaring.{parameters_declared, result_still, variables_declared}
 use Rattle.cp_scope.proofs.Laying.{laid_later}
