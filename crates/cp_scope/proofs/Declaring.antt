@@ -1,5 +1,6 @@
 -- Declared names, one after another.
-use Rattle.std.proofs.Common.{◌≡◌, ◌++◌, ◌∷◌, Bool, false, ℕ, List, [], Option, None, Some, ap, map, refl, sym}
+use Rattle.std.proofs.Common.{◌≡◌, ◌∙◌, subst, ◌++◌, ◌∷◌, Bool, false, ℕ, List, [], Option, None, Some, ap, map, refl, sym}
+use Rattle.std.proofs.lemmas.List.{append-nil}
 use Rattle.cp_model.specs.Abstract.{Name}
 use Rattle.cp_model.specs.Declarations.{Variable, declared_group}
 use Rattle.cp_model.specs.Erase as erase
@@ -7,10 +8,11 @@ use Rattle.cp_model.specs.Types.{GlobalScope, ResolvedType, named_type}
 use Rattle.cp_model.specs.declared.tree.Fields.{Fields}
 use Rattle.cp_model.specs.declared.tree.Identifier.{Identifier}
 use Rattle.cp_model.specs.declared.tree.Parameters.{Parameters}
+use Rattle.cp_scope.specs.declared.names.Names.{Names}
 use Rattle.cp_scope.specs.declared.types.Types.{Types}
-use Rattle.cp_scope.specs.Variables.{AreDeclared, Entry, declared_entries, parameters_of, variables_of, with_declared_groups, with_declared_parameters}
+use Rattle.cp_scope.specs.Variables.{AreDeclared, Declares, Entry, declared_entries, parameters_of, variables_of, with_declared_groups, with_declared_parameters}
 use Rattle.cp_scope.specs.Routines.{ResultIs}
-use Rattle.cp_scope.specs.Standing.{Grows, Stands, written}
+use Rattle.cp_scope.specs.Standing.{Grows, ScopeStands, Stands, written}
 use Rattle.cp_scope.proofs.Standing.{still_stands}
 use Rattle.cp_scope.proofs.Written.{view_fields}
 
@@ -37,3 +39,19 @@ result_still g old new grows None None h = tt
 result_still g old new grows (Some n) (Some x) h = still_stands old new grows n (named_type g x) h
 result_still g old new grows None (Some x) h = absurd h
 result_still g old new grows (Some n) None h = absurd h
+
+-- ---- Lists that were begun
+
+pub parameters_listed : (names : Names) (a b later : Types) (before after : List Entry) (ps : List Parameters) (g : GlobalScope)
+    → Declares names a b before after (with_declared_parameters ps) → before ≡ [] → ScopeStands names a g → Grows b later
+    → AreDeclared later after (parameters_of g ps)
+parameters_listed names a b later before after ps g one none scope grows =
+    let own : after ≡ one.added ++ [] = one.all ∙ ap (λ ds. ds ++ one.added) none ∙ sym (append-nil one.added) in
+    subst (AreDeclared later after) (parameters_declared g ps [] ∙ append-nil (parameters_of g ps)) (rw own (one.stands g later [] [] scope grows tt))
+
+pub variables_listed : (names : Names) (a b later : Types) (before after : List Entry) (fs : List Fields) (g : GlobalScope)
+    → Declares names a b before after (with_declared_groups fs) → before ≡ [] → ScopeStands names a g → Grows b later
+    → AreDeclared later after (variables_of g fs)
+variables_listed names a b later before after fs g one none scope grows =
+    let own : after ≡ one.added ++ [] = one.all ∙ ap (λ ds. ds ++ one.added) none ∙ sym (append-nil one.added) in
+    subst (AreDeclared later after) (variables_declared g fs [] ∙ append-nil (variables_of g fs)) (rw own (one.stands g later [] [] scope grows tt))

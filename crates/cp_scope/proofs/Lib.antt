@@ -8,3 +8,4 @@ pub mod Declaring
 pub mod LocalsLaid
 pub mod Members
 pub mod Picking
+pub mod SystemsMade

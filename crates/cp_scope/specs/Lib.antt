@@ -6,3 +6,4 @@ pub mod Variables
 pub mod Locals
 pub mod Routines
 pub mod Components
+pub mod Systems

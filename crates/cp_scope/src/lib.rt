@@ -9,6 +9,7 @@ mod names;
 mod outer;
 mod resolving;
 mod routines;
+mod systems;
 mod types;
 mod variables;
 
@@ -19,5 +20,6 @@ pub use locals::{Local, Locals};
 pub use names::{Names, Value};
 pub use outer::Outer;
 pub use routines::RoutineTable;
+pub use systems::SystemTable;
 pub use types::{Base, Field, Simple, TypeRow, Types};
 pub use variables::Declared;

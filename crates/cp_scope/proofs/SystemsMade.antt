@@ -1,0 +1,57 @@
+-- What is built for one routine after another, and what stays of it.
+use Rattle.std.proofs.Common.{◌≡◌, ◌++◌, ◌∷◌, ℕ, List, [], Option, None, Some, append_assoc, subst, sym}
+use Rattle.std.proofs.lemmas.List.{append-nil}
+use Rattle.cp_model.specs.Declarations.{Variable}
+use Rattle.cp_model.specs.Types.{GlobalScope}
+use Rattle.cp_model.specs.declared.tree.Routine as tree
+use Rattle.cp_scope.specs.declared.components.Right.{Right}
+use Rattle.cp_scope.specs.declared.layout.Layout.{Layout}
+use Rattle.cp_scope.specs.declared.names.Names.{Names}
+use Rattle.cp_scope.specs.declared.routines.RoutineTable.{RoutineTable}
+use Rattle.cp_scope.specs.declared.types.Types.{Types}
+use Rattle.cp_scope.specs.Components.{RightIs}
+use Rattle.cp_scope.specs.Layouts.{AreLaid}
+use Rattle.cp_scope.specs.Routines.{Builds, MakesRoutine}
+use Rattle.cp_scope.specs.Standing.{Grows, ScopeStands}
+use Rattle.cp_scope.specs.Systems.{AreRoutines, MakesRoutines, routines_of}
+use Rattle.cp_scope.proofs.Standing.{grows_more, grows_not, still_scope, still_stands}
+
+pub builds_nothing : (names : Names) (types : Types) (ls : List Layout) → Builds names types types ls ls
+builds_nothing names types ls = record { grows = grows_not types; laid = λ g scope laid. laid }
+
+pub builds_more : (names : Names) (a b c : Types) (ls ms ns : List Layout) → Builds names a b ls ms → Builds names b c ms ns → Builds names a c ls ns
+builds_more names a b c ls ms ns one two = record {
+  grows = grows_more a b c one.grows two.grows;
+  laid = λ g scope laid. two.laid g (still_scope a b one.grows names g scope) (one.laid g scope laid);
+}
+
+-- In front of the tables of the routines that are left, those that were made are all.
+pub record PartlyMade (names : Names) (old new : Types) (before after : List Layout) (all left : List tree.Routine) (tables : List RoutineTable) : Type 0 where
+  pub builds : Builds names old new before after
+  pub stands : (g : GlobalScope) (later : Types) (rest : List RoutineTable) → ScopeStands names old g → AreLaid g old before → Grows new later
+      → AreRoutines g later rest (routines_of left) → AreRoutines g later (tables ++ rest) (routines_of all)
+
+pub one_made : (names : Names) (a b c : Types) (ls ms ns : List Layout) (all left : List tree.Routine) (text : tree.Routine) (tables : List RoutineTable) (table : RoutineTable)
+    → PartlyMade names a b ls ms all (text ∷ left) tables → MakesRoutine names b c ms ns text table → PartlyMade names a c ls ns all left (tables ++ table ∷ [])
+one_made names a b c ls ms ns all left text tables table some one = record {
+  builds = builds_more names a b c ls ms ns some.builds one.builds;
+  stands = λ g later rest scope laid grows r.
+      subst (λ ts. AreRoutines g later ts (routines_of all)) (sym (append_assoc tables (table ∷ []) rest))
+      (some.stands g later (table ∷ rest) scope laid (grows_more b c later one.builds.grows grows)
+      (one.stands g later (still_scope a b some.builds.grows names g scope) (some.builds.laid g scope laid) grows, r));
+}
+
+pub all_made : (names : Names) (a b : Types) (ls ms : List Layout) (all left : List tree.Routine) (tables : List RoutineTable) → left ≡ []
+    → PartlyMade names a b ls ms all left tables → MakesRoutines names a b ls ms all tables
+all_made names a b ls ms all left tables none some = record {
+  builds = some.builds;
+  stands = λ g later scope laid grows.
+      subst (λ ts. AreRoutines g later ts (routines_of all)) (append-nil tables)
+      (some.stands g later [] scope laid grows (subst (λ (rs : List tree.Routine). AreRoutines g later [] (routines_of rs)) (sym none) tt));
+}
+
+pub right_still : (old new : Types) → Grows old new → (r : Option Right) (q : Option (ℕ × Variable)) → RightIs old r q → RightIs new r q
+right_still old new grows None None h = tt
+right_still old new grows (Some r) (Some q) h = (h.0, still_stands old new grows r.of q.1.type h.1)
+right_still old new grows None (Some q) h = absurd h
+right_still old new grows (Some r) None h = absurd h
