@@ -155,7 +155,7 @@ module _ (g : GlobalScope) (types : Types) (n : ℕ) (l : Layout) where
 
 -- ---- One layout more
 
-last_or_before : {A : Type 0} (xs : List A) (d : A) (i : ℕ) (x : A) → slice_get (xs ++ d ∷ []) i ≡ Some x
+pub last_or_before : {A : Type 0} (xs : List A) (d : A) (i : ℕ) (x : A) → slice_get (xs ++ d ∷ []) i ≡ Some x
     → (slice_get xs i ≡ Some x) ⊎ ((i ≡ length xs) × (d ≡ x))
 last_or_before [] d zero x h = inr (refl, same_Some d x h)
 last_or_before [] d (suc i) x h = absurd (cc)
@@ -184,3 +184,10 @@ pub class_laid : (g : GlobalScope) (types : Types) (y : System) (l : Layout) (ms
 class_laid g types y l ms is lie =
     let class' = sort_is y sort.Class is in
     record { words = rw class' lie.words; parts = λ x. rw class' (subst (λ n. PartIs types (lookup x l.parts) (member_part g n ms x [])) (omega arith) (lie.parts x)) }
+
+pub nothing_laid : (g : GlobalScope) (types : Types) (ls : List Layout) → ls ≡ [] → AreLaid g types ls
+nothing_laid g types ls none later grows n l t there stands =
+    absurd (nothing n (subst (λ (xs : List Layout). slice_get xs n ≡ Some l) none there))
+  where
+    nothing : (i : ℕ) → slice_get {X = Layout} [] i ≡ Some l → ⊥
+    nothing i h = absurd (cc)

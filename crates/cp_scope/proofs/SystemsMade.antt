@@ -1,5 +1,5 @@
 -- What is built for one routine after another, and what stays of it.
-use Rattle.std.proofs.Common.{◌≡◌, ◌++◌, ◌∷◌, ℕ, List, [], Option, None, Some, append_assoc, subst, sym}
+use Rattle.std.proofs.Common.{◌≡◌, ◌++◌, ◌∷◌, ◌∙◌, ⊎_elim, Bor, ℕ, List, [], Option, None, Some, ap, append_assoc, length, slice_get, subst, sym}
 use Rattle.std.proofs.lemmas.List.{append-nil}
 use Rattle.cp_model.specs.Declarations.{Variable}
 use Rattle.cp_model.specs.Types.{GlobalScope}
@@ -14,6 +14,13 @@ use Rattle.cp_scope.specs.Layouts.{AreLaid}
 use Rattle.cp_scope.specs.Routines.{Builds, MakesRoutine}
 use Rattle.cp_scope.specs.Standing.{Grows, ScopeStands}
 use Rattle.cp_scope.specs.Systems.{AreRoutines, MakesRoutines, routines_of}
+use Rattle.std.proofs.lemmas.Option.{same_Some}
+use Rattle.cp_model.specs.declared.tree.System.{System}
+use Rattle.cp_scope.specs.declared.systems.SystemTable.{SystemTable}
+use Rattle.cp_scope.specs.Systems.{SystemStands}
+use Rattle.cp_scope.specs.Standing.{system_at}
+use Rattle.cp_scope.specs.Texts.{AreSystems}
+use Rattle.cp_scope.proofs.Laying.{last_or_before}
 use Rattle.cp_scope.proofs.Standing.{grows_more, grows_not, still_scope, still_stands}
 
 pub builds_nothing : (names : Names) (types : Types) (ls : List Layout) → Builds names types types ls ls
@@ -55,3 +62,30 @@ right_still old new grows None None h = tt
 right_still old new grows (Some r) (Some q) h = (h.0, still_stands old new grows r.of q.1.type h.1)
 right_still old new grows None (Some q) h = absurd h
 right_still old new grows (Some r) None h = absurd h
+
+-- ---- System types
+
+pub no_systems : (g : GlobalScope) (types : Types) (tables : List SystemTable) → tables ≡ [] → AreSystems g types tables
+no_systems g types tables none k y table at there =
+    absurd (nothing k (subst (λ (ts : List SystemTable). slice_get ts k ≡ Some table) none there))
+  where
+    nothing : (i : ℕ) → slice_get {X = SystemTable} [] i ≡ Some table → ⊥
+    nothing i h = absurd (cc)
+
+-- One table more.
+pub one_system : (g : GlobalScope) (types : Types) (tables : List SystemTable) (table : SystemTable) (y : Bor System) → system_at types (length tables) ≡ Some y
+    → SystemStands g types table y.now.parameters.items y.now.variables.items y.now.routines.items → AreSystems g types tables
+    → AreSystems g types (tables ++ table ∷ [])
+one_system g types tables table y at stands all k z other here there =
+    ⊎_elim
+    (λ before. all k z other here before)
+    (λ last.
+    let same : y ≡ z = same_Some y z (sym at ∙ ap (system_at types) (sym last.0) ∙ here) in
+    subst (λ (w : Bor System). SystemStands g types other w.now.parameters.items w.now.variables.items w.now.routines.items) same
+    (subst (λ (t : SystemTable). SystemStands g types t y.now.parameters.items y.now.variables.items y.now.routines.items) last.1 stands))
+    (last_or_before tables table k other there)
+
+-- The tables of the system types before one.
+pub record SystemsSoFar (names : Names) (old new : Types) (before after : List Layout) (tables : List SystemTable) : Type 0 where
+  pub builds : Builds names old new before after
+  pub stands : (g : GlobalScope) (later : Types) → ScopeStands names old g → AreLaid g old before → Grows new later → AreSystems g later tables

@@ -7,3 +7,4 @@ pub mod Locals
 pub mod Routines
 pub mod Components
 pub mod Systems
+pub mod Texts

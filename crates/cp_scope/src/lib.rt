@@ -10,6 +10,7 @@ mod outer;
 mod resolving;
 mod routines;
 mod systems;
+mod tables;
 mod types;
 mod variables;
 
@@ -21,5 +22,6 @@ pub use names::{Names, Value};
 pub use outer::Outer;
 pub use routines::RoutineTable;
 pub use systems::SystemTable;
+pub use tables::Tables;
 pub use types::{Base, Field, Simple, TypeRow, Types};
 pub use variables::Declared;
