@@ -9,3 +9,4 @@ pub mod LocalsLaid
 pub mod Members
 pub mod Picking
 pub mod SystemsMade
+pub mod Counting

@@ -8,3 +8,4 @@ pub mod Routines
 pub mod Components
 pub mod Systems
 pub mod Texts
+pub mod Numbering
