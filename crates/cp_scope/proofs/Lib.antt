@@ -10,3 +10,4 @@ pub mod Members
 pub mod Picking
 pub mod SystemsMade
 pub mod Counting
+pub mod ComponentsFound

@@ -12,6 +12,9 @@ use Rattle.cp_scope.specs.declared.types.Types.{Types}
 use Rattle.cp_scope.specs.Components.{RightIs}
 use Rattle.cp_scope.specs.Layouts.{AreLaid}
 use Rattle.cp_scope.specs.Routines.{Builds, MakesRoutine}
+use Rattle.cp_model.specs.Abstract.{Name}
+use Rattle.cp_scope.specs.declared.numbering.Numbered.{Numbered}
+use Rattle.cp_scope.specs.Numbering.{NumberedIs}
 use Rattle.cp_scope.specs.Standing.{Grows, ScopeStands}
 use Rattle.cp_scope.specs.Systems.{AreRoutines, MakesRoutines, routines_of}
 use Rattle.std.proofs.lemmas.Option.{same_Some}
@@ -89,3 +92,10 @@ one_system g types tables table y at stands all k z other here there =
 pub record SystemsSoFar (names : Names) (old new : Types) (before after : List Layout) (tables : List SystemTable) : Type 0 where
   pub builds : Builds names old new before after
   pub stands : (g : GlobalScope) (later : Types) → ScopeStands names old g → AreLaid g old before → Grows new later → AreSystems g later tables
+
+pub numbered_still : (old new : Types) (vs : List (Name × Variable)) (x : Name) → Grows old new → (n : Option Numbered) (v : Option Variable)
+    → NumberedIs old vs x n v → NumberedIs new vs x n v
+numbered_still old new vs x grows None None h = tt
+numbered_still old new vs x grows (Some n) (Some v) h = record { type = still_stands old new grows n.of v.type h.type; monitors = h.monitors; processes = h.processes }
+numbered_still old new vs x grows None (Some v) h = absurd h
+numbered_still old new vs x grows (Some n) None h = absurd h

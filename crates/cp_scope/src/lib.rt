@@ -23,7 +23,7 @@ pub use names::{Names, Value};
 pub use numbering::Numbered;
 pub use outer::Outer;
 pub use routines::RoutineTable;
-pub use systems::SystemTable;
+pub use systems::{Component, SystemTable};
 pub use tables::Tables;
 pub use types::{Base, Field, Simple, TypeRow, Types};
 pub use variables::Declared;

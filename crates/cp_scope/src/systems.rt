@@ -1,12 +1,13 @@
 //! What is known of a system type: its parameters and variables, its routines, and where the members and rights of its components lie.
 
-ghost use Rattle.std.specs.Prelude.{IfOk};
-ghost use Rattle.cp_scope.specs.Systems.{MakesRoutines, MakesSystem};
+ghost use Rattle.std.specs.Prelude.{◌≡◌, IfOk};
+ghost use Rattle.cp_scope.specs.Systems.{ComponentFound, MakesRoutines, MakesSystem, component_of_name};
 
 use crate::components::Right;
 use crate::error::TableError;
 use crate::layout::{Layout, Layouts};
 use crate::names::Names;
+use crate::numbering::Numbered;
 use crate::routines::RoutineTable;
 use crate::types::Types;
 use crate::variables::Declared;
@@ -15,13 +16,15 @@ use cp_names::NameTable;
 use std::alloc::Global;
 
 /// A system type: its parameters, variables and routines in text order, and where the members and the rights of its components lie.
-/// The words of a component are those of `members`.
+/// The words of a component are those of `members`. Its parameters and its variables are also found by their names.
 #[derive(Drop)]
 pub struct SystemTable<'t> {
     pub parameters: Vec<Declared<'t>>,
     pub variables: Vec<Declared<'t>>,
     pub members: Layout<'t>,
     pub rights: NameTable<'t, Right>,
+    pub parameter_names: NameTable<'t, Numbered>,
+    pub variable_names: NameTable<'t, Numbered>,
     pub routines: Vec<RoutineTable<'t>>,
 }
 
@@ -61,13 +64,53 @@ impl<'t> Layouts<'t> {
         let members = self.own_members(names, types, parameters, variables)?;
         let components = types.components(&own_parameters)?;
         let rights = types.rights_to(&components)?;
+        let parameter_names = types.numbered(&own_parameters)?;
+        let variable_names = types.numbered(&own_variables)?;
         let routines = self.routines(names, types, routines)?;
         Ok(SystemTable {
             parameters: own_parameters,
             variables: own_variables,
             members,
             rights,
+            parameter_names,
+            variable_names,
             routines,
         })
+    }
+}
+
+/// A component that a parameter or variable names: the number of its system type, whether it is a parameter, and how many monitors and
+/// processes are declared before it.
+#[derive(Clone, Copy)]
+pub struct Component {
+    pub system: usize,
+    pub is_parameter: bool,
+    pub monitors: usize,
+    pub processes: usize,
+}
+
+// What a parameter or variable names, if it is a component.
+fn as_component(types: &Types, is_parameter: bool, named: Option<Numbered>) -> Option<Component>
+    ensures { result ≡ component_of_name types.now is_parameter named }
+{
+    let named = named?;
+    let system = types.system_of(named.of)?;
+    Some(Component {
+        system,
+        is_parameter,
+        monitors: named.monitors,
+        processes: named.processes,
+    })
+}
+
+impl<'t> SystemTable<'t> {
+    /// The component that a name means in a component of this system type.
+    pub fn component(&self, types: &Types<'t>, name: &[u8]) -> Option<Component>
+        ensures { ComponentFound types.now self.now name.now result }
+    {
+        match as_component(types, true, self.parameter_names.find(name)) {
+            Some(c) => Some(c),
+            None => as_component(types, false, self.variable_names.find(name)),
+        }
     }
 }

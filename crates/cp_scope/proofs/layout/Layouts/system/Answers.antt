@@ -4,12 +4,12 @@ use Rattle.cp_scope.specs.declared.types.Types.{Types}
 use Rattle.cp_scope.specs.Routines.{Builds}
 use Rattle.cp_scope.specs.Standing.{Grows}
 use Rattle.cp_scope.specs.declared.variables.Declared.{Declared}
-use Rattle.cp_scope.specs.Variables.{declared_entry, parameters_of}
+use Rattle.cp_scope.specs.Variables.{declared_entry, parameters_of, variables_of}
 use Rattle.cp_scope.proofs.Declaring.{parameters_listed, variables_listed}
 use Rattle.cp_scope.proofs.Laying.{laid_later}
 use Rattle.cp_scope.proofs.Picking.{own}
 use Rattle.cp_scope.proofs.Standing.{grows_more, still_scope}
-use Rattle.cp_scope.proofs.SystemsMade.{builds_more, right_still}
+use Rattle.cp_scope.proofs.SystemsMade.{builds_more, numbered_still, right_still}
 use Rattle.cp_scope.proofs.layout.Layouts.system.Goals as goal
 
 abbrev listed : List Declared → List (Name × (Bool × ℕ))
@@ -51,14 +51,22 @@ returns c =
           parameters_listed names t0 t1 last _ (listed c.declare_parameters.new.list.items) ps g one (ap listed c.new-own_parameters.ensures.items) scope more in
           let picked = (rw c.deref.ensures.value at c.in_ok-components.ensures) (parameters_of g ps)
           (parameters t3 (grows_more t1 t2 t3 two.grows three.builds.grows)) in
+          let variables = λ (last : Types) (more : Grows t2 last).
+          variables_listed names t1 t2 last _ (listed c.declare_variables.new.list.items) vs g two (ap listed c.new-own_variables.ensures.items) scope_1 more in
+          let own_parameters = parameters t3 (grows_more t1 t2 t3 two.grows three.builds.grows) in
+          let to_later = grows_more t3 t4 later four.builds.grows grows in
           let rights = (rw c.deref-2.ensures.value at c.in_ok-rights.ensures) (own (parameters_of g ps)) picked in
           record {
             parameters = parameters later (grows_more t1 t4 later from_1 grows);
-            variables =
-                variables_listed names t1 t2 later _ (listed c.declare_variables.new.list.items) vs g two (ap listed c.new-own_variables.ensures.items) scope_1
-                (grows_more t2 t4 later from_2 grows);
+            variables = variables later (grows_more t2 t4 later from_2 grows);
             members = three.lies g later scope_2 (laid_later g t0 t2 ls to_2 laid) (grows_more t3 t4 later four.builds.grows grows);
             rights = λ x. right_still t3 later (grows_more t3 t4 later four.builds.grows grows) _ _ (rights x);
+            parameter_names = λ x.
+                numbered_still t3 later (parameters_of g ps) x to_later _ _
+                ((rw c.deref-3.ensures.value at c.in_ok-parameter_names.ensures) (parameters_of g ps) own_parameters x);
+            variable_names = λ x.
+                numbered_still t3 later (variables_of g vs) x to_later _ _
+                ((rw c.deref-4.ensures.value at c.in_ok-variable_names.ensures) (variables_of g vs) (variables t3 three.builds.grows) x);
             routines = four.stands g later scope_3 (builds_3.laid g scope laid) grows;
           };
     }
