@@ -1,11 +1,13 @@
 //! How many words a variable of each type takes, and where the members of records and classes lie.
 
-ghost use Rattle.std.specs.Prelude.{◌≡◌, ◌≤◌, ◌+◌, ◌*◌, [], ℕ, IfOk, OnOk, length, map, option_map, slice_get};
+ghost use Rattle.std.specs.Prelude.{◌≡◌, ◌∷◌, ◌≤◌, ◌+◌, ◌*◌, [], ℕ, IfOk, OnOk, length, map, option_map, slice_get};
 ghost use Rattle.cp_model.specs.Integers.{count_between};
 ghost use Rattle.cp_model.specs.Declarations.{is_component};
 ghost use Rattle.cp_model.specs.Types.{GlobalScope, ResolvedType};
 ghost use Rattle.cp_typing.specs.Words.{words};
-ghost use Rattle.cp_scope.specs.Layouts.{AreLaid, Counts, LaysComponent, LaysOut, LaysRow, rights_among, rights_of};
+ghost use Rattle.cp_code.specs.Layout as code;
+ghost use Rattle.cp_model.specs.Locations.{ByName};
+ghost use Rattle.cp_scope.specs.Layouts.{AreLaid, Counts, LaysComponent, LaysOut, LaysRow, PartIs, rights_among, rights_of};
 ghost use Rattle.cp_scope.specs.Standing.{ScopeStands, Stands, entry, named};
 
 use crate::error::TableError;
@@ -127,6 +129,17 @@ impl<'t> Layouts<'t> {
         ensures { (g : GlobalScope) (types : Types) (t : ResolvedType) → AreLaid g types self.now.rows.items → Stands types number t → Counts result (words g t) }
     {
         self.layout(number)?.words
+    }
+
+    /// Where a member of a record or of a class lies in a variable of the type, if it has one of the name. A type without a layout is
+    /// refused.
+    pub fn part(&self, number: usize, name: &[u8]) -> Result<Option<Part>, TableError>
+        ensures { IfOk result (λ p. (g : GlobalScope) (types : Types) (t : ResolvedType) → AreLaid g types self.now.rows.items → Stands types number t → PartIs types p (code.part g t (ByName name.now ∷ []))) }
+    {
+        match self.layout(number) {
+            Some(layout) => Ok(layout.parts.find(name)),
+            None => Err(TableError::Unaccepted),
+        }
     }
 
     fn bare(&self, words: Option<u32>) -> Layout<'t>
