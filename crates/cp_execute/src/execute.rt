@@ -43,7 +43,8 @@ fn read_refusal(error: ReadError) -> Refusal
 // The tree of the text that a reader has, where that is accepted.
 fn accepted<R: Read>(alloc: Global, text: &mut R) -> Result<Tree, Refusal>
     ensures accepted { IfOk result (λ t. Accepted (view.tree t)) }
-    ensures text { IfOk result (λ t. IfSome (R.remaining text.old) (λ xs. IsAccepted xs (view.tree t))) }
+    ensures text { IfOk result
+        (λ t. IfSome (R.remaining text.old) (λ xs. IsAccepted xs (view.tree t))) }
     ensures refused { IfErr result (λ e. IfSome (R.remaining text.old) (λ xs. RefusesText xs e)) }
     ensures reads { IfErr result (λ e. e ≡ refusal.Write → ⊥) }
 {
@@ -73,7 +74,9 @@ fn input_of<S: Read>(alloc: Global, input: &mut S) -> Result<Vec<u8>, Refusal>
 
 fn finish<W: Write>(out: &mut W, bytes: &[u8]) -> Result<(), Refusal>
     ensures whole { OnOk result (Appends (W.contents out.old) (W.contents out.new) bytes.now) }
-    ensures beginning { OnErr result ((n : ℕ) × (n ≤ length bytes.now) × Appends (W.contents out.old) (W.contents out.new) (take n bytes.now)) }
+    ensures beginning { OnErr result
+        ((n : ℕ) × (n ≤ length bytes.now)
+        × Appends (W.contents out.old) (W.contents out.new) (take n bytes.now)) }
     ensures write { IfErr result (λ e. e ≡ refusal.Write) }
 {
     match write_all(out, bytes) {
@@ -93,10 +96,15 @@ pub fn check_text<R: Read, W: Write>(
     text: &mut R,
     out: &mut W,
 ) -> Result<(), Refusal>
-    ensures accepts { OnOk result (Accepts (R.remaining text.old) (W.contents out.old) (W.contents out.new)) }
-    ensures unwritten { IfErr result (λ e. (e ≡ refusal.Write → ⊥) → Keeps (W.contents out.old) (W.contents out.new)) }
-    ensures refused { IfErr result (λ e. (e ≡ refusal.Write → ⊥) → IfSome (R.remaining text.old) (λ xs. RefusesText xs e)) }
-    ensures beginning { IfErr result (λ e. e ≡ refusal.Write → BeginsAcceptance (R.remaining text.old) (W.contents out.old) (W.contents out.new)) }
+    ensures accepts { OnOk result
+        (Accepts (R.remaining text.old) (W.contents out.old) (W.contents out.new)) }
+    ensures unwritten { IfErr result
+        (λ e. (e ≡ refusal.Write → ⊥) → Keeps (W.contents out.old) (W.contents out.new)) }
+    ensures refused { IfErr result
+        (λ e. (e ≡ refusal.Write → ⊥) → IfSome (R.remaining text.old) (λ xs. RefusesText xs e)) }
+    ensures beginning { IfErr result
+        (λ e. e ≡ refusal.Write
+        → BeginsAcceptance (R.remaining text.old) (W.contents out.old) (W.contents out.new)) }
     ensures faults { IfErr result (IsFaultOfAccepted (R.remaining text.old)) }
 {
     accepted(alloc, text)?;
@@ -118,11 +126,20 @@ pub fn run_text<H: Threads + Wait + Sync, R: Read, S: Read, W: Write, G: TurnGat
     gate: &G,
     out: &mut W,
 ) -> Result<(), Refusal>
-    ensures reports { OnOk result (Reports run.now (R.remaining text.old) (S.remaining input.old) (W.contents out.old) (W.contents out.new)) }
-    ensures unwritten { IfErr result (λ e. (e ≡ refusal.Write → ⊥) → Keeps (W.contents out.old) (W.contents out.new)) }
-    ensures refused { IfErr result (λ e. (e ≡ refusal.Write → ⊥) → (xs ys : List ℕ) → R.remaining text.old ≡ Some xs → S.remaining input.old ≡ Some ys → RefusesRun xs ys e) }
-    ensures beginning { IfErr result (λ e. e ≡ refusal.Write → BeginsReport run.now (R.remaining text.old) (S.remaining input.old) (W.contents out.old) (W.contents out.new)) }
-    ensures faults { IfErr result (IsFaultOrOfInput (R.remaining text.old) (S.remaining input.old)) }
+    ensures reports { OnOk result
+        (Reports run.now (R.remaining text.old) (S.remaining input.old) (W.contents out.old)
+        (W.contents out.new)) }
+    ensures unwritten { IfErr result
+        (λ e. (e ≡ refusal.Write → ⊥) → Keeps (W.contents out.old) (W.contents out.new)) }
+    ensures refused { IfErr result
+        (λ e. (e ≡ refusal.Write → ⊥) → (xs ys : List ℕ) → R.remaining text.old ≡ Some xs
+        → S.remaining input.old ≡ Some ys → RefusesRun xs ys e) }
+    ensures beginning { IfErr result
+        (λ e. e ≡ refusal.Write
+        → BeginsReport run.now (R.remaining text.old) (S.remaining input.old) (W.contents out.old)
+        (W.contents out.new)) }
+    ensures faults { IfErr result
+        (IsFaultOrOfInput (R.remaining text.old) (S.remaining input.old)) }
 {
     let tree = accepted(alloc, text)?;
     let bytes = input_of(alloc, input)?;
@@ -145,11 +162,20 @@ pub fn execute<H: Threads + Wait + Sync, R: Read, S: Read, W: Write, G: TurnGate
     gate: &G,
     out: &mut W,
 ) -> Result<(), Refusal>
-    ensures done { OnOk result (Does job.now (R.remaining text.old) (S.remaining input.old) (W.contents out.old) (W.contents out.new)) }
-    ensures unwritten { IfErr result (λ e. (e ≡ refusal.Write → ⊥) → Keeps (W.contents out.old) (W.contents out.new)) }
-    ensures refused { IfErr result (λ e. (e ≡ refusal.Write → ⊥) → Refuses job.now (R.remaining text.old) (S.remaining input.old) e) }
-    ensures beginning { IfErr result (λ e. e ≡ refusal.Write → Begins job.now (R.remaining text.old) (S.remaining input.old) (W.contents out.old) (W.contents out.new)) }
-    ensures faults { IfErr result (RefusesAccepted job.now (R.remaining text.old) (S.remaining input.old)) }
+    ensures done { OnOk result
+        (Does job.now (R.remaining text.old) (S.remaining input.old) (W.contents out.old)
+        (W.contents out.new)) }
+    ensures unwritten { IfErr result
+        (λ e. (e ≡ refusal.Write → ⊥) → Keeps (W.contents out.old) (W.contents out.new)) }
+    ensures refused { IfErr result
+        (λ e. (e ≡ refusal.Write → ⊥)
+        → Refuses job.now (R.remaining text.old) (S.remaining input.old) e) }
+    ensures beginning { IfErr result
+        (λ e. e ≡ refusal.Write
+        → Begins job.now (R.remaining text.old) (S.remaining input.old) (W.contents out.old)
+        (W.contents out.new)) }
+    ensures faults { IfErr result
+        (RefusesAccepted job.now (R.remaining text.old) (S.remaining input.old)) }
 {
     match job {
         Job::Check => check_text(alloc, text, out),

@@ -34,7 +34,8 @@ fn fill<R: Read>(reader: &mut R, buffer: &mut [u8]) -> Result<usize, ReadError>
     requires some { 0 < length buffer.old }
     ensures count { IfOk result (λ n. n ≤ length buffer.new) }
     ensures length { length buffer.new ≡ length buffer.old }
-    ensures ok { IfOk result (λ n. Consumes (R.remaining reader.old) (R.remaining reader.new) (take n buffer.new)) }
+    ensures ok { IfOk result
+        (λ n. Consumes (R.remaining reader.old) (R.remaining reader.new) (take n buffer.new)) }
     ensures end { IfOk result (λ n. n ≡ 0 → IsAtEnd (R.remaining reader.new)) }
     ensures err { OnErr result (Keeps (R.remaining reader.old) (R.remaining reader.new)) }
     ensures why { IfErr result (λ e. e ≡ error.Read) }
@@ -53,7 +54,8 @@ fn read_part<R: Read>(reader: &mut R, text: &mut Vec<u8>) -> Result<usize, ReadE
     ensures appends { IfOk result (λ n. (bs : List ℕ) × (text.new.items ≡ text.old.items ++ bs)
         × Consumes (R.remaining reader.old) (R.remaining reader.new) bs) }
     ensures end { IfOk result (λ n. n ≡ 0 → IsAtEnd (R.remaining reader.new)) }
-    ensures failed { IfErr result (λ e. e ≡ error.Read → Keeps (R.remaining reader.old) (R.remaining reader.new)) }
+    ensures failed { IfErr result
+        (λ e. e ≡ error.Read → Keeps (R.remaining reader.old) (R.remaining reader.new)) }
 {
     let mut buffer = [0u8; LONGEST_PART];
     let room = (MOST_READ - text.len()).min(LONGEST_PART);
@@ -70,8 +72,10 @@ fn read_part<R: Read>(reader: &mut R, text: &mut Vec<u8>) -> Result<usize, ReadE
 ///
 /// `Read` where a read failed, `Memory` where memory runs out.
 pub fn read_text<R: Read>(alloc: Global, reader: &mut R) -> Result<Vec<u8>, ReadError>
-    ensures bytes { IfOk result (λ text. IfSome (R.remaining reader.old) (λ xs. text.items ≡ take 1048577 xs)) }
-    ensures consumed { IfOk result (λ text. Consumes (R.remaining reader.old) (R.remaining reader.new) text.items) }
+    ensures bytes { IfOk result
+        (λ text. IfSome (R.remaining reader.old) (λ xs. text.items ≡ take 1048577 xs)) }
+    ensures consumed { IfOk result
+        (λ text. Consumes (R.remaining reader.old) (R.remaining reader.new) text.items) }
     ensures most { IfOk result (λ text. vec_len text ≤ 1048577) }
     ensures failed { IfErr result (λ e. e ≡ error.Read → (bs : List ℕ) × (length bs < 1048577)
         × Consumes (R.remaining reader.old) (R.remaining reader.new) bs) }

@@ -130,7 +130,8 @@ fn push_head(
     private: &Private,
     p: usize,
 ) -> Result<(), AllocError>
-    ensures { OnOk result (out.new.items ≡ out.old.items ++ head_lines program.now kernel.now p private.now) }
+    ensures { OnOk result
+        (out.new.items ≡ out.old.items ++ head_lines program.now kernel.now p private.now) }
 {
     out.extend_from_slice(b"process ")?;
     push_natural(out, p as u64)?;
@@ -148,7 +149,9 @@ fn push_transcript(
     private: &Private,
     p: usize,
 ) -> Result<(), AllocError>
-    ensures { OnOk result (out.new.items ≡ out.old.items ++ transcript_line (moved kernel.now (p - 1) ++ private.now.output.items)) }
+    ensures { OnOk result
+        (out.new.items ≡ out.old.items ++ transcript_line
+        (moved kernel.now (p - 1) ++ private.now.output.items)) }
 {
     out.extend_from_slice(b"out '")?;
     push_all_escaped(out, kernel.transcript(p))?;
@@ -163,7 +166,8 @@ fn push_process(
     private: &Private,
     p: usize,
 ) -> Result<(), AllocError>
-    ensures { OnOk result (out.new.items ≡ out.old.items ++ process_lines program.now kernel.now p private.now) }
+    ensures { OnOk result
+        (out.new.items ≡ out.old.items ++ process_lines program.now kernel.now p private.now) }
 {
     push_head(out, program, kernel, private, p)?;
     push_transcript(out, kernel, private, p)?;
@@ -176,7 +180,8 @@ fn push_processes(
     kernel: &Kernel,
     privates: &[Private],
 ) -> Result<(), AllocError>
-    ensures { OnOk result (out.new.items ≡ out.old.items ++ processes_lines program.now kernel.now 1 privates.now) }
+    ensures { OnOk result
+        (out.new.items ≡ out.old.items ++ processes_lines program.now kernel.now 1 privates.now) }
 {
     for (i, private) in privates.iter().enumerate() {
         push_process(out, program, kernel, private, i + 1)?;
@@ -191,7 +196,8 @@ fn lines(
     kernel: &Kernel,
     rounds: u64,
 ) -> Result<Vec<u8>, AllocError>
-    ensures { IfOk result (λ bytes. bytes.items ≡ report_lines program.now privates.now kernel.now rounds) }
+    ensures { IfOk result
+        (λ bytes. bytes.items ≡ report_lines program.now privates.now kernel.now rounds) }
 {
     let mut out = Vec::new(alloc);
     out.extend_from_slice(b"rounds ")?;
@@ -207,7 +213,9 @@ fn lines(
 ///
 /// `AllocError` where memory runs out.
 pub fn report(alloc: Global, machine: &Machine) -> Result<Vec<u8>, AllocError>
-    ensures { IfOk result (λ bytes. (setup : Setup) (s : State) → IsIn machine.now setup s → bytes.items ≡ Report.report setup s) }
+    ensures { IfOk result
+        (λ bytes. (setup : Setup) (s : State) → IsIn machine.now setup s
+        → bytes.items ≡ Report.report setup s) }
 {
     lines(
         alloc,

@@ -42,7 +42,9 @@ pub fn report_of<H: Threads + Wait + Sync, G: TurnGate>(
     run: &Run,
     gate: &G,
 ) -> Result<Vec<u8>, Refusal>
-    ensures report { IfOk result (λ bytes. (setup : Setup) → StandsFor program setup → HasInputs input.now setup → setup.tick ≡ run.now.tick.rounds
+    ensures report { IfOk result
+        (λ bytes. (setup : Setup) → StandsFor program setup → HasInputs input.now setup
+        → setup.tick ≡ run.now.tick.rounds
         → bytes.items ≡ Report.report setup (r.run setup run.now.plan.turn.steps run.now.rounds (start setup))) }
     ensures memory { IfErr result (λ e. e ≡ refusal.Memory) }
 {

@@ -13,7 +13,8 @@ pub struct WriteFailed;
 fn write_part<W: Write>(out: &mut W, part: &[u8]) -> Result<usize, WriteFailed>
     requires some { 0 < length part.now }
     ensures count { IfOk result (λ n. (0 < n) × (n ≤ length part.now)) }
-    ensures ok { IfOk result (λ n. Appends (W.contents out.old) (W.contents out.new) (take n part.now)) }
+    ensures ok { IfOk result
+        (λ n. Appends (W.contents out.old) (W.contents out.new) (take n part.now)) }
     ensures err { OnErr result (Keeps (W.contents out.old) (W.contents out.new)) }
 {
     match out.write(part) {

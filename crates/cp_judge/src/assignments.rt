@@ -64,7 +64,8 @@ fn own_result(
     selectors: &[Selector],
     returns: Returns,
 ) -> Option<usize>
-    ensures { Tells told.old told.new result (st.own_result x.now (selectors_of (map selector selectors.now)) returns) }
+    ensures { Tells told.old told.new result
+        (st.own_result x.now (selectors_of (map selector selectors.now)) returns) }
 {
     match selectors {
         [] => whole_result(told, x, returns),
@@ -74,7 +75,9 @@ fn own_result(
 
 // What is judged of the names of a left side that is no function's own name. C10: it is no variable.
 fn names_changeable(env: &Environment, told: &mut Option<Violation>, d: &Designator) -> bool
-    ensures { TellsOf told.old told.new result (n.c2_c5_c8_named env.now mode.Variable (designator d.now) ++ n.c10_designator env.now (designator d.now)) }
+    ensures { TellsOf told.old told.new result
+        (n.c2_c5_c8_named env.now mode.Variable (designator d.now) ++ n.c10_designator env.now
+        (designator d.now)) }
 {
     let fits = names_fit(env, told, Mode::Variable, d);
     let is_variable = variable_designated(env, told, d);
@@ -112,7 +115,8 @@ fn component(env: &Environment, x: &Identifier) -> Option<usize>
 
 // The type of a component whose name is the whole designator.
 fn component_alone(env: &Environment, x: &Identifier, selectors: &[Selector]) -> Option<usize>
-    ensures { result ≡ parts.component_alone env.now x.now (selectors_of (map selector selectors.now)) }
+    ensures { result ≡ parts.component_alone env.now x.now
+        (selectors_of (map selector selectors.now)) }
 {
     match selectors {
         [] => component(env, x),
@@ -189,7 +193,8 @@ pub fn assigned(
     at: usize,
     e: &Expression,
 )
-    ensures { told.new ≡ least told.old (st.assigned env.now (designator d.now) at (expression e.now)) }
+    ensures { told.new ≡ least told.old
+        (st.assigned env.now (designator d.now) at (expression e.now)) }
 {
     let a = left(env, told, d);
     let b = right(env, told, is_component_type(env, a), e);

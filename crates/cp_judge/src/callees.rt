@@ -75,7 +75,8 @@ fn function_called(
     count: usize,
     row: RoutineRow,
 ) -> Option<Callee>
-    ensures { TellsWherever told.old told.new result (λ env. n.function_called env rule x.now count row) }
+    ensures { TellsWherever told.old told.new result
+        (λ env. n.function_called env rule x.now count row) }
 {
     let gives = gives(told, rule, x, row.count == count, row.returns)?;
     Some(Callee {
@@ -100,7 +101,8 @@ fn procedure_called(
     count: usize,
     row: RoutineRow,
 ) -> Option<Callee>
-    ensures { TellsWherever told.old told.new result (λ env. n.procedure_called env x.now count row) }
+    ensures { TellsWherever told.old told.new result
+        (λ env. n.procedure_called env x.now count row) }
 {
     if is_procedure(row.returns) && row.count == count {
         return Some(Callee {
@@ -145,7 +147,8 @@ pub fn function(
     count: usize,
     entity: Entity,
 ) -> Option<Callee>
-    ensures { TellsCallee env.now told.old told.new result (n.function_of env.now mode (designator d.now) count entity) }
+    ensures { TellsCallee env.now told.old told.new result
+        (n.function_of env.now mode (designator d.now) count entity) }
 {
     let x = last_name(d);
     let rule = sort_rule(mode, d);
@@ -189,7 +192,8 @@ pub fn procedure(
     count: usize,
     entity: Entity,
 ) -> Option<Callee>
-    ensures { TellsCallee env.now told.old told.new result (n.procedure_of env.now (designator d.now) count entity) }
+    ensures { TellsCallee env.now told.old told.new result
+        (n.procedure_of env.now (designator d.now) count entity) }
 {
     let x = last_name(d);
     match entity {

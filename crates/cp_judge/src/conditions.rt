@@ -53,7 +53,8 @@ pub fn bound(
     variable: Option<usize>,
     e: &Expression,
 ) -> Option<usize>
-    ensures { (j : Judged ℕ) → variable ≡ meaning_of j → Tells told.old told.new result (st.bound env.now j (expression e.now)) }
+    ensures { (j : Judged ℕ) → variable ≡ meaning_of j
+        → Tells told.old told.new result (st.bound env.now j (expression e.now)) }
 {
     let u = judge(env, told, Mode::Value, e)?;
     match variable {
@@ -69,7 +70,8 @@ fn plain_value(
     v: &Identifier,
     entity: Entity,
 ) -> Option<usize>
-    ensures { Tells told.old told.new result (n.value_of env.now mode.Variable (st.plain v.now) entity) }
+    ensures { Tells told.old told.new result
+        (n.value_of env.now mode.Variable (st.plain v.now) entity) }
 {
     match entity {
         Entity::Constant(base, _) => Some(base),
@@ -129,7 +131,8 @@ pub fn for_header(
     from: &Expression,
     last: &Expression,
 )
-    ensures { told.new ≡ least told.old (parts.for_header env.now v.now (expression from.now) (expression last.now)) }
+    ensures { told.new ≡ least told.old
+        (parts.for_header env.now v.now (expression from.now) (expression last.now)) }
 {
     let t = for_variable(env, told, v);
     bound(env, told, t, from);

@@ -26,7 +26,8 @@ pub fn constant_at(c: &Constant) -> usize
 
 /// C4, and C2 beside it: the name of something unfinished, where another sort is wanted.
 pub fn unfinished_of_other_sort<A>(told: &mut Option<Violation>, at: usize) -> Result<A, Violation>
-    ensures { TellsFirst told.old told.new result (also (violation rules.C4 at ∷ []) (breaks rules.C2 at)) }
+    ensures { TellsFirst told.old told.new result
+        (also (violation rules.C4 at ∷ []) (breaks rules.C2 at)) }
 {
     let first = violated(told, Rule::C4, at);
     unless_holds(told, false, Rule::C2, at);

@@ -74,7 +74,9 @@ fn has_entry(
     x: &Identifier,
     y: &Identifier,
 ) -> bool
-    ensures { TellsOf told.old told.new result (n.c5_member env.now y.now (n.member_selected env.now y.now.name (r.c1_named env.now x.now))) }
+    ensures { TellsOf told.old told.new result
+        (n.c5_member env.now y.now
+        (n.member_selected env.now y.now.name (r.c1_named env.now x.now))) }
 {
     match member_selected(env, x, y) {
         Some(Member::Routine(number)) => {
@@ -91,7 +93,8 @@ fn selected_has_entry(
     x: &Identifier,
     selectors: &[Selector],
 ) -> bool
-    ensures { TellsOf told.old told.new result (n.c5_selected env.now x.now (selectors_of (map selector selectors.now))) }
+    ensures { TellsOf told.old told.new result
+        (n.c5_selected env.now x.now (selectors_of (map selector selectors.now))) }
 {
     match selectors {
         [Selector::Field { name, .. }, ..] => has_entry(env, told, x, name),

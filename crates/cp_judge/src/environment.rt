@@ -296,7 +296,8 @@ impl<'t> Environment<'t> {
 impl<'t> Environment<'t> {
     /// The environment of the initial process, with these names and types.
     pub fn new(alloc: Global, names: Scope<'t>, types: Vec<TypeRow>) -> Environment<'t>
-        ensures { result ≡ record r.standard_environment { names = names.entry; types = types.items } }
+        ensures { result ≡ record
+            r.standard_environment { names = names.entry; types = types.items } }
     {
         Environment {
             names,
@@ -314,7 +315,8 @@ impl<'t> Environment<'t> {
     /// Declares a name that isn't visible.
     pub fn declare(&mut self, name: &'t [u8], entity: Entity) -> Result<(), AllocError>
         requires { lookup name.now self.old.names ≡ None }
-        ensures { OnOk result (self.new ≡ r.with_names (self.old.names ++ (name.now, entity) ∷ []) self.old) }
+        ensures { OnOk result
+            (self.new ≡ r.with_names (self.old.names ++ (name.now, entity) ∷ []) self.old) }
     {
         self.names.add(name, entity)
     }

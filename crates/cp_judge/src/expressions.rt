@@ -147,7 +147,8 @@ fn select(
     part: Option<Entity>,
     s: &Selector,
 ) -> Option<Entity>
-    ensures { (t : Option Violation) (j : Judged EntityValue) → Tells t told.old part j → Tells t told.new result (x.select env.now j (selector s.now)) }
+    ensures { (t : Option Violation) (j : Judged EntityValue) → Tells t told.old part j
+        → Tells t told.new result (x.select env.now j (selector s.now)) }
 {
     match s {
         Selector::Field { at, name } => {
@@ -165,7 +166,8 @@ fn indexed(
     part: Option<Entity>,
     indices: &[Index],
 ) -> Option<Entity>
-    ensures { (t : Option Violation) (j : Judged EntityValue) → Tells t told.old part j → Tells t told.new result (x.indexed env.now j (indices_of (map index indices.now))) }
+    ensures { (t : Option Violation) (j : Judged EntityValue) → Tells t told.old part j
+        → Tells t told.new result (x.indexed env.now j (indices_of (map index indices.now))) }
 {
     let mut part = part;
     for i in indices {
@@ -183,7 +185,8 @@ fn array_if(
     at: usize,
     part: Option<Entity>,
 ) -> Option<ArrayPart>
-    ensures { (t : Option Violation) (j : Judged EntityValue) → Tells t told.old part j → Tells t told.new result (parts.array_of env.now at j) }
+    ensures { (t : Option Violation) (j : Judged EntityValue) → Tells t told.old part j
+        → Tells t told.new result (parts.array_of env.now at j) }
 {
     let entity = part?;
     array(env, told, at, entity)
@@ -221,7 +224,9 @@ fn function_if(
     count: usize,
     entity: Option<Entity>,
 ) -> Option<Callee>
-    ensures { (t : Option Violation) (j : Judged EntityValue) → Tells t told.old entity j → TellsCallee env.now t told.new result (parts.function_if env.now mode (designator d.now) count j) }
+    ensures { (t : Option Violation) (j : Judged EntityValue) → Tells t told.old entity j
+        → TellsCallee env.now t told.new result
+        (parts.function_if env.now mode (designator d.now) count j) }
 {
     let entity = entity?;
     function(env, told, mode, d, count, entity)
@@ -235,8 +240,11 @@ fn called(
     d: &Designator,
     count: usize,
 ) -> Called
-    ensures callee { TellsCallee env.now told.old told.new result.callee (parts.callee_of env.now mode (designator d.now) count) }
-    ensures wants { wants_of env.now result.wants ≡ x.wants_in env.now (x.designated env.now (designator d.now)) (parts.callee_of env.now mode (designator d.now) count) }
+    ensures callee { TellsCallee env.now told.old told.new result.callee
+        (parts.callee_of env.now mode (designator d.now) count) }
+    ensures wants { wants_of env.now result.wants ≡ x.wants_in env.now
+        (x.designated env.now (designator d.now))
+        (parts.callee_of env.now mode (designator d.now) count) }
 {
     let no_value = no_indexed_value(env, told, mode, d);
     let entity = designated(env, told, d);
@@ -256,7 +264,8 @@ pub fn arguments(
     wants: Wants,
     list: &[Expression],
 ) -> Option<usize>
-    ensures { Tells told.old told.new result (x.arguments env.now (wants_of env.now wants) (expressions_of (map expression list.now))) }
+    ensures { Tells told.old told.new result
+        (x.arguments env.now (wants_of env.now wants) (expressions_of (map expression list.now))) }
 {
     let [first, rest @ ..] = list else {
         return Some(INTEGER);
@@ -293,7 +302,8 @@ fn argument_typed(
     want: Want,
     e: &Expression,
 ) -> Option<usize>
-    ensures { Tells told.old told.new result (parts.argument_typed env.now want (expression e.now)) }
+    ensures { Tells told.old told.new result
+        (parts.argument_typed env.now want (expression e.now)) }
 {
     let t = judge(env, told, mode_of(want), e)?;
     has_type(env, told, want, e, t)

@@ -56,7 +56,8 @@ fn own_component(
 }
 
 fn component_named(env: &Environment, told: &mut Option<Violation>, x: &Identifier) -> Option<usize>
-    ensures { Tells told.old told.new result (then_judge (r.c1_named env.now x.now) (st.c12_component env.now x.now)) }
+    ensures { Tells told.old told.new result
+        (then_judge (r.c1_named env.now x.now) (st.c12_component env.now x.now)) }
 {
     let entity = named(env, told, x)?;
     own_component(env, told, x, entity)
@@ -113,7 +114,9 @@ fn unused_designator(
     told: &mut Option<Violation>,
     d: &Designator,
 ) -> Option<usize>
-    ensures { Tells told.old told.new result (then_judge (x.designated env.now (designator d.now)) (st.unused env.now (designator d.now))) }
+    ensures { Tells told.old told.new result
+        (then_judge (x.designated env.now (designator d.now))
+        (st.unused env.now (designator d.now))) }
 {
     let entity = expressions::designated(env, told, d)?;
     unused(env, told, d, entity)
@@ -124,7 +127,8 @@ fn unwanted_designator(
     told: &mut Option<Violation>,
     d: &Designator,
 ) -> Option<usize>
-    ensures { Tells told.old told.new result (parts.unwanted_designator env.now (designator d.now)) }
+    ensures { Tells told.old told.new result
+        (parts.unwanted_designator env.now (designator d.now)) }
 {
     let fits = names_fit(env, told, Mode::Value, d);
     let t = unused_designator(env, told, d);
@@ -171,7 +175,8 @@ fn passed_named(
     wanted: usize,
     x: &Identifier,
 ) -> Option<usize>
-    ensures { Tells told.old told.new result (then_judge (r.c1_named env.now x.now) (st.c12_passed env.now wanted x.now)) }
+    ensures { Tells told.old told.new result
+        (then_judge (r.c1_named env.now x.now) (st.c12_passed env.now wanted x.now)) }
 {
     let entity = named(env, told, x)?;
     passed(env, told, wanted, x, entity)
@@ -215,7 +220,8 @@ fn component_argument(
     wanted: usize,
     e: &Expression,
 ) -> Option<usize>
-    ensures { Tells told.old told.new result (st.component_argument env.now wanted (expression e.now)) }
+    ensures { Tells told.old told.new result
+        (st.component_argument env.now wanted (expression e.now)) }
 {
     match name_alone(e) {
         Some(x) => passed_alone(env, told, wanted, x),
@@ -240,7 +246,8 @@ fn simple_agrees(
     e: &Expression,
     t: usize,
 ) -> Option<usize>
-    ensures { Tells told.old told.new result (parts.simple_agrees env.now wanted (expression e.now) t) }
+    ensures { Tells told.old told.new result
+        (parts.simple_agrees env.now wanted (expression e.now) t) }
 {
     if env.agree(wanted, t) {
         return Some(t);
@@ -255,7 +262,8 @@ fn simple_argument(
     wanted: usize,
     e: &Expression,
 ) -> Option<usize>
-    ensures { Tells told.old told.new result (parts.simple_argument env.now wanted (expression e.now)) }
+    ensures { Tells told.old told.new result
+        (parts.simple_argument env.now wanted (expression e.now)) }
 {
     let t = judge(env, told, Mode::Value, e)?;
     simple_agrees(env, told, wanted, e, t)
@@ -296,7 +304,9 @@ fn arguments(
     system: Option<usize>,
     list: &[Expression],
 )
-    ensures { told.new ≡ least told.old (st.init_arguments env.now (parts.parameters_if env.now system) (expressions_of (map expression list.now))) }
+    ensures { told.new ≡ least told.old
+        (st.init_arguments env.now (parts.parameters_if env.now system)
+        (expressions_of (map expression list.now))) }
 {
     for (number, e) in list.iter().enumerate() {
         argument(env, told, parameter_type(env, system, number), e);

@@ -71,7 +71,8 @@ fn once(
     at: usize,
     label: (usize, i32),
 ) -> Option<(usize, i32)>
-    ensures { Tells told.old told.new result (provided (not (st.is_among label seen.now)) rules.C3 at label) }
+    ensures { Tells told.old told.new result
+        (provided (not (st.is_among label seen.now)) rules.C3 at label) }
 {
     if seen.has(label) {
         return broken(told, Rule::C3, at);
@@ -102,8 +103,10 @@ pub fn labelled(
     seen: &mut Labels,
     list: &[Constant],
 ) -> Result<(), AllocError>
-    ensures told { OnOk result (told.new ≡ least told.old (st.labels env.now base seen.old list.now).violations) }
-    ensures seen { OnOk result (spec.SameLabels seen.new (st.labels env.now base seen.old list.now).seen) }
+    ensures told { OnOk result
+        (told.new ≡ least told.old (st.labels env.now base seen.old list.now).violations) }
+    ensures seen { OnOk result
+        (spec.SameLabels seen.new (st.labels env.now base seen.old list.now).seen) }
 {
     for c in list {
         label(env, told, base, seen, c)?;
@@ -119,8 +122,13 @@ fn label(
     seen: &mut Labels,
     c: &Constant,
 ) -> Result<(), AllocError>
-    ensures told { OnOk result (told.new ≡ least told.old (violations_of (then_judge (types.constant env.now c.now) (st.c2_c3_label base seen.old (types.constant_at c.now))))) }
-    ensures seen { OnOk result (spec.SameLabels seen.new (st.more_seen seen.old (types.constant env.now c.now))) }
+    ensures told { OnOk result
+        (told.new ≡ least told.old
+        (violations_of
+        (then_judge (types.constant env.now c.now)
+        (st.c2_c3_label base seen.old (types.constant_at c.now))))) }
+    ensures seen { OnOk result
+        (spec.SameLabels seen.new (st.more_seen seen.old (types.constant env.now c.now))) }
 {
     match constant(env, told, c) {
         Err(_) => Ok(()),

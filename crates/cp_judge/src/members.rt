@@ -37,7 +37,8 @@ pub fn member(
 
 /// The member of this name that a type has, if it has one.
 pub fn member_of_type(env: &Environment, t: usize, x: &Identifier) -> Option<Member>
-    ensures { result ≡ n.member_in x.now.name (r.members_in env.now (r.row_of env.now t).structure) }
+    ensures { result ≡ n.member_in x.now.name
+        (r.members_in env.now (r.row_of env.now t).structure) }
 {
     match env.structure(t) {
         Structure::Record(k) => env.member(k, x),

@@ -153,7 +153,8 @@ pub fn member_named(
     access: Access,
     member: Option<Member>,
 ) -> Option<Entity>
-    ensures { (env : r.Environment) → Tells told.old told.new result (n.member_named env x.now access member) }
+    ensures { (env : r.Environment)
+        → Tells told.old told.new result (n.member_named env x.now access member) }
 {
     match member {
         None => broken(told, Rule::C1, x.at),

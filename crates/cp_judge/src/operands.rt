@@ -123,7 +123,8 @@ fn fits_type(
     e: &Expression,
     t: usize,
 ) -> Option<usize>
-    ensures { Tells told.old told.new result (x.fits_type env.now by_reference of (expression e.now) t) }
+    ensures { Tells told.old told.new result
+        (x.fits_type env.now by_reference of (expression e.now) t) }
 {
     let Some(u) = of else {
         return Some(t);

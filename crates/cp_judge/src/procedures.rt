@@ -26,15 +26,20 @@ fn procedure_if(
     count: usize,
     entity: Option<Entity>,
 ) -> Option<Callee>
-    ensures { (t : Option Violation) (j : Judged EntityValue) → Tells t told.old entity j → TellsCallee env.now t told.new result (parts.procedure_if env.now (designator d.now) count j) }
+    ensures { (t : Option Violation) (j : Judged EntityValue) → Tells t told.old entity j
+        → TellsCallee env.now t told.new result
+        (parts.procedure_if env.now (designator d.now) count j) }
 {
     let entity = entity?;
     procedure(env, told, d, count, entity)
 }
 
 fn called(env: &Environment, told: &mut Option<Violation>, d: &Designator, count: usize) -> Called
-    ensures callee { TellsCallee env.now told.old told.new result.callee (parts.procedure_called env.now (designator d.now) count) }
-    ensures wants { wants_of env.now result.wants ≡ x.wants_in env.now (x.designated env.now (designator d.now)) (parts.procedure_called env.now (designator d.now) count) }
+    ensures callee { TellsCallee env.now told.old told.new result.callee
+        (parts.procedure_called env.now (designator d.now) count) }
+    ensures wants { wants_of env.now result.wants ≡ x.wants_in env.now
+        (x.designated env.now (designator d.now))
+        (parts.procedure_called env.now (designator d.now) count) }
 {
     let no_value = no_indexed_value(env, told, Mode::Value, d);
     let entity = designated(env, told, d);
@@ -53,7 +58,8 @@ pub fn performed(
     d: &Designator,
     list: &[Expression],
 )
-    ensures { told.new ≡ least told.old (st.performed env.now (designator d.now) (expressions_of (map expression list.now))) }
+    ensures { told.new ≡ least told.old
+        (st.performed env.now (designator d.now) (expressions_of (map expression list.now))) }
 {
     names_fit(env, told, Mode::Value, d);
     let called = called(env, told, d, list.len());

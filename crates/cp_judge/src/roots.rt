@@ -21,7 +21,8 @@ fn before_selectors(
     selectors: &[Selector],
     entity: Entity,
 ) -> Option<Entity>
-    ensures { Tells told.old told.new result (n.before_selectors env.now x.now (selectors_of (map selector selectors.now)) entity) }
+    ensures { Tells told.old told.new result
+        (n.before_selectors env.now x.now (selectors_of (map selector selectors.now)) entity) }
 {
     match selectors {
         [] => Some(entity),
@@ -34,7 +35,10 @@ fn before_selectors(
 
 /// What the first name of a designator stands for, before its parts are selected.
 pub fn root(env: &Environment, told: &mut Option<Violation>, d: &Designator) -> Option<Entity>
-    ensures { Tells told.old told.new result (then_judge (r.c1_named env.now d.now.root) (n.before_selectors env.now d.now.root (selectors_of (map selector d.now.selectors.items)))) }
+    ensures { Tells told.old told.new result
+        (then_judge (r.c1_named env.now d.now.root)
+        (n.before_selectors env.now d.now.root
+        (selectors_of (map selector d.now.selectors.items)))) }
 {
     let entity = named(env, told, &d.root)?;
     before_selectors(env, told, &d.root, &d.selectors, entity)

@@ -89,7 +89,8 @@ fn standard_called(
     fits: bool,
     callee: Option<Callee>,
 ) -> Option<Callee>
-    ensures { TellsWherever told.old told.new result (λ env. n.standard_called rule x.now fits (callee_if env callee)) }
+    ensures { TellsWherever told.old told.new result
+        (λ env. n.standard_called rule x.now fits (callee_if env callee)) }
 {
     if !fits {
         return broken(told, Rule::C2, x.at);
@@ -108,7 +109,9 @@ pub fn standard_function_called(
     count: usize,
     standard: Standard,
 ) -> Option<Callee>
-    ensures { TellsWherever told.old told.new result (λ env. n.standard_called rule x.now (n.standard_fits standard count) (n.standard_function standard)) }
+    ensures { TellsWherever told.old told.new result
+        (λ env. n.standard_called rule x.now (n.standard_fits standard count)
+        (n.standard_function standard)) }
 {
     let fits = standard_fits(standard, count);
     let callee = standard_function(standard);
@@ -122,7 +125,9 @@ pub fn standard_procedure_called(
     count: usize,
     standard: Standard,
 ) -> Option<Callee>
-    ensures { TellsWherever told.old told.new result (λ env. n.standard_called Rule.C2 x.now (n.standard_fits standard count) (n.standard_procedure standard)) }
+    ensures { TellsWherever told.old told.new result
+        (λ env. n.standard_called Rule.C2 x.now (n.standard_fits standard count)
+        (n.standard_procedure standard)) }
 {
     let fits = standard_fits(standard, count);
     let callee = standard_procedure(standard);

@@ -23,7 +23,8 @@ pub fn statement(
     told: &mut Option<Violation>,
     s: &Statement,
 ) -> Result<(), AllocError>
-    ensures { OnOk result (told.new ≡ least told.old (st.statement env.now (view.statement s.now))) }
+    ensures { OnOk result
+        (told.new ≡ least told.old (st.statement env.now (view.statement s.now))) }
 {
     match s {
         Statement::Empty => Ok(()),
@@ -88,7 +89,9 @@ pub fn statements(
     told: &mut Option<Violation>,
     list: &[Statement],
 ) -> Result<(), AllocError>
-    ensures { OnOk result (told.new ≡ least told.old (st.statements env.now (view.statements_of (map view.statement list.now)))) }
+    ensures { OnOk result
+        (told.new ≡ least told.old
+        (st.statements env.now (view.statements_of (map view.statement list.now)))) }
 {
     for s in list {
         statement(env, alloc, told, s)?;
@@ -105,7 +108,9 @@ fn labelled_arms(
     base: Option<usize>,
     list: &[Arm],
 ) -> Result<(), AllocError>
-    ensures { OnOk result (told.new ≡ least told.old (st.arms env.now base [] (view.arms_of (map view.arm list.now)))) }
+    ensures { OnOk result
+        (told.new ≡ least told.old
+        (st.arms env.now base [] (view.arms_of (map view.arm list.now)))) }
 {
     let mut seen = Labels::new(alloc);
     for a in list {

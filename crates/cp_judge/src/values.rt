@@ -34,7 +34,8 @@ fn function_alone(
     d: &Designator,
     entity: Entity,
 ) -> Option<Gives>
-    ensures { Tells told.old told.new result (n.function_alone env.now mode (designator d.now) entity) }
+    ensures { Tells told.old told.new result
+        (n.function_alone env.now mode (designator d.now) entity) }
 {
     match mode {
         Mode::Variable => {
@@ -111,7 +112,8 @@ fn selects_field_first(selectors: &[Selector]) -> bool
 
 /// Whether a name with these selectors after it is a variable or a part of one. A name that is unknown is told of elsewhere.
 pub fn is_variable(env: &Environment, x: &Identifier, selectors: &[Selector]) -> bool
-    ensures { result ≡ n.is_variable env.now (selectors_of (map selector selectors.now)) (r.c1_named env.now x.now) }
+    ensures { result ≡ n.is_variable env.now (selectors_of (map selector selectors.now))
+        (r.c1_named env.now x.now) }
 {
     match known(env, x) {
         Some(Entity::Variable(t, access)) => {

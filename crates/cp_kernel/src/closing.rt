@@ -12,7 +12,8 @@ use cp_private::private::{Activity, Private};
 use cp_program::program::Program;
 
 fn is_fresh(kernel: &Kernel, i: usize) -> bool
-    ensures { result ≡ Rattle.cp_kernel.specs.Closing.is_fresh (slice_get kernel.now.stages.items i) }
+    ensures { result ≡ Rattle.cp_kernel.specs.Closing.is_fresh
+        (slice_get kernel.now.stages.items i) }
 {
     match kernel.stages.get(i) {
         Some(Stage::Fresh) => true,
@@ -22,8 +23,12 @@ fn is_fresh(kernel: &Kernel, i: usize) -> bool
 
 // The process at an index, if it is fresh.
 fn begin(kernel: &mut Kernel, private: &mut Private, i: usize)
-    ensures stages { kernel.new.stages.items ≡ closed_if (Rattle.cp_kernel.specs.Closing.is_fresh (slice_get kernel.old.stages.items i)) i kernel.old.stages.items }
-    ensures private { private.new ≡ begun_if (Rattle.cp_kernel.specs.Closing.is_fresh (slice_get kernel.old.stages.items i)) private.old }
+    ensures stages { kernel.new.stages.items ≡ closed_if
+        (Rattle.cp_kernel.specs.Closing.is_fresh (slice_get kernel.old.stages.items i)) i
+        kernel.old.stages.items }
+    ensures private { private.new ≡ begun_if
+        (Rattle.cp_kernel.specs.Closing.is_fresh (slice_get kernel.old.stages.items i))
+        private.old }
     ensures transcripts { kernel.new.transcripts ≡ kernel.old.transcripts }
 {
     if is_fresh(kernel, i) {
@@ -34,8 +39,10 @@ fn begin(kernel: &mut Kernel, private: &mut Private, i: usize)
 
 // Each fresh process begins.
 fn close(kernel: &mut Kernel, privates: &mut [Private])
-    ensures stages { kernel.new.stages.items ≡ closed_below (length privates.old) kernel.old.stages.items }
-    ensures privates { privates.new ≡ begun_below (length privates.old) kernel.old.stages.items privates.old }
+    ensures stages { kernel.new.stages.items ≡ closed_below (length privates.old)
+        kernel.old.stages.items }
+    ensures privates { privates.new ≡ begun_below (length privates.old) kernel.old.stages.items
+        privates.old }
     ensures transcripts { kernel.new.transcripts ≡ kernel.old.transcripts }
 {
     for i in 0..privates.len() {
@@ -46,7 +53,8 @@ fn close(kernel: &mut Kernel, privates: &mut [Private])
 /// The end of a round: the processes that were started in it begin, so fresh becomes ready. The private states are those of all
 /// processes of this program by number. It takes no memory, and always succeeds.
 pub fn end_round(_program: &Program, kernel: &mut Kernel, privates: &mut [Private])
-    ensures ends { (setup : Setup) (s : State) → StandsFor _program.now setup → length privates.old ≡ process_count setup
+    ensures ends { (setup : Setup) (s : State) → StandsFor _program.now setup
+        → length privates.old ≡ process_count setup
         → Stand _program.now setup s privates.old kernel.old
         → Stand _program.now setup (close_round s) privates.new kernel.new }
     ensures count { length privates.new ≡ length privates.old }

@@ -73,7 +73,8 @@ fn state_at(kernel: &Kernel, activity: Activity, i: usize) -> ProcState
 impl Kernel {
     /// The kernel's part at the start: the initial process is started, and no other. It fails only for want of memory.
     pub fn new(alloc: Global, program: &Program) -> Result<Kernel, AllocError>
-        ensures start { IfOk result (λ k. (setup : Setup) → StandsFor program.now setup → KernelOf setup (start setup) k) }
+        ensures start { IfOk result
+            (λ k. (setup : Setup) → StandsFor program.now setup → KernelOf setup (start setup) k) }
         ensures moved { IfOk result (λ k. (i : ℕ) → moved k i ≡ []) }
     {
         let processes = program.processes.len();
@@ -86,9 +87,11 @@ impl Kernel {
     /// Makes room in the transcript of process p for the output that its private state holds. It fails only for want of memory,
     /// and changes nothing else.
     pub fn reserve(&mut self, private: &Private, p: usize) -> Result<(), AllocError>
-        ensures same { (setup : Setup) (s : State) → KernelOf setup s self.old → KernelOf setup s self.new }
+        ensures same { (setup : Setup) (s : State) → KernelOf setup s self.old
+            → KernelOf setup s self.new }
         ensures moved { (i : ℕ) → moved self.new i ≡ moved self.old i }
-        ensures others { (i : ℕ) (x : Private) → i ≢ p - 1 → HasRoom self.old i x → HasRoom self.new i x }
+        ensures others { (i : ℕ) (x : Private) → i ≢ p - 1 → HasRoom self.old i x
+            → HasRoom self.new i x }
         ensures room { IfOk result (λ _. HasRoom self.new (p - 1) private.now) }
     {
         self.reserve_bytes(private.output.len(), p)?;
@@ -97,10 +100,13 @@ impl Kernel {
 
     /// Makes room in the transcript of process p for so many bytes. It fails only for want of memory, and changes nothing else.
     pub fn reserve_bytes(&mut self, bytes: usize, p: usize) -> Result<(), AllocError>
-        ensures same { (setup : Setup) (s : State) → KernelOf setup s self.old → KernelOf setup s self.new }
+        ensures same { (setup : Setup) (s : State) → KernelOf setup s self.old
+            → KernelOf setup s self.new }
         ensures moved { (i : ℕ) → moved self.new i ≡ moved self.old i }
-        ensures others { (i : ℕ) (x : Private) → i ≢ p - 1 → HasRoom self.old i x → HasRoom self.new i x }
-        ensures room { IfOk result (λ _. (x : Private) → vec_len x.output ≤ bytes → HasRoom self.new (p - 1) x) }
+        ensures others { (i : ℕ) (x : Private) → i ≢ p - 1 → HasRoom self.old i x
+            → HasRoom self.new i x }
+        ensures room { IfOk result
+            (λ _. (x : Private) → vec_len x.output ≤ bytes → HasRoom self.new (p - 1) x) }
     {
         match self.transcripts.get_mut(p.saturating_sub(1)) {
             Some(transcript) => transcript.reserve(bytes),

@@ -14,7 +14,8 @@ use cp_program::code::Op;
 use cp_program::program::Program;
 
 fn is_unstarted(kernel: &Kernel, process: usize) -> bool
-    ensures { result ≡ Rattle.cp_kernel.specs.Starting.is_unstarted (slice_get kernel.now.stages.items (process - 1)) }
+    ensures { result ≡ Rattle.cp_kernel.specs.Starting.is_unstarted
+        (slice_get kernel.now.stages.items (process - 1)) }
 {
     match kernel.stages.get(process.saturating_sub(1)) {
         Some(Stage::Unstarted) => true,
@@ -24,7 +25,10 @@ fn is_unstarted(kernel: &Kernel, process: usize) -> bool
 
 // `init` of a process.
 fn start(kernel: &mut Kernel, private: &mut Private, process: usize, next: usize)
-    ensures step { turning kernel.new private.new ≡ started (Rattle.cp_kernel.specs.Starting.is_unstarted (slice_get kernel.old.stages.items (process - 1))) (turning kernel.old private.old) process next }
+    ensures step { turning kernel.new private.new ≡ started
+        (Rattle.cp_kernel.specs.Starting.is_unstarted
+        (slice_get kernel.old.stages.items (process - 1))) (turning kernel.old private.old) process
+        next }
     ensures transcripts { kernel.new.transcripts ≡ kernel.old.transcripts }
 {
     if is_unstarted(kernel, process) {
@@ -37,7 +41,8 @@ fn start(kernel: &mut Kernel, private: &mut Private, process: usize, next: usize
 
 // One step, where it is the kernel's, and whether it is.
 fn step(program: &Program, kernel: &mut Kernel, private: &mut Private) -> bool
-    ensures step { turning kernel.new private.new ≡ stepped program.now (turning kernel.old private.old) }
+    ensures step { turning kernel.new private.new ≡ stepped program.now
+        (turning kernel.old private.old) }
     ensures due { result ≡ is_due program.now (turning kernel.old private.old) }
     ensures transcripts { kernel.new.transcripts ≡ kernel.old.transcripts }
 {
@@ -55,7 +60,8 @@ fn step(program: &Program, kernel: &mut Kernel, private: &mut Private) -> bool
 
 // At most so many steps, while the next one is the kernel's.
 fn kernel_steps(program: &Program, kernel: &mut Kernel, private: &mut Private, turn: u32)
-    ensures turn { turning kernel.new private.new ≡ turned program.now turn (turning kernel.old private.old) }
+    ensures turn { turning kernel.new private.new ≡ turned program.now turn
+        (turning kernel.old private.old) }
     ensures transcripts { kernel.new.transcripts ≡ kernel.old.transcripts }
 {
     for _i in 0..turn {
@@ -68,12 +74,16 @@ fn kernel_steps(program: &Program, kernel: &mut Kernel, private: &mut Private, t
 // Moves the output that process p holds to its transcript.
 fn move_output(kernel: &mut Kernel, private: &mut Private, p: usize)
     requires room { HasRoom kernel.old (p - 1) private.old }
-    ensures moved { moved kernel.new (p - 1) ++ private.new.output.items ≡ moved kernel.old (p - 1) ++ private.old.output.items }
+    ensures moved { moved kernel.new (p - 1) ++ private.new.output.items ≡ moved kernel.old
+        (p - 1) ++ private.old.output.items }
     ensures private { private.new ≡ record private.old { output = private.new.output } }
     ensures stages { kernel.new.stages ≡ kernel.old.stages }
     ensures count { length kernel.new.transcripts.items ≡ length kernel.old.transcripts.items }
-    ensures others { (i : ℕ) → i ≢ p - 1 → slice_get kernel.new.transcripts.items i ≡ slice_get kernel.old.transcripts.items i }
-    ensures emptied { (transcript : Bytes) → slice_get kernel.old.transcripts.items (p - 1) ≡ Some transcript → private.new.output.items ≡ [] }
+    ensures others { (i : ℕ) → i ≢ p - 1
+        → slice_get kernel.new.transcripts.items i ≡ slice_get kernel.old.transcripts.items i }
+    ensures emptied { (transcript : Bytes)
+        → slice_get kernel.old.transcripts.items (p - 1) ≡ Some transcript
+        → private.new.output.items ≡ [] }
 {
     if let Some(transcript) = kernel.transcripts.get_mut(p.saturating_sub(1)) {
         let moved = transcript.extend_from_slice(&private.output);
@@ -93,10 +103,14 @@ pub fn kernel_turn(
     turn: Turn,
 )
     requires room { HasRoom kernel.old (p - 1) private.old }
-    ensures turn { MakesKernelTurn program.now turn.steps p kernel.old private.old kernel.new private.new }
+    ensures turn { MakesKernelTurn program.now turn.steps p kernel.old private.old kernel.new
+        private.new }
     ensures moved { (i : ℕ) → i ≢ p - 1 → moved kernel.new i ≡ moved kernel.old i }
-    ensures others { (i : ℕ) (x : Private) → i ≢ p - 1 → HasRoom kernel.old i x → HasRoom kernel.new i x }
-    ensures emptied { (transcript : Bytes) → slice_get kernel.old.transcripts.items (p - 1) ≡ Some transcript → private.new.output.items ≡ [] }
+    ensures others { (i : ℕ) (x : Private) → i ≢ p - 1 → HasRoom kernel.old i x
+        → HasRoom kernel.new i x }
+    ensures emptied { (transcript : Bytes)
+        → slice_get kernel.old.transcripts.items (p - 1) ≡ Some transcript
+        → private.new.output.items ≡ [] }
 {
     move_output(kernel, private, p);
     kernel_steps(program, kernel, private, turn.steps());

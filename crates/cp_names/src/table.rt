@@ -21,7 +21,8 @@ impl<'t, A: Copy> Model for NameTable<'t, A> {
 
     ghost view = { λ t. map seen t.entries.items };
 
-    ghost invariant = { λ t. IsIndex t.numbers (map seen t.entries.items) × AreDistinct (map seen t.entries.items) };
+    ghost invariant = { λ t. IsIndex t.numbers (map seen t.entries.items)
+        × AreDistinct (map seen t.entries.items) };
 }
 
 impl<'t, A: Copy> NameTable<'t, A> {

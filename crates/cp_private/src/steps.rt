@@ -74,7 +74,8 @@ fn act(op: &Op, private: &mut Private) -> bool
 fn step(program: &Program, private: &mut Private) -> bool
     requires room { HasRoomFor private.old 1 }
     ensures step { own_of private.new ≡ plain.step program.now (own_of private.old) }
-    ensures rest { result ≡ false → plain.step program.now (own_of private.old) ≡ own_of private.old }
+    ensures rest { result ≡ false
+        → plain.step program.now (own_of private.old) ≡ own_of private.old }
     ensures room { KeepsRoom private.old private.new }
 {
     if !matches!(private.activity, Activity::Running) {

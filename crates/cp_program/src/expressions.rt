@@ -45,14 +45,16 @@ fn signed(alloc: Global, sign: Sign, operand: Code) -> Result<Code, AllocError>
 }
 
 fn operation(operator: Arithmetic, operand: Code) -> Operation
-    ensures { numbered_operation result ≡ record { operator = operator; operand = numbered operand } }
+    ensures { numbered_operation
+        result ≡ record { operator = operator; operand = numbered operand } }
 {
     Operation { operator, operand }
 }
 
 // Operands with operators between them, where there is an operator.
 fn chain(alloc: Global, first: Code, rest: Vec<Operation>) -> Result<Code, AllocError>
-    ensures { IfOk result (λ c. numbered c ≡ chain_of (numbered first) (map numbered_operation rest.items)) }
+    ensures { IfOk result
+        (λ c. numbered c ≡ chain_of (numbered first) (map numbered_operation rest.items)) }
 {
     if rest.is_empty() {
         return Ok(first);
@@ -94,7 +96,9 @@ fn operations(
     slots: &Table<Slot>,
     rest: &[cp_model::tree::Operation],
 ) -> Result<Vec<Operation>, AllocError>
-    ensures { IfOk result (λ os. map numbered_operation os.items ≡ map (number_operation slots.now) (map view.operation rest.now)) }
+    ensures { IfOk result
+        (λ os. map numbered_operation os.items ≡ map (number_operation slots.now)
+        (map view.operation rest.now)) }
 {
     let mut operations = Vec::new(alloc);
     for o in rest {

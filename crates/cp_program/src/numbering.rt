@@ -37,7 +37,10 @@ fn component(
     body: &Body,
 ) -> Result<Component, AllocError>
     ensures kept { OnOk result (Keeps ops.old.items ops.new.items) }
-    ensures stands { IfOk result (λ c. (gs : List s.Variables) → words.items ≡ of_text.word_names gs → SameNames slots.now (of_text.slots gs) → components.ComponentStands ops.new.items gs (view.body body.now).list c) }
+    ensures stands { IfOk result
+        (λ c. (gs : List s.Variables) → words.items ≡ of_text.word_names gs
+        → SameNames slots.now (of_text.slots gs)
+        → components.ComponentStands ops.new.items gs (view.body body.now).list c) }
 {
     let end = append(ops, Op::End)?;
     let start = emit_all(alloc, ops, slots, &body.statements, end)?;
@@ -55,7 +58,10 @@ impl<'t> Numbering<'t> {
         words: Vec<Name>,
         body: &Body,
     ) -> Result<Numbering<'t>, AllocError>
-        ensures { IfOk result (λ n. (t : s.Tree) → t.body ≡ view.body body.now → words.items ≡ of_text.word_names t.variables → SameNames slots.now (of_text.slots t.variables) → components.Numbered n t []) }
+        ensures { IfOk result
+            (λ n. (t : s.Tree) → t.body ≡ view.body body.now
+            → words.items ≡ of_text.word_names t.variables
+            → SameNames slots.now (of_text.slots t.variables) → components.Numbered n t []) }
     {
         let mut ops = Vec::new(alloc);
         let mut components = Vec::new(alloc);
@@ -73,7 +79,11 @@ impl<'t> Numbering<'t> {
         x: &'t Identifier,
         system: &'t System,
     ) -> Result<(), AllocError>
-        ensures { OnOk result ((t : s.Tree) (systems : List (Text × s.System)) → components.Numbered self.old t systems → components.Numbered self.new t (systems ++ (x.now.name, view.system system.now) ∷ [])) }
+        ensures { OnOk result
+            ((t : s.Tree) (systems : List (Text × s.System))
+            → components.Numbered self.old t systems
+            → components.Numbered self.new t
+            (systems ++ (x.now.name, view.system system.now) ∷ [])) }
     {
         let number = self.components.len();
         self.types.add(x.name.as_bytes(), number)?;
@@ -88,7 +98,11 @@ impl<'t> Numbering<'t> {
     }
 
     fn add_definition(&mut self, alloc: Global, d: &'t TypeDefinition) -> Result<(), AllocError>
-        ensures { OnOk result ((t : s.Tree) (rest all : List (Text × s.System)) → components.Left self.old t (of_text.system_in d.now.name.name (view.defined_type d.now.defined) ++ rest) all → components.Left self.new t rest all) }
+        ensures { OnOk result
+            ((t : s.Tree) (rest all : List (Text × s.System))
+            → components.Left self.old t
+            (of_text.system_in d.now.name.name (view.defined_type d.now.defined) ++ rest) all
+            → components.Left self.new t rest all) }
     {
         if let Defined::System(system) = &d.defined {
             self.add_system(alloc, &d.name, system)?;
@@ -97,7 +111,11 @@ impl<'t> Numbering<'t> {
     }
 
     fn add_types(&mut self, alloc: Global, list: &'t [TypeDefinition]) -> Result<(), AllocError>
-        ensures { OnOk result ((t : s.Tree) (rest all : List (Text × s.System)) → components.Left self.old t (of_text.systems_in (map view.type_definition list.now) ++ rest) all → components.Left self.new t rest all) }
+        ensures { OnOk result
+            ((t : s.Tree) (rest all : List (Text × s.System))
+            → components.Left self.old t
+            (of_text.systems_in (map view.type_definition list.now) ++ rest) all
+            → components.Left self.new t rest all) }
     {
         for d in list {
             self.add_definition(alloc, d)?;
@@ -106,7 +124,10 @@ impl<'t> Numbering<'t> {
     }
 
     fn add_sections(&mut self, alloc: Global, list: &'t [Section]) -> Result<(), AllocError>
-        ensures { OnOk result ((t : s.Tree) (rest all : List (Text × s.System)) → components.Left self.old t (of_text.systems_of (map view.section_of list.now) ++ rest) all → components.Left self.new t rest all) }
+        ensures { OnOk result
+            ((t : s.Tree) (rest all : List (Text × s.System))
+            → components.Left self.old t (of_text.systems_of (map view.section_of list.now) ++ rest)
+            all → components.Left self.new t rest all) }
     {
         for section in list {
             if let Section::Types(types) = section {
@@ -133,7 +154,8 @@ fn processes(
     types: &Table<usize>,
     variables: &[ProcessVariable],
 ) -> Result<Vec<Process>, AllocError>
-    ensures { IfOk result (λ qs. qs.items ≡ components.processes_of types.now (map seen_process variables.now)) }
+    ensures { IfOk result
+        (λ qs. qs.items ≡ components.processes_of types.now (map seen_process variables.now)) }
 {
     let mut processes = Vec::new(alloc);
     processes.push(Process {

@@ -46,7 +46,9 @@ impl Program {
     pub fn number(alloc: Global, tree: &Tree) -> Result<Program, AllocError>
         requires accepted { Accepted (view.tree tree.now) }
         requires fragment { is_in_fragment (view.tree tree.now) ≡ true }
-        ensures stands { IfOk result (λ p. (setup : Setup) → setup.tree ≡ erase.abstract (view.tree tree.now) → StandsFor p setup) }
+        ensures stands { IfOk result
+            (λ p. (setup : Setup) → setup.tree ≡ erase.abstract (view.tree tree.now)
+            → StandsFor p setup) }
     {
         accepted_text_resolves();
         numbered(alloc, tree)

@@ -17,7 +17,8 @@ use std::alloc::{AllocError, Global};
 
 /// Appends an operation, and answers its place. It fails only for want of memory.
 pub fn append(ops: &mut Vec<Op>, op: Op) -> Result<usize, AllocError>
-    ensures { IfOk result (λ place. Emits ops.old.items ops.new.items (λ all low. StandsAt all low place op)) }
+    ensures { IfOk result
+        (λ place. Emits ops.old.items ops.new.items (λ all low. StandsAt all low place op)) }
 {
     let place = ops.len();
     ops.push(op)?;
@@ -41,7 +42,10 @@ fn set(
     e: &Expression,
     next: usize,
 ) -> Result<usize, AllocError>
-    ensures { IfOk result (λ place. Emits ops.old.items ops.new.items (λ all low. emitted.SetEmitted all low (lookup x.now.name slots.now) (number_of slots.now (view.expression e.now)) place next)) }
+    ensures { IfOk result
+        (λ place. Emits ops.old.items ops.new.items
+        (λ all low. emitted.SetEmitted all low (lookup x.now.name slots.now)
+        (number_of slots.now (view.expression e.now)) place next)) }
 {
     let Some(Slot::Word(word)) = slots.find(x.name.as_bytes()) else {
         return Ok(next);
@@ -58,7 +62,10 @@ fn display(
     list: &[Expression],
     next: usize,
 ) -> Result<usize, AllocError>
-    ensures { IfOk result (λ place. Emits ops.old.items ops.new.items (λ all low. emitted.DisplayEmitted all low slots.now (view.expressions_of (map view.expression list.now)) place next)) }
+    ensures { IfOk result
+        (λ place. Emits ops.old.items ops.new.items
+        (λ all low. emitted.DisplayEmitted all low slots.now
+        (view.expressions_of (map view.expression list.now)) place next)) }
 {
     match list {
         [] => Ok(next),
@@ -77,7 +84,9 @@ fn start(
     x: &Identifier,
     next: usize,
 ) -> Result<usize, AllocError>
-    ensures { IfOk result (λ place. Emits ops.old.items ops.new.items (λ all low. emitted.StartEmitted all low (lookup x.now.name slots.now) place next)) }
+    ensures { IfOk result
+        (λ place. Emits ops.old.items ops.new.items
+        (λ all low. emitted.StartEmitted all low (lookup x.now.name slots.now) place next)) }
 {
     let Some(Slot::Process(process)) = slots.find(x.name.as_bytes()) else {
         return Ok(next);
@@ -92,7 +101,10 @@ fn start_all(
     items: &[InitItem],
     next: usize,
 ) -> Result<usize, AllocError>
-    ensures { IfOk result (λ place. Emits ops.old.items ops.new.items (λ all low. emitted.ItemsEmitted all low slots.now (map view.init_item items.now) place next)) }
+    ensures { IfOk result
+        (λ place. Emits ops.old.items ops.new.items
+        (λ all low. emitted.ItemsEmitted all low slots.now (map view.init_item items.now) place
+        next)) }
 {
     let mut entry = next;
     for i in (0..items.len()).rev() {
@@ -109,7 +121,11 @@ fn cycle(
     slots: &Table<Slot>,
     list: &[Statement],
 ) -> Result<usize, AllocError>
-    ensures { IfOk result (λ place. Emits ops.old.items ops.new.items (λ all low. (body : ℕ) × StandsAt all low place (Op.Cycle body) × emitted.ListEmitted all low slots.now (view.statements_of (map view.statement list.now)) body place)) }
+    ensures { IfOk result
+        (λ place. Emits ops.old.items ops.new.items
+        (λ all low. (body : ℕ) × StandsAt all low place (Op.Cycle body)
+        × emitted.ListEmitted all low slots.now (view.statements_of (map view.statement list.now))
+        body place)) }
 {
     let place = append(ops, Op::Cycle { body: 0 })?;
     let body = emit_all(alloc, ops, slots, list, place)?;
@@ -126,7 +142,9 @@ pub fn emit(
     s: &Statement,
     next: usize,
 ) -> Result<usize, AllocError>
-    ensures { IfOk result (λ place. Emits ops.old.items ops.new.items (λ all low. emitted.Emitted all low slots.now (view.statement s.now) place next)) }
+    ensures { IfOk result
+        (λ place. Emits ops.old.items ops.new.items
+        (λ all low. emitted.Emitted all low slots.now (view.statement s.now) place next)) }
 {
     match s {
         Statement::Assign { target, value, .. } => {
@@ -149,7 +167,10 @@ pub fn emit_all(
     list: &[Statement],
     next: usize,
 ) -> Result<usize, AllocError>
-    ensures { IfOk result (λ place. Emits ops.old.items ops.new.items (λ all low. emitted.ListEmitted all low slots.now (view.statements_of (map view.statement list.now)) place next)) }
+    ensures { IfOk result
+        (λ place. Emits ops.old.items ops.new.items
+        (λ all low. emitted.ListEmitted all low slots.now
+        (view.statements_of (map view.statement list.now)) place next)) }
 {
     let mut entry = next;
     for i in (0..list.len()).rev() {

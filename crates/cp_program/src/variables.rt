@@ -65,9 +65,12 @@ impl<'t> Variables<'t> {
     }
 
     fn add_word(&mut self, alloc: Global, x: &'t Identifier) -> Result<(), AllocError>
-        ensures words { OnOk result (self.new.words.items ≡ self.old.words.items ++ x.now.name ∷ []) }
+        ensures words { OnOk result
+            (self.new.words.items ≡ self.old.words.items ++ x.now.name ∷ []) }
         ensures processes { OnOk result (self.new.processes.items ≡ self.old.processes.items) }
-        ensures slots { OnOk result (SameNames self.new.slots (self.old.slots ++ (x.now.name, slot.Word (length self.old.words.items)) ∷ [])) }
+        ensures slots { OnOk result
+            (SameNames self.new.slots
+            (self.old.slots ++ (x.now.name, slot.Word (length self.old.words.items)) ∷ [])) }
     {
         let word = self.words.len();
         self.slots.add(x.name.as_bytes(), Slot::Word(word))?;
@@ -77,8 +80,13 @@ impl<'t> Variables<'t> {
 
     fn add_process(&mut self, x: &'t Identifier, of: &'t [u8]) -> Result<(), AllocError>
         ensures words { OnOk result (self.new.words.items ≡ self.old.words.items) }
-        ensures processes { OnOk result (map seen_process self.new.processes.items ≡ map seen_process self.old.processes.items ++ (x.now.name, of.now) ∷ []) }
-        ensures slots { OnOk result (SameNames self.new.slots (self.old.slots ++ (x.now.name, slot.Process (2 + length self.old.processes.items)) ∷ [])) }
+        ensures processes { OnOk result
+            (map seen_process self.new.processes.items ≡ map seen_process
+            self.old.processes.items ++ (x.now.name, of.now) ∷ []) }
+        ensures slots { OnOk result
+            (SameNames self.new.slots
+            (self.old.slots ++ (x.now.name, slot.Process (2 + length self.old.processes.items)) ∷
+            [])) }
     {
         let number = self.processes.len() + 2;
         self.slots.add(x.name.as_bytes(), Slot::Process(number))?;
@@ -92,7 +100,10 @@ impl<'t> Variables<'t> {
         x: &'t Identifier,
         of: &'t TypeExpression,
     ) -> Result<(), AllocError>
-        ensures { OnOk result ((xs : List IdentifierValue) (gs all : List s.Variables) → Left self.old (group (x.now ∷ xs) (view.type_expression of.now) ∷ gs) all → Left self.new (group xs (view.type_expression of.now) ∷ gs) all) }
+        ensures { OnOk result
+            ((xs : List IdentifierValue) (gs all : List s.Variables)
+            → Left self.old (group (x.now ∷ xs) (view.type_expression of.now) ∷ gs) all
+            → Left self.new (group xs (view.type_expression of.now) ∷ gs) all) }
     {
         if is_integer(of) {
             return self.add_word(alloc, x);
@@ -101,7 +112,9 @@ impl<'t> Variables<'t> {
     }
 
     fn add_all(&mut self, alloc: Global, group: &'t Fields) -> Result<(), AllocError>
-        ensures { OnOk result ((gs all : List s.Variables) → Left self.old (view.variables group.now ∷ gs) all → Left self.new gs all) }
+        ensures { OnOk result
+            ((gs all : List s.Variables) → Left self.old (view.variables group.now ∷ gs) all
+            → Left self.new gs all) }
     {
         for x in &group.names {
             self.add(alloc, x, &group.of)?;

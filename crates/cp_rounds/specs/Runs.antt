@@ -6,7 +6,7 @@ use Rattle.cp_model.specs.Rounds.{run}
 use Rattle.cp_program.specs.declared.program.Program.{Program}
 use Rattle.cp_private.specs.declared.private.Private.{Private}
 use Rattle.cp_kernel.specs.declared.kernel.Kernel.{Kernel}
-use Rattle.cp_rounds.specs.declared.run.Parts.{Parts}
+use Rattle.cp_rounds.specs.declared.round.Parts.{Parts}
 use Rattle.cp_rounds.specs.declared.machine.Machine.{Machine}
 use Rattle.cp_rounds.specs.Holds.{Holds}
 

@@ -25,9 +25,13 @@ pub struct Generation<'a> {
 }
 
 impl<'a> Aside for Generation<'a> {
-    ghost can = { λ b. (b.from ≤ length b.privates.items) × AllReady b.from b.privates.items b.kernel };
+    ghost can = { λ b. (b.from ≤ length b.privates.items)
+        × AllReady b.from b.privates.items b.kernel };
 
-    ghost does = { λ b c. (c.program ≡ b.program) × (c.turn ≡ b.turn) × (c.from ≡ length c.privates.items) × MakesTurns b.program.now b.turn.steps b.from b.privates.items c.privates.items b.kernel c.kernel };
+    ghost does = { λ b c. (c.program ≡ b.program) × (c.turn ≡ b.turn)
+        × (c.from ≡ length c.privates.items)
+        × MakesTurns b.program.now b.turn.steps b.from b.privates.items c.privates.items b.kernel
+        c.kernel };
 
     fn turn<G: TurnGate>(&mut self, gate: &G) {
         let end = self.privates.len();
@@ -51,7 +55,8 @@ impl<'a> Aside for Generation<'a> {
 ///
 /// `AllocError` where memory runs out.
 pub fn copy_kernel(alloc: Global, kernel: &Kernel) -> Result<Kernel, AllocError>
-    ensures same { IfOk result (λ k. (setup : Setup) (s : State) → KernelOf setup s kernel.now → KernelOf setup s k) }
+    ensures same { IfOk result
+        (λ k. (setup : Setup) (s : State) → KernelOf setup s kernel.now → KernelOf setup s k) }
     ensures moved { IfOk result (λ k. (i : ℕ) → moved k i ≡ moved kernel.now i) }
 {
     let stages = Vec::from_slice(alloc, &kernel.stages)?;
@@ -76,7 +81,8 @@ pub fn kernel_turns<G: TurnGate>(
 ) -> (Kernel, Vec<Private>)
     requires from { from ≤ length privates.items }
     requires ready { AllReady from privates.items kernel }
-    ensures turns { MakesTurns program.now turn.steps from privates.items result.1.items kernel result.0 }
+    ensures turns { MakesTurns program.now turn.steps from privates.items result.1.items kernel
+        result.0 }
 {
     let mut last = Generation {
         program,

@@ -1,19 +1,22 @@
 //! Rounds: the private turns of all processes, and then their kernel turns by number; and what is read of a machine between them.
 //!
-//! `specs/Holds.antt` says when a machine is in a state of the system; each round leaves the state that one processor leaves.
+//! `machine` has the public calls, `reading` what is read of a machine. `whole`, `team` and `worker` make one round by threads of its own;
+//! `run`, `round`, `desk` and `task` make many by threads that are kept. `specs/Holds.antt` says when a machine is in a state of the system;
+//! each round leaves the state that one processor leaves.
 #![tactic(auto)]
 
-pub mod desk;
+mod desk;
 pub mod gate;
-pub mod generation;
+mod generation;
 pub mod machine;
 pub mod plan;
 pub mod reading;
-pub mod run;
-pub mod task;
-pub mod team;
+mod round;
+mod run;
+mod task;
+mod team;
 pub mod tick;
-pub mod turns;
-pub mod wave;
-pub mod whole;
-pub mod worker;
+mod turns;
+mod wave;
+mod whole;
+mod worker;

@@ -14,7 +14,8 @@ ghost use Rattle.cp_rounds.specs.Runs.{IsAfter};
 use crate::gate::TurnGate;
 use crate::generation::{Generation, copy_kernel, kernel_turns};
 use crate::plan::Plan;
-use crate::run::{Parts, make_rounds_of};
+use crate::round::Parts;
+use crate::run::make_rounds_of;
 use crate::team::Idle;
 use crate::tick::Tick;
 use crate::turns::Turns;
@@ -52,7 +53,8 @@ pub struct MemoryAt(pub u32);
 
 // Room for the kernel turns from an index on.
 fn reserve_from(kernel: &mut Kernel, privates: &[Private], from: usize) -> Result<(), AllocError>
-    ensures same { (setup : Setup) (s : State) → KernelOf setup s kernel.old → KernelOf setup s kernel.new }
+    ensures same { (setup : Setup) (s : State) → KernelOf setup s kernel.old
+        → KernelOf setup s kernel.new }
     ensures moved { (i : ℕ) → moved kernel.new i ≡ moved kernel.old i }
     ensures ready { IfOk result (λ _. AllReady from privates.now kernel.new) }
 {
@@ -72,7 +74,9 @@ fn all_waves<'x, R: Threads + Wait + Sync, G: TurnGate>(
     plan: &Plan,
     gate: &G,
 ) -> Result<(Kernel, Vec<Private>), AllocError>
-    ensures made { IfOk result (λ r. WavesMade program.now plan.now.turn.steps privates.now.items kernel (length r.1.items) r.1.items r.0) }
+    ensures made { IfOk result
+        (λ r. WavesMade program.now plan.now.turn.steps privates.now.items kernel (length r.1.items)
+        r.1.items r.0) }
     ensures count { IfOk result (λ r. length r.1.items ≡ length privates.now.items) }
 {
     let job = Turns {
@@ -113,7 +117,8 @@ fn one_wave<R: Threads + Wait + Sync, G: TurnGate>(
     gate: &G,
 ) -> Result<Vec<Private>, AllocError>
     requires one { length privates.now.items ≤ plan.now.wave }
-    ensures made { IfOk result (λ ys. MakesPrivateTurns program.now plan.now.turn.steps privates.now.items ys.items) }
+    ensures made { IfOk result
+        (λ ys. MakesPrivateTurns program.now plan.now.turn.steps privates.now.items ys.items) }
     ensures count { IfOk result (λ ys. length ys.items ≡ length privates.now.items) }
 {
     let mut next = Vec::with_capacity(alloc, privates.len())?;
@@ -162,8 +167,11 @@ impl Machine {
     ) -> Result<Machine, AllocError>
         requires inputs { length inputs.items ≡ length program.processes.items }
         ensures rounds { IfOk result (λ machine. machine.rounds ≡ 0) }
-        ensures processes { IfOk result (λ machine. length machine.privates.items ≡ length inputs.items) }
-        ensures start { IfOk result (λ machine. (setup : Setup) → StandsFor program setup → AreInputs inputs.items setup → setup.tick ≡ tick.rounds → IsIn machine setup (start setup)) }
+        ensures processes { IfOk result
+            (λ machine. length machine.privates.items ≡ length inputs.items) }
+        ensures start { IfOk result
+            (λ machine. (setup : Setup) → StandsFor program setup → AreInputs inputs.items setup
+            → setup.tick ≡ tick.rounds → IsIn machine setup (start setup)) }
     {
         let privates = first_privates(alloc, &program, inputs)?;
         let kernel = Kernel::new(alloc, &program)?;
@@ -186,7 +194,8 @@ impl Machine {
         gate: &G,
     ) -> Result<(), AllocError>
         ensures made { IfOk result (λ _. MakesRound plan.now.turn.steps self.old self.new) }
-        ensures kept { IfErr result (λ _. (setup : Setup) (s : State) → IsIn self.old setup s → IsIn self.new setup s) }
+        ensures kept { IfErr result
+            (λ _. (setup : Setup) (s : State) → IsIn self.old setup s → IsIn self.new setup s) }
         ensures count { length self.new.privates.items ≡ length self.old.privates.items }
         ensures rounds { self.new.rounds ≡ self.old.rounds }
     {
@@ -232,11 +241,16 @@ impl Machine {
         gate: &G,
     ) -> Result<(), AllocError>
         requires count { self.old.rounds < 2 ^ 64 - 1 }
-        ensures phased { IfOk result (λ _. (setup : Setup) (s : State) → IsIn self.old setup s → IsIn self.new setup (r.phased_round setup plan.now.turn.steps s)) }
-        ensures one_processor { IfOk result (λ _. (setup : Setup) (s : State) → IsIn self.old setup s → IsIn self.new setup (r.sequential_round setup plan.now.turn.steps s)) }
+        ensures phased { IfOk result
+            (λ _. (setup : Setup) (s : State) → IsIn self.old setup s
+            → IsIn self.new setup (r.phased_round setup plan.now.turn.steps s)) }
+        ensures one_processor { IfOk result
+            (λ _. (setup : Setup) (s : State) → IsIn self.old setup s
+            → IsIn self.new setup (r.sequential_round setup plan.now.turn.steps s)) }
         ensures count { IfOk result (λ _. self.new.rounds ≡ self.old.rounds + 1) }
         ensures processes { length self.new.privates.items ≡ length self.old.privates.items }
-        ensures kept { IfErr result (λ _. (setup : Setup) (s : State) → IsIn self.old setup s → IsIn self.new setup s) }
+        ensures kept { IfErr result
+            (λ _. (setup : Setup) (s : State) → IsIn self.old setup s → IsIn self.new setup s) }
     {
         self.turns(rt, plan, gate)?;
         end_round(&self.program, &mut self.kernel, &mut self.privates);
@@ -255,7 +269,8 @@ impl Machine {
         requires some { 0 < rounds }
         requires count { self.old.rounds + rounds < 2 ^ 64 }
         ensures made { IfOk result (λ _. IsAfter plan.now.turn.steps rounds self.old self.new) }
-        ensures partly { IfErr result (λ n. (n < rounds) × IsAfter plan.now.turn.steps n self.old self.new) }
+        ensures partly { IfErr result
+            (λ n. (n < rounds) × IsAfter plan.now.turn.steps n self.old self.new) }
     {
         let none = Kernel {
             stages: Vec::new(self.alloc),
@@ -301,8 +316,13 @@ impl Machine {
         gate: &G,
     ) -> Result<(), MemoryAt>
         requires count { self.old.rounds + rounds < 2 ^ 64 }
-        ensures done { IfOk result (λ _. (setup : Setup) (s : State) → IsIn self.old setup s → IsIn self.new setup (r.run setup plan.now.turn.steps rounds s)) }
-        ensures partly { IfErr result (λ e. (1 ≤ e.0) × (e.0 ≤ rounds) × ((setup : Setup) (s : State) → IsIn self.old setup s → IsIn self.new setup (r.run setup plan.now.turn.steps (e.0 - 1) s))) }
+        ensures done { IfOk result
+            (λ _. (setup : Setup) (s : State) → IsIn self.old setup s
+            → IsIn self.new setup (r.run setup plan.now.turn.steps rounds s)) }
+        ensures partly { IfErr result
+            (λ e. (1 ≤ e.0) × (e.0 ≤ rounds)
+            × ((setup : Setup) (s : State) → IsIn self.old setup s
+            → IsIn self.new setup (r.run setup plan.now.turn.steps (e.0 - 1) s))) }
         ensures processes { length self.new.privates.items ≡ length self.old.privates.items }
     {
         let mut done = 0;

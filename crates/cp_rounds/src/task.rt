@@ -97,8 +97,10 @@ impl<'a, C: Course> Task<'a, C> {
         process: usize,
     ) -> Option<Private>
         requires cell { start.now.of ≡ C.cell round }
-        ensures comes { IfSome result (ComesOf C.turned start.now.value.value.items (process - 1) true) }
-        ensures short { IfSome result (IsShort C.most start.now.value.value.items (process - 1) true) }
+        ensures comes { IfSome result
+            (ComesOf C.turned start.now.value.value.items (process - 1) true) }
+        ensures short { IfSome result
+            (IsShort C.most start.now.value.value.items (process - 1) true) }
     {
         if !self.made || self.round != round || self.process != process {
             return None;

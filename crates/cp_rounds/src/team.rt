@@ -25,7 +25,11 @@ pub struct Works<J> {
 }
 
 impl<J: Job> Promise<(Seat, Result<Vec<(usize, J::Out)>, AllocError>)> for Works<J> {
-    ghost kept_by = { λ p r. IsSeatOf p.board.value r.0 × (r.0.view.allowance ≡ p.seat.value.view.allowance) × IfOk r.1 (λ rs. IsDone r.0.view × IsWork (J.gives p.job.value) p.wave p.seat.value.view.draws r.0.view.draws rs.items) };
+    ghost kept_by = { λ p r. IsSeatOf p.board.value r.0
+        × (r.0.view.allowance ≡ p.seat.value.view.allowance)
+        × IfOk r.1
+        (λ rs. IsDone r.0.view
+        × IsWork (J.gives p.job.value) p.wave p.seat.value.view.draws r.0.view.draws rs.items) };
 }
 
 impl<J> Works<J> {
@@ -49,7 +53,9 @@ fn both<X: Drop>(
     all: Result<Vec<(usize, X)>, AllocError>,
     rest: Result<Vec<(usize, X)>, AllocError>,
 ) -> Result<Vec<(usize, X)>, AllocError>
-    ensures { IfOk result (λ v. IfOk all (λ a. IfOk rest (λ b. v.items ≡ a.items ++ b.items)) × (IfErr all (λ _. ⊥)) × IfErr rest (λ _. ⊥)) }
+    ensures { IfOk result
+        (λ v. IfOk all (λ a. IfOk rest (λ b. v.items ≡ a.items ++ b.items)) × (IfErr all (λ _. ⊥))
+        × IfErr rest (λ _. ⊥)) }
 {
     let mut all = all?;
     let mut rest = rest?;
@@ -79,7 +85,9 @@ where
     requires room { workers ≤ seat.view.allowance }
     ensures of { IsSeatOf board.entry.now result.0 }
     ensures allowance { result.0.view.allowance ≡ seat.view.allowance }
-    ensures done { IfOk result.1 (λ rs. IsDone result.0.view × IsWork (J.gives job.entry.now) wave seat.view.draws result.0.view.draws rs.items) }
+    ensures done { IfOk result.1
+        (λ rs. IsDone result.0.view
+        × IsWork (J.gives job.entry.now) wave seat.view.draws result.0.view.draws rs.items) }
 {
     if workers == 1 {
         return work(alloc, board, seat, wave, job, gate);
@@ -91,10 +99,14 @@ where
     let more = workers - fewer;
     let promise = Works::of(board, &theirs, job, wave);
     let there = move || -> (Seat, Result<Vec<(usize, J::Out)>, AllocError>)
-        requires { IsSync R.row × IsSync J.row × IsSync G.row × IsSend J.Out.row × IsSeatOf board.now theirs × (board.now.shape.numbers ≤ 255) × IsWithin (J.within job.now) wave × (0 < fewer) × (fewer ≤ theirs.view.allowance) }
+        requires { IsSync R.row × IsSync J.row × IsSync G.row × IsSend J.Out.row
+            × IsSeatOf board.now theirs × (board.now.shape.numbers ≤ 255)
+            × IsWithin (J.within job.now) wave × (0 < fewer) × (fewer ≤ theirs.view.allowance) }
         ensures of { IsSeatOf board.entry.now result.0 }
         ensures allowance { result.0.view.allowance ≡ theirs.view.allowance }
-        ensures done { IfOk result.1 (λ rs. IsDone result.0.view × IsWork (J.gives job.entry.now) wave theirs.view.draws result.0.view.draws rs.items) }
+        ensures done { IfOk result.1
+            (λ rs. IsDone result.0.view
+            × IsWork (J.gives job.entry.now) wave theirs.view.draws result.0.view.draws rs.items) }
     { team(rt, scope, alloc, board, theirs, fewer, wave, job, gate) };
     match scope.spawn_with(promise, there) {
         Ok(handle) => {
@@ -157,7 +169,9 @@ where
     requires can { A.can aside }
     ensures of { IsSeatOf board.entry.now result.0 }
     ensures allowance { result.0.view.allowance ≡ seat.view.allowance }
-    ensures done { IfOk result.1 (λ rs. IsDone result.0.view × IsWork (J.gives job.entry.now) wave seat.view.draws result.0.view.draws rs.items) }
+    ensures done { IfOk result.1
+        (λ rs. IsDone result.0.view
+        × IsWork (J.gives job.entry.now) wave seat.view.draws result.0.view.draws rs.items) }
     ensures aside { IfOk result.1 (λ _. A.does aside result.2) }
 {
     if workers == 1 {
@@ -172,10 +186,13 @@ where
     let more = workers - fewer;
     let promise = Works::of(board, &theirs, job, wave);
     let there = move || -> (Seat, Result<Vec<(usize, J::Out)>, AllocError>)
-        requires { IsSeatOf board.now theirs × (board.now.shape.numbers ≤ 255) × IsWithin (J.within job.now) wave × (0 < fewer) × (fewer ≤ theirs.view.allowance) }
+        requires { IsSeatOf board.now theirs × (board.now.shape.numbers ≤ 255)
+            × IsWithin (J.within job.now) wave × (0 < fewer) × (fewer ≤ theirs.view.allowance) }
         ensures of { IsSeatOf board.entry.now result.0 }
         ensures allowance { result.0.view.allowance ≡ theirs.view.allowance }
-        ensures done { IfOk result.1 (λ rs. IsDone result.0.view × IsWork (J.gives job.entry.now) wave theirs.view.draws result.0.view.draws rs.items) }
+        ensures done { IfOk result.1
+            (λ rs. IsDone result.0.view
+            × IsWork (J.gives job.entry.now) wave theirs.view.draws result.0.view.draws rs.items) }
     { team(rt, scope, alloc, board, theirs, fewer, wave, job, gate) };
     match scope.spawn_with(promise, there) {
         Ok(handle) => {

@@ -53,10 +53,16 @@ where
         thread::scope_env(),
         rt,
         move |scope| -> (Seat, Result<Vec<(usize, J::Out)>, AllocError>, A)
-            requires { IsSync R.row × IsSync J.row × IsSync G.row × IsSend J.Out.row × IsSeatOf shared.now seat × (shared.now.shape.numbers ≤ 255) × IsWithin (J.within job.now) wave × (0 < busy) × (busy ≤ seat.view.allowance) × A.can aside }
+            requires { IsSync R.row × IsSync J.row × IsSync G.row × IsSend J.Out.row
+                × IsSeatOf shared.now seat × (shared.now.shape.numbers ≤ 255)
+                × IsWithin (J.within job.now) wave × (0 < busy) × (busy ≤ seat.view.allowance)
+                × A.can aside }
             ensures of { IsSeatOf shared.entry.now result.0 }
             ensures allowance { result.0.view.allowance ≡ seat.view.allowance }
-            ensures done { IfOk result.1 (λ rs. IsDone result.0.view × IsWork (J.gives job.entry.now) wave seat.view.draws result.0.view.draws rs.items) }
+            ensures done { IfOk result.1
+                (λ rs. IsDone result.0.view
+                × IsWork (J.gives job.entry.now) wave seat.view.draws result.0.view.draws
+                rs.items) }
             ensures aside { IfOk result.1 (λ _. A.does aside result.2) }
         { crew(rt, scope, alloc, shared, seat, busy, wave, job, gate, aside) },
     );

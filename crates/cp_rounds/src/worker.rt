@@ -72,7 +72,9 @@ where
     requires within { IsWithin (J.within job.now) wave }
     ensures of { IsSeatOf board.now result.0 }
     ensures allowance { result.0.view.allowance ≡ seat.view.allowance }
-    ensures done { IfOk result.1 (λ rs. IsDone result.0.view × IsWork (J.gives job.now) wave seat.view.draws result.0.view.draws rs.items) }
+    ensures done { IfOk result.1
+        (λ rs. IsDone result.0.view
+        × IsWork (J.gives job.now) wave seat.view.draws result.0.view.draws rs.items) }
 {
     let mut done = Vec::new(alloc);
     'draw: while !board.stopped(&mut seat) {

@@ -12,3 +12,4 @@ mod ProcessesComputed
 mod RefusalsComputed
 mod TypesComputed
 mod VariablesComputed
+mod WantedComputed

@@ -13,3 +13,4 @@ pub mod Processes
 pub mod Refusals
 pub mod Types
 pub mod Variables
+pub mod Wanted

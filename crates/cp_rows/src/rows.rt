@@ -16,6 +16,7 @@ ghost use Rattle.cp_rows.specs.Processes.{Processes};
 ghost use Rattle.cp_rows.specs.Refusals.{Refusals};
 ghost use Rattle.cp_rows.specs.Types.{Types};
 ghost use Rattle.cp_rows.specs.Variables.{Variables};
+ghost use Rattle.cp_rows.specs.Wanted.{Wanted};
 
 /// Each of the answers of `worked/calls`.
 pub fn calls_hold()
@@ -85,4 +86,9 @@ pub fn types_hold()
 /// Each of the answers of `worked/variables`.
 pub fn variables_hold()
     ensures { Variables }
+{}
+
+/// Each of the answers of `worked/wanted`.
+pub fn wanted_hold()
+    ensures { Wanted }
 {}

@@ -78,14 +78,17 @@ impl<'t> Checker<'t> {
         low: Judged<(usize, i32)>,
         high: Judged<(usize, i32)>,
     ) -> Judged<TypeRow>
-        ensures { TellsOuter self.old self.new result (around_both low high (types.c2_c3_subrange at)) }
+        ensures { TellsOuter self.old self.new result
+            (around_both low high (types.c2_c3_subrange at)) }
     {
         self.bounds(at, low?, high?)
     }
 
     /// The row of a subrange.
     pub fn subrange(&mut self, low: &Constant, high: &Constant) -> Judged<TypeRow>
-        ensures { Judges self.old self.new result (both (types.constant self.old.env low.now) (types.constant self.old.env high.now) (types.c2_c3_subrange (types.constant_at high.now))) }
+        ensures { Judges self.old self.new result
+            (both (types.constant self.old.env low.now) (types.constant self.old.env high.now)
+            (types.c2_c3_subrange (types.constant_at high.now))) }
     {
         let first = self.constant(low);
         let last = self.constant(high);
@@ -94,7 +97,9 @@ impl<'t> Checker<'t> {
 
     /// Adds a type, and answers its number. It fails only when memory runs out.
     pub fn add_type(&mut self, row: TypeRow) -> Result<usize, AllocError>
-        ensures { IfOk result (λ t. (t ≡ length self.old.env.types) × (self.new ≡ record self.old { env = types.add_type self.old.env row })) }
+        ensures { IfOk result
+            (λ t. (t ≡ length self.old.env.types)
+            × (self.new ≡ record self.old { env = types.add_type self.old.env row })) }
     {
         let t = self.environment.type_count();
         self.environment.add_type(row)?;
@@ -103,7 +108,8 @@ impl<'t> Checker<'t> {
 
     /// Makes a type of a row, where that is known. It fails only when memory runs out.
     pub fn made(&mut self, row: Judged<TypeRow>) -> Result<Judged<usize>, AllocError>
-        ensures { IfOk result (λ answer. Knows self.old self.new answer (made self.old.env [] row)) }
+        ensures { IfOk result
+            (λ answer. Knows self.old self.new answer (made self.old.env [] row)) }
     {
         match row {
             Err(violation) => Ok(Err(violation)),
@@ -118,7 +124,9 @@ impl<'t> Checker<'t> {
         index: Judged<usize>,
         element: Judged<usize>,
     ) -> Judged<TypeRow>
-        ensures { TellsOuter self.old self.new result (around_both index element (λ a b. types.c13_type at (types.array_row self.old.env a b))) }
+        ensures { TellsOuter self.old self.new result
+            (around_both index element
+            (λ a b. types.c13_type at (types.array_row self.old.env a b))) }
     {
         let row = array_row(&self.environment, index?, element?);
         if is_within(row.words) {
@@ -135,7 +143,8 @@ impl<'t> Checker<'t> {
         index: Judged<usize>,
         element: Judged<usize>,
     ) -> Result<Judged<usize>, AllocError>
-        ensures { IfOk result (λ answer. Knows self.old self.new answer (array self.old.env at index element)) }
+        ensures { IfOk result
+            (λ answer. Knows self.old self.new answer (array self.old.env at index element)) }
     {
         let row = self.array_known(at, index, element);
         self.made(row)
@@ -148,7 +157,9 @@ impl<'t> Checker<'t> {
         mut indices: Vec<Judged<usize>>,
         element: Judged<usize>,
     ) -> Result<Judged<usize>, AllocError>
-        ensures { IfOk result (λ answer. Knows self.old self.new answer (arrays self.old.env at indices.items element)) }
+        ensures { IfOk result
+            (λ answer. Knows self.old self.new answer
+            (arrays self.old.env at indices.items element)) }
     {
         let mut of = element;
         while let Some(index) = indices.pop() {

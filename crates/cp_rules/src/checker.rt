@@ -59,7 +59,8 @@ impl<'t> Checker<'t> {
 
     /// Declares a name, unless it is visible: the first declaration stands. It fails only when memory runs out.
     pub fn add(&mut self, x: &'t Identifier, entity: Entity) -> Result<(), AllocError>
-        ensures { OnOk result (self.new ≡ record self.old { env = r.declare x.now entity self.old.env }) }
+        ensures { OnOk result
+            (self.new ≡ record self.old { env = r.declare x.now entity self.old.env }) }
     {
         let name = x.name.as_bytes();
         if self.environment.find(name).is_none() {
@@ -70,7 +71,8 @@ impl<'t> Checker<'t> {
 
     /// Declares a name. C1: it is visible. It fails only when memory runs out.
     pub fn declare(&mut self, x: &'t Identifier, entity: Entity) -> Result<(), AllocError>
-        ensures { OnOk result (self.new ≡ after self.old (declared_name self.old.env x.now entity)) }
+        ensures { OnOk result
+            (self.new ≡ after self.old (declared_name self.old.env x.now entity)) }
     {
         let is_new = self.environment.find(x.name.as_bytes()).is_none();
         self.unless(is_new, Rule::C1, x.at);
@@ -86,7 +88,8 @@ impl<'t> Checker<'t> {
 
     /// Forgets the names that were declared since there were so many.
     pub fn leave(&mut self, mark: usize)
-        ensures { self.new ≡ record self.old { env = r.with_names (take mark self.old.env.names) self.old.env } }
+        ensures { self.new ≡ record
+            self.old { env = r.with_names (take mark self.old.env.names) self.old.env } }
     {
         self.environment.leave(mark);
     }

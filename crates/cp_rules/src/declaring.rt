@@ -12,7 +12,8 @@ use std::alloc::AllocError;
 impl<'t> Checker<'t> {
     /// Declares each of these names, in their order. C1: one is visible. It fails only when memory runs out.
     pub fn declare_all(&mut self, names: &'t [Identifier], entity: Entity) -> Result<(), AllocError>
-        ensures { OnOk result (self.new ≡ after self.old (d.declare_all self.old.env entity names.now)) }
+        ensures { OnOk result
+            (self.new ≡ after self.old (d.declare_all self.old.env entity names.now)) }
     {
         for x in names {
             self.declare(x, entity)?;
@@ -22,7 +23,9 @@ impl<'t> Checker<'t> {
 
     /// Declares each of these names, unless it is visible. It fails only when memory runs out.
     pub fn add_all(&mut self, names: &'t [Identifier], entity: Entity) -> Result<(), AllocError>
-        ensures { OnOk result (self.new ≡ record self.old { env = (d.declare_all self.old.env entity names.now).env }) }
+        ensures { OnOk result
+            (self.new ≡ record
+            self.old { env = (d.declare_all self.old.env entity names.now).env }) }
     {
         for x in names {
             self.add(x, entity)?;

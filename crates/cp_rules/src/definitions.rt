@@ -72,7 +72,8 @@ fn values<'t>(
 
 impl<'t> Checker<'t> {
     fn define_constant(&mut self, d: &'t ConstantDefinition) -> Result<(), AllocError>
-        ensures { OnOk result (self.new ≡ after self.old (rules.define_constant self.old.env d.now)) }
+        ensures { OnOk result
+            (self.new ≡ after self.old (rules.define_constant self.old.env d.now)) }
     {
         let outside = self.mark();
         self.declare(&d.name, Entity::UnfinishedConstant)?;
@@ -87,7 +88,8 @@ impl<'t> Checker<'t> {
         x: &'t Identifier,
         names: &'t [Identifier],
     ) -> Result<(), AllocError>
-        ensures { OnOk result (self.new ≡ after self.old (rules.define_enumeration self.old.env x.now names.now)) }
+        ensures { OnOk result
+            (self.new ≡ after self.old (rules.define_enumeration self.old.env x.now names.now)) }
     {
         let t = self.environment.type_count();
         let row = enumeration(t, names.len())?;
@@ -102,7 +104,9 @@ impl<'t> Checker<'t> {
     }
 
     fn define_type(&mut self, x: &'t Identifier, t: &'t TypeExpression) -> Result<(), AllocError>
-        ensures { OnOk result (self.new ≡ after self.old (rules.define_type self.old.env x.now (view.type_expression t.now))) }
+        ensures { OnOk result
+            (self.new ≡ after self.old
+            (rules.define_type self.old.env x.now (view.type_expression t.now))) }
     {
         let outside = self.mark();
         self.declare(x, Entity::UnfinishedType)?;
@@ -112,7 +116,9 @@ impl<'t> Checker<'t> {
     }
 
     fn define(&mut self, d: &'t TypeDefinition) -> Result<(), AllocError>
-        ensures { OnOk result (self.new ≡ after self.old (rules.define_as self.old.env d.now.name (view.defined_type d.now.defined))) }
+        ensures { OnOk result
+            (self.new ≡ after self.old
+            (rules.define_as self.old.env d.now.name (view.defined_type d.now.defined))) }
     {
         match &d.defined {
             Defined::Written(t) => self.define_type(&d.name, t),
@@ -131,7 +137,9 @@ impl<'t> Checker<'t> {
     }
 
     fn define_types(&mut self, list: &'t [TypeDefinition]) -> Result<(), AllocError>
-        ensures { OnOk result (self.new ≡ after self.old (define_types self.old.env (map view.type_definition list.now))) }
+        ensures { OnOk result
+            (self.new ≡ after self.old
+            (define_types self.old.env (map view.type_definition list.now))) }
     {
         for d in list {
             self.define(d)?;
@@ -140,7 +148,9 @@ impl<'t> Checker<'t> {
     }
 
     fn define_section(&mut self, section: &'t Section) -> Result<(), AllocError>
-        ensures { OnOk result (self.new ≡ after self.old (rules.define_section self.old.env (view.section_of section.now))) }
+        ensures { OnOk result
+            (self.new ≡ after self.old
+            (rules.define_section self.old.env (view.section_of section.now))) }
     {
         match section {
             Section::Constants(list) => self.define_constants(list),
@@ -150,7 +160,9 @@ impl<'t> Checker<'t> {
 
     /// Judges the definitions of a text in their order. It fails only when memory runs out.
     pub fn define_sections(&mut self, sections: &'t [Section]) -> Result<(), AllocError>
-        ensures { OnOk result (self.new ≡ after self.old (define_sections self.old.env (map view.section_of sections.now))) }
+        ensures { OnOk result
+            (self.new ≡ after self.old
+            (define_sections self.old.env (map view.section_of sections.now))) }
     {
         for section in sections {
             self.define_section(section)?;

@@ -19,7 +19,8 @@ use std::alloc::AllocError;
 impl<'t> Checker<'t> {
     /// Enters a routine or a system type with these parameters. It fails only when memory runs out.
     pub fn enter(&mut self, rows: &[ParameterRow], region: Region) -> Result<(), AllocError>
-        ensures { OnOk result (self.new ≡ record self.old { env = entered self.old.env rows.now region }) }
+        ensures { OnOk result
+            (self.new ≡ record self.old { env = entered self.old.env rows.now region }) }
     {
         self.environment.add_parameters(rows)?;
         self.environment.stand_in(region);
@@ -28,7 +29,9 @@ impl<'t> Checker<'t> {
 
     /// Declares each of these names as what stands beside it, unless it is visible. It fails only when memory runs out.
     pub fn add_each(&mut self, names: &[(&'t Identifier, Entity)]) -> Result<(), AllocError>
-        ensures { OnOk result (self.new ≡ record self.old { env = (d.declare_each self.old.env (map lent names.now)).env }) }
+        ensures { OnOk result
+            (self.new ≡ record
+            self.old { env = (d.declare_each self.old.env (map lent names.now)).env }) }
     {
         for (x, entity) in names {
             self.add(x, *entity)?;
@@ -38,7 +41,8 @@ impl<'t> Checker<'t> {
 
     /// Declares each of these names as what stands beside it. C1: one is visible. It fails only when memory runs out.
     pub fn declare_each(&mut self, names: &[(&'t Identifier, Entity)]) -> Result<(), AllocError>
-        ensures { OnOk result (self.new ≡ after self.old (d.declare_each self.old.env (map lent names.now))) }
+        ensures { OnOk result
+            (self.new ≡ after self.old (d.declare_each self.old.env (map lent names.now))) }
     {
         for (x, entity) in names {
             self.declare(x, *entity)?;
@@ -48,14 +52,17 @@ impl<'t> Checker<'t> {
 
     /// Judges statements, one after another. It fails only when memory runs out.
     pub fn statements(&mut self, list: &[Statement]) -> Result<(), AllocError>
-        ensures { OnOk result (self.new ≡ telling self.old (st.statements self.old.env (view.statements_of (map view.statement list.now)))) }
+        ensures { OnOk result
+            (self.new ≡ telling self.old
+            (st.statements self.old.env (view.statements_of (map view.statement list.now)))) }
     {
         statements(&self.environment, self.alloc, &mut self.earliest, list)
     }
 
     /// The need of statements, in words.
     pub fn need(&self, list: &[Statement]) -> usize
-        ensures { result ≡ need_statements self.now.env (view.statements_of (map view.statement list.now)) }
+        ensures { result ≡ need_statements self.now.env
+            (view.statements_of (map view.statement list.now)) }
     {
         need_of_statements(&self.environment, list)
     }

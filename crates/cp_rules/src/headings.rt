@@ -123,7 +123,8 @@ impl<'t> Heading<'t> {
         entity: Entity,
         row: ParameterRow,
     ) -> Result<(), AllocError>
-        ensures { OnOk result (collected self.new ≡ with_names (collected self.old) entity row names.now) }
+        ensures { OnOk result
+            (collected self.new ≡ with_names (collected self.old) entity row names.now) }
     {
         for x in names {
             self.bound.push((x, entity))?;
@@ -150,7 +151,9 @@ impl<'t> Checker<'t> {
     }
 
     fn parameter_type(&mut self, of: Option<Sort>, x: &Identifier) -> Judged<usize>
-        ensures { Judges self.old self.new result (then_judge (named_type self.old.env x.now) (d.c7_c8_parameter self.old.env of x.now.at)) }
+        ensures { Judges self.old self.new result
+            (then_judge (named_type self.old.env x.now)
+            (d.c7_c8_parameter self.old.env of x.now.at)) }
     {
         let t = self.named_type(x)?;
         self.parameter(of, x.at, t)
@@ -172,7 +175,9 @@ impl<'t> Checker<'t> {
         is_function: bool,
         group: &'t Parameters,
     ) -> Result<Judged<usize>, AllocError>
-        ensures { IfOk result (λ t. (self.new ≡ hidden_group self.old of is_function (view.parameters group.now)) × (t ≡ first_of (parameter_judged self.old.env of (view.parameters group.now)))) }
+        ensures { IfOk result
+            (λ t. (self.new ≡ hidden_group self.old of is_function (view.parameters group.now))
+            × (t ≡ first_of (parameter_judged self.old.env of (view.parameters group.now)))) }
     {
         let mark = self.mark();
         self.declare_all(&group.names, UNFINISHED)?;
@@ -191,8 +196,11 @@ impl<'t> Checker<'t> {
         heading: &mut Heading<'t>,
         group: &'t Parameters,
     ) -> Result<(), AllocError>
-        ensures state { OnOk result (self.new ≡ hidden_group self.old of is_function (view.parameters group.now)) }
-        ensures heading { OnOk result (collected heading.new ≡ with_part (collected heading.old) (d.parameter_group self.old.env of is_function (view.parameters group.now))) }
+        ensures state { OnOk result
+            (self.new ≡ hidden_group self.old of is_function (view.parameters group.now)) }
+        ensures heading { OnOk result
+            (collected heading.new ≡ with_part (collected heading.old)
+            (d.parameter_group self.old.env of is_function (view.parameters group.now))) }
     {
         let t = self.group_of_parameters(of, is_function, group)?;
         let by_reference = is_by_reference(of, group);
@@ -210,7 +218,9 @@ impl<'t> Checker<'t> {
         is_function: bool,
         groups: &'t [Parameters],
     ) -> Result<Heading<'t>, AllocError>
-        ensures { IfOk result (λ h. Heads self.old self.new h (d.heading self.old.env of is_function (map view.parameters groups.now))) }
+        ensures { IfOk result
+            (λ h. Heads self.old self.new h
+            (d.heading self.old.env of is_function (map view.parameters groups.now))) }
     {
         let mut heading = Heading::new(self.alloc);
         for group in groups {

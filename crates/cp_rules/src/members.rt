@@ -27,7 +27,8 @@ fn add_member<'t>(
 impl<'t> Checker<'t> {
     /// The routines among the names that were declared since there were so many. It fails only when memory runs out.
     pub fn routine_members(&self, mark: usize) -> Result<Members<'t>, AllocError>
-        ensures { IfOk result (λ members. members ≡ routine_members (drop mark self.now.env.names)) }
+        ensures { IfOk result
+            (λ members. members ≡ routine_members (drop mark self.now.env.names)) }
     {
         let mut members = Members::new(self.alloc);
         let count = self.environment.name_count();

@@ -148,7 +148,8 @@ impl<'t> Checker<'t> {
         t: &TypeExpression,
         of: Judged<usize>,
     ) -> Judged<usize>
-        ensures { TellsOuter self.old self.new result (placed self.old.env position (view.type_expression t.now) of) }
+        ensures { TellsOuter self.old self.new result
+            (placed self.old.env position (view.type_expression t.now) of) }
     {
         match of {
             Ok(number) => self.placed_at(position, type_at(t), number),
@@ -175,7 +176,8 @@ impl<'t> Checker<'t> {
 
     /// Judges a written index type, which was judged in itself. C2: it isn't simple, also where something is broken inside it.
     pub fn index_type(&mut self, t: &TypeExpression, of: Judged<usize>) -> Judged<usize>
-        ensures { TellsOuter self.old self.new result (index_type self.old.env (view.type_expression t.now) of) }
+        ensures { TellsOuter self.old self.new result
+            (index_type self.old.env (view.type_expression t.now) of) }
     {
         match of {
             Ok(number) => self.simple(type_at(t), number),

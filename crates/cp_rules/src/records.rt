@@ -96,9 +96,12 @@ impl<'t> Checker<'t> {
         x: &'t Identifier,
         t: usize,
     ) -> Result<(), AllocError>
-        ensures told { OnOk result (self.new ≡ telling self.old (unless (is_new fields.old.members x.now) C1 x.now.at)) }
+        ensures told { OnOk result
+            (self.new ≡ telling self.old (unless (is_new fields.old.members x.now) C1 x.now.at)) }
         ensures members { OnOk result (fields.new.members ≡ with_field fields.old.members x.now t) }
-        ensures first { OnOk result (fields.new.first ≡ or_first fields.old.first (unless (is_new fields.old.members x.now) C1 x.now.at)) }
+        ensures first { OnOk result
+            (fields.new.first ≡ or_first fields.old.first
+            (unless (is_new fields.old.members x.now) C1 x.now.at)) }
     {
         if !add_field(&mut fields.members, x, t)? {
             let broken = self.breaks(Rule::C1, x.at);
@@ -114,9 +117,13 @@ impl<'t> Checker<'t> {
         names: &'t [Identifier],
         t: usize,
     ) -> Result<(), AllocError>
-        ensures told { OnOk result (self.new ≡ telling self.old (with_fields fields.old.members t names.now).violations) }
-        ensures members { OnOk result (fields.new.members ≡ (with_fields fields.old.members t names.now).members) }
-        ensures first { OnOk result (fields.new.first ≡ or_first fields.old.first (with_fields fields.old.members t names.now).violations) }
+        ensures told { OnOk result
+            (self.new ≡ telling self.old (with_fields fields.old.members t names.now).violations) }
+        ensures members { OnOk result
+            (fields.new.members ≡ (with_fields fields.old.members t names.now).members) }
+        ensures first { OnOk result
+            (fields.new.first ≡ or_first fields.old.first
+            (with_fields fields.old.members t names.now).violations) }
     {
         for x in names {
             self.add_field(fields, x, t)?;
@@ -131,7 +138,9 @@ impl<'t> Checker<'t> {
         at: usize,
         fields: FieldList<'t>,
     ) -> Result<Judged<usize>, AllocError>
-        ensures { IfOk result (λ answer. Knows self.old self.new answer (record_of self.old.env at fields.entry.members fields.entry.first)) }
+        ensures { IfOk result
+            (λ answer. Knows self.old self.new answer
+            (record_of self.old.env at fields.entry.members fields.entry.first)) }
     {
         if let Some(violation) = fields.first {
             return Ok(Err(violation));

@@ -51,7 +51,8 @@ impl<'t> Checker<'t> {
         sort: Sort,
         routine: &'t Routine,
     ) -> Result<(Heading<'t>, Option<Judged<usize>>), AllocError>
-        ensures { IfOk result (λ p. HeadsRoutine self.old self.new p.0 p.1 sort (view.routine routine.now)) }
+        ensures { IfOk result
+            (λ p. HeadsRoutine self.old self.new p.0 p.1 sort (view.routine routine.now)) }
     {
         let outside = self.mark();
         self.declare(&routine.name, Entity::UnfinishedRoutine(NO_ROUTINE))?;
@@ -71,7 +72,10 @@ impl<'t> Checker<'t> {
         row: RoutineRow,
         heading: &Heading<'t>,
     ) -> Result<usize, AllocError>
-        ensures { IfOk result (λ n. JudgesBody self.old self.new n (locals (inside self.old.env sort (view.routine routine.now) row (collected heading.now)) (view.routine routine.now)) (view.body routine.now.body)) }
+        ensures { IfOk result
+            (λ n. JudgesBody self.old self.new n
+            (locals (inside self.old.env sort (view.routine routine.now) row
+            (collected heading.now)) (view.routine routine.now)) (view.body routine.now.body)) }
     {
         let region = Region {
             sort,
@@ -103,7 +107,8 @@ impl<'t> Checker<'t> {
 
     /// Declares a routine of a component of this sort, and judges it. It fails only when memory runs out.
     pub fn routine(&mut self, sort: Sort, routine: &'t Routine) -> Result<(), AllocError>
-        ensures { OnOk result (self.new ≡ after self.old (d.routine self.old.env sort (view.routine routine.now))) }
+        ensures { OnOk result
+            (self.new ≡ after self.old (d.routine self.old.env sort (view.routine routine.now))) }
     {
         let outside = self.mark();
         let region = self.environment.region();
@@ -117,7 +122,8 @@ impl<'t> Checker<'t> {
 
     /// Declares routines of a component of this sort, one after another. It fails only when memory runs out.
     pub fn routines(&mut self, sort: Sort, list: &'t [Routine]) -> Result<(), AllocError>
-        ensures { OnOk result (self.new ≡ after self.old (d.routines self.old.env sort (map view.routine list.now))) }
+        ensures { OnOk result
+            (self.new ≡ after self.old (d.routines self.old.env sort (map view.routine list.now))) }
     {
         for routine in list {
             self.routine(sort, routine)?;

@@ -49,7 +49,9 @@ impl<'t> Checker<'t> {
 
     // The variables, the routines and the body of a system type, and the words of its variables.
     fn system_parts(&mut self, y: &'t System, heading: &Heading<'t>) -> Result<usize, AllocError>
-        ensures { IfOk result (λ n. JudgesParts self.old self.new n (parts self.old.env (view.system y.now) (collected heading.now))) }
+        ensures { IfOk result
+            (λ n. JudgesParts self.old self.new n
+            (parts self.old.env (view.system y.now) (collected heading.now))) }
     {
         let region = Region {
             sort: y.sort,
@@ -65,7 +67,9 @@ impl<'t> Checker<'t> {
 
     // Adds a system type, and answers the number of the type.
     fn add_system(&mut self, row: SystemRow, members: Members<'t>) -> Result<usize, AllocError>
-        ensures { IfOk result (λ t. (t ≡ length self.old.env.types) × (self.new ≡ record self.old { env = added_system self.old.env row members.entry })) }
+        ensures { IfOk result
+            (λ t. (t ≡ length self.old.env.types)
+            × (self.new ≡ record self.old { env = added_system self.old.env row members.entry })) }
     {
         let t = self.environment.type_count();
         let structure = Structure::System(self.environment.system_count());
@@ -88,7 +92,8 @@ impl<'t> Checker<'t> {
         row: SystemRow,
         members: Members<'t>,
     ) -> Result<(), AllocError>
-        ensures { OnOk result (self.new ≡ left_system self.old outside region name.now row members.entry) }
+        ensures { OnOk result
+            (self.new ≡ left_system self.old outside region name.now row members.entry) }
     {
         self.leave(outside);
         self.environment.stand_in(region);
@@ -113,7 +118,9 @@ impl<'t> Checker<'t> {
 
     /// Defines a system type, and judges its parts. It fails only when memory runs out.
     pub fn define_system(&mut self, x: &'t Identifier, y: &'t System) -> Result<(), AllocError>
-        ensures { OnOk result (self.new ≡ after self.old (rules.define_system self.old.env x.now (view.system y.now))) }
+        ensures { OnOk result
+            (self.new ≡ after self.old
+            (rules.define_system self.old.env x.now (view.system y.now))) }
     {
         let outside = self.mark();
         let region = self.environment.region();

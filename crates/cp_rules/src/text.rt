@@ -29,7 +29,9 @@ pub enum Refusal {
 impl<'t> Checker<'t> {
     // The earliest violation in statements alone.
     fn violation_in(&self, list: &[Statement]) -> Result<Option<Violation>, AllocError>
-        ensures { IfOk result (λ v. v ≡ least None (st.statements self.now.env (view.statements_of (map view.statement list.now)))) }
+        ensures { IfOk result
+            (λ v. v ≡ least None
+            (st.statements self.now.env (view.statements_of (map view.statement list.now)))) }
     {
         let mut inside = None;
         statements(&self.environment, self.alloc, &mut inside, list)?;
@@ -39,7 +41,9 @@ impl<'t> Checker<'t> {
     // The body of the initial process, whose variables have so many words. C13, that it has too many words, is judged only where
     // nothing is broken in the body.
     fn initial_body(&mut self, words: usize, body: &Body) -> Result<(), AllocError>
-        ensures { (n : ℕ) → words ≡ ty.capped n → OnOk result (self.new ≡ telling self.old (body_violations self.old.env n (view.body body.now))) }
+        ensures { (n : ℕ) → words ≡ ty.capped n
+            → OnOk result
+            (self.new ≡ telling self.old (body_violations self.old.env n (view.body body.now))) }
     {
         match self.violation_in(&body.statements)? {
             Some(violation) => tell(&mut self.earliest, violation),

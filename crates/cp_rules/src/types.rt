@@ -29,7 +29,9 @@ impl<'t> Checker<'t> {
     // A type in itself.
     #[cycle(types)]
     fn type_of(&mut self, t: &'t TypeExpression) -> Result<Judged<usize>, AllocError>
-        ensures { IfOk result (λ of. Makes self.old self.new of (ty.type_of self.old.env (view.type_expression t.now))) }
+        ensures { IfOk result
+            (λ of. Makes self.old self.new of
+            (ty.type_of self.old.env (view.type_expression t.now))) }
     {
         match t {
             TypeExpression::Named(x) => Ok(self.named_type(x)),
@@ -53,7 +55,9 @@ impl<'t> Checker<'t> {
 
     #[cycle(types)]
     fn index_types(&mut self, list: &'t [TypeExpression]) -> Result<Vec<Judged<usize>>, AllocError>
-        ensures { IfOk result (λ answers. JudgesIndices self.old self.new answers.items (ty.index_types self.old.env (view.types_of (map view.type_expression list.now)))) }
+        ensures { IfOk result
+            (λ answers. JudgesIndices self.old self.new answers.items
+            (ty.index_types self.old.env (view.types_of (map view.type_expression list.now)))) }
     {
         let mut answers = Vec::new(self.alloc);
         for t in list {
@@ -65,7 +69,10 @@ impl<'t> Checker<'t> {
 
     #[cycle(types)]
     fn record_type(&mut self, at: usize, groups: &'t [Fields]) -> Result<Judged<usize>, AllocError>
-        ensures { IfOk result (λ of. Makes self.old self.new of (ty.type_of self.old.env (s.Record at (view.fields_of (map view.variables groups.now))))) }
+        ensures { IfOk result
+            (λ of. Makes self.old self.new of
+            (ty.type_of self.old.env
+            (s.Record at (view.fields_of (map view.variables groups.now))))) }
     {
         let mut fields = FieldList::new(self.alloc);
         for group in groups {
@@ -81,9 +88,15 @@ impl<'t> Checker<'t> {
         fields: &mut FieldList<'t>,
         group: &'t Fields,
     ) -> Result<(), AllocError>
-        ensures state { OnOk result (self.new ≡ with_groups self.old (records.group self.old.env fields.old.members (view.variables group.now))) }
-        ensures members { OnOk result (fields.new.members ≡ (records.group self.old.env fields.old.members (view.variables group.now)).members) }
-        ensures first { OnOk result (fields.new.first ≡ or_first fields.old.first (records.group self.old.env fields.old.members (view.variables group.now)).violations) }
+        ensures state { OnOk result
+            (self.new ≡ with_groups self.old
+            (records.group self.old.env fields.old.members (view.variables group.now))) }
+        ensures members { OnOk result
+            (fields.new.members
+            ≡ (records.group self.old.env fields.old.members (view.variables group.now)).members) }
+        ensures first { OnOk result
+            (fields.new.first ≡ or_first fields.old.first
+            (records.group self.old.env fields.old.members (view.variables group.now)).violations) }
     {
         let of = self.type_of(&group.of)?;
         let of = self.placed(Position::Field, &group.of, of);
@@ -98,7 +111,9 @@ impl<'t> Checker<'t> {
         position: Position,
         t: &'t TypeExpression,
     ) -> Result<Judged<usize>, AllocError>
-        ensures { IfOk result (λ of. Makes self.old self.new of (ty.type_placed self.old.env position (view.type_expression t.now))) }
+        ensures { IfOk result
+            (λ of. Makes self.old self.new of
+            (ty.type_placed self.old.env position (view.type_expression t.now))) }
     {
         let of = self.type_of(t)?;
         Ok(self.placed(position, t, of))

@@ -69,7 +69,9 @@ impl<'t> Checker<'t> {
         position: Position,
         group: &'t Fields,
     ) -> Result<Judged<usize>, AllocError>
-        ensures { IfOk result (λ of. (self.new ≡ left_group self.old position (view.variables group.now)) × (of ≡ group_type self.old.env position (view.variables group.now))) }
+        ensures { IfOk result
+            (λ of. (self.new ≡ left_group self.old position (view.variables group.now))
+            × (of ≡ group_type self.old.env position (view.variables group.now))) }
     {
         let mark = self.mark();
         self.declare_all(&group.names, UNFINISHED)?;
@@ -80,7 +82,9 @@ impl<'t> Checker<'t> {
 
     // Variables of one type, and their words.
     fn variable_group(&mut self, position: Position, group: &'t Fields) -> Result<usize, AllocError>
-        ensures { IfOk result (λ n. Declares self.old self.new n (d.variable_group self.old.env position (view.variables group.now))) }
+        ensures { IfOk result
+            (λ n. Declares self.old self.new n
+            (d.variable_group self.old.env position (view.variables group.now))) }
     {
         let of = self.group_type(position, group)?;
         let each = words(&self.environment, of);
@@ -96,7 +100,9 @@ impl<'t> Checker<'t> {
         position: Position,
         groups: &'t [Fields],
     ) -> Result<usize, AllocError>
-        ensures { IfOk result (λ n. Declares self.old self.new n (d.variables self.old.env position (map view.variables groups.now))) }
+        ensures { IfOk result
+            (λ n. Declares self.old self.new n
+            (d.variables self.old.env position (map view.variables groups.now))) }
     {
         let mut words = 0;
         for group in groups {

@@ -79,7 +79,8 @@ fn rest_from(text: &[u8], at: usize) -> &[u8]
 
 // A separator gives no token.
 fn push_token(tokens: &mut Vec<Token>, kind: Option<Kind>, span: Span) -> Result<(), AllocError>
-    ensures { OnOk result (tokens.new.items ≡ spec.with_token kind span.from span.to tokens.old.items) }
+    ensures { OnOk result
+        (tokens.new.items ≡ spec.with_token kind span.from span.to tokens.old.items) }
 {
     if let Some(kind) = kind {
         tokens.push(Token { kind, span })?;

@@ -58,7 +58,8 @@ const RESERVED_WORDS: [(&[u8], Symbol); 36] = [
 
 // The symbol of the word in the table that is written so.
 fn look_up(table: &[(&[u8], Symbol)], letters: &[u8]) -> Option<Symbol>
-    ensures { kind_or_name result letters.now ≡ spelling.word_among (map (λ w. (w.0.now, w.1)) table.now) letters.now }
+    ensures { kind_or_name result letters.now ≡ spelling.word_among
+        (map (λ w. (w.0.now, w.1)) table.now) letters.now }
 {
     for (word, symbol) in table {
         if *word == letters {

@@ -38,7 +38,8 @@ fn constant_definition(alloc: Global, tokens: &[Token]) -> Read<'_, ConstantDefi
 /// A system type, behind the word that says its sort.
 #[tactic(auto, unfolding(cp_grammar::specs::Declarations::system_from))]
 fn system(alloc: Global, room: usize, sort: Sort, tokens: &[Token]) -> Read<'_, System>
-    ensures { Gives view.system result (spec.system_from (type_at room) (deeper_at room) sort tokens.now) }
+    ensures { Gives view.system result
+        (spec.system_from (type_at room) (deeper_at room) sort tokens.now) }
 {
     let (parameters, rest) = parameters(alloc, after(tokens))?;
     let (_, rest) = expect(rest, Symbol::Semicolon)?;
@@ -59,7 +60,8 @@ fn system(alloc: Global, room: usize, sort: Sort, tokens: &[Token]) -> Read<'_, 
 
 #[tactic(auto, unfolding(cp_grammar::specs::Declarations::system_type))]
 fn system_type(alloc: Global, room: usize, sort: Sort, tokens: &[Token]) -> Read<'_, Defined>
-    ensures { Gives view.defined_type result (spec.system_type (type_at room) (deeper_at room) sort tokens.now) }
+    ensures { Gives view.defined_type result
+        (spec.system_type (type_at room) (deeper_at room) sort tokens.now) }
 {
     let (system, rest) = system(alloc, room, sort, tokens)?;
     Ok((Defined::System(system), rest))
@@ -67,7 +69,8 @@ fn system_type(alloc: Global, room: usize, sort: Sort, tokens: &[Token]) -> Read
 
 #[tactic(auto, unfolding(cp_grammar::specs::Declarations::enumeration_of))]
 fn enumeration(alloc: Global, tokens: &[Token]) -> Read<'_, Defined>
-    ensures { (of : Reader s.TypeExpression) (deeper : Option Deeper) → Gives view.defined_type result (spec.enumeration_of of deeper tokens.now) }
+    ensures { (of : Reader s.TypeExpression) (deeper : Option Deeper)
+        → Gives view.defined_type result (spec.enumeration_of of deeper tokens.now) }
 {
     let (values, rest) = names(alloc, after(tokens))?;
     let (_, rest) = expect(rest, Symbol::CloseParenthesis)?;
@@ -76,7 +79,8 @@ fn enumeration(alloc: Global, tokens: &[Token]) -> Read<'_, Defined>
 
 #[tactic(auto, unfolding(cp_grammar::specs::Declarations::written_type))]
 fn written(alloc: Global, room: usize, tokens: &[Token]) -> Read<'_, Defined>
-    ensures { Gives view.defined_type result (spec.written_type (type_at room) (deeper_at room) tokens.now) }
+    ensures { Gives view.defined_type result
+        (spec.written_type (type_at room) (deeper_at room) tokens.now) }
 {
     let (of, rest) = type_expression(alloc, room, tokens)?;
     Ok((Defined::Written(of), rest))
@@ -85,7 +89,8 @@ fn written(alloc: Global, room: usize, tokens: &[Token]) -> Read<'_, Defined>
 /// What a type definition gives its name to.
 #[tactic(auto, unfolding(cp_grammar::specs::Declarations::defined_of, cp_grammar::specs::Declarations::defined_by))]
 fn defined(alloc: Global, room: usize, tokens: &[Token]) -> Read<'_, Defined>
-    ensures { Gives view.defined_type result (spec.defined_of (type_at room) (deeper_at room) tokens.now) }
+    ensures { Gives view.defined_type result
+        (spec.defined_of (type_at room) (deeper_at room) tokens.now) }
 {
     match peek(tokens) {
         Some(Kind::Symbol(symbol)) => match symbol {
@@ -101,7 +106,8 @@ fn defined(alloc: Global, room: usize, tokens: &[Token]) -> Read<'_, Defined>
 
 #[tactic(auto, unfolding(cp_grammar::specs::Declarations::type_definition_of))]
 fn type_definition(alloc: Global, room: usize, tokens: &[Token]) -> Read<'_, TypeDefinition>
-    ensures { Gives view.type_definition result (spec.type_definition_of (type_at room) (deeper_at room) tokens.now) }
+    ensures { Gives view.type_definition result
+        (spec.type_definition_of (type_at room) (deeper_at room) tokens.now) }
 {
     let (name, rest) = identifier(alloc, tokens)?;
     let (_, rest) = expect(rest, Symbol::Equal)?;
@@ -111,7 +117,8 @@ fn type_definition(alloc: Global, room: usize, tokens: &[Token]) -> Read<'_, Typ
 }
 
 fn constants(alloc: Global, tokens: &[Token]) -> Read<'_, Vec<ConstantDefinition>>
-    ensures { Gives (λ v. v.items) result (reading.one_or_more is_name spec.constant_definition_of tokens.now) }
+    ensures { Gives (λ v. v.items) result
+        (reading.one_or_more is_name spec.constant_definition_of tokens.now) }
 {
     one_or_more(
         alloc,
@@ -122,7 +129,9 @@ fn constants(alloc: Global, tokens: &[Token]) -> Read<'_, Vec<ConstantDefinition
 }
 
 fn types(alloc: Global, room: usize, tokens: &[Token]) -> Read<'_, Vec<TypeDefinition>>
-    ensures { Gives (λ v. map view.type_definition v.items) result (reading.one_or_more is_name (spec.type_definition_of (type_at room) (deeper_at room)) tokens.now) }
+    ensures { Gives (λ v. map view.type_definition v.items) result
+        (reading.one_or_more is_name (spec.type_definition_of (type_at room) (deeper_at room))
+        tokens.now) }
 {
     one_or_more(
         alloc,
@@ -135,7 +144,8 @@ fn types(alloc: Global, room: usize, tokens: &[Token]) -> Read<'_, Vec<TypeDefin
 /// The definitions behind one word `const` or `type`.
 #[tactic(auto, unfolding(cp_grammar::specs::Declarations::section_of, cp_grammar::specs::Declarations::section_by))]
 fn section(alloc: Global, room: usize, tokens: &[Token]) -> Read<'_, Section>
-    ensures { Gives view.section_of result (spec.section_of (type_at room) (deeper_at room) tokens.now) }
+    ensures { Gives view.section_of result
+        (spec.section_of (type_at room) (deeper_at room) tokens.now) }
 {
     match peek(tokens) {
         Some(Kind::Symbol(Symbol::Const)) => {

@@ -37,7 +37,8 @@ impl<F: Fn(Global, usize, &[Token]) -> Read<'_, Expression>> Expressions<F> {
     #[tactic(auto, unfolding(cp_grammar::specs::Expressions::operation_of))]
     fn product<'a>(&self, tokens: &'a [Token]) -> Read<'a, Operation>
         requires { FactorsAt self.now.room (F.pre self.now.factor) (F.post self.now.factor) }
-        ensures { Gives view.operation result (spec.operation_of spec.product_operator (spec.factor_at self.now.room) tokens.now) }
+        ensures { Gives view.operation result
+            (spec.operation_of spec.product_operator (spec.factor_at self.now.room) tokens.now) }
     {
         let Some(operator) = product_operator(tokens) else {
             return Err(Stop::Wrong(tokens.len()));
@@ -50,7 +51,8 @@ impl<F: Fn(Global, usize, &[Token]) -> Read<'_, Expression>> Expressions<F> {
     #[tactic(auto, unfolding(cp_grammar::specs::Expressions::term_of, cp_grammar::specs::Expressions::chain_from))]
     fn term<'a>(&self, tokens: &'a [Token]) -> Read<'a, Expression>
         requires { FactorsAt self.now.room (F.pre self.now.factor) (F.post self.now.factor) }
-        ensures { Gives view.expression result (spec.term_of (spec.factor_at self.now.room) tokens.now) }
+        ensures { Gives view.expression result
+            (spec.term_of (spec.factor_at self.now.room) tokens.now) }
     {
         let (first, rest) = self.factor(tokens)?;
         let (products, rest) = repeated(
@@ -66,7 +68,9 @@ impl<F: Fn(Global, usize, &[Token]) -> Read<'_, Expression>> Expressions<F> {
     #[tactic(auto, unfolding(cp_grammar::specs::Expressions::signed_term))]
     fn signed_term<'a>(&self, tokens: &'a [Token]) -> Read<'a, Expression>
         requires { FactorsAt self.now.room (F.pre self.now.factor) (F.post self.now.factor) }
-        ensures { Gives view.expression result (spec.signed_term (spec.factor_at self.now.room) (spec.sign_of (kind_at tokens.now)) tokens.now) }
+        ensures { Gives view.expression result
+            (spec.signed_term (spec.factor_at self.now.room) (spec.sign_of (kind_at tokens.now))
+            tokens.now) }
     {
         let Some(sign) = sign(tokens) else {
             return self.term(tokens);
@@ -79,7 +83,9 @@ impl<F: Fn(Global, usize, &[Token]) -> Read<'_, Expression>> Expressions<F> {
     #[tactic(auto, unfolding(cp_grammar::specs::Expressions::operation_of))]
     fn addition<'a>(&self, tokens: &'a [Token]) -> Read<'a, Operation>
         requires { FactorsAt self.now.room (F.pre self.now.factor) (F.post self.now.factor) }
-        ensures { Gives view.operation result (spec.operation_of spec.sum_operator (spec.term_of (spec.factor_at self.now.room)) tokens.now) }
+        ensures { Gives view.operation result
+            (spec.operation_of spec.sum_operator (spec.term_of (spec.factor_at self.now.room))
+            tokens.now) }
     {
         let Some(operator) = sum_operator(tokens) else {
             return Err(Stop::Wrong(tokens.len()));
@@ -92,7 +98,8 @@ impl<F: Fn(Global, usize, &[Token]) -> Read<'_, Expression>> Expressions<F> {
     #[tactic(auto, unfolding(cp_grammar::specs::Expressions::simple_of, cp_grammar::specs::Expressions::chain_from))]
     fn simple<'a>(&self, tokens: &'a [Token]) -> Read<'a, Expression>
         requires { FactorsAt self.now.room (F.pre self.now.factor) (F.post self.now.factor) }
-        ensures { Gives view.expression result (spec.simple_of (spec.factor_at self.now.room) tokens.now) }
+        ensures { Gives view.expression result
+            (spec.simple_of (spec.factor_at self.now.room) tokens.now) }
     {
         let (first, rest) = self.signed_term(tokens)?;
         let (additions, rest) = repeated(
@@ -108,7 +115,8 @@ impl<F: Fn(Global, usize, &[Token]) -> Read<'_, Expression>> Expressions<F> {
     #[tactic(auto, unfolding(cp_grammar::specs::Expressions::expression_of))]
     pub fn expression<'a>(&self, tokens: &'a [Token]) -> Read<'a, Expression>
         requires { FactorsAt self.now.room (F.pre self.now.factor) (F.post self.now.factor) }
-        ensures { Gives view.expression result (spec.expression_of (spec.factor_at self.now.room) tokens.now) }
+        ensures { Gives view.expression result
+            (spec.expression_of (spec.factor_at self.now.room) tokens.now) }
     {
         let (left, rest) = self.simple(tokens)?;
         let Some(operator) = relation_operator(rest) else {
@@ -126,7 +134,8 @@ impl<F: Fn(Global, usize, &[Token]) -> Read<'_, Expression>> Expressions<F> {
     #[tactic(auto, unfolding(cp_grammar::specs::Expressions::expressions_from))]
     pub fn expressions<'a>(&self, tokens: &'a [Token]) -> Read<'a, Vec<Expression>>
         requires { FactorsAt self.now.room (F.pre self.now.factor) (F.post self.now.factor) }
-        ensures { Gives (λ v. map view.expression v.items) result (spec.expressions_from (spec.factor_at self.now.room) tokens.now) }
+        ensures { Gives (λ v. map view.expression v.items) result
+            (spec.expressions_from (spec.factor_at self.now.room) tokens.now) }
     {
         separated(
             self.alloc,
@@ -140,7 +149,8 @@ impl<F: Fn(Global, usize, &[Token]) -> Read<'_, Expression>> Expressions<F> {
     #[tactic(auto, unfolding(cp_grammar::specs::Expressions::index_of))]
     fn index<'a>(&self, tokens: &'a [Token]) -> Read<'a, Index>
         requires { FactorsAt self.now.room (F.pre self.now.factor) (F.post self.now.factor) }
-        ensures { Gives view.index result (spec.index_of (spec.factor_at self.now.room) tokens.now) }
+        ensures { Gives view.index result
+            (spec.index_of (spec.factor_at self.now.room) tokens.now) }
     {
         let (value, rest) = self.expression(after(tokens))?;
         Ok((index(place(tokens), value), rest))
@@ -150,7 +160,8 @@ impl<F: Fn(Global, usize, &[Token]) -> Read<'_, Expression>> Expressions<F> {
     #[tactic(auto, unfolding(cp_grammar::specs::Expressions::indices_from))]
     pub fn indices<'a>(&self, tokens: &'a [Token]) -> Read<'a, Vec<Index>>
         requires { FactorsAt self.now.room (F.pre self.now.factor) (F.post self.now.factor) }
-        ensures { Gives (λ v. map view.index v.items) result (spec.indices_from (spec.factor_at self.now.room) tokens.now) }
+        ensures { Gives (λ v. map view.index v.items) result
+            (spec.indices_from (spec.factor_at self.now.room) tokens.now) }
     {
         one_or_more(
             self.alloc,
@@ -162,7 +173,8 @@ impl<F: Fn(Global, usize, &[Token]) -> Read<'_, Expression>> Expressions<F> {
 }
 
 fn operation(operator: Operator, at: usize, operand: Expression) -> Operation
-    ensures { view.operation result ≡ record { operator = operator; at = at; operand = view.expression operand } }
+    ensures { view.operation
+        result ≡ record { operator = operator; at = at; operand = view.expression operand } }
 {
     Operation {
         operator,
@@ -179,7 +191,9 @@ fn index(at: usize, value: Expression) -> Index
 
 /// Operands with operators between them, where there is an operator.
 fn chain(alloc: Global, first: Expression, rest: Vec<Operation>) -> Result<Expression, AllocError>
-    ensures { IfOk result (λ e. view.expression e ≡ chain_of (view.expression first) (map view.operation rest.items)) }
+    ensures { IfOk result
+        (λ e. view.expression e ≡ chain_of (view.expression first)
+        (map view.operation rest.items)) }
 {
     if rest.is_empty() {
         return Ok(first);
@@ -191,7 +205,9 @@ fn chain(alloc: Global, first: Expression, rest: Vec<Operation>) -> Result<Expre
 }
 
 fn relation(alloc: Global, left: Expression, right: Operation) -> Result<Expression, AllocError>
-    ensures { IfOk result (λ e. view.expression e ≡ s.Binary (view.expression left) right.operator right.at (view.expression right.operand)) }
+    ensures { IfOk result
+        (λ e. view.expression e ≡ s.Binary (view.expression left) right.operator right.at
+        (view.expression right.operand)) }
 {
     let mut rest = Vec::new(alloc);
     rest.push(right)?;

@@ -31,9 +31,11 @@ impl<F: Fn(Global, usize, &[Token]) -> Read<'_, Expression> + Copy> Factors<F> {
     #[tactic(auto, using(crate::proofs::Rooms::no_factor, crate::proofs::Rooms::some_factor))]
     fn inner(&self, tokens: &[Token]) -> Result<Expressions<F>, Stop>
         requires { FactorsBelow self.now.room (F.pre self.now.factor) (F.post self.now.factor) }
-        ensures inside { IfOk result (λ e. spec.inner_at self.now.room ≡ Some (spec.factor_at e.room)) }
+        ensures inside { IfOk result
+            (λ e. spec.inner_at self.now.room ≡ Some (spec.factor_at e.room)) }
         ensures nests { IfOk result (λ e. FactorsAt e.room (F.pre e.factor) (F.post e.factor)) }
-        ensures none { IfErr result (λ e. (spec.inner_at self.now.room ≡ None) × (e ≡ Deep (length tokens.now))) }
+        ensures none { IfErr result
+            (λ e. (spec.inner_at self.now.room ≡ None) × (e ≡ Deep (length tokens.now))) }
     {
         if self.room == 0 {
             return Err(Stop::Deep(tokens.len()));
@@ -48,7 +50,8 @@ impl<F: Fn(Global, usize, &[Token]) -> Read<'_, Expression> + Copy> Factors<F> {
     /// A `.` and the name of a field.
     #[tactic(auto, unfolding(cp_grammar::specs::Expressions::field_of))]
     fn field<'a>(&self, tokens: &'a [Token]) -> Read<'a, Selector>
-        ensures { Gives view.selector result (spec.field_of (spec.inner_at self.now.room) tokens.now) }
+        ensures { Gives view.selector result
+            (spec.field_of (spec.inner_at self.now.room) tokens.now) }
     {
         let (name, rest) = identifier(self.alloc, after(tokens))?;
         Ok((field(place(tokens), name), rest))
@@ -58,7 +61,8 @@ impl<F: Fn(Global, usize, &[Token]) -> Read<'_, Expression> + Copy> Factors<F> {
     #[tactic(auto, unfolding(cp_grammar::specs::Expressions::indexed_of))]
     fn indexed<'a>(&self, tokens: &'a [Token]) -> Read<'a, Selector>
         requires { FactorsBelow self.now.room (F.pre self.now.factor) (F.post self.now.factor) }
-        ensures { Gives view.selector result (spec.indexed_of (spec.inner_at self.now.room) tokens.now) }
+        ensures { Gives view.selector result
+            (spec.indexed_of (spec.inner_at self.now.room) tokens.now) }
     {
         let (indices, rest) = self.inner(tokens)?.indices(tokens)?;
         let (_, rest) = expect(rest, Symbol::CloseBracket)?;
@@ -69,7 +73,8 @@ impl<F: Fn(Global, usize, &[Token]) -> Read<'_, Expression> + Copy> Factors<F> {
     #[tactic(auto, unfolding(cp_grammar::specs::Expressions::selector_of, cp_grammar::specs::Expressions::selector_by))]
     fn selector<'a>(&self, tokens: &'a [Token]) -> Read<'a, Selector>
         requires { FactorsBelow self.now.room (F.pre self.now.factor) (F.post self.now.factor) }
-        ensures { Gives view.selector result (spec.selector_of (spec.inner_at self.now.room) tokens.now) }
+        ensures { Gives view.selector result
+            (spec.selector_of (spec.inner_at self.now.room) tokens.now) }
     {
         match peek(tokens) {
             Some(Kind::Symbol(Symbol::Dot)) => self.field(tokens),
@@ -82,7 +87,8 @@ impl<F: Fn(Global, usize, &[Token]) -> Read<'_, Expression> + Copy> Factors<F> {
     #[tactic(auto, unfolding(cp_grammar::specs::Expressions::designator_of))]
     pub fn designator<'a>(&self, tokens: &'a [Token]) -> Read<'a, Designator>
         requires { FactorsBelow self.now.room (F.pre self.now.factor) (F.post self.now.factor) }
-        ensures { Gives view.designator result (spec.designator_of (spec.inner_at self.now.room) tokens.now) }
+        ensures { Gives view.designator result
+            (spec.designator_of (spec.inner_at self.now.room) tokens.now) }
     {
         let (root, rest) = identifier(self.alloc, tokens)?;
         let (selectors, rest) = repeated(
@@ -98,7 +104,8 @@ impl<F: Fn(Global, usize, &[Token]) -> Read<'_, Expression> + Copy> Factors<F> {
     #[tactic(auto, unfolding(cp_grammar::specs::Expressions::arguments_of))]
     fn arguments<'a>(&self, tokens: &'a [Token]) -> Read<'a, Vec<Expression>>
         requires { FactorsBelow self.now.room (F.pre self.now.factor) (F.post self.now.factor) }
-        ensures { Gives (λ v. map view.expression v.items) result (spec.arguments_of (spec.inner_at self.now.room) tokens.now) }
+        ensures { Gives (λ v. map view.expression v.items) result
+            (spec.arguments_of (spec.inner_at self.now.room) tokens.now) }
     {
         let (arguments, rest) = self.inner(tokens)?.expressions(after(tokens))?;
         let (_, rest) = expect(rest, Symbol::CloseParenthesis)?;
@@ -109,7 +116,8 @@ impl<F: Fn(Global, usize, &[Token]) -> Read<'_, Expression> + Copy> Factors<F> {
     #[tactic(auto, unfolding(cp_grammar::specs::Expressions::optional_arguments_of))]
     pub fn optional_arguments<'a>(&self, tokens: &'a [Token]) -> Read<'a, Vec<Expression>>
         requires { FactorsBelow self.now.room (F.pre self.now.factor) (F.post self.now.factor) }
-        ensures { Gives (λ v. map view.expression v.items) result (spec.optional_arguments_of (spec.inner_at self.now.room) tokens.now) }
+        ensures { Gives (λ v. map view.expression v.items) result
+            (spec.optional_arguments_of (spec.inner_at self.now.room) tokens.now) }
     {
         if !sees(tokens, Symbol::OpenParenthesis) {
             return Ok((Vec::new(self.alloc), tokens));
@@ -121,7 +129,8 @@ impl<F: Fn(Global, usize, &[Token]) -> Read<'_, Expression> + Copy> Factors<F> {
     #[tactic(auto, unfolding(cp_grammar::specs::Expressions::named_of, cp_grammar::specs::Expressions::call_or_part))]
     fn named<'a>(&self, tokens: &'a [Token]) -> Read<'a, Expression>
         requires { FactorsBelow self.now.room (F.pre self.now.factor) (F.post self.now.factor) }
-        ensures { Gives view.expression result (spec.named_of (spec.inner_at self.now.room) tokens.now) }
+        ensures { Gives view.expression result
+            (spec.named_of (spec.inner_at self.now.room) tokens.now) }
     {
         let (d, rest) = self.designator(tokens)?;
         if !sees(rest, Symbol::OpenParenthesis) {
@@ -135,7 +144,8 @@ impl<F: Fn(Global, usize, &[Token]) -> Read<'_, Expression> + Copy> Factors<F> {
     #[tactic(auto, unfolding(cp_grammar::specs::Expressions::parenthesized_of))]
     fn parenthesized<'a>(&self, tokens: &'a [Token]) -> Read<'a, Expression>
         requires { FactorsBelow self.now.room (F.pre self.now.factor) (F.post self.now.factor) }
-        ensures { Gives view.expression result (spec.parenthesized_of (spec.inner_at self.now.room) tokens.now) }
+        ensures { Gives view.expression result
+            (spec.parenthesized_of (spec.inner_at self.now.room) tokens.now) }
     {
         let (inner, rest) = self.inner(tokens)?.expression(after(tokens))?;
         let (_, rest) = expect(rest, Symbol::CloseParenthesis)?;
@@ -146,7 +156,8 @@ impl<F: Fn(Global, usize, &[Token]) -> Read<'_, Expression> + Copy> Factors<F> {
     #[tactic(auto, unfolding(cp_grammar::specs::Expressions::not_of))]
     fn negated<'a>(&self, tokens: &'a [Token]) -> Read<'a, Expression>
         requires { FactorsBelow self.now.room (F.pre self.now.factor) (F.post self.now.factor) }
-        ensures { Gives view.expression result (spec.not_of (spec.inner_at self.now.room) tokens.now) }
+        ensures { Gives view.expression result
+            (spec.not_of (spec.inner_at self.now.room) tokens.now) }
     {
         let (operand, rest) = self.inner(tokens)?.factor(after(tokens))?;
         Ok((negated(self.alloc, place(tokens), operand)?, rest))
@@ -156,7 +167,8 @@ impl<F: Fn(Global, usize, &[Token]) -> Read<'_, Expression> + Copy> Factors<F> {
     #[tactic(auto, unfolding(cp_grammar::specs::Expressions::factor_of, cp_grammar::specs::Expressions::factor_by))]
     fn factor<'a>(&self, tokens: &'a [Token]) -> Read<'a, Expression>
         requires { FactorsBelow self.now.room (F.pre self.now.factor) (F.post self.now.factor) }
-        ensures { Gives view.expression result (spec.factor_of (spec.inner_at self.now.room) tokens.now) }
+        ensures { Gives view.expression result
+            (spec.factor_of (spec.inner_at self.now.room) tokens.now) }
     {
         let at = place(tokens);
         match peek(tokens) {
@@ -192,7 +204,8 @@ fn indexed(indices: Vec<Index>) -> Selector
 }
 
 fn designator_from(root: Identifier, selectors: Vec<Selector>) -> Designator
-    ensures { view.designator result ≡ s.Designate root (selectors_of (map view.selector selectors.items)) }
+    ensures { view.designator result ≡ s.Designate root
+        (selectors_of (map view.selector selectors.items)) }
 {
     Designator { root, selectors }
 }
@@ -216,7 +229,8 @@ fn designated(d: Designator) -> Expression
 }
 
 fn call(d: Designator, arguments: Vec<Expression>) -> Expression
-    ensures { view.expression result ≡ s.Call (view.designator d) (expressions_of (map view.expression arguments.items)) }
+    ensures { view.expression result ≡ s.Call (view.designator d)
+        (expressions_of (map view.expression arguments.items)) }
 {
     Expression::Call(d, arguments)
 }
@@ -277,7 +291,8 @@ pub fn designator(alloc: Global, room: usize, tokens: &[Token]) -> Read<'_, Desi
 
 /// Arguments in parentheses or none, where so many levels may be opened.
 pub fn optional_arguments(alloc: Global, room: usize, tokens: &[Token]) -> Read<'_, Vec<Expression>>
-    ensures { Gives (λ v. map view.expression v.items) result (spec.optional_arguments_at room tokens.now) }
+    ensures { Gives (λ v. map view.expression v.items) result
+        (spec.optional_arguments_at room tokens.now) }
 {
     Factors {
         alloc,

@@ -20,7 +20,10 @@ pub fn repeated<X: Node + Drop, G: Fn(&[Token]) -> bool, F: Fn(&[Token]) -> Read
 ) -> Read<'_, Vec<X>>
     requires can_look { G.IsAlwaysCallable goes_on }
     requires can_read { F.IsAlwaysCallable item }
-    ensures { (test : Option Kind → Bool) (reader : Reader X.Plain) → Tests (G.post goes_on) test → Reads X.view (F.post item) reader → Gives (λ v. map X.view v.items) result (reading.repeated test reader (map X.view found.items) tokens.now) }
+    ensures { (test : Option Kind → Bool) (reader : Reader X.Plain) → Tests (G.post goes_on) test
+        → Reads X.view (F.post item) reader
+        → Gives (λ v. map X.view v.items) result
+        (reading.repeated test reader (map X.view found.items) tokens.now) }
 {
     let mut found = found;
     let mut rest = tokens;
@@ -45,7 +48,9 @@ pub fn one_or_more<X: Node + Drop, G: Fn(&[Token]) -> bool, F: Fn(&[Token]) -> R
 ) -> Read<'_, Vec<X>>
     requires can_look { G.IsAlwaysCallable goes_on }
     requires can_read { F.IsAlwaysCallable item }
-    ensures { (test : Option Kind → Bool) (reader : Reader X.Plain) → Tests (G.post goes_on) test → Reads X.view (F.post item) reader → Gives (λ v. map X.view v.items) result (reading.one_or_more test reader tokens.now) }
+    ensures { (test : Option Kind → Bool) (reader : Reader X.Plain) → Tests (G.post goes_on) test
+        → Reads X.view (F.post item) reader
+        → Gives (λ v. map X.view v.items) result (reading.one_or_more test reader tokens.now) }
 {
     let (first, rest) = item(tokens)?;
     let mut found = Vec::new(alloc);
@@ -61,7 +66,8 @@ pub fn separated<X: Node + Drop, F: Fn(&[Token]) -> Read<'_, X>>(
     tokens: &[Token],
 ) -> Read<'_, Vec<X>>
     requires { F.IsAlwaysCallable item }
-    ensures { (reader : Reader X.Plain) → Reads X.view (F.post item) reader → Gives (λ v. map X.view v.items) result (reading.separated_by symbol reader tokens.now) }
+    ensures { (reader : Reader X.Plain) → Reads X.view (F.post item) reader
+        → Gives (λ v. map X.view v.items) result (reading.separated_by symbol reader tokens.now) }
 {
     let (first, rest) = item(tokens)?;
     let mut found = Vec::new(alloc);

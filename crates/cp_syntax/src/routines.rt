@@ -115,7 +115,8 @@ fn variable_group(alloc: Global, room: usize, tokens: &[Token]) -> Read<'_, Fiel
 /// Variables behind the word `var`, or none.
 #[tactic(auto, unfolding(cp_grammar::specs::Declarations::variables_of, cp_grammar::specs::Declarations::some_variables_of))]
 pub fn variables(alloc: Global, room: usize, tokens: &[Token]) -> Read<'_, Vec<Fields>>
-    ensures { Gives (λ v. map view.variables v.items) result (spec.variables_of (type_at room) tokens.now) }
+    ensures { Gives (λ v. map view.variables v.items) result
+        (spec.variables_of (type_at room) tokens.now) }
 {
     if !sees(tokens, Symbol::Var) {
         return Ok((Vec::new(alloc), tokens));
@@ -141,7 +142,8 @@ pub fn body(alloc: Global, room: usize, tokens: &[Token]) -> Read<'_, Body>
 
 #[tactic(auto, unfolding(cp_grammar::specs::Declarations::routine_of))]
 fn routine(alloc: Global, room: usize, tokens: &[Token]) -> Read<'_, Routine>
-    ensures { Gives view.routine result (spec.routine_of (type_at room) (deeper_at room) tokens.now) }
+    ensures { Gives view.routine result
+        (spec.routine_of (type_at room) (deeper_at room) tokens.now) }
 {
     let (heading, rest) = routine_heading(alloc, tokens)?;
     let (variables, rest) = variables(alloc, room, rest)?;
@@ -151,7 +153,10 @@ fn routine(alloc: Global, room: usize, tokens: &[Token]) -> Read<'_, Routine>
 }
 
 fn routine_from(heading: Heading, variables: Vec<Fields>, body: Body) -> Routine
-    ensures { view.routine result ≡ record { entry = heading.entry; name = heading.name; parameters = map view.parameters heading.parameters.items; result_type = heading.result_type; variables = map view.variables variables.items; body = view.body body } }
+    ensures { view.routine
+        result ≡ record { entry = heading.entry; name = heading.name; parameters = map
+        view.parameters heading.parameters.items; result_type = heading.result_type; variables = map
+        view.variables variables.items; body = view.body body } }
 {
     Routine {
         entry: heading.entry,
@@ -175,7 +180,8 @@ fn begins_routine(tokens: &[Token]) -> bool
 /// Procedures and functions, as long as there are some.
 #[tactic(auto, unfolding(cp_grammar::specs::Declarations::routines_of))]
 pub fn routines(alloc: Global, room: usize, tokens: &[Token]) -> Read<'_, Vec<Routine>>
-    ensures { Gives (λ v. map view.routine v.items) result (spec.routines_of (type_at room) (deeper_at room) tokens.now) }
+    ensures { Gives (λ v. map view.routine v.items) result
+        (spec.routines_of (type_at room) (deeper_at room) tokens.now) }
 {
     repeated(
         Vec::new(alloc),

@@ -66,7 +66,8 @@ fn assign(target: Designator, at: usize, value: Expression) -> Statement
 }
 
 fn call(d: Designator, arguments: Vec<Expression>) -> Statement
-    ensures { view.statement result ≡ s.Perform (view.designator d) (expressions_of (map view.expression arguments.items)) }
+    ensures { view.statement result ≡ s.Perform (view.designator d)
+        (expressions_of (map view.expression arguments.items)) }
 {
     Statement::Call(d, arguments)
 }

@@ -46,7 +46,8 @@ impl<F: Fn(Global, usize, &[Token]) -> Read<'_, Statement>> Statements<F> {
     #[tactic(auto, unfolding(cp_grammar::specs::Statements::statements_from))]
     fn statements<'a>(&self, tokens: &'a [Token]) -> Read<'a, Vec<Statement>>
         requires { StatementsAt self.now.room (F.pre self.now.read) (F.post self.now.read) }
-        ensures { Gives (λ v. map view.statement v.items) result (spec.statements_from (spec.statement_at self.now.room) tokens.now) }
+        ensures { Gives (λ v. map view.statement v.items) result
+            (spec.statements_from (spec.statement_at self.now.room) tokens.now) }
     {
         separated(
             self.alloc,
@@ -81,9 +82,12 @@ impl<F: Fn(Global, usize, &[Token]) -> Read<'_, Statement> + Copy> StatementRule
     #[tactic(auto, using(crate::proofs::Rooms::no_statement, crate::proofs::Rooms::some_statement))]
     fn inner(&self, tokens: &[Token]) -> Result<Statements<F>, Stop>
         requires { StatementsBelow self.now.room (F.pre self.now.read) (F.post self.now.read) }
-        ensures inside { IfOk result (λ x. spec.deeper_at self.now.room ≡ Some (record { expression = expression_at x.room; statement = spec.statement_at x.room })) }
+        ensures inside { IfOk result
+            (λ x. spec.deeper_at self.now.room ≡ Some
+            (record { expression = expression_at x.room; statement = spec.statement_at x.room })) }
         ensures nests { IfOk result (λ x. StatementsAt x.room (F.pre x.read) (F.post x.read)) }
-        ensures none { IfErr result (λ e. (spec.deeper_at self.now.room ≡ None) × (e ≡ Deep (length tokens.now))) }
+        ensures none { IfErr result
+            (λ e. (spec.deeper_at self.now.room ≡ None) × (e ≡ Deep (length tokens.now))) }
     {
         if self.room == 0 {
             return Err(Stop::Deep(tokens.len()));
@@ -109,7 +113,8 @@ impl<F: Fn(Global, usize, &[Token]) -> Read<'_, Statement> + Copy> StatementRule
     #[tactic(auto, unfolding(cp_grammar::specs::Statements::compound_of))]
     fn compound<'a>(&self, tokens: &'a [Token]) -> Read<'a, Statement>
         requires { StatementsBelow self.now.room (F.pre self.now.read) (F.post self.now.read) }
-        ensures { Gives view.statement result (spec.compound_of (spec.deeper_at self.now.room) tokens.now) }
+        ensures { Gives view.statement result
+            (spec.compound_of (spec.deeper_at self.now.room) tokens.now) }
     {
         let (block, rest) = self.block(tokens)?;
         Ok((compound(block), rest))
@@ -119,7 +124,8 @@ impl<F: Fn(Global, usize, &[Token]) -> Read<'_, Statement> + Copy> StatementRule
     #[tactic(auto, unfolding(cp_grammar::specs::Statements::if_of, cp_grammar::specs::Statements::else_part))]
     fn conditional<'a>(&self, tokens: &'a [Token]) -> Read<'a, Statement>
         requires { StatementsBelow self.now.room (F.pre self.now.read) (F.post self.now.read) }
-        ensures { Gives view.statement result (spec.if_of (spec.deeper_at self.now.room) tokens.now) }
+        ensures { Gives view.statement result
+            (spec.if_of (spec.deeper_at self.now.room) tokens.now) }
     {
         let inner = self.inner(tokens)?;
         let (condition, rest) = inner.expression(after(tokens))?;
@@ -135,7 +141,8 @@ impl<F: Fn(Global, usize, &[Token]) -> Read<'_, Statement> + Copy> StatementRule
     #[tactic(auto, unfolding(cp_grammar::specs::Statements::case_of))]
     fn case<'a>(&self, tokens: &'a [Token]) -> Read<'a, Statement>
         requires { StatementsBelow self.now.room (F.pre self.now.read) (F.post self.now.read) }
-        ensures { Gives view.statement result (spec.case_of (spec.deeper_at self.now.room) tokens.now) }
+        ensures { Gives view.statement result
+            (spec.case_of (spec.deeper_at self.now.room) tokens.now) }
     {
         let inner = self.inner(tokens)?;
         let (selector, rest) = inner.expression(after(tokens))?;
@@ -148,7 +155,8 @@ impl<F: Fn(Global, usize, &[Token]) -> Read<'_, Statement> + Copy> StatementRule
     #[tactic(auto, unfolding(cp_grammar::specs::Statements::while_of))]
     fn while_loop<'a>(&self, tokens: &'a [Token]) -> Read<'a, Statement>
         requires { StatementsBelow self.now.room (F.pre self.now.read) (F.post self.now.read) }
-        ensures { Gives view.statement result (spec.while_of (spec.deeper_at self.now.room) tokens.now) }
+        ensures { Gives view.statement result
+            (spec.while_of (spec.deeper_at self.now.room) tokens.now) }
     {
         let inner = self.inner(tokens)?;
         let (condition, rest) = inner.expression(after(tokens))?;
@@ -160,7 +168,8 @@ impl<F: Fn(Global, usize, &[Token]) -> Read<'_, Statement> + Copy> StatementRule
     #[tactic(auto, unfolding(cp_grammar::specs::Statements::repeat_of))]
     fn repeat_loop<'a>(&self, tokens: &'a [Token]) -> Read<'a, Statement>
         requires { StatementsBelow self.now.room (F.pre self.now.read) (F.post self.now.read) }
-        ensures { Gives view.statement result (spec.repeat_of (spec.deeper_at self.now.room) tokens.now) }
+        ensures { Gives view.statement result
+            (spec.repeat_of (spec.deeper_at self.now.room) tokens.now) }
     {
         let inner = self.inner(tokens)?;
         let (body, rest) = inner.statements(after(tokens))?;
@@ -172,7 +181,8 @@ impl<F: Fn(Global, usize, &[Token]) -> Read<'_, Statement> + Copy> StatementRule
     #[tactic(auto, unfolding(cp_grammar::specs::Statements::for_of))]
     fn for_loop<'a>(&self, tokens: &'a [Token]) -> Read<'a, Statement>
         requires { StatementsBelow self.now.room (F.pre self.now.read) (F.post self.now.read) }
-        ensures { Gives view.statement result (spec.for_of (spec.deeper_at self.now.room) tokens.now) }
+        ensures { Gives view.statement result
+            (spec.for_of (spec.deeper_at self.now.room) tokens.now) }
     {
         let inner = self.inner(tokens)?;
         let (variable, rest) = identifier(self.alloc, after(tokens))?;
@@ -191,7 +201,8 @@ impl<F: Fn(Global, usize, &[Token]) -> Read<'_, Statement> + Copy> StatementRule
     #[tactic(auto, unfolding(cp_grammar::specs::Statements::cycle_of))]
     fn cycle<'a>(&self, tokens: &'a [Token]) -> Read<'a, Statement>
         requires { StatementsBelow self.now.room (F.pre self.now.read) (F.post self.now.read) }
-        ensures { Gives view.statement result (spec.cycle_of (spec.deeper_at self.now.room) tokens.now) }
+        ensures { Gives view.statement result
+            (spec.cycle_of (spec.deeper_at self.now.room) tokens.now) }
     {
         let (body, rest) = self.inner(tokens)?.statements(after(tokens))?;
         let (_, rest) = expect(rest, Symbol::End)?;
@@ -202,7 +213,8 @@ impl<F: Fn(Global, usize, &[Token]) -> Read<'_, Statement> + Copy> StatementRule
     #[tactic(auto, unfolding(cp_grammar::specs::Statements::statement_of, cp_grammar::specs::Statements::statement_by))]
     fn statement<'a>(&self, tokens: &'a [Token]) -> Read<'a, Statement>
         requires { StatementsBelow self.now.room (F.pre self.now.read) (F.post self.now.read) }
-        ensures { Gives view.statement result (spec.statement_of (inner_at self.now.room) (spec.deeper_at self.now.room) tokens.now) }
+        ensures { Gives view.statement result
+            (spec.statement_of (inner_at self.now.room) (spec.deeper_at self.now.room) tokens.now) }
     {
         match peek(tokens) {
             Some(Kind::Name(_)) => designated(self.alloc, self.room, tokens),
@@ -240,19 +252,22 @@ fn arm(labels: Vec<Constant>, body: Statement) -> Arm
 }
 
 fn body(at: usize, statements: Vec<Statement>) -> Body
-    ensures { view.body result ≡ record { at = at; list = statements_of (map view.statement statements.items) } }
+    ensures { view.body
+        result ≡ record { at = at; list = statements_of (map view.statement statements.items) } }
 {
     Body { at, statements }
 }
 
 fn compound(body: Body) -> Statement
-    ensures { view.statement result ≡ s.Compound (statements_of (map view.statement body.statements.items)) }
+    ensures { view.statement result ≡ s.Compound
+        (statements_of (map view.statement body.statements.items)) }
 {
     Statement::Compound(body.statements)
 }
 
 fn if_then(alloc: Global, condition: Expression, then: Statement) -> Result<Statement, AllocError>
-    ensures { IfOk result (λ x. view.statement x ≡ s.If (view.expression condition) (view.statement then)) }
+    ensures { IfOk result
+        (λ x. view.statement x ≡ s.If (view.expression condition) (view.statement then)) }
 {
     Ok(Statement::If {
         condition,
@@ -266,7 +281,9 @@ fn if_else(
     then: Statement,
     otherwise: Statement,
 ) -> Result<Statement, AllocError>
-    ensures { IfOk result (λ x. view.statement x ≡ s.IfElse (view.expression condition) (view.statement then) (view.statement otherwise)) }
+    ensures { IfOk result
+        (λ x. view.statement x ≡ s.IfElse (view.expression condition) (view.statement then)
+        (view.statement otherwise)) }
 {
     let then = Box::new(alloc, then)?;
     let otherwise = Box::new(alloc, otherwise)?;
@@ -278,7 +295,8 @@ fn if_else(
 }
 
 fn case(selector: Expression, arms: Vec<Arm>) -> Statement
-    ensures { view.statement result ≡ s.Case (view.expression selector) (arms_of (map view.arm arms.items)) }
+    ensures { view.statement result ≡ s.Case (view.expression selector)
+        (arms_of (map view.arm arms.items)) }
 {
     Statement::Case { selector, arms }
 }
@@ -288,7 +306,8 @@ fn while_from(
     condition: Expression,
     body: Statement,
 ) -> Result<Statement, AllocError>
-    ensures { IfOk result (λ x. view.statement x ≡ s.While (view.expression condition) (view.statement body)) }
+    ensures { IfOk result
+        (λ x. view.statement x ≡ s.While (view.expression condition) (view.statement body)) }
 {
     Ok(Statement::While {
         condition,
@@ -297,7 +316,8 @@ fn while_from(
 }
 
 fn repeat_from(body: Vec<Statement>, condition: Expression) -> Statement
-    ensures { view.statement result ≡ s.Repeat (statements_of (map view.statement body.items)) (view.expression condition) }
+    ensures { view.statement result ≡ s.Repeat (statements_of (map view.statement body.items))
+        (view.expression condition) }
 {
     Statement::Repeat { body, condition }
 }
@@ -310,7 +330,9 @@ fn for_from(
     last: Expression,
     body: Statement,
 ) -> Result<Statement, AllocError>
-    ensures { IfOk result (λ x. view.statement x ≡ s.For variable (view.expression from) direction (view.expression last) (view.statement body)) }
+    ensures { IfOk result
+        (λ x. view.statement x ≡ s.For variable (view.expression from) direction
+        (view.expression last) (view.statement body)) }
 {
     Ok(Statement::For {
         variable,

@@ -38,7 +38,8 @@ impl<F: Fn(Global, usize, &[Token]) -> Read<'_, TypeExpression>> Types<F> {
     #[tactic(auto, unfolding(cp_grammar::specs::Types::group_of))]
     pub fn group<'a>(&self, tokens: &'a [Token]) -> Read<'a, Fields>
         requires { TypesAt self.now.room (F.pre self.now.read) (F.post self.now.read) }
-        ensures { Gives view.variables result (spec.group_of (spec.type_at self.now.room) tokens.now) }
+        ensures { Gives view.variables result
+            (spec.group_of (spec.type_at self.now.room) tokens.now) }
     {
         let (names, rest) = names(self.alloc, tokens)?;
         let (_, rest) = expect(rest, Symbol::Colon)?;
@@ -60,9 +61,11 @@ impl<F: Fn(Global, usize, &[Token]) -> Read<'_, TypeExpression> + Copy> TypeRule
     #[tactic(auto, using(crate::proofs::Rooms::no_type, crate::proofs::Rooms::some_type))]
     fn inner(&self, tokens: &[Token]) -> Result<Types<F>, Stop>
         requires { TypesBelow self.now.room (F.pre self.now.read) (F.post self.now.read) }
-        ensures inside { IfOk result (λ t. spec.inner_type_at self.now.room ≡ Some (spec.type_at t.room)) }
+        ensures inside { IfOk result
+            (λ t. spec.inner_type_at self.now.room ≡ Some (spec.type_at t.room)) }
         ensures nests { IfOk result (λ t. TypesAt t.room (F.pre t.read) (F.post t.read)) }
-        ensures none { IfErr result (λ e. (spec.inner_type_at self.now.room ≡ None) × (e ≡ Deep (length tokens.now))) }
+        ensures none { IfErr result
+            (λ e. (spec.inner_type_at self.now.room ≡ None) × (e ≡ Deep (length tokens.now))) }
     {
         if self.room == 0 {
             return Err(Stop::Deep(tokens.len()));
@@ -77,7 +80,8 @@ impl<F: Fn(Global, usize, &[Token]) -> Read<'_, TypeExpression> + Copy> TypeRule
     #[tactic(auto, unfolding(cp_grammar::specs::Types::array_of))]
     fn array<'a>(&self, tokens: &'a [Token]) -> Read<'a, TypeExpression>
         requires { TypesBelow self.now.room (F.pre self.now.read) (F.post self.now.read) }
-        ensures { Gives view.type_expression result (spec.array_of (spec.inner_type_at self.now.room) tokens.now) }
+        ensures { Gives view.type_expression result
+            (spec.array_of (spec.inner_type_at self.now.room) tokens.now) }
     {
         let inner = self.inner(tokens)?;
         let (_, rest) = expect(after(tokens), Symbol::OpenBracket)?;
@@ -96,7 +100,8 @@ impl<F: Fn(Global, usize, &[Token]) -> Read<'_, TypeExpression> + Copy> TypeRule
     #[tactic(auto, unfolding(cp_grammar::specs::Types::record_of))]
     fn record<'a>(&self, tokens: &'a [Token]) -> Read<'a, TypeExpression>
         requires { TypesBelow self.now.room (F.pre self.now.read) (F.post self.now.read) }
-        ensures { Gives view.type_expression result (spec.record_of (spec.inner_type_at self.now.room) tokens.now) }
+        ensures { Gives view.type_expression result
+            (spec.record_of (spec.inner_type_at self.now.room) tokens.now) }
     {
         let inner = self.inner(tokens)?;
         let (groups, rest) = separated(
@@ -113,7 +118,8 @@ impl<F: Fn(Global, usize, &[Token]) -> Read<'_, TypeExpression> + Copy> TypeRule
     #[tactic(auto, unfolding(cp_grammar::specs::Types::type_of, cp_grammar::specs::Types::type_by))]
     fn type_expression<'a>(&self, tokens: &'a [Token]) -> Read<'a, TypeExpression>
         requires { TypesBelow self.now.room (F.pre self.now.read) (F.post self.now.read) }
-        ensures { Gives view.type_expression result (spec.type_of (spec.inner_type_at self.now.room) tokens.now) }
+        ensures { Gives view.type_expression result
+            (spec.type_of (spec.inner_type_at self.now.room) tokens.now) }
     {
         match peek(tokens) {
             Some(Kind::Name(_)) => named_or_subrange(self.alloc, tokens),
@@ -128,7 +134,8 @@ impl<F: Fn(Global, usize, &[Token]) -> Read<'_, TypeExpression> + Copy> TypeRule
 }
 
 fn subrange(alloc: Global, tokens: &[Token]) -> Read<'_, TypeExpression>
-    ensures { Gives view.type_expression result (and_then (constant_of tokens.now) spec.subrange_from) }
+    ensures { Gives view.type_expression result
+        (and_then (constant_of tokens.now) spec.subrange_from) }
 {
     let (low, rest) = constant(alloc, tokens)?;
     subrange_from(alloc, low, rest)
@@ -146,7 +153,8 @@ fn subrange_from(alloc: Global, low: Constant, tokens: &[Token]) -> Read<'_, Typ
 
 #[tactic(auto, unfolding(cp_grammar::specs::Types::named_or_subrange))]
 fn named_or_subrange(alloc: Global, tokens: &[Token]) -> Read<'_, TypeExpression>
-    ensures { Gives view.type_expression result (and_then (identifier_of tokens.now) (λ x. by_kind (spec.named_or_subrange x))) }
+    ensures { Gives view.type_expression result
+        (and_then (identifier_of tokens.now) (λ x. by_kind (spec.named_or_subrange x))) }
 {
     let (name, rest) = identifier(alloc, tokens)?;
     match peek(rest) {
@@ -179,7 +187,9 @@ fn array(
     indices: Vec<TypeExpression>,
     element: TypeExpression,
 ) -> Result<TypeExpression, AllocError>
-    ensures { IfOk result (λ t. view.type_expression t ≡ s.Array at (types_of (map view.type_expression indices.items)) (view.type_expression element)) }
+    ensures { IfOk result
+        (λ t. view.type_expression t ≡ s.Array at
+        (types_of (map view.type_expression indices.items)) (view.type_expression element)) }
 {
     Ok(TypeExpression::Array {
         at,
@@ -189,7 +199,8 @@ fn array(
 }
 
 fn record(at: usize, groups: Vec<Fields>) -> TypeExpression
-    ensures { view.type_expression result ≡ s.Record at (fields_of (map view.variables groups.items)) }
+    ensures { view.type_expression result ≡ s.Record at
+        (fields_of (map view.variables groups.items)) }
 {
     TypeExpression::Record { at, groups }
 }

@@ -1,6 +1,6 @@
 use Rattle.std.proofs.Common.{◌≡◌, ◌<◌, length, sym, subst}
 use Rattle.std.specs.Prelude.{IfErr, IfOk}
-use Rattle.cp_rounds.specs.declared.run.Parts.{Parts}
+use Rattle.cp_rounds.specs.declared.round.Parts.{Parts}
 use Rattle.cp_rounds.specs.Runs.{RoundsMade}
 use Rattle.cp_rounds.proofs.run.fn.make_rounds_kept.scope.Goals as goal
 

@@ -1,5 +1,5 @@
 use Rattle.std.proofs.Common.{rules, ◌≡◌, vec_len, arith}
-use Rattle.cp_rounds.proofs.run.reserve_turn.Goals as goal
+use Rattle.cp_rounds.proofs.round.reserve_turn.Goals as goal
 
 pub returns-clause-room : goal.returns-clause-room
 returns-clause-room c = λ y le.

@@ -3,7 +3,7 @@ use Rattle.cp_private.specs.declared.private.Private.{Private}
 use Rattle.cp_kernel.specs.KernelOf.{HasRoom}
 use Rattle.cp_kernel.proofs.Lists.{got_below, got_or, got_set}
 use Rattle.cp_rounds.proofs.Kept.{part_holds}
-use Rattle.cp_rounds.proofs.run.reserve_turns.Goals as goal
+use Rattle.cp_rounds.proofs.round.reserve_turns.Goals as goal
 
 pub returns-in_err-reserve_turn-clause-keeps : goal.returns-in_err-reserve_turn-clause-keeps
 returns-in_err-reserve_turn-clause-keeps c = λ program setup rounds s h.

@@ -6,7 +6,7 @@ use Rattle.cp_rounds.specs.Runs.{RoundsMade}
 use Rattle.cp_rounds.specs.Tasks.{AllRoom}
 use Rattle.cp_rounds.proofs.Kept.{no_rounds_made, round_made}
 use Rattle.cp_rounds.proofs.Places.{if_err}
-use Rattle.cp_rounds.proofs.run.make_round.Goals as goal
+use Rattle.cp_rounds.proofs.round.make_round.Goals as goal
 
 pub returns-in_err-reserve_turns-clause-kept : goal.returns-in_err-reserve_turns-clause-kept
 returns-in_err-reserve_turns-clause-kept g c =

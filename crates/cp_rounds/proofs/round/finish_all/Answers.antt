@@ -4,7 +4,7 @@ use Rattle.cp_rounds.specs.Holds.{WavesMade}
 use Rattle.cp_rounds.specs.Tasks.{AllRoom}
 use Rattle.cp_rounds.proofs.Kept.{no_items}
 use Rattle.cp_rounds.proofs.Waved.{no_wave}
-use Rattle.cp_rounds.proofs.run.finish_all.Goals as goal
+use Rattle.cp_rounds.proofs.round.finish_all.Goals as goal
 
 pub loop-i-init : goal.loop-i-init
 loop-i-init g c =

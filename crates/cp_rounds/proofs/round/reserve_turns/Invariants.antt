@@ -4,7 +4,7 @@ use Rattle.cp_program.specs.declared.program.Program.{Program}
 use Rattle.cp_private.specs.declared.private.Private.{Private}
 use Rattle.cp_kernel.specs.KernelOf.{HasRoom}
 use Rattle.cp_rounds.specs.Holds.{Holds}
-use Rattle.cp_rounds.proofs.run.reserve_turns.Given as goal
+use Rattle.cp_rounds.proofs.round.reserve_turns.Given as goal
 
 abbrev pub invariant-loop-i : goal.invariant-loop-i
 invariant-loop-i l = record {

@@ -1,7 +1,7 @@
 use Rattle.std.proofs.Common.{◌≡◌, ◌≤◌, length, vec_capacity}
 use Rattle.cp_rounds.specs.Holds.{WavesMade}
 use Rattle.cp_rounds.specs.Tasks.{AllRoom}
-use Rattle.cp_rounds.proofs.run.finish_all.Given as goal
+use Rattle.cp_rounds.proofs.round.finish_all.Given as goal
 
 abbrev pub invariant-loop-i : goal.invariant-loop-i
 invariant-loop-i g l = record {

@@ -6,7 +6,7 @@ use Rattle.cp_kernel.specs.Stand.{MakesKernelTurn}
 use Rattle.cp_kernel.proofs.Lists.{got_at}
 use Rattle.cp_rounds.specs.Holds.{WavesMade}
 use Rattle.cp_rounds.proofs.Kept.{longer_by_one, process_made}
-use Rattle.cp_rounds.proofs.run.finish_next.Goals as goal
+use Rattle.cp_rounds.proofs.round.finish_next.Goals as goal
 
 pub kernel_turn-requires : goal.kernel_turn-requires
 kernel_turn-requires g c =
