@@ -13,7 +13,8 @@ use cp_model::tree::{Fields, Parameters};
 use cp_names::NameTable;
 use std::alloc::Global;
 
-/// A right to a component: how many words it lies from the first of its own component, and the number of its type.
+/// A right to a component: how many words it lies from the first of its own component, and the
+/// number of its type.
 #[derive(Clone, Copy)]
 pub struct Right {
     pub at: usize,
@@ -23,7 +24,8 @@ pub struct Right {
 impl<'t> Types<'t> {
     // Adds a parameter, if it is a right to a component.
     fn pick(&self, components: &mut Vec<Declared<'t>>, d: Declared<'t>) -> Result<(), TableError>
-        ensures { OnOk result (Picks self.now (declared_entry d.entry) (map declared_entry components.old.items) (map declared_entry components.new.items)) }
+        ensures { OnOk result (Picks self.now (declared_entry d.entry)
+            (map declared_entry components.old.items) (map declared_entry components.new.items)) }
     {
         if self.is_component(d.of) {
             components.push(d)?;
@@ -33,7 +35,8 @@ impl<'t> Types<'t> {
 
     /// Those of these parameters that are rights to components.
     pub fn components(&self, list: &[Declared<'t>]) -> Result<Vec<Declared<'t>>, TableError>
-        ensures { IfOk result (λ components. PicksComponents self.now (map declared_entry list.now) (map declared_entry components.items)) }
+        ensures { IfOk result (λ components. PicksComponents self.now (map declared_entry list.now)
+            (map declared_entry components.items)) }
     {
         let mut components = Vec::new(self.alloc);
         for d in list {
@@ -44,7 +47,8 @@ impl<'t> Types<'t> {
 
     /// Where the rights to these components lie: behind the mark, one after another.
     pub fn rights_to(&self, components: &[Declared<'t>]) -> Result<NameTable<'t, Right>, TableError>
-        ensures { IfOk result (λ rights. RightsLie self.now (map declared_entry components.now) rights) }
+        ensures { IfOk result (λ rights. RightsLie self.now
+            (map declared_entry components.now) rights) }
     {
         let mut rights = NameTable::new(self.alloc);
         for i in 0..components.len() {
@@ -63,7 +67,8 @@ impl<'t> Types<'t> {
 }
 
 impl<'t> Layouts<'t> {
-    /// The words of the components of a system type with these parameters and variables, and where their members lie.
+    /// The words of the components of a system type with these parameters and variables, and where
+    /// their members lie.
     pub fn own_members(
         &mut self,
         names: &Names<'t>,
@@ -71,7 +76,8 @@ impl<'t> Layouts<'t> {
         parameters: &'t [Parameters],
         variables: &'t [Fields],
     ) -> Result<Layout<'t>, TableError>
-        ensures { IfOk result (λ l. MakesComponent names.now types.old types.new self.old.rows.items self.new.rows.items parameters.now variables.now l) }
+        ensures { IfOk result (λ l. MakesComponent names.now types.old types.new self.old.rows.items
+            self.new.rows.items parameters.now variables.now l) }
     {
         let mut members = Vec::new(self.alloc);
         types.add_parameters(names, parameters, &mut members)?;

@@ -17,7 +17,8 @@ use cp_model::tree::{Parameters, Sort, System};
 use cp_names::NameTable;
 use std::alloc::Global;
 
-/// A part of a variable: how many words it lies from the first, and its type. It is none where the words are too many.
+/// A part of a variable: how many words it lies from the first, and its type. It is none where the
+/// words are too many.
 #[derive(Clone, Copy)]
 pub struct Part {
     pub at: Option<u32>,
@@ -75,7 +76,8 @@ fn count_between(low: i32, high: i32) -> Option<u32>
 impl<'t> Types<'t> {
     /// Whether a name is that of a type of components.
     pub fn names_component(&self, names: &Names<'t>, name: &[u8]) -> bool
-        ensures { (g : GlobalScope) → ScopeStands names.now self.now g → result ≡ is_component (named name.now g) }
+        ensures { (g : GlobalScope) → ScopeStands names.now self.now g → result ≡ is_component
+            (named name.now g) }
     {
         match names.types.find(name) {
             Some(n) => self.is_component(n),
@@ -85,7 +87,8 @@ impl<'t> Types<'t> {
 
     // How many parameters of one type are rights to components.
     fn rights_among(&self, names: &Names<'t>, group: &Parameters) -> Option<u32>
-        ensures { (g : GlobalScope) → ScopeStands names.now self.now g → Counts result (rights_among g group.now) }
+        ensures { (g : GlobalScope) → ScopeStands names.now self.now g → Counts result
+            (rights_among g group.now) }
     {
         if self.names_component(names, group.of.name.as_bytes()) {
             counted(group.names.len())
@@ -96,7 +99,8 @@ impl<'t> Types<'t> {
 
     /// How many of these parameters are rights to components.
     pub fn rights(&self, names: &Names<'t>, groups: &[Parameters]) -> Option<u32>
-        ensures { (g : GlobalScope) → ScopeStands names.now self.now g → Counts result (rights_of g groups.now) }
+        ensures { (g : GlobalScope) → ScopeStands names.now self.now g → Counts result
+            (rights_of g groups.now) }
     {
         let mut count = Some(0);
         for group in groups {
@@ -126,15 +130,20 @@ impl<'t> Layouts<'t> {
 
     /// How many words a variable of the type takes, if they aren't too many.
     pub fn words(&self, number: usize) -> Option<u32>
-        ensures { (g : GlobalScope) (types : Types) (t : ResolvedType) → AreLaid g types self.now.rows.items → Stands types number t → Counts result (words g t) }
+        ensures { (g : GlobalScope) (types : Types) (t : ResolvedType)
+            → AreLaid g types self.now.rows.items → Stands types number t → Counts result
+            (words g t) }
     {
         self.layout(number)?.words
     }
 
-    /// Where a member of a record or of a class lies in a variable of the type, if it has one of the name. A type without a layout is
+    /// Where a member of a record or of a class lies in a variable of the type, if it has one of
+    /// the name. A type without a layout is
     /// refused.
     pub fn part(&self, number: usize, name: &[u8]) -> Result<Option<Part>, TableError>
-        ensures { IfOk result (λ p. (g : GlobalScope) (types : Types) (t : ResolvedType) → AreLaid g types self.now.rows.items → Stands types number t → PartIs types p (code.part g t (ByName name.now ∷ []))) }
+        ensures { IfOk result (λ p. (g : GlobalScope) (types : Types) (t : ResolvedType)
+            → AreLaid g types self.now.rows.items → Stands types number t → PartIs types p
+            (code.part g t (ByName name.now ∷ []))) }
     {
         match self.layout(number) {
             Some(layout) => Ok(layout.parts.find(name)),
@@ -172,7 +181,8 @@ impl<'t> Layouts<'t> {
         Ok(layout)
     }
 
-    // A component of a class has its members in its variable. A process or a monitor lies elsewhere.
+    // A component of a class has its members in its variable. A process or a monitor lies
+    // elsewhere.
     fn component(
         &self,
         names: &Names<'t>,
@@ -180,7 +190,8 @@ impl<'t> Layouts<'t> {
         system: &System,
         members: &[Field<'t>],
     ) -> Result<Layout<'t>, TableError>
-        ensures { IfOk result (λ l. LaysComponent names.now types.now self.now.rows.items system.now (map entry members.now) l) }
+        ensures { IfOk result (λ l. LaysComponent names.now types.now self.now.rows.items system.now
+            (map entry members.now) l) }
     {
         match system.sort {
             Sort::Class => {
@@ -218,7 +229,8 @@ impl<'t> Layouts<'t> {
 
     /// Adds the layouts of all types that have none yet.
     pub fn extend(&mut self, names: &Names<'t>, types: &Types<'t>) -> Result<(), TableError>
-        ensures laid { OnOk result ((g : GlobalScope) → ScopeStands names.now types.now g → AreLaid g types.now self.old.rows.items → AreLaid g types.now self.new.rows.items) }
+        ensures laid { OnOk result ((g : GlobalScope) → ScopeStands names.now types.now g
+            → AreLaid g types.now self.old.rows.items → AreLaid g types.now self.new.rows.items) }
         ensures complete { OnOk result (length types.now.rows.items ≤ length self.new.rows.items) }
     {
         for number in self.rows.len()..types.rows.len() {

@@ -1,17 +1,25 @@
-//! Tables of what the names of a text stand for, and where its variables lie: what the compiler asks of a text.
+//! Tables of what the names of a text stand for, and where its variables lie: what the compiler
+//! asks of a text.
 //!
 //! `Tables::of_tree` makes them in two passes over the definitions, of any tree:
 //!
-//! - **The outermost scope.** `Outer` has the constants and types that the definitions make, in text order. A type is a row of `Types` that
-//!   names the types of its parts by their numbers, so a chain of named types of any length is gone through without recursion; only
+//! - **The outermost scope.** `Outer` has the constants and types that the definitions make, in
+//!   text order. A type is a row of `Types` that
+//!   names the types of its parts by their numbers, so a chain of named types of any length is gone
+//!   through without recursion; only
 //!   written types nest.
-//! - **Layouts and system types.** Once the scope is final, `Layouts` has the words of each type and where its members lie, each from
-//!   those of its parts. A `SystemTable` has the parameters and variables of a system type, where its members and rights lie, which
+//! - **Layouts and system types.** Once the scope is final, `Layouts` has the words of each type
+//!   and where its members lie, each from
+//!   those of its parts. A `SystemTable` has the parameters and variables of a system type, where
+//!   its members and rights lie, which
 //!   components its names mean, and a `RoutineTable` of each routine, where its locals lie.
 //!
-//! Names are lent by the tree and found by comparison, in a time that grows as the logarithm of their number. Numbers and names stand for
-//! what the meaning says by look-ups alone (`specs/Standing.antt`; `specs/Texts.antt` for the whole). Words and offsets that don't fit
-//! their fields are left out, and refused where they are used: a type may be declared far larger than any variable.
+//! Names are lent by the tree and found by comparison, in a time that grows as the logarithm of
+//! their number. Numbers and names stand for
+//! what the meaning says by look-ups alone (`specs/Standing.antt`; `specs/Texts.antt` for the
+//! whole). Words and offsets that don't fit
+//! their fields are left out, and refused where they are used: a type may be declared far larger
+//! than any variable.
 #![tactic(auto)]
 
 mod components;

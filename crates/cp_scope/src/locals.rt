@@ -17,7 +17,8 @@ use crate::variables::Declared;
 use cp_names::NameTable;
 use std::alloc::Global;
 
-/// A parameter or variable of a routine: how many words it lies from the first of the activation, whether it is a `var` parameter,
+/// A parameter or variable of a routine: how many words it lies from the first of the activation,
+/// whether it is a `var` parameter,
 /// and the number of its type. Where it lies is none if the words are too many.
 #[derive(Clone, Copy)]
 pub struct Local {
@@ -26,7 +27,8 @@ pub struct Local {
     pub of: usize,
 }
 
-/// The parameters and variables of a routine, and the words of an activation, if they aren't too many.
+/// The parameters and variables of a routine, and the words of an activation, if they aren't too
+/// many.
 #[derive(Drop)]
 pub struct Locals<'t> {
     pub words: Option<u32>,
@@ -36,7 +38,9 @@ pub struct Locals<'t> {
 impl<'t> Layouts<'t> {
     /// The words of a parameter or variable in its activation.
     pub fn local_words(&self, by_reference: bool, of: usize) -> Option<u32>
-        ensures { (g : GlobalScope) (types : Types) (v : Variable) → AreLaid g types self.now.rows.items → by_reference ≡ v.by_reference → Stands types of v.type → Counts result (code.local_words g v) }
+        ensures { (g : GlobalScope) (types : Types) (v : Variable)
+            → AreLaid g types self.now.rows.items → by_reference ≡ v.by_reference
+            → Stands types of v.type → Counts result (code.local_words g v) }
     {
         if by_reference {
             Some(1)
@@ -45,9 +49,11 @@ impl<'t> Layouts<'t> {
         }
     }
 
-    /// Where these parameters and variables lie, the first one so many words from the first of the activation.
+    /// Where these parameters and variables lie, the first one so many words from the first of the
+    /// activation.
     pub fn locals(&self, list: &[Declared<'t>], head: Option<u32>) -> Result<Locals<'t>, TableError>
-        ensures { IfOk result (λ l. LaysLocals self.now.rows.items (map declared_entry list.now) head l) }
+        ensures { IfOk result (λ l. LaysLocals self.now.rows.items
+            (map declared_entry list.now) head l) }
     {
         let mut locals = Locals {
             words: head,

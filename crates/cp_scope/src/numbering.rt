@@ -16,7 +16,8 @@ use cp_model::tree::Sort;
 use cp_names::NameTable;
 use std::alloc::Global;
 
-/// A named parameter or variable: the number of its type, and how many monitors and processes are declared before it.
+/// A named parameter or variable: the number of its type, and how many monitors and processes are
+/// declared before it.
 #[derive(Clone, Copy)]
 pub struct Numbered {
     pub of: usize,
@@ -36,7 +37,8 @@ fn is_sort(a: Sort, b: Sort) -> bool
 }
 
 impl<'t> Types<'t> {
-    /// The number of the system type whose components the variables of a type are, if they are components.
+    /// The number of the system type whose components the variables of a type are, if they are
+    /// components.
     pub fn system_of(&self, number: usize) -> Option<usize>
         ensures { result ≡ system_of (row_at self.now number) }
     {
@@ -48,7 +50,8 @@ impl<'t> Types<'t> {
 
     /// Whether variables of a type are components of this sort.
     pub fn is_component_of(&self, sort: Sort, number: usize) -> bool
-        ensures { (t : ResolvedType) → Stands self.now number t → result ≡ is_component_of (erase.sort_of sort) t }
+        ensures { (t : ResolvedType) → Stands self.now number t → result ≡ is_component_of
+            (erase.sort_of sort) t }
     {
         match self.system_of(number) {
             None => false,
@@ -62,7 +65,8 @@ impl<'t> Types<'t> {
     // One for a component of this sort.
     fn component_count(&self, sort: Sort, number: usize) -> usize
         ensures most { result ≤ 1 }
-        ensures count { (t : ResolvedType) → Stands self.now number t → result ≡ (if is_component_of (erase.sort_of sort) t then 1 else 0) }
+        ensures count { (t : ResolvedType) → Stands self.now number t → result ≡
+            (if is_component_of (erase.sort_of sort) t then 1 else 0) }
     {
         if self.is_component_of(sort, number) {
             1

@@ -65,7 +65,8 @@ fn numbered<'t>(base: Base<'t>, number: usize) -> Result<Value<'t>, TableError>
 
 // An enumeration whose last value has this number.
 fn enumeration<'t>(base: Base<'t>, last: usize) -> Result<Simple<'t>, TableError>
-    ensures { IfOk result (λ s. simple_of s ≡ t.Simple (base_of base.entry) (pos 0) (pos last) (pos 0)) }
+    ensures { IfOk result (λ s. simple_of s ≡ t.Simple (base_of base.entry) (pos 0) (pos last)
+        (pos 0)) }
 {
     let last = ordinal(last)?;
     Ok(simple(base, 0, last))
@@ -86,7 +87,8 @@ impl<'t> Types<'t> {
         group: &'t Parameters,
         members: &mut Vec<Field<'t>>,
     ) -> Result<(), TableError>
-        ensures { OnOk result (MakesFields names.now self.old self.new (map entry members.old.items) (map entry members.new.items) (with_parameter group.now)) }
+        ensures { OnOk result (MakesFields names.now self.old self.new (map entry members.old.items)
+            (map entry members.new.items) (with_parameter group.now)) }
     {
         let of = self.named(names, &group.of)?;
         if !self.is_component(of) {
@@ -102,7 +104,8 @@ impl<'t> Types<'t> {
         groups: &'t [Parameters],
         members: &mut Vec<Field<'t>>,
     ) -> Result<(), TableError>
-        ensures { OnOk result (MakesFields names.now self.old self.new (map entry members.old.items) (map entry members.new.items) (with_parameters groups.now)) }
+        ensures { OnOk result (MakesFields names.now self.old self.new (map entry members.old.items)
+            (map entry members.new.items) (with_parameters groups.now)) }
     {
         for group in groups {
             self.add_parameter(names, group, members)?;
@@ -128,7 +131,8 @@ impl<'t> Types<'t> {
 impl<'t> Outer<'t> {
     // Adds a constant.
     fn add_constant(&mut self, name: &'t [u8], value: Value<'t>) -> Result<(), TableError>
-        ensures { OnOk result (Defines self.old self.new (with_value name.now (value_of value.entry))) }
+        ensures { OnOk result (Defines self.old self.new
+            (with_value name.now (value_of value.entry))) }
     {
         add_name(&mut self.names.constants, name, value)
     }
@@ -142,7 +146,8 @@ impl<'t> Outer<'t> {
 
     // Adds a base type.
     fn add_base(&mut self, name: &'t [u8], base: Simple<'t>) -> Result<(), TableError>
-        ensures { OnOk result (Defines self.old self.new (with_type name.now (λ g. simple_of base.entry))) }
+        ensures { OnOk result (Defines self.old self.new
+            (with_type name.now (λ g. simple_of base.entry))) }
     {
         let of = self.types.add(TypeRow::Simple(base))?;
         self.add_type(name, of)
@@ -167,7 +172,8 @@ impl<'t> Outer<'t> {
     }
 
     fn define_constant(&mut self, d: &'t ConstantDefinition) -> Result<(), TableError>
-        ensures { OnOk result (Defines self.old self.new (defining (erase.constant_definition d.now))) }
+        ensures { OnOk result (Defines self.old self.new
+            (defining (erase.constant_definition d.now))) }
     {
         match self.names.value(&d.value) {
             Some(value) => self.add_constant(d.name.name.as_bytes(), value),
@@ -184,7 +190,8 @@ impl<'t> Outer<'t> {
 
     // The values of an enumeration. The last one is added first.
     fn add_values(&mut self, base: Base<'t>, values: &'t [Identifier]) -> Result<(), TableError>
-        ensures { OnOk result (Defines self.old self.new (with_values (base_of base.entry) 0 values.now)) }
+        ensures { OnOk result (Defines self.old self.new
+            (with_values (base_of base.entry) 0 values.now)) }
     {
         let mut left = values.len();
         while left > 0 {
@@ -200,7 +207,8 @@ impl<'t> Outer<'t> {
         x: &'t Identifier,
         values: &'t [Identifier],
     ) -> Result<(), TableError>
-        ensures { OnOk result (Defines self.old self.new (defining (a.EnumDef x.now.name (map erase.name values.now)))) }
+        ensures { OnOk result (Defines self.old self.new
+            (defining (a.EnumDef x.now.name (map erase.name values.now)))) }
     {
         let last = values.len().saturating_sub(1);
         let name = x.name.as_bytes();
@@ -210,14 +218,16 @@ impl<'t> Outer<'t> {
     }
 
     fn define_system(&mut self, x: &'t Identifier, system: &'t System) -> Result<(), TableError>
-        ensures { OnOk result (Defines self.old self.new (with_type x.now.name (component_of system.now))) }
+        ensures { OnOk result (Defines self.old self.new
+            (with_type x.now.name (component_of system.now))) }
     {
         let of = self.types.component(&self.names, system)?;
         self.add_type(x.name.as_bytes(), of)
     }
 
     fn define_as(&mut self, d: &'t TypeDefinition) -> Result<(), TableError>
-        ensures { OnOk result (Defines self.old self.new (defining (erase.type_definition (view.type_definition d.now)))) }
+        ensures { OnOk result (Defines self.old self.new
+            (defining (erase.type_definition (view.type_definition d.now)))) }
     {
         match &d.defined {
             Defined::Written(t) => self.define_type(&d.name, t),
@@ -227,7 +237,8 @@ impl<'t> Outer<'t> {
     }
 
     fn define_constants(&mut self, list: &'t [ConstantDefinition]) -> Result<(), TableError>
-        ensures { OnOk result (Defines self.old self.new (defining_all (map erase.constant_definition list.now))) }
+        ensures { OnOk result (Defines self.old self.new
+            (defining_all (map erase.constant_definition list.now))) }
     {
         for d in list {
             self.define_constant(d)?;
@@ -236,7 +247,8 @@ impl<'t> Outer<'t> {
     }
 
     fn define_types(&mut self, list: &'t [TypeDefinition]) -> Result<(), TableError>
-        ensures { OnOk result (Defines self.old self.new (defining_all (map erase.type_definition (map view.type_definition list.now)))) }
+        ensures { OnOk result (Defines self.old self.new
+            (defining_all (map erase.type_definition (map view.type_definition list.now)))) }
     {
         for d in list {
             self.define_as(d)?;
@@ -245,7 +257,8 @@ impl<'t> Outer<'t> {
     }
 
     fn define_section(&mut self, section: &'t Section) -> Result<(), TableError>
-        ensures { OnOk result (Defines self.old self.new (defining_all (erase.section (view.section_of section.now)))) }
+        ensures { OnOk result (Defines self.old self.new
+            (defining_all (erase.section (view.section_of section.now)))) }
     {
         match section {
             Section::Constants(list) => self.define_constants(list),
@@ -254,7 +267,8 @@ impl<'t> Outer<'t> {
     }
 
     fn define_sections(&mut self, sections: &'t [Section]) -> Result<(), TableError>
-        ensures { OnOk result (Defines self.old self.new (defining_all (erase.sections (map view.section_of sections.now)))) }
+        ensures { OnOk result (Defines self.old self.new
+            (defining_all (erase.sections (map view.section_of sections.now)))) }
     {
         for section in sections {
             self.define_section(section)?;
@@ -264,7 +278,8 @@ impl<'t> Outer<'t> {
 
     /// The outermost scope of a text.
     pub fn of_tree(alloc: Global, tree: &'t Tree) -> Result<Outer<'t>, TableError>
-        ensures { IfOk result (λ outer. OuterStands outer (globals (erase.abstract (view.tree tree.now)))) }
+        ensures { IfOk result (λ outer. OuterStands outer
+            (globals (erase.abstract (view.tree tree.now)))) }
     {
         let mut outer = Outer::standard(alloc)?;
         outer.define_sections(&tree.sections)?;

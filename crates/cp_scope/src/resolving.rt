@@ -42,7 +42,8 @@ pub fn add_fields<'t>(
     names: &'t [Identifier],
     of: usize,
 ) -> Result<(), AllocError>
-    ensures { OnOk result (map entry fields.new.items ≡ map entry fields.old.items ++ entries_of names.now of) }
+    ensures { OnOk result (map entry fields.new.items ≡ map entry fields.old.items ++ entries_of
+        names.now of) }
 {
     for x in names {
         fields.push(Field {
@@ -56,7 +57,8 @@ pub fn add_fields<'t>(
 impl<'t> Names<'t> {
     /// The value of a constant that is written so, if it has one.
     pub fn value(&self, c: &Constant) -> Option<Value<'t>>
-        ensures { (g : GlobalScope) → ConstantsStand self.now g → option_map value_of result ≡ constant_value g (erase.constant c.now) }
+        ensures { (g : GlobalScope) → ConstantsStand self.now g
+            → option_map value_of result ≡ constant_value g (erase.constant c.now) }
     {
         match c {
             Constant::Number { value, .. } => Some(integer(i32::from(*value))),
@@ -170,7 +172,8 @@ impl<'t> Types<'t> {
         groups: &'t [Fields],
         fields: &mut Vec<Field<'t>>,
     ) -> Result<(), TableError>
-        ensures { OnOk result (MakesFields names.now self.old self.new (map entry fields.old.items) (map entry fields.new.items) (with_groups groups.now)) }
+        ensures { OnOk result (MakesFields names.now self.old self.new (map entry fields.old.items)
+            (map entry fields.new.items) (with_groups groups.now)) }
     {
         for group in groups {
             self.group(names, group, fields)?;
@@ -186,7 +189,8 @@ impl<'t> Types<'t> {
         group: &'t Fields,
         fields: &mut Vec<Field<'t>>,
     ) -> Result<(), TableError>
-        ensures { OnOk result (MakesFields names.now self.old self.new (map entry fields.old.items) (map entry fields.new.items) (with_group group.now)) }
+        ensures { OnOk result (MakesFields names.now self.old self.new (map entry fields.old.items)
+            (map entry fields.new.items) (with_group group.now)) }
     {
         let of = self.resolve(names, &group.of)?;
         add_fields(fields, &group.names, of)?;

@@ -14,7 +14,8 @@ use crate::types::Types;
 use crate::variables::Declared;
 use cp_model::tree::{Identifier, Routine};
 
-/// A routine: its parameters, where they and its variables lie in an activation, whose words are those of `locals`, and the number of
+/// A routine: its parameters, where they and its variables lie in an activation, whose words are
+/// those of `locals`, and the number of
 /// the type of its result, where it is a function.
 #[derive(Drop)]
 pub struct RoutineTable<'t> {
@@ -57,7 +58,8 @@ impl<'t> Layouts<'t> {
         types: &mut Types<'t>,
         text: &'t Routine,
     ) -> Result<RoutineTable<'t>, TableError>
-        ensures { IfOk result (λ r. MakesRoutine names.now types.old types.new self.old.rows.items self.new.rows.items text.now r) }
+        ensures { IfOk result (λ r. MakesRoutine names.now types.old types.new self.old.rows.items
+            self.new.rows.items text.now r) }
     {
         let mut parameters = Vec::new(self.alloc);
         types.declare_parameters(names, &text.parameters, &mut parameters)?;

@@ -1,4 +1,5 @@
-//! What is known of a system type: its parameters and variables, its routines, and where the members and rights of its components lie.
+//! What is known of a system type: its parameters and variables, its routines, and where the
+//! members and rights of its components lie.
 
 ghost use Rattle.std.specs.Prelude.{◌≡◌, IfOk};
 ghost use Rattle.cp_scope.specs.Systems.{ComponentFound, MakesRoutines, MakesSystem, component_of_name};
@@ -15,8 +16,10 @@ use cp_model::tree::{Fields, Parameters, Routine};
 use cp_names::NameTable;
 use std::alloc::Global;
 
-/// A system type: its parameters, variables and routines in text order, and where the members and the rights of its components lie.
-/// The words of a component are those of `members`. Its parameters and its variables are also found by their names.
+/// A system type: its parameters, variables and routines in text order, and where the members and
+/// the rights of its components lie.
+/// The words of a component are those of `members`. Its parameters and its variables are also found
+/// by their names.
 #[derive(Drop)]
 pub struct SystemTable<'t> {
     pub parameters: Vec<Declared<'t>>,
@@ -36,7 +39,8 @@ impl<'t> Layouts<'t> {
         types: &mut Types<'t>,
         texts: &'t [Routine],
     ) -> Result<Vec<RoutineTable<'t>>, TableError>
-        ensures { IfOk result (λ rs. MakesRoutines names.now types.old types.new self.old.rows.items self.new.rows.items texts.now rs.items) }
+        ensures { IfOk result (λ rs. MakesRoutines names.now types.old types.new self.old.rows.items
+            self.new.rows.items texts.now rs.items) }
     {
         let mut tables = Vec::new(self.alloc);
         for text in texts {
@@ -55,7 +59,8 @@ impl<'t> Layouts<'t> {
         variables: &'t [Fields],
         routines: &'t [Routine],
     ) -> Result<SystemTable<'t>, TableError>
-        ensures { IfOk result (λ s. MakesSystem names.now types.old types.new self.old.rows.items self.new.rows.items parameters.now variables.now routines.now s) }
+        ensures { IfOk result (λ s. MakesSystem names.now types.old types.new self.old.rows.items
+            self.new.rows.items parameters.now variables.now routines.now s) }
     {
         let mut own_parameters = Vec::new(self.alloc);
         types.declare_parameters(names, parameters, &mut own_parameters)?;
@@ -79,7 +84,8 @@ impl<'t> Layouts<'t> {
     }
 }
 
-/// A component that a parameter or variable names: the number of its system type, whether it is a parameter, and how many monitors and
+/// A component that a parameter or variable names: the number of its system type, whether it is a
+/// parameter, and how many monitors and
 /// processes are declared before it.
 #[derive(Clone, Copy)]
 pub struct Component {

@@ -15,7 +15,8 @@ use crate::types::Types;
 use cp_model::tree::Tree;
 use std::alloc::Global;
 
-/// What the compiler asks of a text: the names and types of its outermost scope, the layouts of types, its system types by their
+/// What the compiler asks of a text: the names and types of its outermost scope, the layouts of
+/// types, its system types by their
 /// numbers, in text order, and the initial process.
 #[derive(Drop)]
 pub struct Tables<'t> {
@@ -33,7 +34,8 @@ impl<'t> Layouts<'t> {
         names: &Names<'t>,
         types: &mut Types<'t>,
     ) -> Result<Vec<SystemTable<'t>>, TableError>
-        ensures { IfOk result (λ ss. MakesSystems names.now types.old types.new self.old.rows.items self.new.rows.items ss.items) }
+        ensures { IfOk result (λ ss. MakesSystems names.now types.old types.new self.old.rows.items
+            self.new.rows.items ss.items) }
     {
         let mut tables = Vec::new(self.alloc);
         for number in 0..types.systems.len() {
@@ -46,10 +48,12 @@ impl<'t> Layouts<'t> {
 }
 
 impl<'t> Tables<'t> {
-    /// The tables of a text, whatever it is. They are refused where memory is, where a name is declared twice in the outermost scope,
+    /// The tables of a text, whatever it is. They are refused where memory is, where a name is
+    /// declared twice in the outermost scope,
     /// and where an enumeration has more values than ordinals.
     pub fn of_tree(alloc: Global, tree: &'t Tree) -> Result<Tables<'t>, TableError>
-        ensures { IfOk result (λ tables. TablesStand (globals (erase.abstract (view.tree tree.now))) tables tree.now) }
+        ensures { IfOk result (λ tables. TablesStand
+            (globals (erase.abstract (view.tree tree.now))) tables tree.now) }
     {
         let outer = Outer::of_tree(alloc, tree)?;
         let names = outer.names;

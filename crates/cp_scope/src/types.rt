@@ -43,7 +43,8 @@ pub enum TypeRow<'t> {
     },
     Record(Vec<Field<'t>>),
     Queue,
-    /// A component has the members that are its own: its parameters but the rights to components, then its variables.
+    /// A component has the members that are its own: its parameters but the rights to components,
+    /// then its variables.
     Component {
         system: usize,
         members: Vec<Field<'t>>,

@@ -9,7 +9,8 @@ use crate::types::Types;
 use cp_model::tree::{Fields, Identifier, Parameters};
 use std::alloc::AllocError;
 
-/// A declared parameter or variable: its name, whether it is a `var` parameter, and the number of its type.
+/// A declared parameter or variable: its name, whether it is a `var` parameter, and the number of
+/// its type.
 #[derive(Clone, Copy)]
 pub struct Declared<'t> {
     pub name: &'t [u8],
@@ -24,7 +25,8 @@ fn declare_each<'t>(
     by_reference: bool,
     of: usize,
 ) -> Result<(), AllocError>
-    ensures { OnOk result (map declared_entry list.new.items ≡ map declared_entry list.old.items ++ declared_entries names.now by_reference of) }
+    ensures { OnOk result (map declared_entry list.new.items ≡ map declared_entry list.old.items ++
+        declared_entries names.now by_reference of) }
 {
     for x in names {
         list.push(Declared {
@@ -43,7 +45,9 @@ impl<'t> Types<'t> {
         group: &'t Parameters,
         list: &mut Vec<Declared<'t>>,
     ) -> Result<(), TableError>
-        ensures { OnOk result (Declares names.now self.old self.new (map declared_entry list.old.items) (map declared_entry list.new.items) (with_declared_parameter group.now)) }
+        ensures { OnOk result (Declares names.now self.old self.new
+            (map declared_entry list.old.items) (map declared_entry list.new.items)
+            (with_declared_parameter group.now)) }
     {
         let of = self.named(names, &group.of)?;
         declare_each(list, &group.names, group.by_reference.is_some(), of)?;
@@ -57,7 +61,9 @@ impl<'t> Types<'t> {
         groups: &'t [Parameters],
         list: &mut Vec<Declared<'t>>,
     ) -> Result<(), TableError>
-        ensures { OnOk result (Declares names.now self.old self.new (map declared_entry list.old.items) (map declared_entry list.new.items) (with_declared_parameters groups.now)) }
+        ensures { OnOk result (Declares names.now self.old self.new
+            (map declared_entry list.old.items) (map declared_entry list.new.items)
+            (with_declared_parameters groups.now)) }
     {
         for group in groups {
             self.declare_parameter(names, group, list)?;
@@ -71,7 +77,9 @@ impl<'t> Types<'t> {
         group: &'t Fields,
         list: &mut Vec<Declared<'t>>,
     ) -> Result<(), TableError>
-        ensures { OnOk result (Declares names.now self.old self.new (map declared_entry list.old.items) (map declared_entry list.new.items) (with_declared_group group.now)) }
+        ensures { OnOk result (Declares names.now self.old self.new
+            (map declared_entry list.old.items) (map declared_entry list.new.items)
+            (with_declared_group group.now)) }
     {
         let of = self.resolve(names, &group.of)?;
         declare_each(list, &group.names, false, of)?;
@@ -85,7 +93,9 @@ impl<'t> Types<'t> {
         groups: &'t [Fields],
         list: &mut Vec<Declared<'t>>,
     ) -> Result<(), TableError>
-        ensures { OnOk result (Declares names.now self.old self.new (map declared_entry list.old.items) (map declared_entry list.new.items) (with_declared_groups groups.now)) }
+        ensures { OnOk result (Declares names.now self.old self.new
+            (map declared_entry list.old.items) (map declared_entry list.new.items)
+            (with_declared_groups groups.now)) }
     {
         for group in groups {
             self.declare_group(names, group, list)?;
