@@ -1,6 +1,6 @@
 //! Explanations: one text for each message, positions, excerpts, declarations, access graphs, and streams that fail.
 
-use super::jobs::repeated;
+use super::jobs::{nested, repeated};
 use super::messages::{ROWS, Row};
 use super::streams::{Narrow, Slow};
 use cp_execute::refusal::Refusal;
@@ -132,13 +132,17 @@ fn a_name_that_is_declared_later_is_told(rt: HostRuntime) {
 fn a_name_of_the_initial_process_is_told(rt: HostRuntime) {
     let text = b"type p = process;\nbegin n := 1 end;\nvar n: integer;\nbegin end.\n";
     let (_, out) = explained(rt.alloc(), text, Form::Lines);
-    assert!(rt; out.as_slice() == b"t.cp:2:7: C1: `n` is not declared
+    assert!(rt;
+        out.as_slice()
+            == b"t.cp:2:7: C1: `n` is not declared
   2 | begin n := 1 end;
     |       ^
   A name is declared before it is used. Spell it as it is declared, or declare it.
   `n` is declared by the initial process at 3:5, and can't be seen here. Processes share monitors alone: hand over the right to one by `init`.
   `cpm explain C1` tells more.
-".as_slice());
+"
+                .as_slice()
+    );
 }
 
 #[test]
@@ -167,6 +171,24 @@ fn excerpts_show_any_line(rt: HostRuntime) -> Result<(), Fail> {
     )?;
     let shown = repeated(rt.alloc(), &shown, b" ", 60, b"^\n")?;
     assert!(rt; out.as_slice().starts_with(&shown));
+    Ok(())
+}
+
+#[test]
+fn long_and_deep_texts_are_told(rt: HostRuntime) -> Result<(), Fail> {
+    let text = repeated(rt.alloc(), b"begin end.", b" ", 1_048_567, b"")?;
+    let (_, out) = explained(rt.alloc(), &text, Form::Lines);
+    assert!(rt;
+        out.as_slice()
+            .starts_with(b"t.cp:1:1048577: S6: the text is too long\n")
+    );
+    // The 201st `begin`, of six bytes each.
+    let text = nested(rt.alloc(), [b"", b"begin ", b"", b"end ", b"."], 201)?;
+    let (_, out) = explained(rt.alloc(), &text, Form::Lines);
+    assert!(rt;
+        out.as_slice()
+            .starts_with(b"t.cp:1:1201: Y3: the text is nested too deep\n")
+    );
     Ok(())
 }
 
