@@ -155,7 +155,7 @@ impl<'t> Site<'t> {
     // A name that stands alone where a value is wanted.
     fn c2_value(&self, arguments: usize) -> Message {
         match self.kind() {
-            Some(Kind::Function) => self.called(arguments),
+            Some(Kind::Function) => self.call_message(arguments),
             None => m::ARGUMENTS,
             _ if self.is_component() => m::NO_VALUE,
             _ if self.is_variable() || self.is_constant() => self.disagreement(),
@@ -165,7 +165,7 @@ impl<'t> Site<'t> {
 
     fn c2_function(&self, arguments: usize) -> Message {
         match self.kind() {
-            Some(Kind::Function) => self.called(arguments),
+            Some(Kind::Function) => self.call_message(arguments),
             None => self.standard_call(),
             _ => m::NO_FUNCTION,
         }
@@ -173,7 +173,7 @@ impl<'t> Site<'t> {
 
     fn c2_procedure(&self, arguments: usize) -> Message {
         match self.kind() {
-            Some(Kind::Procedure) => self.called(arguments),
+            Some(Kind::Procedure) => self.call_message(arguments),
             None => self.standard_call(),
             _ => m::NO_PROCEDURE,
         }
@@ -182,14 +182,14 @@ impl<'t> Site<'t> {
     fn c2_member(&self, call: Call) -> Message {
         match (self.kind(), call) {
             (Some(Kind::Procedure), Call::Procedure(arguments))
-            | (Some(Kind::Function), Call::Function(arguments)) => self.called(arguments),
+            | (Some(Kind::Function), Call::Function(arguments)) => self.call_message(arguments),
             (_, Call::Procedure(_)) => m::NO_PROCEDURE,
             _ => m::NO_VALUE,
         }
     }
 
     // A routine of the text that is called with so many arguments: their number is wrong, or what it answers.
-    fn called(&self, arguments: usize) -> Message {
+    fn call_message(&self, arguments: usize) -> Message {
         match self.declaration() {
             Some(declared) if is_taken(declared.routine, arguments) => self.disagreement(),
             _ => m::ARGUMENTS,

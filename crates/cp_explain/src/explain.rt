@@ -83,7 +83,7 @@ fn heading_of(
 }
 
 // The explanation of a refusal, of which this is told after the heading.
-fn refused(
+fn explain_refusal(
     alloc: Global,
     file: &[u8],
     text: &[u8],
@@ -118,7 +118,7 @@ fn of_tree(
         }),
         Err(text::Refusal::Broken(violation)) => {
             let told = of_violation(alloc, text, tree, violation)?;
-            refused(alloc, file, text, Refusal::from(violation), &told)
+            explain_refusal(alloc, file, text, Refusal::from(violation), &told)
         }
         Err(text::Refusal::Memory) => Err(AllocError),
     }
@@ -138,7 +138,7 @@ pub fn explain(
         Err(Refusal::Memory) => Err(AllocError),
         Err(refusal) => {
             let told = of_no_tree(alloc, text, place(&refusal), refusal)?;
-            refused(alloc, file, text, refusal, &told)
+            explain_refusal(alloc, file, text, refusal, &told)
         }
     }
 }

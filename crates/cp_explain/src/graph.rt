@@ -57,7 +57,7 @@ impl<'t> Drawing<'t> {
     }
 
     // A line that says which component there is.
-    fn declared(&mut self, component: Component<'t>) -> Result<(), AllocError> {
+    fn component_line(&mut self, component: Component<'t>) -> Result<(), AllocError> {
         if self.form == Form::Dot {
             self.page.bytes(b"  ")?;
             self.node(component)?;
@@ -163,7 +163,7 @@ impl<'t> Drawing<'t> {
     fn declarations(&mut self) -> Result<(), AllocError> {
         for index in 0..self.components.len() {
             if let Some(component) = self.components.get(index) {
-                self.declared(component)?;
+                self.component_line(component)?;
             }
         }
         Ok(())

@@ -31,7 +31,7 @@ impl<'t> Finder<'t> {
         }
     }
 
-    fn declared(&mut self, names: &'t [Identifier], what: Declaring) {
+    fn declaring_names(&mut self, names: &'t [Identifier], what: Declaring) {
         for x in names {
             self.name(x, NameRole::Declared(what));
         }
@@ -71,13 +71,13 @@ impl<'t> Finder<'t> {
     #[cycle(types)]
     fn record(&mut self, groups: &'t [Fields]) {
         for group in groups {
-            self.declared(&group.names, Declaring::Field);
+            self.declaring_names(&group.names, Declaring::Field);
             self.written_type(&group.of, TypePlace::Field);
         }
     }
 
     fn group(&mut self, group: &'t Fields, what: Declaring, place: TypePlace) {
-        self.declared(&group.names, what);
+        self.declaring_names(&group.names, what);
         self.written_type(&group.of, place);
     }
 
@@ -102,7 +102,7 @@ impl<'t> Finder<'t> {
             if let Some(at) = group.by_reference {
                 self.mark(at, Mark::Var(self.scope.routine));
             }
-            self.declared(&group.names, Declaring::Parameter);
+            self.declaring_names(&group.names, Declaring::Parameter);
             self.name(&group.of, NameRole::Type(place));
         }
     }
@@ -148,7 +148,10 @@ impl<'t> Finder<'t> {
         self.name(&definition.name, NameRole::Declared(Declaring::Type));
         match &definition.defined {
             Defined::Written(of) => self.written_type(of, TypePlace::Definition),
-            Defined::Enumeration(values) => self.declared(values, Declaring::EnumerationValue),
+            Defined::Enumeration(values) => self.declaring_names(
+                values,
+                Declaring::EnumerationValue,
+            ),
             Defined::System(system) => self.system(system),
         }
     }

@@ -21,7 +21,7 @@ fn first_token(e: &Expression) -> usize {
 impl<'t> Finder<'t> {
     /// An expression that is wanted for something.
     #[cycle(expressions)]
-    pub(crate) fn wanted(&mut self, e: &'t Expression, purpose: Purpose<'t>) {
+    pub(crate) fn expression_for(&mut self, e: &'t Expression, purpose: Purpose<'t>) {
         self.purpose(first_token(e), purpose);
         self.expression(e);
     }
@@ -106,12 +106,12 @@ impl<'t> Finder<'t> {
     #[cycle(expressions)]
     fn selectors(&mut self, selectors: &'t [Selector]) {
         for selector in selectors {
-            self.indexed(selector);
+            self.index_part(selector);
         }
     }
 
     #[cycle(expressions)]
-    fn indexed(&mut self, selector: &'t Selector) {
+    fn index_part(&mut self, selector: &'t Selector) {
         if let Selector::Indexed(indices) = selector {
             self.indices(indices);
         }
@@ -121,7 +121,7 @@ impl<'t> Finder<'t> {
     fn indices(&mut self, indices: &'t [Index]) {
         for index in indices {
             self.mark(index.at, Mark::Index);
-            self.wanted(&index.value, Purpose::Index);
+            self.expression_for(&index.value, Purpose::Index);
         }
     }
 }

@@ -35,16 +35,16 @@ impl<'t> Finder<'t> {
                 self.mark(*at, Mark::Init);
                 self.items(items);
             }
-            _ => self.structured(s),
+            _ => self.control_statement(s),
         }
     }
 
     // The statements that test a value.
     #[cycle(statements)]
-    fn structured(&mut self, s: &'t Statement) {
+    fn control_statement(&mut self, s: &'t Statement) {
         match s {
             Statement::If { condition, then } => {
-                self.wanted(condition, Purpose::Condition);
+                self.expression_for(condition, Purpose::Condition);
                 self.statement(then);
             }
             Statement::IfElse {
@@ -52,21 +52,21 @@ impl<'t> Finder<'t> {
                 then,
                 otherwise,
             } => {
-                self.wanted(condition, Purpose::Condition);
+                self.expression_for(condition, Purpose::Condition);
                 self.statement(then);
                 self.statement(otherwise);
             }
             Statement::Case { selector, arms } => {
-                self.wanted(selector, Purpose::Selector);
+                self.expression_for(selector, Purpose::Selector);
                 self.arms(arms);
             }
             Statement::While { condition, body } => {
-                self.wanted(condition, Purpose::Condition);
+                self.expression_for(condition, Purpose::Condition);
                 self.statement(body);
             }
             Statement::Repeat { body, condition } => {
                 self.statements(body);
-                self.wanted(condition, Purpose::Condition);
+                self.expression_for(condition, Purpose::Condition);
             }
             Statement::For {
                 variable,
@@ -76,8 +76,8 @@ impl<'t> Finder<'t> {
                 ..
             } => {
                 self.name(variable, NameRole::Counter);
-                self.wanted(from, Purpose::Bound);
-                self.wanted(last, Purpose::Bound);
+                self.expression_for(from, Purpose::Bound);
+                self.expression_for(last, Purpose::Bound);
                 self.statement(body);
             }
             _ => {}
@@ -107,7 +107,7 @@ impl<'t> Finder<'t> {
 
     fn init_arguments(&mut self, item: &'t InitItem) {
         for number in 0..item.arguments.len() {
-            self.wanted(
+            self.expression_for(
                 &item.arguments[number],
                 Purpose::InitArgument(&item.component, number),
             );
