@@ -1,5 +1,5 @@
 -- What an explanation is of: the same judgement as that of `check`, and the position of a refusal in its first line.
-use Rattle.std.specs.Prelude.{◌≡◌, ◌≤◌, ℕ, List, [], ◌∷◌, ◌++◌, Option, None, Some, IfSome, codes, length, take}
+use Rattle.std.specs.Prelude.{◌≡◌, ℕ, List, [], ◌++◌, Option, None, Some, codes}
 use Rattle.std.specs.Io.KnownBytes.{Appends}
 use Rattle.cp_model.specs.Syntax as s
 use Rattle.cp_model.specs.Decimal.{natural}

@@ -1,5 +1,5 @@
 -- Positions: the line and the column of a place, both counted from 1. A line ends with a line feed, and each byte is a column.
-use Rattle.std.specs.Prelude.{◌≡◌, ◌≢◌, ◌⊎◌, ℕ, suc, ◌+◌, List, [], ◌∷◌, ◌++◌, All, if◌then◌else◌, length, nat_eq, take}
+use Rattle.std.specs.Prelude.{◌≡◌, ◌⊎◌, ℕ, suc, List, [], ◌∷◌, ◌++◌, if◌then◌else◌, length, nat_eq, take}
 
 abbrev pub line_feeds : List ℕ → ℕ
 line_feeds [] = 0

@@ -1,4 +1,4 @@
-use Rattle.std.proofs.Common.{◌≡◌, ℕ, ◌+◌, ◌≤◌, drop, length, suc}
+use Rattle.std.proofs.Common.{◌≡◌, ◌+◌, ◌≤◌, drop, suc}
 use Rattle.cp_explain.specs.Positions.{column_from, line_feeds}
 use Rattle.cp_explain.proofs.position.Position.after.Given as goal
 
