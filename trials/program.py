@@ -21,9 +21,9 @@ REFUSING = ROOT / 'trials' / 'refusing.c'
 wrong = []
 
 
-def run(words, environment=None):
+def run(words, environment=None, folder=EXAMPLES):
     """Exit status, standard output and standard error of cpm with these words."""
-    ended = subprocess.run([PROGRAM, *words], capture_output=True, stdin=subprocess.DEVNULL, cwd=EXAMPLES, timeout=60,
+    ended = subprocess.run([PROGRAM, *words], capture_output=True, stdin=subprocess.DEVNULL, cwd=folder, timeout=60,
                            env={**os.environ, **(environment or {})})
     return ended.returncode, ended.stdout, ended.stderr
 
@@ -54,6 +54,18 @@ def try_rules():
     return count
 
 
+def try_explanations():
+    """Each text that breaks a rule, with its explanation beside it, and the same text mended."""
+    count = 0
+    for explanation in sorted((EXAMPLES / 'rules').glob('*.explanation')):
+        text = explanation.with_suffix('.cp').name
+        expect(explanation.name, run(['explain', text], folder=EXAMPLES / 'rules'), (1, explanation.read_bytes(), b''))
+        mended = explanation.with_suffix('.mended.cp').name
+        expect(mended, run(['check', mended], folder=EXAMPLES / 'rules'), (0, b'accepted\n', b''))
+        count += 1
+    return count
+
+
 def try_worked():
     """Each worked text that is checked, by its answer."""
     listed = subprocess.run([sys.executable, ROOT / 'worked' / 'make_rows.py', '--list'], capture_output=True, check=True).stdout
@@ -79,6 +91,13 @@ def try_exits():
     expect('no file', run(['check', 'nowhere.cp']), (4, b'', b'fault I1\n'))
     expect('a folder', run(['check', '.']), (4, b'', b'fault I1\n'))
     expect('no input', run(['run', 'seven.cp', '--rounds', '1', '--input', 'nowhere']), (4, b'', b'fault I1\n'))
+    status, out, error = run(['explain', 'nowhere.cp'])
+    expect('no file to explain', (status, out, error.startswith(b"nowhere.cp can't be opened: ")), (4, b'', True))
+    expect('a folder to explain', run(['explain', '.']), (4, b'', b". can't be read\n"))
+    status, page, error = run(['explain', 'C4'])
+    expect('a rule', (status, page.startswith(b'C4: '), error), (0, True, b''))
+    expect('no such rule is a file', run(['explain', 'C14'])[0], 4)
+    expect('standard input', run(['check', '-']), (1, b'', b'refused Y2 at 0\n'))
     expect('accepted outside the fragment', run(['check', 'buffer.cp']), (0, b'accepted\n', b''))
     expect('run outside the fragment', run(['run', 'buffer.cp', '--rounds', '1']), (1, b'', b'refused F1 at 0\n'))
 
@@ -104,6 +123,19 @@ def count_calls(library, words, short):
     return due, map(int, calls.read_text().split())
 
 
+def try_explained(library, words, due):
+    """Refuses each allocation, read and write of an explanation, which ends with status 1. How many of each."""
+    short = {'SHORT_WRITES': '1'}
+    preloaded, calls = {'LD_PRELOAD': str(library), **short}, library.with_name('calls')
+    expect('an explanation that is counted', run(words, {**preloaded, 'CALLS': str(calls)}), (1, due, b''))
+    memory, _, reads, writes = map(int, calls.read_text().split())
+    try_each(preloaded, 'REFUSE_ALLOCATION', memory, words, lambda found: found in [(3, b'', b'fault M\n'), (1, due, b'')])
+    try_each(preloaded, 'REFUSE_READ', reads, words, lambda found: (found[0], found[1]) == (4, b''))
+    try_each(preloaded, 'REFUSE_WRITE', writes, words,
+             lambda found: found[0] == 4 and len(found[1]) < len(due) and due.startswith(found[1]) and found[2] == b'fault I2\n')
+    return memory, reads, writes
+
+
 def try_refusals(library, words):
     """Refuses each allocation, read and write of a run. Each write takes one byte then, so that there are many. How many of each."""
     short = {'SHORT_WRITES': '1'}
@@ -127,19 +159,22 @@ def try_threads(library, words):
 
 
 def main():
-    examples, rules, worked = try_examples(), try_rules(), try_worked()
+    examples, rules, explained, worked = try_examples(), try_rules(), try_explanations(), try_worked()
     try_exits()
     with tempfile.TemporaryDirectory() as folder:
         library = pathlib.Path(folder) / 'refusing.so'
         subprocess.run(['cc', '-shared', '-fPIC', '-O1', '-o', library, REFUSING], check=True)
         words = ['run', 'squares.cp', '--rounds', '5', '--turn', '4', '--input', 'seven.cp']
         memory, reads, writes = try_refusals(library, words)
+        due = (EXAMPLES / 'rules' / 'c4_recursion.explanation').read_bytes().replace(b'c4_recursion', b'rules/c4_recursion', 1)
+        told = try_explained(library, ['explain', 'rules/c4_recursion.cp'], due)
         words = ['run', 'squarers.cp', '--rounds', '5', '--turn', '4', '--workers', '4']
         waves = [try_threads(library, [*words, '--wave', wave]) for wave in ['1', '2', '255']]
         shared, threads = map(sum, zip(*waves))
     for line in wrong:
         print(line)
-    print(f'{examples} examples, {rules} texts that break a rule, {worked} worked texts; '
+    print(f'{examples} examples, {rules} texts that break a rule, {explained} explanations, {worked} worked texts; '
+          f'of an explanation {told[0]} allocations, {told[1]} reads and {told[2]} writes refused in turn; of a run '
           f'{memory} allocations, {reads} reads and {writes} writes refused in turn; '
           f'with 4 workers {shared} allocations and {threads} thread starts; {len(wrong)} wrong')
     return 1 if wrong else 0

@@ -17,11 +17,15 @@ Has rounds turn workers chunk wave tick run =
 -- No run has more rounds than these.
 abbrev pub HasRounds : Command → Type 0
 HasRounds (command.Check file) = Unit {0}
+HasRounds (command.Explain file form) = Unit {0}
+HasRounds (command.ExplainRule page) = Unit {0}
 HasRounds (command.Run file run input) = run.rounds ≤ 1000000
 
 -- The command where there are no words.
 abbrev pub IsWithoutWords : Command → Type 0
 IsWithoutWords (command.Check file) = ⊥
+IsWithoutWords (command.Explain file form) = ⊥
+IsWithoutWords (command.ExplainRule page) = ⊥
 IsWithoutWords (command.Run file run input) = (file ≡ None) × Has 2 100 2 1 255 1 run × (input ≡ None)
 
 -- clap tells that memory was refused by the kind of its error.

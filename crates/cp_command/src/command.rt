@@ -7,8 +7,10 @@ ghost use Rattle.cp_command.specs.declared.command.CommandError.TheVariants as e
 
 use crate::numbers::number;
 use clap::error::ErrorKind;
-use clap::{Arg, ArgMatches};
+use clap::{Arg, ArgAction, ArgMatches};
 use cp_execute::running::Run;
+use cp_explain::graph::Form;
+use cp_explain::rules::rule_page;
 use cp_rounds::plan::Plan;
 use cp_rounds::tick::Tick;
 use std::alloc::{AllocError, Global};
@@ -21,6 +23,15 @@ pub enum Command<'a> {
     /// `check FILE`: to judge the text of a file.
     Check {
         file: &'a str,
+    },
+    /// `explain FILE`: to judge the text of a file, and to tell what is wrong with it, or the access graph of an accepted one.
+    Explain {
+        file: &'a str,
+        form: Form,
+    },
+    /// `explain RULE`: to tell a rule.
+    ExplainRule {
+        page: &'static str,
     },
     /// `run FILE`: to run the text of a file, or of standard input where there is no file. The input is that of a file, or empty.
     Run {
@@ -86,13 +97,31 @@ fn option<'a>(alloc: Global, name: &'a str, about: &'a str) -> Arg<'a> {
 }
 
 fn file<'a>(alloc: Global) -> Arg<'a> {
-    Arg::new(alloc, "FILE").required(true).help("the text")
+    Arg::new(alloc, "FILE")
+        .required(true)
+        .help("the text; - for standard input")
 }
 
 fn check_words<'a>(alloc: Global) -> Result<clap::Command<'a>, AllocError> {
     clap::Command::new(alloc, "check")
         .about("Judges a text by the rules of the language")
         .arg(file(alloc))
+}
+
+fn explain_words<'a>(alloc: Global) -> Result<clap::Command<'a>, AllocError> {
+    let what = Arg::new(alloc, "FILE")
+        .required(true)
+        .help("the text, - for standard input, or a rule, as C4");
+    let dot = Arg::new(alloc, "dot")
+        .long("dot")
+        .action(ArgAction::SetTrue)
+        .help("writes the access graph of an accepted text for Graphviz");
+    clap::Command::new(alloc, "explain")
+        .about(
+            "Explains what is wrong with a text, who has which right in an accepted one, or a rule",
+        )
+        .arg(what)?
+        .arg(dot)
 }
 
 fn run_words<'a>(alloc: Global) -> Result<clap::Command<'a>, AllocError> {
@@ -130,6 +159,7 @@ fn grammar<'a>(alloc: Global) -> Result<clap::Command<'a>, AllocError> {
         .about("Checks and runs texts of Concurrent Pascal")
         .subcommand_required(true)
         .subcommand(check_words(alloc)?)?
+        .subcommand(explain_words(alloc)?)?
         .subcommand(run_words(alloc)?)
 }
 
@@ -206,6 +236,19 @@ pub fn read_command<'a, S: AsStr>(
     read_matches(alloc, &mut grammar, &matches)
 }
 
+// To explain the text of a file, or the rule of that name.
+fn explain<'a>(file: &'a str, dot: bool) -> Command<'a>
+    ensures { HasRounds result }
+{
+    match rule_page(file) {
+        Some(page) => Command::ExplainRule { page },
+        None => Command::Explain {
+            file,
+            form: if dot { Form::Dot } else { Form::Lines },
+        },
+    }
+}
+
 // The command that the matches tell. The grammar asks for a command and its file, so neither is missing.
 fn read_matches<'a>(
     alloc: Global,
@@ -222,6 +265,9 @@ fn read_matches<'a>(
     };
     if name == "check" {
         return Ok(Command::Check { file });
+    }
+    if name == "explain" {
+        return Ok(explain(file, matches.get_flag("dot")));
     }
     match read_run(matches) {
         Ok(run) => Ok(Command::Run {

@@ -1,15 +1,59 @@
 //! A command is done with files and the standard streams.
 
+ghost use Rattle.std.specs.Prelude.{◌≡◌};
+ghost use Rattle.cp_command.specs.declared.files.Failure.TheVariants as failure;
+
 use crate::command::Command;
 use cp_execute::execute::{Job, execute};
-use cp_execute::refusal::Refusal;
+use cp_execute::refusal::{Refusal, exit_of};
 use cp_execute::running::Run;
+use cp_explain::explain::explain_text;
+use cp_explain::graph::Form;
 use cp_rounds::gate::Open;
 use std::alloc::Global;
 use std::fs::{self, Files};
-use std::io::{self, ErrorKind, Read};
+use std::io::{self, ErrorKind, Read, Write};
 use std::sync::Wait;
 use std::thread::Threads;
+use thiserror::Error;
+
+/// The word that stands for standard input in the place of a file.
+const STANDARD_INPUT: &str = "-";
+
+/// The exit status where a file can't be opened or read.
+const FAULT: u8 = 4;
+
+/// Why a command has no answer.
+#[derive(Debug, Drop, Error)]
+pub enum Failure<'a> {
+    /// The text or the input is refused, memory ran out, or a read or a write failed.
+    #[error("{0}")]
+    Refused(Refusal),
+    /// The file of `explain` can't be opened, and what the system says.
+    #[error("{file} can't be opened: {error}")]
+    Unopened { file: &'a str, error: io::Error },
+    /// The file of `explain` can't be read.
+    #[error("{file} can't be read")]
+    Unread { file: &'a str },
+}
+
+impl<'a> Failure<'a> {
+    /// The exit status: 1 where the text or the input is refused, 3 where memory is, 4 where opening, reading or writing failed.
+    pub fn exit(&self) -> u8 {
+        match self {
+            Failure::Refused(refusal) => exit_of(refusal),
+            _ => FAULT,
+        }
+    }
+}
+
+impl<'a> From<Refusal> for Failure<'a> {
+    ghost from_gives = { λ refusal f. f ≡ failure.Refused refusal };
+
+    fn from(refusal: Refusal) -> Failure<'a> {
+        Failure::Refused(refusal)
+    }
+}
 
 fn open<H: Files>(rt: &H, name: &str) -> Result<H::File, Refusal> {
     match fs::open(rt, name) {
@@ -17,6 +61,17 @@ fn open<H: Files>(rt: &H, name: &str) -> Result<H::File, Refusal> {
         Err(error) => Err(match error.kind() {
             ErrorKind::OutOfMemory => Refusal::Memory,
             _ => Refusal::Read,
+        }),
+    }
+}
+
+// Opens the file of `explain`.
+fn open_told<'a, H: Files>(rt: &H, file: &'a str) -> Result<H::File, Failure<'a>> {
+    match fs::open(rt, file) {
+        Ok(opened) => Ok(opened),
+        Err(error) => Err(match error.kind() {
+            ErrorKind::OutOfMemory => Failure::Refused(Refusal::Memory),
+            _ => Failure::Unopened { file, error },
         }),
     }
 }
@@ -31,6 +86,18 @@ fn print<H: Print + Threads + Wait + Sync, R: Read, S: Read>(
 ) -> Result<(), Refusal> {
     let mut out = io::writer(rt);
     execute(rt, alloc, text, input, job, &Open, &mut out)
+}
+
+fn check<H: Files + Input + Print + Threads + Wait + Sync>(
+    rt: &H,
+    alloc: Global,
+    file: &str,
+) -> Result<(), Refusal> {
+    let mut input = b"".as_slice();
+    match file {
+        STANDARD_INPUT => print(rt, alloc, &mut rt.reader(), &mut input, &Job::Check),
+        _ => print(rt, alloc, &mut open(rt, file)?, &mut input, &Job::Check),
+    }
 }
 
 // Runs a text on the input of a file, or on none.
@@ -48,30 +115,72 @@ fn run_on_input<H: Files + Print + Threads + Wait + Sync, R: Read>(
     }
 }
 
-/// Does a command. Its files are opened in the order text, input before any is read; what is due is printed on standard output.
+fn run_file<H: Files + Input + Print + Threads + Wait + Sync>(
+    rt: &H,
+    alloc: Global,
+    file: Option<&str>,
+    input: Option<&str>,
+    run: Run,
+) -> Result<(), Refusal> {
+    match file {
+        None | Some(STANDARD_INPUT) => run_on_input(rt, alloc, &mut rt.reader(), input, run),
+        Some(file) => run_on_input(rt, alloc, &mut open(rt, file)?, input, run),
+    }
+}
+
+// Explains the text of a reader, and answers the exit status.
+fn explain_from<'a, H: Print, R: Read>(
+    rt: &H,
+    alloc: Global,
+    file: &'a str,
+    text: &mut R,
+    form: Form,
+) -> Result<u8, Failure<'a>> {
+    let mut out = io::writer(rt);
+    match explain_text(alloc, file.as_bytes(), text, form, &mut out) {
+        Ok(None) => Ok(0),
+        Ok(Some(refusal)) => Ok(exit_of(&refusal)),
+        Err(Refusal::Read) => Err(Failure::Unread { file }),
+        Err(refusal) => Err(Failure::Refused(refusal)),
+    }
+}
+
+fn explain_file<'a, H: Files + Input + Print>(
+    rt: &H,
+    alloc: Global,
+    file: &'a str,
+    form: Form,
+) -> Result<u8, Failure<'a>> {
+    match file {
+        STANDARD_INPUT => explain_from(rt, alloc, file, &mut rt.reader(), form),
+        _ => explain_from(rt, alloc, file, &mut open_told(rt, file)?, form),
+    }
+}
+
+fn print_page<H: Print>(rt: &H, page: &str) -> Result<(), Refusal> {
+    let mut out = io::writer(rt);
+    match out.write_all(page.as_bytes()) {
+        Ok(()) => Ok(()),
+        Err(_) => Err(Refusal::Write),
+    }
+}
+
+/// Does a command, and answers the exit status: 0, or that of a refusal that was explained. Its files are opened in the order text, input
+/// before any is read; what is due is printed on standard output.
 ///
 /// # Errors
 ///
-/// I1 where a file can't be opened, and those of [`execute`].
-pub fn perform<H: Files + Input + Print + Threads + Wait + Sync>(
+/// I1 where a file can't be opened, and those of [`execute`] and [`explain_text`].
+pub fn perform<'a, H: Files + Input + Print + Threads + Wait + Sync>(
     rt: &H,
     alloc: Global,
-    command: &Command<'_>,
-) -> Result<(), Refusal> {
+    command: &Command<'a>,
+) -> Result<u8, Failure<'a>> {
     match *command {
-        Command::Check { file } => {
-            let mut text = open(rt, file)?;
-            print(rt, alloc, &mut text, &mut b"".as_slice(), &Job::Check)
-        }
-        Command::Run {
-            file: Some(file),
-            run,
-            input,
-        } => run_on_input(rt, alloc, &mut open(rt, file)?, input, run),
-        Command::Run {
-            file: None,
-            run,
-            input,
-        } => run_on_input(rt, alloc, &mut rt.reader(), input, run),
+        Command::Check { file } => check(rt, alloc, file)?,
+        Command::Explain { file, form } => return explain_file(rt, alloc, file, form),
+        Command::ExplainRule { page } => print_page(rt, page)?,
+        Command::Run { file, run, input } => run_file(rt, alloc, file, input, run)?,
     }
+    Ok(0)
 }

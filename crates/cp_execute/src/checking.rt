@@ -51,8 +51,12 @@ fn check_refusal(error: CheckError) -> Refusal
     }
 }
 
-// The tree of a text.
-fn tree_of(alloc: Global, text: &[u8]) -> Result<Tree, Refusal>
+/// The tree of a text.
+///
+/// # Errors
+///
+/// S and Y where the text has none, M where memory runs out.
+pub fn tree_of(alloc: Global, text: &[u8]) -> Result<Tree, Refusal>
     ensures tree { IfOk result (λ t. IsTextOf text.now (view.tree t)) }
     ensures refused { IfErr result (Refuses text.now) }
 {

@@ -47,7 +47,8 @@ pub enum Refusal {
     Write,
 }
 
-fn scan_number(cause: Cause) -> u8
+/// The number of a cause of S.
+pub fn scan_number(cause: Cause) -> u8
     ensures { result ≡ Rattle.cp_execute.specs.Refusals.scan_number cause }
 {
     match cause {

@@ -20,7 +20,8 @@ use cp_rounds::machine::Machine;
 use itoa::Buffer;
 use std::alloc::{AllocError, Global};
 
-fn push_natural(out: &mut Vec<u8>, n: u64) -> Result<(), AllocError>
+/// Adds the decimal digits of a number. It fails only when memory runs out.
+pub fn push_natural(out: &mut Vec<u8>, n: u64) -> Result<(), AllocError>
     ensures { OnOk result (out.new.items ≡ out.old.items ++ natural n) }
 {
     let mut buffer = Buffer::new();
@@ -34,7 +35,8 @@ fn push_integer(out: &mut Vec<u8>, n: i16) -> Result<(), AllocError>
     out.extend_from_slice(buffer.format(n).as_bytes())
 }
 
-fn hex(n: u8) -> u8
+/// A hexadecimal digit, in lower case.
+pub fn hex(n: u8) -> u8
     requires { n < 16 }
     ensures { result ≡ hex_digit n }
 {

@@ -9,8 +9,12 @@ use cp_rounds::plan::Plan;
 use std::alloc::{AllocError, Global};
 use std::test::Fail;
 
+// Processes that always have a step to make: threads sleep while none has.
+const TWO: &str =
+    "type p = process; begin cycle begin end end end; var a, b: p; begin init a, b end.";
+
 const FOUR: &str =
-    "type p = process; begin display(7) end; var a, b, c, d: p; begin init a, b, c, d end.";
+    "type p = process; begin cycle begin end end end; var a, b, c, d: p; begin init a, b, c, d end.";
 
 fn plan(turn: u32, workers: u32, chunk: u32, wave: u32) -> Result<Plan, Fail> {
     Ok(Plan::new(turn, workers, chunk, wave).map_err(|_| "a plan")?)
@@ -18,7 +22,7 @@ fn plan(turn: u32, workers: u32, chunk: u32, wave: u32) -> Result<Plan, Fail> {
 
 #[test]
 fn two_private_turns_are_made_at_once(rt: HostRuntime) -> Result<(), Fail> {
-    let mut machine = machine(rt.alloc(), SEVENS)?;
+    let mut machine = machine(rt.alloc(), TWO)?;
     let gate = PrivateTurnsMeet(Meeting::new());
     assert!(rt; machine.run(&rt, 1000, &plan(10, 2, 1, 255)?, &gate).is_ok());
     assert!(rt; gate.0.seen.iter().all(|seen| seen.get() > 0));
@@ -27,7 +31,7 @@ fn two_private_turns_are_made_at_once(rt: HostRuntime) -> Result<(), Fail> {
 
 #[test]
 fn a_kernel_turn_is_made_beside_the_next_wave(rt: HostRuntime) -> Result<(), Fail> {
-    let mut machine = machine(rt.alloc(), SEVENS)?;
+    let mut machine = machine(rt.alloc(), TWO)?;
     let gate = WavesMeet(Meeting::new());
     assert!(rt; machine.run(&rt, 1000, &plan(10, 2, 1, 1)?, &gate).is_ok());
     assert!(rt; gate.0.seen.iter().all(|seen| seen.get() > 0));

@@ -165,12 +165,15 @@ fn finish_all<'a, C: Course, R: Wait, G: TurnGate>(
 // A thread is worth its waking for so many steps.
 const STEPS_A_THREAD: u64 = 5_000;
 
-// How many threads are worth their waking beside the calling one: at least one.
+// How many threads are worth their waking beside the calling one: none where no process has a step to make, and else at least one.
 fn helpers(privates: &[Private], turn: Turn) -> u64 {
     let running = privates
         .iter()
         .filter(|private| private.activity == Activity::Running)
         .count();
+    if running == 0 {
+        return 0;
+    }
     let steps = (running as u64).saturating_mul(u64::from(turn.steps()));
     (steps / STEPS_A_THREAD).max(1)
 }

@@ -154,9 +154,16 @@ fn routine(alloc: Global, room: usize, tokens: &[Token]) -> Read<'_, Routine>
 
 fn routine_from(heading: Heading, variables: Vec<Fields>, body: Body) -> Routine
     ensures { view.routine
-        result ≡ record { entry = heading.entry; name = heading.name; parameters = map
-        view.parameters heading.parameters.items; result_type = heading.result_type; variables = map
-        view.variables variables.items; body = view.body body } }
+        result ≡ record {
+          entry = heading.entry;
+          name = heading.name;
+          parameters = map
+              view.parameters heading.parameters.items;
+          result_type = heading.result_type;
+          variables = map
+              view.variables variables.items;
+          body = view.body body;
+        } }
 {
     Routine {
         entry: heading.entry,

@@ -1,9 +1,9 @@
-//! cpm checks and runs texts of Concurrent Pascal: it parses its arguments, opens the files that they name, and prints what was asked for.
+//! cpm checks, explains and runs texts of Concurrent Pascal: it parses its arguments, opens the files that they name, and prints what was asked for.
 #![tactic(auto)]
 
 use cp_command::command::{CommandError, read_command};
-use cp_command::files::perform;
-use cp_execute::refusal::{Refusal, exit_of};
+use cp_command::files::{Failure, perform};
+use cp_execute::refusal::Refusal;
 use std::process::ExitCode;
 use std::{env, io};
 
@@ -17,9 +17,13 @@ fn arguments(rt: &HostRuntime) -> io::Result<Vec<String>> {
 }
 
 // Where standard error can't be written, the exit status alone says what happened.
+fn failed(rt: &HostRuntime, failure: &Failure) -> ExitCode {
+    let _ = eprintln!(rt; "{failure}");
+    ExitCode::from(failure.exit())
+}
+
 fn refused(rt: &HostRuntime, refusal: Refusal) -> ExitCode {
-    let _ = eprintln!(rt; "{refusal}");
-    ExitCode::from(exit_of(&refusal))
+    failed(rt, &Failure::Refused(refusal))
 }
 
 fn misused(rt: &HostRuntime, error: &CommandError) -> ExitCode {
@@ -46,7 +50,7 @@ fn main(rt: HostRuntime) -> ExitCode {
         Err(error) => return misused(&rt, &error),
     };
     match perform(&rt, rt.alloc(), &command) {
-        Ok(()) => ExitCode::SUCCESS,
-        Err(refusal) => refused(&rt, refusal),
+        Ok(status) => ExitCode::from(status),
+        Err(failure) => failed(&rt, &failure),
     }
 }

@@ -1,10 +1,11 @@
 //! Command lines.
 
 use cp_command::command::{Command, CommandError, read_command};
-use cp_command::files::perform;
+use cp_command::files::{Failure, perform};
 use cp_command::numbers::number;
 use cp_execute::refusal::Refusal;
 use cp_execute::running::Run;
+use cp_explain::graph::Form;
 use std::test::*;
 
 // The numbers of a run in the order rounds, turn, workers, chunk, wave, tick.
@@ -47,6 +48,35 @@ fn check_takes_a_file(rt: HostRuntime) {
     match read_command(rt.alloc(), &["cpm", "check", "a.cp"]) {
         Ok(Command::Check { file }) => assert!(rt; file == "a.cp"),
         _ => panic!(rt; "a check"),
+    }
+}
+
+#[test]
+fn explain_takes_a_file_or_a_rule(rt: HostRuntime) {
+    match read_command(rt.alloc(), &["cpm", "explain", "a.cp", "--dot"]) {
+        Ok(Command::Explain { file, form }) => {
+            assert!(rt; file == "a.cp" && form == Form::Dot);
+        }
+        _ => panic!(rt; "an explanation"),
+    }
+    match read_command(rt.alloc(), &["cpm", "explain", "C4"]) {
+        Ok(Command::ExplainRule { page }) => assert!(rt; page.starts_with("C4: ")),
+        _ => panic!(rt; "a page"),
+    }
+    match read_command(rt.alloc(), &["cpm", "explain", "C14"]) {
+        Ok(Command::Explain { file, .. }) => assert!(rt; file == "C14"),
+        _ => panic!(rt; "a file"),
+    }
+}
+
+#[test]
+fn a_file_that_cannot_be_opened_is_told(rt: HostRuntime) {
+    match read_command(rt.alloc(), &["cpm", "explain", "nowhere.cp"]) {
+        Ok(command) => match perform(&rt, rt.alloc(), &command) {
+            Err(Failure::Unopened { file, .. }) => assert!(rt; file == "nowhere.cp"),
+            _ => panic!(rt; "a failure"),
+        },
+        Err(_) => panic!(rt; "a command"),
     }
 }
 
@@ -149,7 +179,10 @@ fn files_are_opened_before_they_are_read(rt: HostRuntime) {
         ),
     ] {
         match read_command(rt.alloc(), words) {
-            Ok(command) => assert!(rt; perform(&rt, rt.alloc(), &command) == Err(refusal)),
+            Ok(command) => match perform(&rt, rt.alloc(), &command) {
+                Err(Failure::Refused(found)) => assert!(rt; found == refusal),
+                _ => panic!(rt; "a refusal"),
+            },
             Err(_) => panic!(rt; "a command"),
         }
     }

@@ -5,9 +5,13 @@
 #[cfg(test)]
 mod commands;
 #[cfg(test)]
+mod explained;
+#[cfg(test)]
 mod faults;
 #[cfg(test)]
 mod jobs;
+#[cfg(test)]
+mod messages;
 #[cfg(test)]
 mod refusals;
 #[cfg(test)]

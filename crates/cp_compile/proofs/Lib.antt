@@ -1,0 +1,5 @@
+pub mod Needing
+pub mod Changing
+pub mod CallsEmitted
+pub mod Placing
+pub mod Loops

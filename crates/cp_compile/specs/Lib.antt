@@ -1,0 +1,3 @@
+pub mod PlainNeeds
+pub mod Emission
+pub mod Arms

@@ -1,0 +1,19 @@
+//! The compiler's emitter: operations as they are made from the end of a statement, with what the unit under way needs.
+//!
+//! - `emitter`: operations with their calls, loops whose first operation is completed once their body stands, and units.
+//! - `need`: what an operation and a unit need of words, temps and frames.
+//! - `table`: where a `case` leads.
+//!
+//! Each equals a function of `cp_code`'s definitions, over the plain data that `cp_threaded` makes of operations.
+#![tactic(auto)]
+
+pub mod call;
+pub mod emission;
+pub mod emitter;
+pub mod error;
+pub mod need;
+pub mod table;
+pub mod unit;
+
+pub use emitter::{CodedCall, Emitter};
+pub use error::CompileError;

@@ -1,0 +1,46 @@
+-- What an explanation is of: the same judgement as that of `check`, and the position of a refusal in its first line.
+use Rattle.std.specs.Prelude.{◌≡◌, ℕ, List, [], ◌++◌, Option, None, Some, codes}
+use Rattle.std.specs.Io.KnownBytes.{Appends}
+use Rattle.cp_model.specs.Syntax as s
+use Rattle.cp_model.specs.Decimal.{natural}
+use Rattle.cp_model.specs.RulesJudged.{number_of}
+use Rattle.cp_execute.specs.Executed.{front}
+use Rattle.cp_execute.specs.Refusals.{scan_number}
+use Rattle.cp_execute.specs.Texts.{IsAccepted, Refuses}
+use Rattle.cp_execute.specs.declared.refusal.Refusal.{Refusal}
+use Rattle.cp_execute.specs.declared.refusal.Refusal.TheVariants as refusal
+use Rattle.cp_explain.specs.Positions.{column_at, line_at}
+
+-- The letter and the number of a refusal of a text, as `check` writes them.
+abbrev pub code_of : Refusal → List ℕ
+code_of (refusal.Scan cause at) = codes "S" ++ natural (scan_number cause)
+code_of (refusal.Unexpected at) = codes "Y1"
+code_of (refusal.Unfinished at) = codes "Y2"
+code_of (refusal.TooDeep at) = codes "Y3"
+code_of (refusal.Check rule at) = codes "C" ++ natural (number_of rule)
+code_of _ = []
+
+abbrev pub place_of : Refusal → ℕ
+place_of (refusal.Scan cause at) = at
+place_of (refusal.Unexpected at) = at
+place_of (refusal.Unfinished at) = at
+place_of (refusal.TooDeep at) = at
+place_of (refusal.Check rule at) = at
+place_of _ = 0
+
+-- The front of the first line: the file, the line, the column, and the refusal.
+abbrev pub heading : List ℕ → List ℕ → Refusal → List ℕ
+heading file text e =
+    file ++ codes ":" ++ natural (line_at text (place_of e)) ++ codes ":" ++ natural (column_at text (place_of e)) ++ codes ": " ++ code_of e ++ codes ": "
+
+abbrev pub Begins : List ℕ → List ℕ → Type 0
+Begins front page = (rest : List ℕ) × (page ≡ front ++ rest)
+
+-- A text is accepted, or it is refused so and the page begins with that.
+abbrev pub Explains : List ℕ → List ℕ → Option Refusal → List ℕ → Type 0
+Explains file text None page = (t : s.Tree) × IsAccepted text t
+Explains file text (Some e) page = Refuses text e × Begins (heading file text e) page
+
+-- Of a known text: a page that explains it was written, whole or from its beginning.
+abbrev pub Wrote : List ℕ → Option (List ℕ) → Option Refusal → Option (List ℕ) → Option (List ℕ) → Type 0
+Wrote file text e old new = (xs : List ℕ) → text ≡ Some xs → (page : List ℕ) × Explains file (front xs) e page × Appends old new page

@@ -1,0 +1,185 @@
+//! The explanation of a text: the judgement of `check`, told for people (`specs/Explained.antt`).
+
+ghost use Rattle.std.specs.Prelude.{◌≡◌, ◌++◌, IfErr, IfOk, IfSome, None, OnErr, OnOk, Some};
+ghost use Rattle.std.specs.Io.KnownBytes.{Keeps};
+ghost use Rattle.cp_model.specs.View as view;
+ghost use Rattle.cp_execute.specs.Executed.{IsFault, front};
+ghost use Rattle.cp_execute.specs.Texts.{IsTextOf, Refuses};
+ghost use Rattle.cp_execute.specs.declared.refusal.Refusal.TheVariants as refusal;
+ghost use Rattle.cp_explain.specs.Explained.{Begins, Explains, Wrote, code_of, heading, place_of};
+
+use crate::graph::{Form, graph};
+use crate::page::Page;
+use crate::position::Position;
+use crate::told::{of_no_tree, of_violation};
+use cp_execute::checking::tree_of;
+use cp_execute::reading::{ReadError, read_text};
+use cp_execute::refusal::{Refusal, scan_number};
+use cp_execute::writing::write_all;
+use cp_model::tree::Tree;
+use cp_rules::text::{self, judge};
+use std::alloc::{AllocError, Global};
+use std::io::{Read, Write};
+
+/// What is told of a text, and why it is refused, unless it is accepted.
+#[derive(Drop)]
+pub struct Explanation {
+    page: Page,
+    refusal: Option<Refusal>,
+}
+
+// Where a text is refused.
+fn place(refusal: &Refusal) -> usize
+    ensures { result ≡ place_of refusal.now }
+{
+    match refusal {
+        Refusal::Scan { at, .. }
+        | Refusal::Unexpected { at }
+        | Refusal::Unfinished { at }
+        | Refusal::TooDeep { at }
+        | Refusal::Check { at, .. } => *at,
+        _ => 0,
+    }
+}
+
+fn push_code(page: &mut Page, refusal: &Refusal) -> Result<(), AllocError>
+    ensures { OnOk result (page.new ≡ page.old ++ code_of refusal.now) }
+{
+    match refusal {
+        Refusal::Scan { cause, .. } => {
+            page.bytes(b"S")?;
+            page.number(usize::from(scan_number(*cause)))
+        }
+        Refusal::Unexpected { .. } => page.bytes(b"Y1"),
+        Refusal::Unfinished { .. } => page.bytes(b"Y2"),
+        Refusal::TooDeep { .. } => page.bytes(b"Y3"),
+        Refusal::Check { rule, .. } => {
+            page.bytes(b"C")?;
+            page.number(usize::from(rule.number()))
+        }
+        _ => Ok(()),
+    }
+}
+
+fn heading_of(
+    alloc: Global,
+    file: &[u8],
+    text: &[u8],
+    refusal: &Refusal,
+) -> Result<Page, AllocError>
+    ensures { IfOk result (λ page. page ≡ heading file.now text.now refusal.now) }
+{
+    let position = Position::of(text, place(refusal));
+    let mut page = Page::new(alloc);
+    page.bytes(file)?;
+    page.bytes(b":")?;
+    page.number(position.line)?;
+    page.bytes(b":")?;
+    page.number(position.column)?;
+    page.bytes(b": ")?;
+    push_code(&mut page, refusal)?;
+    page.bytes(b": ")?;
+    Ok(page)
+}
+
+// The explanation of a refusal, of which this is told after the heading.
+fn explain_refusal(
+    alloc: Global,
+    file: &[u8],
+    text: &[u8],
+    refusal: Refusal,
+    told: &Page,
+) -> Result<Explanation, AllocError>
+    ensures refusal { IfOk result (λ e. e.refusal ≡ Some refusal) }
+    ensures heading { IfOk result (λ e. Begins (heading file.now text.now refusal) e.page) }
+{
+    let mut page = heading_of(alloc, file, text, &refusal)?;
+    page.bytes(told.as_bytes())?;
+    Ok(Explanation {
+        page,
+        refusal: Some(refusal),
+    })
+}
+
+fn of_tree(
+    alloc: Global,
+    file: &[u8],
+    text: &[u8],
+    tree: &Tree,
+    form: Form,
+) -> Result<Explanation, AllocError>
+    requires text { IsTextOf text.now (view.tree tree.now) }
+    ensures { IfOk result (λ e. Explains file.now text.now e.refusal e.page) }
+{
+    match judge(alloc, tree) {
+        Ok(_) => Ok(Explanation {
+            page: graph(alloc, tree, form)?,
+            refusal: None,
+        }),
+        Err(text::Refusal::Broken(violation)) => {
+            let told = of_violation(alloc, text, tree, violation)?;
+            explain_refusal(alloc, file, text, Refusal::from(violation), &told)
+        }
+        Err(text::Refusal::Memory) => Err(AllocError),
+    }
+}
+
+/// Explains a text: of one that is accepted the access graph, of another one the first refusal. It fails only when memory runs out.
+pub fn explain(
+    alloc: Global,
+    file: &[u8],
+    text: &[u8],
+    form: Form,
+) -> Result<Explanation, AllocError>
+    ensures { IfOk result (λ e. Explains file.now text.now e.refusal e.page) }
+{
+    match tree_of(alloc, text) {
+        Ok(tree) => of_tree(alloc, file, text, &tree, form),
+        Err(Refusal::Memory) => Err(AllocError),
+        Err(refusal) => {
+            let told = of_no_tree(alloc, text, place(&refusal), refusal)?;
+            explain_refusal(alloc, file, text, refusal, &told)
+        }
+    }
+}
+
+fn read<R: Read>(alloc: Global, text: &mut R) -> Result<Vec<u8>, Refusal>
+    ensures bytes { IfOk result
+        (λ bytes. IfSome (R.remaining text.old)
+        (λ xs. bytes.items ≡ front xs)) }
+    ensures fault { IfErr result IsFault }
+    ensures unwritten { IfErr result (λ e. e ≡ refusal.Write → ⊥) }
+{
+    match read_text(alloc, text) {
+        Ok(bytes) => Ok(bytes),
+        Err(ReadError::Read) => Err(Refusal::Read),
+        Err(ReadError::Memory) => Err(Refusal::Memory),
+    }
+}
+
+/// Explains the text of a reader, and answers why it is refused, unless it is accepted.
+///
+/// # Errors
+///
+/// I1 where a read failed, M where memory runs out, and I2 where a write failed. Nothing was written but after I2.
+pub fn explain_text<R: Read, W: Write>(
+    alloc: Global,
+    file: &[u8],
+    text: &mut R,
+    form: Form,
+    out: &mut W,
+) -> Result<Option<Refusal>, Refusal>
+    ensures explains { IfOk result
+        (λ e. Wrote file.now (R.remaining text.old) e (W.contents out.old) (W.contents out.new)) }
+    ensures unwritten { IfErr result
+        (λ e. (e ≡ refusal.Write → ⊥)
+        → Keeps (W.contents out.old) (W.contents out.new)) }
+    ensures fault { IfErr result IsFault }
+{
+    let bytes = read(alloc, text)?;
+    let Explanation { page, refusal } = explain(alloc, file, &bytes, form)?;
+    match write_all(out, page.as_bytes()) {
+        Ok(()) => Ok(refusal),
+        Err(_) => Err(Refusal::Write),
+    }
+}

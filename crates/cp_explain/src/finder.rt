@@ -1,0 +1,57 @@
+//! Finds what stands at a place of a text, by a walk over its tree.
+
+use crate::scope::Scope;
+use crate::site::{Mark, NameRole, Purpose, Site};
+use cp_model::tree::{Identifier, Tree};
+
+/// Walks over a tree, and keeps what stands at one place of it.
+#[derive(Drop)]
+pub struct Finder<'t> {
+    pub(crate) at: usize,
+    pub(crate) scope: Scope<'t>,
+    pub(crate) site: Site<'t>,
+}
+
+impl<'t> Finder<'t> {
+    /// A walk that looks for the token at a place.
+    pub fn new(tree: &'t Tree, at: usize) -> Finder<'t> {
+        let scope = Scope {
+            tree,
+            system: None,
+            routine: None,
+        };
+        Finder {
+            at,
+            scope,
+            site: Site {
+                scope,
+                name: None,
+                purpose: None,
+                mark: None,
+                number: None,
+            },
+        }
+    }
+
+    pub(crate) fn name(&mut self, x: &'t Identifier, role: NameRole<'t>) {
+        if x.at == self.at {
+            self.site.scope = self.scope;
+            self.site.name = Some((x, role));
+        }
+    }
+
+    pub(crate) fn mark(&mut self, at: usize, mark: Mark<'t>) {
+        if at == self.at && self.site.mark.is_none() {
+            self.site.scope = self.scope;
+            self.site.mark = Some(mark);
+        }
+    }
+
+    // The outermost expression that begins at the place tells what is wanted there.
+    pub(crate) fn purpose(&mut self, at: usize, purpose: Purpose<'t>) {
+        if at == self.at && self.site.purpose.is_none() {
+            self.site.scope = self.scope;
+            self.site.purpose = Some(purpose);
+        }
+    }
+}

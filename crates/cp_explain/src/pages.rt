@@ -1,0 +1,124 @@
+//! The pages of `explain RULE`, written by `docs/make_pages.py` from docs/rules.md and its examples.
+
+/// A page: the rule, and what is told of it.
+#[derive(Clone, Copy)]
+pub struct RulePage {
+    pub rule: &'static str,
+    pub text: &'static str,
+}
+
+/// One page for each rule, in the order of docs/rules.md.
+pub const PAGES: [RulePage; 28] = [
+    RulePage {
+        rule: "C1",
+        text: "C1: a name is declared before it is used, and once\n\nWhy: an undeclared name is a slip, and a name that hides another misleads the\nreader; so names are declared first, and none hides another.\nMend: spell the name as it is declared, or declare it. Where it was declared\ntwice, rename one of the two.\n\nThis text is refused C1 at 89: the cycle assigns `totl`, which nobody\ndeclared.\n\n  \"A counter that misspells its variable.\"\n  var total: integer;\n  begin\n    total := 0;\n    cycle totl := total + 1 end\n  end.\n\nMended:\n\n  \"A counter.\"\n  var total: integer;\n  begin\n    total := 0;\n    cycle total := total + 1 end\n  end.\n",
+    },
+    RulePage {
+        rule: "C2",
+        text: "C2: types and sorts of names agree\n\nWhy: a character, a Boolean, an integer and a value of an enumeration are\ndifferent things even where they are stored alike.\nMend: convert explicitly, here by `count := ord('5') - ord('0')`. Where a name\nof the wrong sort stands, as a type for a value, use a name of the right one;\nwhere a call has too few or too many arguments, count the parameters.\n\nThis text is refused C2 at 87: `count := '5'` assigns a character to an\ninteger.\n\n  \"A digit is a character, and a count is an integer.\"\n  var count: integer;\n  begin\n    count := '5'\n  end.\n\nMended:\n\n  \"A digit and its count.\"\n  var count: integer;\n  begin\n    count := ord('5') - ord('0')\n  end.\n",
+    },
+    RulePage {
+        rule: "C3",
+        text: "C3: bounds rise, and labels differ\n\nWhy: a variable of an empty type could hold nothing, and of two equal labels\nthe second could never be chosen.\nMend: write `0..9`; join the arms of a label that stands twice.\n\nThis text is refused C3 at 66: the subrange `9..0` is empty.\n\n  \"The digits, written from the last to the first.\"\n  type digit = 9..0;\n  var d: digit;\n  begin\n    d := 3\n  end.\n\nMended:\n\n  \"The digits.\"\n  type digit = 0..9;\n  var d: digit;\n  begin\n    d := 3\n  end.\n",
+    },
+    RulePage {
+        rule: "C4",
+        text: "C4: nothing is used inside its own definition\n\nWhy: without recursion the compiler knows the depth of every chain of calls,\nand with it the memory that a process needs. A type that contains itself would\nhave no size.\nMend: write a loop: `result := 1; for i := 2 to n do result := result * i`. In\nits own body a function's name may only stand alone on the left of `:=`.\n\nThis text is refused C4 at 136: `factorial` calls itself.\n\n  \"A function that calls itself.\"\n  function factorial(n: integer): integer;\n  begin\n    if n = 0\n    then factorial := 1\n    else factorial := n * factorial(n - 1)\n  end;\n  begin\n    display(factorial(5))\n  end.\n\nMended:\n\n  \"A function that multiplies in a loop.\"\n  function factorial(n: integer): integer;\n    var result, i: integer;\n  begin\n    result := 1;\n    for i := 2 to n do result := result * i;\n    factorial := result\n  end;\n  begin\n    display(factorial(5))\n  end.\n",
+    },
+    RulePage {
+        rule: "C5",
+        text: "C5: other components call entry routines, and only those\n\nWhy: entry routines are a component's door. The others are its own, and may be\ncalled while its variables are being changed.\nMend: declare `procedure entry add`. An entry routine in turn is not called\nfrom inside its own component: put what both need into a routine without\n`entry`.\n\nThis text is refused C5 at 204: the worker calls `add`, which has no `entry`.\n\n  \"A process calls a routine that the monitor keeps for itself.\"\n  type counter = monitor;\n    var n: integer;\n    procedure add; begin n := n + 1 end;\n    begin n := 0 end;\n  worker = process(c: counter);\n    begin c.add end;\n  var c: counter; w: worker;\n  begin\n    init c, w(c)\n  end.\n\nMended:\n\n  \"A process calls an entry routine of a monitor.\"\n  type counter = monitor;\n    var n: integer;\n    procedure entry add; begin n := n + 1 end;\n    begin n := 0 end;\n  worker = process(c: counter);\n    begin c.add end;\n  var c: counter; w: worker;\n  begin\n    init c, w(c)\n  end.\n",
+    },
+    RulePage {
+        rule: "C6",
+        text: "C6: components stand in variables of their own\n\nWhy: each component has a name, so that the text shows which components there\nare and how they are connected.\nMend: declare `var a, b, c: worker`. Monitors and processes are declared by\nthe initial process alone; classes also by other components.\n\nThis text is refused C6 at 105: an array of processes.\n\n  \"Three workers in an array.\"\n  type worker = process;\n    begin display(1) end;\n  var workers: array [1..3] of worker;\n  begin\n  end.\n\nMended:\n\n  \"Three workers.\"\n  type worker = process;\n    begin display(1) end;\n  var a, b, c: worker;\n  begin\n    init a, b, c\n  end.\n",
+    },
+    RulePage {
+        rule: "C7",
+        text: "C7: rights go to monitors, and classes stay with their owner\n\nWhy: a class has no gate. If two processes held a right to it, they would\nchange its variables at the same time. A right to a process would give its\nvariables away.\nMend: make the stack a monitor. A class may be handed to a class of the same\nowner. Parameters of routines are data, not components.\n\nThis text is refused C7 at 166: two processes are handed the same class.\n\n  \"Two processes that share a stack.\"\n  type stack = class;\n    var top: integer;\n    procedure entry push; begin top := top + 1 end;\n    begin top := 0 end;\n  user = process(s: stack);\n    begin s.push end;\n  var s: stack; a, b: user;\n  begin\n    init s, a(s), b(s)\n  end.\n\nMended:\n\n  \"Two processes that share a monitor.\"\n  type stack = monitor;\n    var top: integer;\n    procedure entry push; begin top := top + 1 end;\n    begin top := 0 end;\n  user = process(s: stack);\n    begin s.push end;\n  var s: stack; a, b: user;\n  begin\n    init s, a(s), b(s)\n  end.\n",
+    },
+    RulePage {
+        rule: "C8",
+        text: "C8: queues belong to monitors\n\nWhy: to wait in a queue means to leave a monitor and to come back when another\nprocess continues the queue. Outside a monitor there is nobody to do that.\nMend: declare the queue, or an array of queues, as a variable of a monitor,\nand name it only in `delay`, `continue` and `empty`.\n\nThis text is refused C8 at 78: a process declares a queue.\n\n  \"A process that keeps a queue to wait in.\"\n  type sleeper = process;\n    var bed: queue;\n    begin delay(bed) end;\n  var s: sleeper;\n  begin\n    init s\n  end.\n\nMended:\n\n  \"A monitor that keeps a queue for its callers to wait in.\"\n  type house = monitor;\n    var bed: queue;\n    procedure entry sleep; begin delay(bed) end;\n    procedure entry wake; begin continue(bed) end;\n    begin end;\n  sleeper = process(h: house);\n    begin h.sleep end;\n  var h: house; s: sleeper;\n  begin\n    init h, s(h)\n  end.\n",
+    },
+    RulePage {
+        rule: "C9",
+        text: "C9: waiting and continuing stand where they have a meaning\n\nWhy: while a monitor is being initialised nobody else can enter it, so nobody\ncould ever continue. `continue` returns from its entry routine at once, so it\nstands in the body of one.\nMend: initialise variables in the body, and delay in entry routines. `wait`\nstands in processes alone.\n\nThis text is refused C9 at 158: a monitor delays the process that is\ninitialising it.\n\n  \"A monitor that waits while it is being initialised.\"\n  type gate = monitor;\n    var arrived: queue;\n    procedure entry open; begin continue(arrived) end;\n    begin delay(arrived) end;\n  var g: gate;\n  begin\n    init g\n  end.\n\nMended:\n\n  \"A monitor in whose entry routine a process waits.\"\n  type gate = monitor;\n    var arrived: queue;\n    procedure entry arrive; begin delay(arrived) end;\n    procedure entry open; begin continue(arrived) end;\n    begin end;\n  var g: gate;\n  begin\n    init g\n  end.\n",
+    },
+    RulePage {
+        rule: "C10",
+        text: "C10: only variables are changed\n\nWhy: a value parameter is the caller's value under another name. If it could\nbe changed, the reader would take it for a change of the caller's variable, as\nthis text does.\nMend: write `procedure double(var n: integer)` to change the caller's\nvariable, or copy the value into a variable of the routine. An argument for a\n`var` parameter is a variable of the very same type.\n\nThis text is refused C10 at 115: `n` is a value parameter.\n\n  \"A procedure that means to double a variable of its caller.\"\n  var x: integer;\n  procedure double(n: integer);\n  begin\n    n := n + n\n  end;\n  begin\n    x := 3;\n    double(x);\n    display(x)\n  end.\n\nMended:\n\n  \"A procedure that doubles a variable of its caller.\"\n  var x: integer;\n  procedure double(var n: integer);\n  begin\n    n := n + n\n  end;\n  begin\n    x := 3;\n    double(x);\n    display(x)\n  end.\n",
+    },
+    RulePage {
+        rule: "C11",
+        text: "C11: functions have no `var` parameters, and simple results\n\nWhy: a function stands in an expression, where an effect on another operand\nwould depend on the order of evaluation.\nMend: make it a procedure with two `var` parameters, or a function that\ncomputes and a statement that stores.\n\nThis text is refused C11 at 78: the function changes its argument.\n\n  \"A function that also changes its argument.\"\n  var seed: integer;\n  function next(var s: integer): integer;\n  begin\n    s := (s * 7 + 3) mod 101;\n    next := s\n  end;\n  begin\n    seed := 1;\n    display(next(seed))\n  end.\n\nMended:\n\n  \"A function that computes, and a statement that stores.\"\n  var seed: integer;\n  function next(s: integer): integer;\n  begin\n    next := (s * 7 + 3) mod 101\n  end;\n  begin\n    seed := 1;\n    seed := next(seed);\n    display(seed)\n  end.\n",
+    },
+    RulePage {
+        rule: "C12",
+        text: "C12: `init` connects components, once, where they are declared\n\nWhy: components are connected once, in the body of the component that declares\nthem, so that the text shows the whole system. A routine could do it again.\nMend: write the `init` in the body, and an entry procedure that sets the\nvariables anew: `procedure entry clear; begin ticks := 0 end`.\n\nThis text is refused C12 at 149: `init` in a procedure.\n\n  \"A procedure that starts a component anew.\"\n  type timer = class;\n    var ticks: integer;\n    begin ticks := 0 end;\n  var t: timer;\n  procedure reset;\n  begin\n    init t\n  end;\n  begin\n    reset\n  end.\n\nMended:\n\n  \"A timer with an entry procedure that sets it back.\"\n  type timer = class;\n    var ticks: integer;\n    procedure entry reset; begin ticks := 0 end;\n    begin ticks := 0 end;\n  var t: timer;\n  begin\n    init t;\n    t.reset\n  end.\n",
+    },
+    RulePage {
+        rule: "C13",
+        text: "C13: everything fits\n\nWhy: the memory of every process is known before it starts, and bounded:\n65,536 words for a type and for the owner of variables; 255 processes and 255\nmonitors.\nMend: use a smaller array, or spread the data over several processes.\n\nThis text is refused C13 at 57: the picture has 90,000 words.\n\n  \"A picture of 300 lines of 300 characters.\"\n  var picture: array [1..300, 1..300] of char;\n  begin\n    picture[1, 1] := '.'\n  end.\n\nMended:\n\n  \"A picture of 200 lines of 300 characters.\"\n  var picture: array [1..200, 1..300] of char;\n  begin\n    picture[1, 1] := '.'\n  end.\n",
+    },
+    RulePage {
+        rule: "S1",
+        text: "S1: a text is spelled with letters, digits, blanks and marks\n\nWhy: each character has one meaning, and what has none is a slip.\nMend: put remarks between `\"` and `\"`, and other characters into character\nconstants.\n\nThis text is refused S1 at 54: `#` stands in no text.\n\n  \"A remark as in another language.\"\n  begin\n    display(1) # one\n  end.\n\nMended:\n\n  \"A remark is a comment.\"\n  begin\n    display(1) \"one\"\n  end.\n",
+    },
+    RulePage {
+        rule: "S2",
+        text: "S2: a comment ends\n\nWhy: the rest of the text would be a comment.\nMend: write the second `\"`.\n\nThis text is refused S2 at 19: the comment begins after `display(1)`, and has\nno second `\"`.\n\n  begin\n    display(1) \"one\n  end.\n\nMended:\n\n  begin\n    display(1) \"one\"\n  end.\n",
+    },
+    RulePage {
+        rule: "S3",
+        text: "S3: a character constant has one character\n\nWhy: a character is one of 128, and strings are arrays of them.\nMend: write one printable character between apostrophes, or an ordinal as in\n`'(:10:)'`.\n\nThis text is refused S3 at 68: `'ok'` has two.\n\n  \"A character constant of two characters.\"\n  var c: char;\n  begin\n    c := 'ok'\n  end.\n\nMended:\n\n  \"A character constant of one character.\"\n  var c: char;\n  begin\n    c := 'o'\n  end.\n",
+    },
+    RulePage {
+        rule: "S4",
+        text: "S4: a number is at most 32767\n\nWhy: integers have 16 bits.\nMend: use two numbers, or smaller units.\n\nThis text is refused S4 at 61: `40000`.\n\n  \"A number beyond the integers.\"\n  var n: integer;\n  begin\n    n := 40000\n  end.\n\nMended:\n\n  \"Two numbers that share the digits.\"\n  var thousands, rest: integer;\n  begin\n    thousands := 40;\n    rest := 0\n  end.\n",
+    },
+    RulePage {
+        rule: "S5",
+        text: "S5: a word has at most 64 characters\n\nWhy: names are to be read.\nMend: choose a shorter one.\n\nThis text is refused S5 at 28: the name has 66.\n\n  \"A name of 66 letters.\"\n  var counter_of_the_messages_that_were_sent_and_received_and_sent_again: integer;\n  begin end.\n\nMended:\n\n  \"A short name.\"\n  var messages: integer;\n  begin end.\n",
+    },
+    RulePage {
+        rule: "S6",
+        text: "S6: a text has at most 1,048,576 bytes\n\nWhy: what a text needs is bounded before it is read.\nMend: shorten it.\n",
+    },
+    RulePage {
+        rule: "Y1",
+        text: "Y1: each token can follow the ones before it\n\nWhy: the place is the first token with which no text goes on, so the slip is\nthere or just before.\nMend: look at what stands before it: a `;` between two statements, an `end`\nfor each `begin`, `cycle` and `case`, a `)` or `]`.\n\nThis text is refused Y1 at 77: after `n := 1` a `;` is missing.\n\n  \"Two statements with nothing between them.\"\n  var n: integer;\n  begin\n    n := 1\n    display(n)\n  end.\n\nMended:\n\n  \"Two statements with a semicolon between them.\"\n  var n: integer;\n  begin\n    n := 1;\n    display(n)\n  end.\n",
+    },
+    RulePage {
+        rule: "Y2",
+        text: "Y2: a text has an end\n\nWhy: the whole text is one body, with `end.` after it.\nMend: close what is open.\n\nThis text is refused Y2 at 67: the last `end.` is missing.\n\n  \"A text that stops before its end.\"\n  var n: integer;\n  begin\n    n := 1\n\nMended:\n\n  \"A whole text.\"\n  var n: integer;\n  begin\n    n := 1\n  end.\n",
+    },
+    RulePage {
+        rule: "Y3",
+        text: "Y3: a text is at most 200 levels deep\n\nWhy: a reader, and the checker, keep all open levels in mind.\nMend: name the inner types, and put inner statements into routines.\n",
+    },
+    RulePage {
+        rule: "F1",
+        text: "F1: the text can be run\n\nWhy: every accepted text is to be run; today the machine runs a part of the\nlanguage (language.md, \"The fragment\").\nMend: `cpm check` judges the whole language.\n",
+    },
+    RulePage {
+        rule: "I1",
+        text: "I1: a file can be opened and read\n\nWhy: without its text or its input there is no answer.\nMend: look at the name and the permissions; `cpm explain` tells what the\nsystem says.\n",
+    },
+    RulePage {
+        rule: "I2",
+        text: "I2: the answer can be written\n\nWhy: an answer of which a part is missing is none.\nMend: make room on the disk, or don't close the pipe.\n",
+    },
+    RulePage {
+        rule: "I3",
+        text: "I3: the bytes of an input are characters\n\nWhy: characters have the ordinals 0 to 127. The place is the first byte above.\nMend: convert the input to ASCII.\n",
+    },
+    RulePage {
+        rule: "I4",
+        text: "I4: an input has at most 1,048,576 bytes\n\nWhy: what a run needs is bounded before it begins.\nMend: shorten it.\n",
+    },
+    RulePage {
+        rule: "M",
+        text: "M: there is memory for it\n\nWhy: memory that is refused is told, and nothing is lost.\nMend: free some, or raise the limit (`ulimit -v`).\n",
+    },
+];

@@ -1,0 +1,251 @@
+//! What a name stands for at a place of a text, as its declarations say.
+//!
+//! No name of an accepted text hides another. In a text that breaks a rule, the innermost declaration is told.
+
+use cp_model::tree::{
+    ConstantDefinition, Defined, Fields, Identifier, Parameters, Routine, Section, Sort, System,
+    Tree, TypeDefinition, TypeExpression,
+};
+
+/// What a declaration makes of its name.
+#[derive(Clone, Copy, Debug, PartialEq, Eq)]
+pub enum Kind {
+    Constant,
+    EnumerationValue,
+    Type,
+    SystemType(Sort),
+    Variable,
+    ValueParameter,
+    VarParameter,
+    Procedure,
+    Function,
+}
+
+/// A declaration of a text: its name, and what it makes of that.
+#[derive(Clone, Copy)]
+pub struct Declaration<'t> {
+    pub name: &'t Identifier,
+    pub kind: Kind,
+    /// The name of its type, where it is a variable or a parameter whose type has one.
+    pub of: Option<&'t Identifier>,
+    /// What it declares, where it is a routine.
+    pub routine: Option<&'t Routine>,
+    /// What it defines, where it is a system type.
+    pub system: Option<&'t System>,
+}
+
+/// A name that is looked for, but for its declaration at one place.
+#[derive(Clone, Copy)]
+pub struct Wanted<'a> {
+    name: &'a [u8],
+    but: usize,
+}
+
+impl<'a> Wanted<'a> {
+    /// The declarations of a name, but for what stands where it does.
+    pub fn other_than(x: &'a Identifier) -> Wanted<'a> {
+        Wanted {
+            name: x.name.as_bytes(),
+            but: x.at,
+        }
+    }
+
+    fn is(&self, x: &Identifier) -> bool {
+        x.at != self.but && x.name.as_bytes() == self.name
+    }
+
+    fn among<'t>(&self, names: &'t [Identifier]) -> Option<&'t Identifier> {
+        for x in names {
+            if self.is(x) {
+                return Some(x);
+            }
+        }
+        None
+    }
+
+    fn in_groups<'t>(&self, groups: &'t [Fields]) -> Option<Declaration<'t>> {
+        for group in groups {
+            if let Some(name) = self.among(&group.names) {
+                return Some(Declaration {
+                    of: type_name(&group.of),
+                    ..plain(name, Kind::Variable)
+                });
+            }
+        }
+        None
+    }
+
+    fn in_parameters<'t>(&self, groups: &'t [Parameters]) -> Option<Declaration<'t>> {
+        for group in groups {
+            if let Some(name) = self.among(&group.names) {
+                let kind = match group.by_reference {
+                    Some(_) => Kind::VarParameter,
+                    None => Kind::ValueParameter,
+                };
+                return Some(Declaration {
+                    of: Some(&group.of),
+                    ..plain(name, kind)
+                });
+            }
+        }
+        None
+    }
+
+    /// The routine of this name.
+    pub fn in_routines<'t>(&self, routines: &'t [Routine]) -> Option<Declaration<'t>> {
+        for routine in routines {
+            if self.is(&routine.name) {
+                let kind = match routine.result_type {
+                    Some(_) => Kind::Function,
+                    None => Kind::Procedure,
+                };
+                return Some(Declaration {
+                    routine: Some(routine),
+                    ..plain(&routine.name, kind)
+                });
+            }
+        }
+        None
+    }
+
+    fn in_constants<'t>(&self, definitions: &'t [ConstantDefinition]) -> Option<Declaration<'t>> {
+        for definition in definitions {
+            if self.is(&definition.name) {
+                return Some(plain(&definition.name, Kind::Constant));
+            }
+        }
+        None
+    }
+
+    fn in_type<'t>(&self, definition: &'t TypeDefinition) -> Option<Declaration<'t>> {
+        if let Defined::Enumeration(values) = &definition.defined {
+            if let Some(value) = self.among(values) {
+                return Some(plain(value, Kind::EnumerationValue));
+            }
+        }
+        if !self.is(&definition.name) {
+            return None;
+        }
+        Some(match &definition.defined {
+            Defined::System(system) => Declaration {
+                system: Some(system),
+                ..plain(&definition.name, Kind::SystemType(system.sort))
+            },
+            _ => plain(&definition.name, Kind::Type),
+        })
+    }
+
+    fn in_types<'t>(&self, definitions: &'t [TypeDefinition]) -> Option<Declaration<'t>> {
+        for definition in definitions {
+            let found = self.in_type(definition);
+            if found.is_some() {
+                return found;
+            }
+        }
+        None
+    }
+
+    fn in_sections<'t>(&self, sections: &'t [Section]) -> Option<Declaration<'t>> {
+        for section in sections {
+            let found = match section {
+                Section::Constants(definitions) => self.in_constants(definitions),
+                Section::Types(definitions) => self.in_types(definitions),
+            };
+            if found.is_some() {
+                return found;
+            }
+        }
+        None
+    }
+}
+
+fn plain<'t>(name: &'t Identifier, kind: Kind) -> Declaration<'t> {
+    Declaration {
+        name,
+        kind,
+        of: None,
+        routine: None,
+        system: None,
+    }
+}
+
+fn type_name(of: &TypeExpression) -> Option<&Identifier> {
+    match of {
+        TypeExpression::Named(x) => Some(x),
+        _ => None,
+    }
+}
+
+/// Where names are looked up: in a routine, if the place stands in one, in a system type, if it stands in one, and in the text.
+#[derive(Clone, Copy)]
+pub struct Scope<'t> {
+    pub tree: &'t Tree,
+    pub system: Option<&'t System>,
+    pub routine: Option<&'t Routine>,
+}
+
+impl<'t> Scope<'t> {
+    /// The variables of the component: of the system type, or of the initial process.
+    pub fn variables(&self) -> &'t [Fields] {
+        match self.system {
+            Some(system) => &system.variables,
+            None => &self.tree.variables,
+        }
+    }
+
+    fn routines(&self) -> &'t [Routine] {
+        match self.system {
+            Some(system) => &system.routines,
+            None => &self.tree.routines,
+        }
+    }
+
+    fn in_routine(&self, wanted: Wanted<'_>) -> Option<Declaration<'t>> {
+        let routine = self.routine?;
+        match wanted.in_parameters(&routine.parameters) {
+            Some(found) => Some(found),
+            None => wanted.in_groups(&routine.variables),
+        }
+    }
+
+    fn in_parameters(&self, wanted: Wanted<'_>) -> Option<Declaration<'t>> {
+        wanted.in_parameters(&self.system?.parameters)
+    }
+
+    /// The variable of the component that has this name.
+    pub fn own_variable(&self, wanted: Wanted<'_>) -> Option<Declaration<'t>> {
+        wanted.in_groups(self.variables())
+    }
+
+    /// What a name is declared as, innermost first.
+    pub fn find(&self, wanted: Wanted<'_>) -> Option<Declaration<'t>> {
+        if let Some(found) = self.in_routine(wanted) {
+            return Some(found);
+        }
+        if let Some(found) = self.in_parameters(wanted) {
+            return Some(found);
+        }
+        if let Some(found) = self.own_variable(wanted) {
+            return Some(found);
+        }
+        match wanted.in_routines(self.routines()) {
+            Some(found) => Some(found),
+            None => wanted.in_sections(&self.tree.sections),
+        }
+    }
+
+    /// What the initial process declares a name as, where that can't be seen in a system type.
+    pub fn hidden(&self, wanted: Wanted<'_>) -> Option<Declaration<'t>> {
+        let _system = self.system?;
+        match wanted.in_groups(&self.tree.variables) {
+            Some(found) => Some(found),
+            None => wanted.in_routines(&self.tree.routines),
+        }
+    }
+
+    /// The system type of a component that is declared here.
+    pub fn system_of(&self, x: &Identifier) -> Option<&'t System> {
+        let of = self.find(Wanted::other_than(x))?.of?;
+        self.find(Wanted::other_than(of))?.system
+    }
+}

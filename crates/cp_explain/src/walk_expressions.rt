@@ -1,0 +1,127 @@
+//! The walk over expressions.
+
+use crate::finder::Finder;
+use crate::site::{Call, Mark, NameRole, Purpose};
+use cp_model::tree::{Designator, Expression, Index, Operation, Selector};
+
+/// The place of the first token of an expression.
+#[cycle(first_token)]
+fn first_token(e: &Expression) -> usize {
+    match e {
+        Expression::Number { at, .. }
+        | Expression::Character { at, .. }
+        | Expression::Parenthesized { at, .. }
+        | Expression::Not { at, .. }
+        | Expression::Signed { at, .. } => *at,
+        Expression::Designated(d) | Expression::Call(d, _) => d.root.at,
+        Expression::Chain { first, .. } => first_token(first),
+    }
+}
+
+impl<'t> Finder<'t> {
+    /// An expression that is wanted for something.
+    #[cycle(expressions)]
+    pub(crate) fn expression_for(&mut self, e: &'t Expression, purpose: Purpose<'t>) {
+        self.purpose(first_token(e), purpose);
+        self.expression(e);
+    }
+
+    #[cycle(expressions)]
+    pub(crate) fn expression(&mut self, e: &'t Expression) {
+        match e {
+            Expression::Number { .. } | Expression::Character { .. } => {}
+            Expression::Designated(d) => self.designator(d, NameRole::Value, Call::Function(0)),
+            Expression::Call(d, list) => {
+                self.designator(
+                    d,
+                    NameRole::Function(list.len()),
+                    Call::Function(list.len()),
+                );
+                self.purposes(d, list);
+                self.expressions(list);
+            }
+            Expression::Parenthesized { inner, .. } => self.expression(inner),
+            Expression::Not { at, operand } | Expression::Signed { at, operand, .. } => {
+                self.mark(*at, Mark::Operator);
+                self.expression(operand);
+            }
+            Expression::Chain { first, rest } => {
+                self.expression(first);
+                self.operations(rest);
+            }
+        }
+    }
+
+    #[cycle(expressions)]
+    fn operations(&mut self, rest: &'t [Operation]) {
+        for operation in rest {
+            self.mark(operation.at, Mark::Operator);
+            self.expression(&operation.operand);
+        }
+    }
+
+    // What each argument is wanted for.
+    pub(crate) fn purposes(&mut self, d: &'t Designator, list: &'t [Expression]) {
+        for number in 0..list.len() {
+            self.purpose(first_token(&list[number]), Purpose::Argument(d, number));
+        }
+    }
+
+    #[cycle(expressions)]
+    pub(crate) fn expressions(&mut self, list: &'t [Expression]) {
+        for e in list {
+            self.expression(e);
+        }
+    }
+
+    /// A designator whose first name plays this part, if it stands alone. What stands after its last `.` is called so.
+    #[cycle(expressions)]
+    pub(crate) fn designator(&mut self, d: &'t Designator, alone: NameRole<'t>, call: Call) {
+        self.names(d, alone, call);
+        self.selectors(&d.selectors);
+    }
+
+    fn names(&mut self, d: &'t Designator, alone: NameRole<'t>, call: Call) {
+        match d.selectors.as_slice() {
+            [] => self.name(&d.root, alone),
+            _ => self.name(&d.root, NameRole::Root(d)),
+        }
+        for number in 0..d.selectors.len() {
+            let call = if number + 1 == d.selectors.len() {
+                call
+            } else {
+                Call::No
+            };
+            self.member(d, &d.selectors[number], call);
+        }
+    }
+
+    fn member(&mut self, d: &'t Designator, selector: &'t Selector, call: Call) {
+        if let Selector::Field { at, name } = selector {
+            self.mark(*at, Mark::Point);
+            self.name(name, NameRole::Member(d, call));
+        }
+    }
+
+    #[cycle(expressions)]
+    fn selectors(&mut self, selectors: &'t [Selector]) {
+        for selector in selectors {
+            self.index_part(selector);
+        }
+    }
+
+    #[cycle(expressions)]
+    fn index_part(&mut self, selector: &'t Selector) {
+        if let Selector::Indexed(indices) = selector {
+            self.indices(indices);
+        }
+    }
+
+    #[cycle(expressions)]
+    fn indices(&mut self, indices: &'t [Index]) {
+        for index in indices {
+            self.mark(index.at, Mark::Index);
+            self.expression_for(&index.value, Purpose::Index);
+        }
+    }
+}

@@ -1,0 +1,13 @@
+pub mod Standing
+pub mod Unrefused
+pub mod Written
+pub mod Groups
+pub mod Defining
+pub mod Laying
+pub mod Declaring
+pub mod LocalsLaid
+pub mod Members
+pub mod Picking
+pub mod SystemsMade
+pub mod Counting
+pub mod ComponentsFound

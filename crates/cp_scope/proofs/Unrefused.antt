@@ -1,0 +1,18 @@
+-- What holds of an answer that isn't refused.
+use Rattle.std.proofs.Common.{◌≡◌, Option, None, Some, Result, Ok, Err, IfOk, OnOk, true, false, is_some, refl}
+
+pub if_ok : {A E : Type 0} {P Q : A → Type 0} (r : Result A E) → ((x : A) → P x → Q x) → IfOk r P → IfOk r Q
+if_ok (Ok x) f h = f x h
+if_ok (Err e) f h = h
+
+pub on_ok : {A E P Q : Type 0} (r : Result A E) → (P → Q) → OnOk r P → OnOk r Q
+on_ok (Ok x) f h = f h
+on_ok (Err e) f h = h
+
+pub none_if_not_some : {A : Type 0} (o : Option A) → is_some o ≡ false → o ≡ None
+none_if_not_some None h = refl
+none_if_not_some (Some x) h = absurd (cc)
+
+pub some_if_some : {A : Type 0} (o : Option A) → is_some o ≡ true → (x : A) × (o ≡ Some x)
+some_if_some None h = absurd (cc)
+some_if_some (Some x) h = (x, refl)

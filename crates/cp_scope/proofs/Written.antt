@@ -1,0 +1,53 @@
+-- Written types, as the definitions see them.
+use Rattle.std.proofs.Common.{◌≡◌, ◌++◌, ◌∷◌, ◌∙◌, ℕ, List, [], Box, Vec, Global, ap, map, refl, sym}
+use Rattle.cp_model.specs.Abstract.{Name}
+use Rattle.cp_model.specs.Erase as erase
+use Rattle.cp_model.specs.Syntax as s
+use Rattle.cp_model.specs.View as view
+use Rattle.cp_model.specs.View.{fields_layer, type_expression, type_layer, types_of}
+use Rattle.cp_model.specs.Types.{GlobalScope, Members, NoMembers, ResolvedType, resolved_type, with_members}
+use Rattle.cp_model.specs.declared.tree.Fields.{Fields}
+use Rattle.cp_model.specs.declared.tree.Identifier.{Identifier}
+use Rattle.cp_model.specs.declared.tree.TypeExpression.{TypeExpression}
+use Rattle.cp_model.specs.declared.tree.TypeExpression.TheVariants as tree
+use Rattle.cp_model.specs.declared.tree.TypeExpression.TheVariants.{rolls-Array, rolls-Record}
+use Rattle.cp_model.specs.declared.tree.TypeExpression.TheFolds.{fold-roll-TypeExpression, fold_out-Fields}
+use Rattle.cp_scope.specs.declared.types.Types.{Types}
+use Rattle.cp_scope.specs.Standing.{AreMembers, Stands, entries_of, fields_of, indexed, recorded, with_groups, written}
+
+view_array : (at : ℕ) (indices : Vec TypeExpression Global) (element : Box TypeExpression Global)
+    → type_expression (tree.Array at indices element) ≡ s.Array at (types_of (map type_expression indices.items)) (type_expression element.value)
+view_array at indices element =
+    ap type_expression (sym (rolls-Array at indices element)) ∙ fold-roll-TypeExpression s.TypeExpression s.Variables type_layer fields_layer _
+
+view_record : (at : ℕ) (groups : Vec Fields Global)
+    → type_expression (tree.Record at groups) ≡ s.Record at (view.fields_of (map view.variables groups.items))
+view_record at groups =
+    ap type_expression (sym (rolls-Record at groups)) ∙ fold-roll-TypeExpression s.TypeExpression s.Variables type_layer fields_layer _
+
+pub view_fields : (f : Fields) → view.variables f ≡ record { names = f.names.items; of = view.type_expression f.of }
+view_fields = fold_out-Fields s.TypeExpression s.Variables type_layer fields_layer
+
+pub array_written : (g : GlobalScope) (at : ℕ) (indices : Vec TypeExpression Global) (element : Box TypeExpression Global)
+    → indexed indices.items (written element.value g) g ≡ written (tree.Array at indices element) g
+array_written g at indices element =
+    each indices.items ∙ ap (λ t. resolved_type g (erase.type_expression t)) (sym (view_array at indices element))
+  where
+    each : (is : List TypeExpression)
+        → indexed is (written element.value g) g
+        ≡ resolved_type g (erase.arrays (erase.type_expressions (types_of (map type_expression is))) (erase.type_expression (type_expression element.value)))
+    each [] = refl
+    each (i ∷ is) = rw (each is) refl
+
+pub groups_written : (g : GlobalScope) (groups : List Fields) → with_groups groups g NoMembers ≡ fields_of groups g
+groups_written g [] = refl
+groups_written g (f ∷ fs) = rw (groups_written g fs, view_fields f) refl
+
+pub record_written : (g : GlobalScope) (at : ℕ) (groups : Vec Fields Global) → recorded groups.items g ≡ written (tree.Record at groups) g
+record_written g at groups = ap (λ t. resolved_type g (erase.type_expression t)) (sym (view_record at groups))
+
+-- Names of one type in front of others.
+pub names_written : (types : Types) (xs : List Identifier) (n : ℕ) (t : ResolvedType) (rest : List (Name × ℕ)) (ms : Members) → Stands types n t
+    → AreMembers types rest ms → AreMembers types (entries_of xs n ++ rest) (with_members (map erase.name xs) t ms)
+names_written types [] n t rest ms s r = r
+names_written types (x ∷ xs) n t rest ms s r = (refl, s, names_written types xs n t rest ms s r)

@@ -1,0 +1,21 @@
+use Rattle.std.proofs.Common.{◌≡◌, ◌∙◌, ap, arith, length, length-append, subst, sym}
+use Rattle.std.specs.Prelude.{Some}
+use Rattle.cp_scope.specs.Layouts.{AreLaid}
+use Rattle.cp_scope.specs.Standing.{row_at}
+use Rattle.cp_scope.proofs.Laying.{one_more_laid}
+use Rattle.cp_scope.proofs.layout.Layouts.extend.Goals as goal
+
+pub loop-number-preserved : goal.loop-number-preserved
+loop-number-preserved c =
+    let types = c.args.types.now in
+    let before = c.loop-number.self.rows.items in
+    let items = c.in_ok-push.ensures.items in
+    let row = c.in_ok-row.row.now in
+    let there : row_at types c.loop-number.number ≡ Some row = grind (arith, c.row.ensures, c.ok_or.ensures.value, c.in_ok-row.was, c.in_ok-row.ensures.value, c.in_ok-row.ensures.ok_part) in
+    let at : row_at types (length before) ≡ Some row = ap (row_at types) c.loop-number.invariant.count ∙ there in
+    record {
+      count = grind (arith, length-append, items, c.loop-number.invariant.count);
+      laid = λ g scope laid.
+          subst (AreLaid g types) (sym items)
+          (one_more_laid c.args.names.now types before row c.in_ok-layout.layout g scope at c.in_ok-layout.ensures (c.loop-number.invariant.laid g scope laid));
+    }

@@ -1,0 +1,21 @@
+use Rattle.std.proofs.Common.{ℕ, List, ◌≤◌, drop, length, map}
+use Rattle.cp_model.specs.Abstract.{Name}
+use Rattle.cp_scope.specs.Standing.{MakesIndexed, entry}
+use Rattle.cp_scope.proofs.Groups.{GroupsAdded}
+use Rattle.cp_scope.proofs.types.Types.+types.Given as goal
+
+-- the array types that were made already are those of the last index types
+abbrev pub invariant-arrays-loop-left : goal.invariant-arrays-loop-left
+invariant-arrays-loop-left l = record {
+  within : l.left ≤ length l.indices;
+  made : MakesIndexed l.fn.names l.fn.self l.self (drop l.left l.indices) l.fn.element l.of;
+}
+
+abbrev pub decreases-arrays-loop-left : goal.decreases-arrays-loop-left
+decreases-arrays-loop-left l = l.left
+
+-- in front of the fields of the groups that are left, those that were added are all
+abbrev pub invariant-fields-loop-group : goal.invariant-fields-loop-group
+invariant-fields-loop-group l =
+    (added : List (Name × ℕ)) × GroupsAdded l.fn.names l.fn.self l.self (map entry l.fn.fields.items) (map entry l.fields.items) added
+    l.fn.groups (drop l.group-index l.groups)

@@ -1,0 +1,12 @@
+use Rattle.std.proofs.Common.{List, drop, map}
+use Rattle.cp_model.specs.Abstract.{Name}
+use Rattle.cp_model.specs.Declarations.{Variable}
+use Rattle.cp_scope.specs.Variables.{AreDeclared, declared_entry}
+use Rattle.cp_scope.proofs.Picking.{PartlyPicked}
+use Rattle.cp_scope.proofs.types.Types.components.Given as goal
+
+-- in front of the components that are left, those that were picked are all
+abbrev pub invariant-loop-d : goal.invariant-loop-d
+invariant-loop-d l =
+    (vs : List (Name × Variable)) → AreDeclared l.self (map declared_entry l.fn.list) vs
+    → PartlyPicked l.self vs (map declared_entry (drop l.d-index l.list)) (map declared_entry l.components.items)

@@ -1,0 +1,11 @@
+use Rattle.std.proofs.Common.{◌≡◌, ◌+◌, ℕ, drop}
+use Rattle.cp_model.specs.Types.{GlobalScope}
+use Rattle.cp_scope.specs.Layouts.{Counts, rights_of}
+use Rattle.cp_scope.specs.Standing.{ScopeStands}
+use Rattle.cp_scope.proofs.types.Types.rights.Given as goal
+
+-- those that were counted, with those that are left, are all
+abbrev pub invariant-loop-group : goal.invariant-loop-group
+invariant-loop-group l =
+    (g : GlobalScope) → ScopeStands l.names l.self g
+    → (n : ℕ) × Counts l.count n × (n + rights_of g (drop l.group-index l.groups) ≡ rights_of g l.fn.groups)

@@ -1,0 +1,46 @@
+-- When a table tells what is known of a routine.
+use Rattle.std.specs.Prelude.{ℕ, List, Option, None, Some, map}
+use Rattle.cp_model.specs.Abstract.{Name, Routine}
+use Rattle.cp_model.specs.Declarations.{declarations}
+use Rattle.cp_model.specs.Erase as erase
+use Rattle.cp_model.specs.View as view
+use Rattle.cp_model.specs.Types.{GlobalScope, named_type}
+use Rattle.cp_model.specs.declared.tree.Identifier.{Identifier}
+use Rattle.cp_model.specs.declared.tree.Routine as tree
+use Rattle.cp_typing.specs.Needs.{result_words}
+use Rattle.cp_code.specs.Layout as code
+use Rattle.cp_scope.specs.declared.layout.Layout.{Layout}
+use Rattle.cp_scope.specs.declared.names.Names.{Names}
+use Rattle.cp_scope.specs.declared.routines.RoutineTable.{RoutineTable}
+use Rattle.cp_scope.specs.declared.types.Types.{Types}
+use Rattle.cp_scope.specs.Layouts.{AreLaid}
+use Rattle.cp_scope.specs.Locals.{LocalsLie}
+use Rattle.cp_scope.specs.Standing.{Grows, ScopeStands, Stands}
+use Rattle.cp_scope.specs.Variables.{AreDeclared, declared_entry}
+
+-- The type of a result, or that there is none.
+abbrev pub ResultIs : GlobalScope → Types → Option ℕ → Option Name → Type 0
+ResultIs g types None None = Unit {0}
+ResultIs g types (Some n) (Some x) = Stands types n (named_type g x)
+ResultIs g types _ _ = ⊥
+
+pub record MakesResult (names : Names) (old new : Types) (of : Option Identifier) (r : Option ℕ) : Type 0 where
+  pub grows : Grows old new
+  pub stands : (g : GlobalScope) → ScopeStands names old g → ResultIs g new r (erase.name_if of)
+
+-- The table is that of the routine. So many words have the activations, and there its parameters and variables lie.
+pub record RoutineStands (g : GlobalScope) (types : Types) (table : RoutineTable) (r : Routine) : Type 0 where
+  pub parameters : AreDeclared types (map declared_entry table.parameters.items) (declarations g r.parameters)
+  pub locals : LocalsLie g types (result_words r.result) (code.locals g r) table.locals
+  pub result : ResultIs g types table.result r.result
+
+-- More types and layouts were made.
+pub record Builds (names : Names) (old new : Types) (before after : List Layout) : Type 0 where
+  pub grows : Grows old new
+  pub laid : (g : GlobalScope) → ScopeStands names old g → AreLaid g old before → AreLaid g new after
+
+-- So was the table of a routine.
+pub record MakesRoutine (names : Names) (old new : Types) (before after : List Layout) (text : tree.Routine) (table : RoutineTable) : Type 0 where
+  pub builds : Builds names old new before after
+  pub stands : (g : GlobalScope) (later : Types) → ScopeStands names old g → AreLaid g old before → Grows new later
+      → RoutineStands g later table (erase.routine (view.routine text))

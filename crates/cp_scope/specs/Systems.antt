@@ -1,0 +1,93 @@
+-- When a table tells what is known of a system type.
+use Rattle.std.specs.Prelude.{◌≡◌, Bool, true, false, ℕ, suc, List, [], ◌∷◌, Option, None, Some, filter, if◌then◌else◌, map}
+use Rattle.std.specs.Borrow.{Bor}
+use Rattle.std.specs.Option.{option_or}
+use Rattle.cp_model.specs.Abstract.{Monitor, Name, Process, Routine}
+use Rattle.cp_model.specs.Components as c
+use Rattle.cp_model.specs.Components.{count_before}
+use Rattle.cp_model.specs.Declarations.{Variable, is_component}
+use Rattle.cp_model.specs.Erase as erase
+use Rattle.cp_model.specs.View as view
+use Rattle.cp_model.specs.Names.{lookup}
+use Rattle.cp_model.specs.Types.{GlobalScope}
+use Rattle.cp_model.specs.declared.tree.Fields.{Fields}
+use Rattle.cp_model.specs.declared.tree.Parameters.{Parameters}
+use Rattle.cp_model.specs.declared.tree.Routine as tree
+use Rattle.cp_model.specs.declared.tree.System.{System}
+use Rattle.cp_code.specs.Layout.{right_at}
+use Rattle.cp_scope.specs.declared.layout.Layout.{Layout}
+use Rattle.cp_scope.specs.declared.names.Names.{Names}
+use Rattle.cp_scope.specs.declared.routines.RoutineTable.{RoutineTable}
+use Rattle.cp_scope.specs.declared.numbering.Numbered.{Numbered}
+use Rattle.cp_scope.specs.declared.systems.Component.{Component}
+use Rattle.cp_scope.specs.declared.systems.SystemTable.{SystemTable}
+use Rattle.cp_scope.specs.declared.types.Types.{Types}
+use Rattle.cp_scope.specs.Components.{RightIs, own_members}
+use Rattle.cp_scope.specs.Layouts.{AreLaid, MembersLie, rights_of}
+use Rattle.cp_scope.specs.Routines.{Builds, RoutineStands}
+use Rattle.cp_scope.specs.Numbering.{NumberedIs, system_of}
+use Rattle.cp_scope.specs.Standing.{Grows, ScopeStands, row_at, system_at}
+use Rattle.cp_scope.specs.Variables.{AreDeclared, declared_entry, parameters_of, variables_of}
+
+-- The tables are those of these routines, one by one.
+abbrev pub AreRoutines : GlobalScope → Types → List RoutineTable → List Routine → Type 0
+AreRoutines g types [] [] = Unit {0}
+AreRoutines g types (t ∷ ts) (r ∷ rs) = RoutineStands g types t r × AreRoutines g types ts rs
+AreRoutines g types _ _ = ⊥
+
+abbrev pub routines_of : List tree.Routine → List Routine
+routines_of texts = map erase.routine (map view.routine texts)
+
+pub record MakesRoutines (names : Names) (old new : Types) (before after : List Layout) (texts : List tree.Routine) (tables : List RoutineTable) : Type 0 where
+  pub builds : Builds names old new before after
+  pub stands : (g : GlobalScope) (later : Types) → ScopeStands names old g → AreLaid g old before → Grows new later
+      → AreRoutines g later tables (routines_of texts)
+
+-- The table is that of a system type with these parameters, variables and routines.
+pub record SystemStands (g : GlobalScope) (types : Types) (table : SystemTable) (ps : List Parameters) (vs : List Fields) (rs : List tree.Routine) : Type 0 where
+  pub parameters : AreDeclared types (map declared_entry table.parameters.items) (parameters_of g ps)
+  pub variables : AreDeclared types (map declared_entry table.variables.items) (variables_of g vs)
+  pub members : MembersLie g types (suc (rights_of g ps)) (own_members g ps vs) table.members
+  pub rights : (x : Name) → RightIs types (lookup x table.rights) (right_at 1 (filter (λ v. is_component v.1.type) (parameters_of g ps)) x)
+  pub parameter_names : (x : Name) → NumberedIs types (parameters_of g ps) x (lookup x table.parameter_names) (lookup x (parameters_of g ps))
+  pub variable_names : (x : Name) → NumberedIs types (variables_of g vs) x (lookup x table.variable_names) (lookup x (variables_of g vs))
+  pub routines : AreRoutines g types table.routines.items (routines_of rs)
+
+pub record MakesSystem (names : Names) (old new : Types) (before after : List Layout) (ps : List Parameters) (vs : List Fields) (rs : List tree.Routine) (table : SystemTable)
+    : Type 0 where
+  pub builds : Builds names old new before after
+  pub stands : (g : GlobalScope) (later : Types) → ScopeStands names old g → AreLaid g old before → Grows new later
+      → SystemStands g later table ps vs rs
+
+-- ---- Components
+
+abbrev pub component_with : Numbered → Bool → Option ℕ → Option Component
+component_with n p None = None
+component_with n p (Some k) = Some (record { system = k; is_parameter = p; monitors = n.monitors; processes = n.processes })
+
+abbrev pub component_of_name : Types → Bool → Option Numbered → Option Component
+component_of_name types p None = None
+component_of_name types p (Some n) = component_with n p (system_of (row_at types n.of))
+
+-- The component that a name means among these parameters and variables.
+abbrev pub component_among : List (Name × Variable) → List (Name × Variable) → Name → Option c.Component
+component_among ps vs x = option_or (c.as_component x true (lookup x ps)) (c.as_component x false (lookup x vs))
+
+-- Of a variable of a component, after so many monitors and processes.
+pub record IsComponent (types : Types) (ps vs : List (Name × Variable)) (x : Name) (found : Component) (n : c.Component) : Type 0 where
+  pub text : Bor System
+  pub there : system_at types found.system ≡ Some text
+  pub system : erase.system (view.system text.now) ≡ n.system
+  pub parameter : found.is_parameter ≡ n.is_parameter
+  pub monitors : count_before Monitor x (if n.is_parameter then ps else vs) ≡ found.monitors
+  pub processes : count_before Process x (if n.is_parameter then ps else vs) ≡ found.processes
+
+abbrev pub ComponentIs : Types → List (Name × Variable) → List (Name × Variable) → Name → Option Component → Option c.Component → Type 0
+ComponentIs types ps vs x None None = Unit {0}
+ComponentIs types ps vs x (Some f) (Some n) = IsComponent types ps vs x f n
+ComponentIs types ps vs x _ _ = ⊥
+
+abbrev pub ComponentFound : Types → SystemTable → Name → Option Component → Type 0
+ComponentFound types table x found =
+    (g : GlobalScope) (ps : List Parameters) (vs : List Fields) (rs : List tree.Routine) → SystemStands g types table ps vs rs
+    → ComponentIs types (parameters_of g ps) (variables_of g vs) x found (component_among (parameters_of g ps) (variables_of g vs) x)

@@ -1,0 +1,33 @@
+-- When tables tell what the compiler asks of a text.
+use Rattle.std.specs.Prelude.{◌≡◌, ◌≤◌, ℕ, length, List, [], Some, slice_get}
+use Rattle.std.specs.Borrow.{Bor}
+use Rattle.cp_model.specs.Types.{GlobalScope}
+use Rattle.cp_model.specs.declared.tree.System.{System}
+use Rattle.cp_model.specs.declared.tree.Tree as tree
+use Rattle.cp_scope.specs.declared.layout.Layout.{Layout}
+use Rattle.cp_scope.specs.declared.names.Names.{Names}
+use Rattle.cp_scope.specs.declared.systems.SystemTable.{SystemTable}
+use Rattle.cp_scope.specs.declared.tables.Tables.{Tables}
+use Rattle.cp_scope.specs.declared.types.Types.{Types}
+use Rattle.cp_scope.specs.Layouts.{AreLaid}
+use Rattle.cp_scope.specs.Routines.{Builds}
+use Rattle.cp_scope.specs.Standing.{Grows, ScopeStands, system_at}
+use Rattle.cp_scope.specs.Systems.{SystemStands}
+
+-- The table of each number is that of the system type of that number.
+abbrev pub AreSystems : GlobalScope → Types → List SystemTable → Type 0
+AreSystems g types tables =
+    (k : ℕ) (y : Bor System) (table : SystemTable) → system_at types k ≡ Some y → slice_get tables k ≡ Some table
+    → SystemStands g types table y.now.parameters.items y.now.variables.items y.now.routines.items
+
+pub record MakesSystems (names : Names) (old new : Types) (before after : List Layout) (tables : List SystemTable) : Type 0 where
+  pub builds : Builds names old new before after
+  pub complete : length old.systems.items ≤ length tables
+  pub stands : (g : GlobalScope) (later : Types) → ScopeStands names old g → AreLaid g old before → Grows new later → AreSystems g later tables
+
+-- The tables are those of a text with this outermost scope. The initial process has no parameters.
+pub record TablesStand (g : GlobalScope) (tables : Tables) (text : tree.Tree) : Type 0 where
+  pub scope : ScopeStands tables.names tables.types g
+  pub laid : AreLaid g tables.types tables.layouts.rows.items
+  pub systems : AreSystems g tables.types tables.systems.items
+  pub initial : SystemStands g tables.types tables.initial [] text.variables.items text.routines.items

@@ -1,0 +1,89 @@
+//! Where the members and the rights of a component lie, and what its variables are.
+
+ghost use Rattle.std.specs.Prelude.{IfOk, OnOk, map};
+ghost use Rattle.cp_scope.specs.Components.{MakesComponent, Picks, PicksComponents, RightsLie};
+ghost use Rattle.cp_scope.specs.Variables.{declared_entry};
+
+use crate::error::TableError;
+use crate::layout::{Layout, Layouts, sum};
+use crate::names::{Names, add_first};
+use crate::types::Types;
+use crate::variables::Declared;
+use cp_model::tree::{Fields, Parameters};
+use cp_names::NameTable;
+use std::alloc::Global;
+
+/// A right to a component: how many words it lies from the first of its own component, and the
+/// number of its type.
+#[derive(Clone, Copy)]
+pub struct Right {
+    pub at: usize,
+    pub of: usize,
+}
+
+impl<'t> Types<'t> {
+    // Adds a parameter, if it is a right to a component.
+    fn pick(&self, components: &mut Vec<Declared<'t>>, d: Declared<'t>) -> Result<(), TableError>
+        ensures { OnOk result (Picks self.now (declared_entry d.entry)
+            (map declared_entry components.old.items) (map declared_entry components.new.items)) }
+    {
+        if self.is_component(d.of) {
+            components.push(d)?;
+        }
+        Ok(())
+    }
+
+    /// Those of these parameters that are rights to components.
+    pub fn components(&self, list: &[Declared<'t>]) -> Result<Vec<Declared<'t>>, TableError>
+        ensures { IfOk result (λ components. PicksComponents self.now (map declared_entry list.now)
+            (map declared_entry components.items)) }
+    {
+        let mut components = Vec::new(self.alloc);
+        for d in list {
+            self.pick(&mut components, *d)?;
+        }
+        Ok(components)
+    }
+
+    /// Where the rights to these components lie: behind the mark, one after another.
+    pub fn rights_to(&self, components: &[Declared<'t>]) -> Result<NameTable<'t, Right>, TableError>
+        ensures { IfOk result (λ rights. RightsLie self.now
+            (map declared_entry components.now) rights) }
+    {
+        let mut rights = NameTable::new(self.alloc);
+        for i in 0..components.len() {
+            let d = components[i];
+            add_first(
+                &mut rights,
+                d.name,
+                Right {
+                    at: i + 1,
+                    of: d.of,
+                },
+            )?;
+        }
+        Ok(rights)
+    }
+}
+
+impl<'t> Layouts<'t> {
+    /// The words of the components of a system type with these parameters and variables, and where
+    /// their members lie.
+    pub fn own_members(
+        &mut self,
+        names: &Names<'t>,
+        types: &mut Types<'t>,
+        parameters: &'t [Parameters],
+        variables: &'t [Fields],
+    ) -> Result<Layout<'t>, TableError>
+        ensures { IfOk result (λ l. MakesComponent names.now types.old types.new self.old.rows.items
+            self.new.rows.items parameters.now variables.now l) }
+    {
+        let mut members = Vec::new(self.alloc);
+        types.add_parameters(names, parameters, &mut members)?;
+        types.fields(names, variables, &mut members)?;
+        self.extend(names, types)?;
+        let head = sum(Some(1), types.rights(names, parameters));
+        self.members(&members, head)
+    }
+}

@@ -1,0 +1,243 @@
+//! How many words a variable of each type takes, and where the members of records and classes lie.
+
+ghost use Rattle.std.specs.Prelude.{◌≡◌, ◌∷◌, ◌≤◌, ◌+◌, ◌*◌, [], ℕ, IfOk, OnOk, length, map, option_map, slice_get};
+ghost use Rattle.cp_model.specs.Integers.{count_between};
+ghost use Rattle.cp_model.specs.Declarations.{is_component};
+ghost use Rattle.cp_model.specs.Types.{GlobalScope, ResolvedType};
+ghost use Rattle.cp_typing.specs.Words.{words};
+ghost use Rattle.cp_code.specs.Layout as code;
+ghost use Rattle.cp_model.specs.Locations.{ByName};
+ghost use Rattle.cp_scope.specs.Layouts.{AreLaid, Counts, LaysComponent, LaysOut, LaysRow, PartIs, rights_among, rights_of};
+ghost use Rattle.cp_scope.specs.Standing.{ScopeStands, Stands, entry, named};
+
+use crate::error::TableError;
+use crate::names::{Names, add_first};
+use crate::types::{Field, TypeRow, Types};
+use cp_model::tree::{Parameters, Sort, System};
+use cp_names::NameTable;
+use std::alloc::Global;
+
+/// A part of a variable: how many words it lies from the first, and its type. It is none where the
+/// words are too many.
+#[derive(Clone, Copy)]
+pub struct Part {
+    pub at: Option<u32>,
+    pub of: usize,
+}
+
+/// The words of a type, if they aren't too many, and the members of a record or a class.
+#[derive(Drop)]
+pub struct Layout<'t> {
+    pub words: Option<u32>,
+    pub parts: NameTable<'t, Part>,
+}
+
+/// The layouts of types by their numbers.
+#[derive(Drop)]
+pub struct Layouts<'t> {
+    pub(crate) alloc: Global,
+    pub(crate) rows: Vec<Layout<'t>>,
+}
+
+/// The words of both.
+pub fn sum(a: Option<u32>, b: Option<u32>) -> Option<u32>
+    ensures { (m n : ℕ) → Counts a m → Counts b n → Counts result (m + n) }
+{
+    a?.checked_add(b?)
+}
+
+fn product(count: Option<u32>, words: Option<u32>) -> Option<u32>
+    ensures { (m n : ℕ) → Counts count m → Counts words n → Counts result (m * n) }
+{
+    count?.checked_mul(words?)
+}
+
+// A number that may be too large for words.
+fn counted(n: usize) -> Option<u32>
+    ensures { Counts result n }
+{
+    if n > 0xffff_ffff {
+        return None;
+    }
+    Some(n as u32)
+}
+
+// How many integers there are from one to another.
+fn count_between(low: i32, high: i32) -> Option<u32>
+    ensures { Counts result (count_between low high) }
+{
+    if high < low {
+        return Some(0);
+    }
+    let count = i64::from(high) - i64::from(low) + 1;
+    counted(count as usize)
+}
+
+impl<'t> Types<'t> {
+    /// Whether a name is that of a type of components.
+    pub fn names_component(&self, names: &Names<'t>, name: &[u8]) -> bool
+        ensures { (g : GlobalScope) → ScopeStands names.now self.now g → result ≡ is_component
+            (named name.now g) }
+    {
+        match names.types.find(name) {
+            Some(n) => self.is_component(n),
+            None => false,
+        }
+    }
+
+    // How many parameters of one type are rights to components.
+    fn rights_among(&self, names: &Names<'t>, group: &Parameters) -> Option<u32>
+        ensures { (g : GlobalScope) → ScopeStands names.now self.now g → Counts result
+            (rights_among g group.now) }
+    {
+        if self.names_component(names, group.of.name.as_bytes()) {
+            counted(group.names.len())
+        } else {
+            Some(0)
+        }
+    }
+
+    /// How many of these parameters are rights to components.
+    pub fn rights(&self, names: &Names<'t>, groups: &[Parameters]) -> Option<u32>
+        ensures { (g : GlobalScope) → ScopeStands names.now self.now g → Counts result
+            (rights_of g groups.now) }
+    {
+        let mut count = Some(0);
+        for group in groups {
+            count = sum(count, self.rights_among(names, group));
+        }
+        count
+    }
+}
+
+impl<'t> Layouts<'t> {
+    /// No layouts.
+    pub fn new(alloc: Global) -> Layouts<'t>
+        ensures { result.rows.items ≡ [] }
+    {
+        Layouts {
+            alloc,
+            rows: Vec::new(alloc),
+        }
+    }
+
+    /// The layout of a type, if it has one yet.
+    pub fn layout(&self, number: usize) -> Option<&Layout<'t>>
+        ensures { option_map (λ l. l.now) result ≡ slice_get self.now.rows.items number }
+    {
+        self.rows.get(number)
+    }
+
+    /// How many words a variable of the type takes, if they aren't too many.
+    pub fn words(&self, number: usize) -> Option<u32>
+        ensures { (g : GlobalScope) (types : Types) (t : ResolvedType)
+            → AreLaid g types self.now.rows.items → Stands types number t → Counts result
+            (words g t) }
+    {
+        self.layout(number)?.words
+    }
+
+    /// Where a member of a record or of a class lies in a variable of the type, if it has one of
+    /// the name. A type without a layout is
+    /// refused.
+    pub fn part(&self, number: usize, name: &[u8]) -> Result<Option<Part>, TableError>
+        ensures { IfOk result (λ p. (g : GlobalScope) (types : Types) (t : ResolvedType)
+            → AreLaid g types self.now.rows.items → Stands types number t → PartIs types p
+            (code.part g t (ByName name.now ∷ []))) }
+    {
+        match self.layout(number) {
+            Some(layout) => Ok(layout.parts.find(name)),
+            None => Err(TableError::Unaccepted),
+        }
+    }
+
+    fn bare(&self, words: Option<u32>) -> Layout<'t>
+        ensures words { result.words ≡ words }
+        ensures parts { result.parts ≡ [] }
+    {
+        Layout {
+            words,
+            parts: NameTable::new(self.alloc),
+        }
+    }
+
+    /// Where these members lie, the first one so many words from the first word of all.
+    pub fn members(
+        &self,
+        members: &[Field<'t>],
+        head: Option<u32>,
+    ) -> Result<Layout<'t>, TableError>
+        ensures { IfOk result (λ l. LaysOut self.now.rows.items (map entry members.now) head l) }
+    {
+        let mut layout = self.bare(head);
+        for member in members {
+            let part = Part {
+                at: layout.words,
+                of: member.of,
+            };
+            add_first(&mut layout.parts, member.name, part)?;
+            layout.words = sum(layout.words, self.words(member.of));
+        }
+        Ok(layout)
+    }
+
+    // A component of a class has its members in its variable. A process or a monitor lies
+    // elsewhere.
+    fn component(
+        &self,
+        names: &Names<'t>,
+        types: &Types<'t>,
+        system: &System,
+        members: &[Field<'t>],
+    ) -> Result<Layout<'t>, TableError>
+        ensures { IfOk result (λ l. LaysComponent names.now types.now self.now.rows.items system.now
+            (map entry members.now) l) }
+    {
+        match system.sort {
+            Sort::Class => {
+                let head = sum(Some(1), types.rights(names, &system.parameters));
+                self.members(members, head)
+            }
+            _ => Ok(self.bare(Some(0))),
+        }
+    }
+
+    // The layout of a type, where those of its parts are known.
+    fn row(
+        &self,
+        names: &Names<'t>,
+        types: &Types<'t>,
+        row: &TypeRow<'t>,
+    ) -> Result<Layout<'t>, TableError>
+        ensures { IfOk result (λ l. LaysRow names.now types.now self.now.rows.items row.now l) }
+    {
+        match row {
+            TypeRow::Simple(_) => Ok(self.bare(Some(1))),
+            TypeRow::Array { low, high, element } => {
+                let words = product(count_between(*low, *high), self.words(*element));
+                Ok(self.bare(words))
+            }
+            TypeRow::Record(fields) => self.members(fields, Some(0)),
+            TypeRow::Queue => Ok(self.bare(Some(1))),
+            TypeRow::Component { system, members } => match types.system(*system) {
+                Some(system) => self.component(names, types, system, members),
+                None => Err(TableError::Unaccepted),
+            },
+            TypeRow::Unknown => Ok(self.bare(Some(0))),
+        }
+    }
+
+    /// Adds the layouts of all types that have none yet.
+    pub fn extend(&mut self, names: &Names<'t>, types: &Types<'t>) -> Result<(), TableError>
+        ensures laid { OnOk result ((g : GlobalScope) → ScopeStands names.now types.now g
+            → AreLaid g types.now self.old.rows.items → AreLaid g types.now self.new.rows.items) }
+        ensures complete { OnOk result (length types.now.rows.items ≤ length self.new.rows.items) }
+    {
+        for number in self.rows.len()..types.rows.len() {
+            let row = types.row(number).ok_or(TableError::Unaccepted)?;
+            let layout = self.row(names, types, row)?;
+            self.rows.push(layout)?;
+        }
+        Ok(())
+    }
+}

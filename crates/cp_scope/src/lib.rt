@@ -1,0 +1,50 @@
+//! Tables of what the names of a text stand for, and where its variables lie: what the compiler
+//! asks of a text.
+//!
+//! `Tables::of_tree` makes them in two passes over the definitions, of any tree:
+//!
+//! - **The outermost scope.** `Outer` has the constants and types that the definitions make, in
+//!   text order. A type is a row of `Types` that
+//!   names the types of its parts by their numbers, so a chain of named types of any length is gone
+//!   through without recursion; only
+//!   written types nest.
+//! - **Layouts and system types.** Once the scope is final, `Layouts` has the words of each type
+//!   and where its members lie, each from
+//!   those of its parts. A `SystemTable` has the parameters and variables of a system type, where
+//!   its members and rights lie, which
+//!   components its names mean, and a `RoutineTable` of each routine, where its locals lie.
+//!
+//! Names are lent by the tree and found by comparison, in a time that grows as the logarithm of
+//! their number. Numbers and names stand for
+//! what the meaning says by look-ups alone (`specs/Standing.antt`; `specs/Texts.antt` for the
+//! whole). Words and offsets that don't fit
+//! their fields are left out, and refused where they are used: a type may be declared far larger
+//! than any variable.
+#![tactic(auto)]
+
+mod components;
+mod error;
+mod layout;
+mod locals;
+mod names;
+mod numbering;
+mod outer;
+mod resolving;
+mod routines;
+mod systems;
+mod tables;
+mod types;
+mod variables;
+
+pub use components::Right;
+pub use error::TableError;
+pub use layout::{Layout, Layouts, Part};
+pub use locals::{Local, Locals};
+pub use names::{Names, Value};
+pub use numbering::Numbered;
+pub use outer::Outer;
+pub use routines::RoutineTable;
+pub use systems::{Component, SystemTable};
+pub use tables::Tables;
+pub use types::{Base, Field, Simple, TypeRow, Types};
+pub use variables::Declared;

@@ -1,0 +1,65 @@
+//! The names of constants and types in the outermost scope.
+
+ghost use Rattle.std.specs.Prelude.{◌≡◌, [], OnOk};
+ghost use Rattle.cp_scope.specs.Tables.{Behind, InFront};
+
+use crate::error::TableError;
+use crate::types::Base;
+use cp_names::NameTable;
+use std::alloc::Global;
+
+/// The value of a constant: its base type and its ordinal.
+#[derive(Clone, Copy)]
+pub struct Value<'t> {
+    pub base: Base<'t>,
+    pub ordinal: i32,
+}
+
+/// The constants and types of the outermost scope. A type has a number in `Types`.
+#[derive(Drop)]
+pub struct Names<'t> {
+    pub constants: NameTable<'t, Value<'t>>,
+    pub types: NameTable<'t, usize>,
+}
+
+impl<'t> Names<'t> {
+    /// No names.
+    pub fn new(alloc: Global) -> Names<'t>
+        ensures constants { result.constants ≡ [] }
+        ensures types { result.types ≡ [] }
+    {
+        Names {
+            constants: NameTable::new(alloc),
+            types: NameTable::new(alloc),
+        }
+    }
+}
+
+/// Adds a name. It is refused where it is there already.
+pub fn add_name<'t, A: Copy>(
+    table: &mut NameTable<'t, A>,
+    name: &'t [u8],
+    value: A,
+) -> Result<(), TableError>
+    ensures { OnOk result (InFront name.now value table.old table.new) }
+{
+    if table.find(name).is_some() {
+        return Err(TableError::Unaccepted);
+    }
+    table.add(name, value)?;
+    Ok(())
+}
+
+/// Adds a name behind the others, where it is found unless it is there already.
+pub fn add_first<'t, A: Copy>(
+    table: &mut NameTable<'t, A>,
+    name: &'t [u8],
+    value: A,
+) -> Result<(), TableError>
+    ensures { OnOk result (Behind name.now value table.old table.new) }
+{
+    if table.find(name).is_none() {
+        table.add(name, value)?;
+    }
+    Ok(())
+}

@@ -1,0 +1,122 @@
+//! What is known of a system type: its parameters and variables, its routines, and where the
+//! members and rights of its components lie.
+
+ghost use Rattle.std.specs.Prelude.{◌≡◌, IfOk};
+ghost use Rattle.cp_scope.specs.Systems.{ComponentFound, MakesRoutines, MakesSystem, component_of_name};
+
+use crate::components::Right;
+use crate::error::TableError;
+use crate::layout::{Layout, Layouts};
+use crate::names::Names;
+use crate::numbering::Numbered;
+use crate::routines::RoutineTable;
+use crate::types::Types;
+use crate::variables::Declared;
+use cp_model::tree::{Fields, Parameters, Routine};
+use cp_names::NameTable;
+use std::alloc::Global;
+
+/// A system type: its parameters, variables and routines in text order, and where the members and
+/// the rights of its components lie.
+/// The words of a component are those of `members`. Its parameters and its variables are also found
+/// by their names.
+#[derive(Drop)]
+pub struct SystemTable<'t> {
+    pub parameters: Vec<Declared<'t>>,
+    pub variables: Vec<Declared<'t>>,
+    pub members: Layout<'t>,
+    pub rights: NameTable<'t, Right>,
+    pub parameter_names: NameTable<'t, Numbered>,
+    pub variable_names: NameTable<'t, Numbered>,
+    pub routines: Vec<RoutineTable<'t>>,
+}
+
+impl<'t> Layouts<'t> {
+    // The tables of these routines.
+    fn routines(
+        &mut self,
+        names: &Names<'t>,
+        types: &mut Types<'t>,
+        texts: &'t [Routine],
+    ) -> Result<Vec<RoutineTable<'t>>, TableError>
+        ensures { IfOk result (λ rs. MakesRoutines names.now types.old types.new self.old.rows.items
+            self.new.rows.items texts.now rs.items) }
+    {
+        let mut tables = Vec::new(self.alloc);
+        for text in texts {
+            let table = self.routine(names, types, text)?;
+            tables.push(table)?;
+        }
+        Ok(tables)
+    }
+
+    /// What is known of a system type with these parameters, variables and routines.
+    pub fn system(
+        &mut self,
+        names: &Names<'t>,
+        types: &mut Types<'t>,
+        parameters: &'t [Parameters],
+        variables: &'t [Fields],
+        routines: &'t [Routine],
+    ) -> Result<SystemTable<'t>, TableError>
+        ensures { IfOk result (λ s. MakesSystem names.now types.old types.new self.old.rows.items
+            self.new.rows.items parameters.now variables.now routines.now s) }
+    {
+        let mut own_parameters = Vec::new(self.alloc);
+        types.declare_parameters(names, parameters, &mut own_parameters)?;
+        let mut own_variables = Vec::new(self.alloc);
+        types.declare_variables(names, variables, &mut own_variables)?;
+        let members = self.own_members(names, types, parameters, variables)?;
+        let components = types.components(&own_parameters)?;
+        let rights = types.rights_to(&components)?;
+        let parameter_names = types.numbered(&own_parameters)?;
+        let variable_names = types.numbered(&own_variables)?;
+        let routines = self.routines(names, types, routines)?;
+        Ok(SystemTable {
+            parameters: own_parameters,
+            variables: own_variables,
+            members,
+            rights,
+            parameter_names,
+            variable_names,
+            routines,
+        })
+    }
+}
+
+/// A component that a parameter or variable names: the number of its system type, whether it is a
+/// parameter, and how many monitors and
+/// processes are declared before it.
+#[derive(Clone, Copy)]
+pub struct Component {
+    pub system: usize,
+    pub is_parameter: bool,
+    pub monitors: usize,
+    pub processes: usize,
+}
+
+// What a parameter or variable names, if it is a component.
+fn as_component(types: &Types, is_parameter: bool, named: Option<Numbered>) -> Option<Component>
+    ensures { result ≡ component_of_name types.now is_parameter named }
+{
+    let named = named?;
+    let system = types.system_of(named.of)?;
+    Some(Component {
+        system,
+        is_parameter,
+        monitors: named.monitors,
+        processes: named.processes,
+    })
+}
+
+impl<'t> SystemTable<'t> {
+    /// The component that a name means in a component of this system type.
+    pub fn component(&self, types: &Types<'t>, name: &[u8]) -> Option<Component>
+        ensures { ComponentFound types.now self.now name.now result }
+    {
+        match as_component(types, true, self.parameter_names.find(name)) {
+            Some(c) => Some(c),
+            None => as_component(types, false, self.variable_names.find(name)),
+        }
+    }
+}

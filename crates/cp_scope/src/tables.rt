@@ -1,0 +1,72 @@
+//! The tables of a text: its outermost scope, the layouts of its types, and its system types.
+
+ghost use Rattle.std.specs.Prelude.{IfOk};
+ghost use Rattle.cp_model.specs.Declarations.{globals};
+ghost use Rattle.cp_model.specs.Erase as erase;
+ghost use Rattle.cp_model.specs.View as view;
+ghost use Rattle.cp_scope.specs.Texts.{MakesSystems, TablesStand};
+
+use crate::error::TableError;
+use crate::layout::Layouts;
+use crate::names::Names;
+use crate::outer::Outer;
+use crate::systems::SystemTable;
+use crate::types::Types;
+use cp_model::tree::Tree;
+use std::alloc::Global;
+
+/// What the compiler asks of a text: the names and types of its outermost scope, the layouts of
+/// types, its system types by their
+/// numbers, in text order, and the initial process.
+#[derive(Drop)]
+pub struct Tables<'t> {
+    pub names: Names<'t>,
+    pub types: Types<'t>,
+    pub layouts: Layouts<'t>,
+    pub systems: Vec<SystemTable<'t>>,
+    pub initial: SystemTable<'t>,
+}
+
+impl<'t> Layouts<'t> {
+    // The tables of all system types.
+    fn systems(
+        &mut self,
+        names: &Names<'t>,
+        types: &mut Types<'t>,
+    ) -> Result<Vec<SystemTable<'t>>, TableError>
+        ensures { IfOk result (λ ss. MakesSystems names.now types.old types.new self.old.rows.items
+            self.new.rows.items ss.items) }
+    {
+        let mut tables = Vec::new(self.alloc);
+        for number in 0..types.systems.len() {
+            let y = types.system(number).ok_or(TableError::Unaccepted)?;
+            let table = self.system(names, types, &y.parameters, &y.variables, &y.routines)?;
+            tables.push(table)?;
+        }
+        Ok(tables)
+    }
+}
+
+impl<'t> Tables<'t> {
+    /// The tables of a text, whatever it is. They are refused where memory is, where a name is
+    /// declared twice in the outermost scope,
+    /// and where an enumeration has more values than ordinals.
+    pub fn of_tree(alloc: Global, tree: &'t Tree) -> Result<Tables<'t>, TableError>
+        ensures { IfOk result (λ tables. TablesStand
+            (globals (erase.abstract (view.tree tree.now))) tables tree.now) }
+    {
+        let outer = Outer::of_tree(alloc, tree)?;
+        let names = outer.names;
+        let mut types = outer.types;
+        let mut layouts = Layouts::new(alloc);
+        let systems = layouts.systems(&names, &mut types)?;
+        let initial = layouts.system(&names, &mut types, &[], &tree.variables, &tree.routines)?;
+        Ok(Tables {
+            names,
+            types,
+            layouts,
+            systems,
+            initial,
+        })
+    }
+}

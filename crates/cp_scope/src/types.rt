@@ -1,0 +1,108 @@
+//! Types, by their numbers: each has a row, which names the types of its parts by their numbers.
+
+ghost use Rattle.std.specs.Prelude.{◌≡◌, [], IfOk, option_map};
+ghost use Rattle.cp_scope.specs.Standing.{Adds, AddsSystem, row_at, system_at};
+
+use crate::error::TableError;
+use cp_model::tree::System;
+use std::alloc::Global;
+
+/// A base type. An enumeration has a name and the number of its last value.
+#[derive(Clone, Copy)]
+pub enum Base<'t> {
+    Integer,
+    Char,
+    Boolean,
+    Enumeration { name: &'t [u8], last: usize },
+}
+
+/// A simple type: its base type, its bounds and its start value.
+#[derive(Clone, Copy)]
+pub struct Simple<'t> {
+    pub base: Base<'t>,
+    pub low: i32,
+    pub high: i32,
+    pub start: i32,
+}
+
+/// A field of a record, or a variable of a component: its name, and the number of its type.
+#[derive(Clone, Copy)]
+pub struct Field<'t> {
+    pub name: &'t [u8],
+    pub of: usize,
+}
+
+/// What a type is. Types and system types are named by their numbers.
+#[derive(Drop)]
+pub enum TypeRow<'t> {
+    Simple(Simple<'t>),
+    Array {
+        low: i32,
+        high: i32,
+        element: usize,
+    },
+    Record(Vec<Field<'t>>),
+    Queue,
+    /// A component has the members that are its own: its parameters but the rights to components,
+    /// then its variables.
+    Component {
+        system: usize,
+        members: Vec<Field<'t>>,
+    },
+    /// What names no type.
+    Unknown,
+}
+
+/// Types by their numbers, and system types by theirs, in text order.
+#[derive(Drop)]
+pub struct Types<'t> {
+    pub(crate) alloc: Global,
+    pub(crate) rows: Vec<TypeRow<'t>>,
+    pub(crate) systems: Vec<&'t System>,
+}
+
+impl<'t> Types<'t> {
+    /// No types.
+    pub fn new(alloc: Global) -> Types<'t>
+        ensures rows { result.rows.items ≡ [] }
+        ensures systems { result.systems.items ≡ [] }
+    {
+        Types {
+            alloc,
+            rows: Vec::new(alloc),
+            systems: Vec::new(alloc),
+        }
+    }
+
+    /// What the type of a number is, if there is one.
+    pub fn row(&self, number: usize) -> Option<&TypeRow<'t>>
+        ensures { option_map (λ r. r.now) result ≡ row_at self.now number }
+    {
+        self.rows.get(number)
+    }
+
+    /// The system type of a number, if there is one.
+    pub fn system(&self, number: usize) -> Option<&'t System>
+        ensures { result ≡ system_at self.now number }
+    {
+        self.systems.get(number).copied()
+    }
+
+    /// Adds a type, and answers its number.
+    pub fn add(&mut self, row: TypeRow<'t>) -> Result<usize, TableError>
+        ensures { IfOk result (λ n. Adds self.old self.new row.entry n) }
+    {
+        let number = self.rows.len();
+        self.rows.push(row)?;
+        Ok(number)
+    }
+
+    /// Adds a system type, and answers its number.
+    pub fn add_system(&mut self, system: &'t System) -> Result<usize, TableError>
+        ensures { IfOk result (λ k. AddsSystem self.old self.new system.now k) }
+    {
+        let number = self.systems.len();
+        self.systems.push(system)?;
+        Ok(number)
+    }
+}

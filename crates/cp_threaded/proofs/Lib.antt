@@ -1,0 +1,3 @@
+pub mod Wide
+pub mod SameIntegers
+pub mod Chains

@@ -1,0 +1,47 @@
+-- What evaluation reads, as the view of the definitions, and how far its answers are told.
+use Rattle.std.specs.Prelude.{ℕ, ◌++◌, ◌-◌, ◌^◌, min, List, [], ◌∷◌, Result, Ok, Err, ℤ, ◌+◌, ◌*◌}
+use Rattle.cp_model.specs.declared.state.Fault.{Fault}
+use Rattle.cp_model.specs.declared.state.Fault.TheVariants as fault
+use Rattle.cp_model.specs.Places.{within}
+use Rattle.cp_code.specs.Functions.{unless}
+use Rattle.cp_code.specs.Layout.{distance}
+use Rattle.cp_steps.specs.Values.{View, apply, bind, value_of}
+use Rattle.cp_threaded.specs.declared.reach.Reach.{Reach}
+use Rattle.cp_threaded.specs.View.{PlainApplication, PlainIndex}
+
+abbrev pub view_of : Reach → View
+view_of r = record {
+  words = r.own.now ++ r.shared.now;
+  temps = r.temps.now;
+  base = r.base;
+  temp = r.temp;
+  component = r.component;
+  clock = r.clock;
+}
+
+-- A place beyond all words is told as the greatest number.
+abbrev pub capped : ℕ → ℕ
+capped n = min n (2 ^ 64 - 1)
+
+abbrev pub capped_result : Result ℕ Fault → Result ℕ Fault
+capped_result (Ok n) = Ok (capped n)
+capped_result (Err f) = Err f
+
+-- The value of an operator between a left operand of this value and its right operand.
+abbrev pub applied : View → ℤ → PlainApplication → Result ℤ Fault
+applied v x o = bind (value_of v o.operand) (λ y. apply o.operator x y)
+
+-- The value of a chain whose first operands have this value.
+abbrev pub chain_value : View → ℤ → List PlainApplication → Result ℤ Fault
+chain_value v x [] = Ok x
+chain_value v x (o ∷ os) = bind (applied v x o) (λ z. chain_value v z os)
+
+-- How far a value of an index leads, in words.
+abbrev pub offset_of : PlainIndex → ℤ → Result ℕ Fault
+offset_of i n = unless (within i.low i.high n) fault.Index (distance i.low n * i.size + i.plus)
+
+-- The place to which indices lead from this one.
+abbrev pub elements_place : View → ℕ → List PlainIndex → Result ℕ Fault
+elements_place v at [] = Ok at
+elements_place v at (i ∷ is) =
+    bind (value_of v i.value) (λ n. bind (offset_of i n) (λ far. elements_place v (at + far) is))

@@ -1,0 +1,149 @@
+//! Programs: operations, units of code, and components.
+
+ghost use Rattle.std.specs.Prelude.{◌≡◌, ◌-◌, length, map, option_map, slice_get};
+ghost use Rattle.cp_threaded.specs.View as view;
+ghost use Rattle.cp_threaded.specs.View.{plans_of};
+
+use crate::operation::Operation;
+
+/// How words start: so many of one value, or so many blocks like the first one of this size.
+#[derive(Clone, Copy, Debug, PartialEq, Eq)]
+pub enum Start {
+    Fill { at: u32, count: u32, value: i32 },
+    Repeat { at: u32, size: u32, count: u32 },
+}
+
+/// The code of a routine, or of the body of a system type: the place of its first operation, how the words of an activation start, and
+/// how many words, temps and frames one needs with all that it calls.
+#[derive(Debug, Drop)]
+pub struct CodeUnit {
+    pub start: u32,
+    pub starts: Vec<Start>,
+    pub words: u32,
+    pub temps: u32,
+    pub frames: u32,
+}
+
+/// A monitor. Its words lie among the shared ones, from `start` on. The plan says how they start, by its number among the program's.
+#[derive(Clone, Copy, Debug, PartialEq, Eq)]
+pub struct Monitor {
+    pub start: u32,
+    /// The number of the unit of its body.
+    pub body: u32,
+    pub words: u32,
+    pub plan: u32,
+}
+
+/// A process. It has words of its own. What is passed to it waits among the shared words, from `parameters` on.
+#[derive(Clone, Copy, Debug, PartialEq, Eq)]
+pub struct Process {
+    pub body: u32,
+    pub words: u32,
+    pub parameters: u32,
+    pub waiting: u32,
+    pub plan: u32,
+}
+
+/// The plan by which the words of the components of one system type start.
+#[derive(Debug, Drop)]
+pub struct Plan {
+    pub starts: Vec<Start>,
+}
+
+/// A program. Monitors are numbered from 1 and processes from 1, the initial one first.
+#[derive(Debug, Drop)]
+pub struct Program {
+    operations: Vec<Operation>,
+    units: Vec<CodeUnit>,
+    monitors: Vec<Monitor>,
+    processes: Vec<Process>,
+    plans: Vec<Plan>,
+    shared: u32,
+}
+
+impl Program {
+    /// A program of these parts. Plans are named by their numbers, from 0.
+    pub fn new(
+        operations: Vec<Operation>,
+        units: Vec<CodeUnit>,
+        monitors: Vec<Monitor>,
+        processes: Vec<Process>,
+        plans: Vec<Plan>,
+        shared: u32,
+    ) -> Program
+        ensures operations { (view.program result).operations ≡ map view.operation operations.items }
+        ensures units { (view.program result).units ≡ map view.code_unit units.items }
+        ensures monitors { (view.program result).monitors ≡ map (view.monitor plans.items) monitors.items }
+        ensures processes { (view.program result).processes ≡ map (view.process plans.items) processes.items }
+        ensures shared { (view.program result).shared ≡ shared }
+    {
+        Program {
+            operations,
+            units,
+            monitors,
+            processes,
+            plans,
+            shared,
+        }
+    }
+
+    /// The operation at a place, if there is one.
+    #[inline(always)]
+    pub fn operation(&self, place: u32) -> Option<&Operation>
+        ensures { option_map (λ o. view.operation o.now) result ≡ slice_get (view.program self.now).operations place }
+    {
+        self.operations.get(place as usize)
+    }
+
+    /// The unit of this number, from 0, if there is one.
+    pub fn unit(&self, number: u32) -> Option<&CodeUnit>
+        ensures { option_map (λ u. view.code_unit u.now) result ≡ slice_get (view.program self.now).units number }
+    {
+        self.units.get(number as usize)
+    }
+
+    /// The monitor of this number, from 1, if there is one. The number 0 is read as 1.
+    pub fn monitor(&self, number: usize) -> Option<&Monitor>
+        ensures { option_map (λ m. view.monitor (plans_of self.now) m.now) result ≡ slice_get (view.program self.now).monitors (number - 1) }
+    {
+        self.monitors.get(number.saturating_sub(1))
+    }
+
+    /// The process of this number, from 1, if there is one. The number 0 is read as 1.
+    pub fn process(&self, number: usize) -> Option<&Process>
+        ensures { option_map (λ p. view.process (plans_of self.now) p.now) result ≡ slice_get (view.program self.now).processes (number - 1) }
+    {
+        self.processes.get(number.saturating_sub(1))
+    }
+
+    /// How the words of a component with the plan of this number start: by nothing, if there is no such plan.
+    pub fn starts(&self, plan: u32) -> &[Start]
+        ensures { map view.start result.now ≡ view.plan_at (plans_of self.now) plan }
+    {
+        match self.plans.get(plan as usize) {
+            Some(plan) => plan.starts.as_slice(),
+            None => &[],
+        }
+    }
+
+    /// How many monitors there are. They have the numbers from 1.
+    pub fn monitors(&self) -> usize
+        ensures { result ≡ length (view.program self.now).monitors }
+    {
+        self.monitors.len()
+    }
+
+    /// How many processes there are. They have the numbers from 1.
+    pub fn processes(&self) -> usize
+        ensures { result ≡ length (view.program self.now).processes }
+    {
+        self.processes.len()
+    }
+
+    /// How many words the monitors and the parameters that wait take.
+    pub fn shared(&self) -> u32
+        ensures { result ≡ (view.program self.now).shared }
+    {
+        self.shared
+    }
+}

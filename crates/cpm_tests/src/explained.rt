@@ -1,0 +1,291 @@
+//! Explanations: one text for each message, positions, excerpts, declarations, access graphs, and streams that fail.
+
+use super::jobs::{nested, repeated};
+use super::messages::{ROWS, Row};
+use super::streams::{Narrow, Slow};
+use cp_execute::refusal::Refusal;
+use cp_explain::explain::explain_text;
+use cp_explain::graph::Form;
+use cp_explain::position::Position;
+use cp_explain::rules::rule_page;
+use cp_model::rules::Rule;
+use std::alloc::{AllocError, Global};
+use std::test::Fail;
+
+// No read or write fails at this place.
+const NOWHERE: usize = 1_000_000;
+
+// What is answered and written for a text.
+fn explained(
+    alloc: Global,
+    text: &[u8],
+    form: Form,
+) -> (Result<Option<Refusal>, Refusal>, Vec<u8>) {
+    let mut text = text;
+    let mut out = Vec::new(alloc);
+    let answer = explain_text(alloc, b"t.cp", &mut text, form, &mut out);
+    (answer, out)
+}
+
+// The text of a row, and the place that it marks.
+fn marked(alloc: Global, row: Row) -> Result<(Vec<u8>, usize), AllocError> {
+    let mut text = Vec::new(alloc);
+    let mut at = 0;
+    for byte in row.text.as_bytes() {
+        match *byte {
+            b'@' => at = text.len(),
+            other => text.push(other)?,
+        }
+    }
+    Ok((text, at))
+}
+
+#[test]
+fn each_way_to_break_a_rule_has_its_message(rt: HostRuntime) -> Result<(), Fail> {
+    for row in ROWS.as_slice() {
+        let (text, at) = marked(rt.alloc(), *row)?;
+        let column = at.saturating_add(1);
+        let (rule, message) = (row.rule, row.message);
+        let first = format!(in rt.alloc(); "t.cp:1:{column}: {rule}: {message}\n")?;
+        let (answer, out) = explained(rt.alloc(), &text, Form::Lines);
+        assert!(rt; matches!(answer, Ok(Some(_))));
+        assert!(rt; out.as_slice().starts_with(first.as_bytes()));
+    }
+    Ok(())
+}
+
+// The text `var a0, a1, ..: TYPE; begin end.` with so many names, of which the last stands at the place that is answered.
+fn declaring(alloc: Global, front: &str, count: usize) -> Result<(Vec<u8>, usize), AllocError> {
+    let mut text = repeated(alloc, front.as_bytes(), b"", 0, b"")?;
+    let mut at = 0;
+    for number in 0..count {
+        if 0 < number {
+            text.extend_from_slice(b", ")?;
+        }
+        at = text.len();
+        text.extend_from_slice(format!(in alloc; "a{number}")?.as_bytes())?;
+    }
+    text.extend_from_slice(b": t; begin end.")?;
+    Ok((text, at))
+}
+
+#[test]
+fn one_component_too_many_is_told(rt: HostRuntime) -> Result<(), Fail> {
+    for (front, count, words) in [
+        ("type t = process; begin end; var ", 255, "process"),
+        ("type t = monitor; begin end; var ", 256, "monitor"),
+    ] {
+        let (text, at) = declaring(rt.alloc(), front, count)?;
+        let (column, last) = (at.saturating_add(1), count.saturating_sub(1));
+        let first = format!(in rt.alloc();
+            "t.cp:1:{column}: C13: `a{last}` is one {words} too many\n"
+        )?;
+        let (_, out) = explained(rt.alloc(), &text, Form::Lines);
+        assert!(rt; out.as_slice().starts_with(first.as_bytes()));
+    }
+    Ok(())
+}
+
+#[test]
+fn an_explanation_shows_the_line_and_the_declaration(rt: HostRuntime) {
+    let text =
+        b"type source = monitor;\n  procedure entry take(count: char);\n  begin\n    accept(count)\n  end;\n  begin end;\nbegin end.\n";
+    let (answer, out) = explained(rt.alloc(), text, Form::Lines);
+    assert!(rt;
+        answer
+            == Ok(Some(Refusal::Check {
+                rule: Rule::C10,
+                at: 79
+            }))
+    );
+    assert!(rt;
+        out.as_slice()
+            == b"t.cp:4:12: C10: `count` may not be changed here
+  4 |     accept(count)
+    |            ^
+  A value parameter and a constant can't be changed; neither can what a function answers. Copy it to a variable, or declare the parameter with `var`.
+  `count` is declared as a value parameter at 2:24.
+  `cpm explain C10` tells more.
+"
+                .as_slice()
+    );
+}
+
+#[test]
+fn a_name_that_is_declared_later_is_told(rt: HostRuntime) {
+    let text = b"procedure p;\nbegin q end;\nprocedure q;\nbegin end;\nbegin p end.\n";
+    let (_, out) = explained(rt.alloc(), text, Form::Lines);
+    assert!(rt;
+        out.as_slice()
+            == b"t.cp:2:7: C1: `q` is not declared
+  2 | begin q end;
+    |       ^
+  A name is declared before it is used. Spell it as it is declared, or declare it.
+  `q` is declared as a procedure only at 3:11, after this place.
+  `cpm explain C1` tells more.
+"
+                .as_slice()
+    );
+}
+
+#[test]
+fn a_name_of_the_initial_process_is_told(rt: HostRuntime) {
+    let text = b"type p = process;\nbegin n := 1 end;\nvar n: integer;\nbegin end.\n";
+    let (_, out) = explained(rt.alloc(), text, Form::Lines);
+    assert!(rt;
+        out.as_slice()
+            == b"t.cp:2:7: C1: `n` is not declared
+  2 | begin n := 1 end;
+    |       ^
+  A name is declared before it is used. Spell it as it is declared, or declare it.
+  `n` is declared by the initial process at 3:5, and can't be seen here. Processes share monitors alone: hand over the right to one by `init`.
+  `cpm explain C1` tells more.
+"
+                .as_slice()
+    );
+}
+
+#[test]
+fn excerpts_show_any_line(rt: HostRuntime) -> Result<(), Fail> {
+    // The end of a text, on the line after the last line feed.
+    let (_, out) = explained(rt.alloc(), b"begin\n", Form::Lines);
+    assert!(rt;
+        out.as_slice().starts_with(b"t.cp:2:1: Y2: the text ends too early\n  2 | \n    | ^\n")
+    );
+    // A tab is one column, and shown as its byte.
+    let (_, out) = explained(rt.alloc(), b"\tbegin\tx := 1 end.", Form::Lines);
+    assert!(rt;
+        out.as_slice().starts_with(
+            b"t.cp:1:8: C1: `x` is not declared\n  1 | \\09begin\\09x := 1 end.\n    |            ^\n"
+        )
+    );
+    // Of a longer line 100 bytes are shown, 60 of them before the place.
+    let text = repeated(rt.alloc(), b"begin", b" ", 200, b"x := 1 end.")?;
+    let (_, out) = explained(rt.alloc(), &text, Form::Lines);
+    let shown = repeated(
+        rt.alloc(),
+        b"t.cp:1:206: C1: `x` is not declared\n  1 | ",
+        b" ",
+        60,
+        b"x := 1 end.\n    | ",
+    )?;
+    let shown = repeated(rt.alloc(), &shown, b" ", 60, b"^\n")?;
+    assert!(rt; out.as_slice().starts_with(&shown));
+    Ok(())
+}
+
+#[test]
+fn long_and_deep_texts_are_told(rt: HostRuntime) -> Result<(), Fail> {
+    let text = repeated(rt.alloc(), b"begin end.", b" ", 1_048_567, b"")?;
+    let (_, out) = explained(rt.alloc(), &text, Form::Lines);
+    assert!(rt;
+        out.as_slice()
+            .starts_with(b"t.cp:1:1048577: S6: the text is too long\n")
+    );
+    // The 201st `begin`, of six bytes each.
+    let text = nested(rt.alloc(), [b"", b"begin ", b"", b"end ", b"."], 201)?;
+    let (_, out) = explained(rt.alloc(), &text, Form::Lines);
+    assert!(rt;
+        out.as_slice()
+            .starts_with(b"t.cp:1:1201: Y3: the text is nested too deep\n")
+    );
+    Ok(())
+}
+
+#[test]
+fn positions_count_from_one(rt: HostRuntime) {
+    for (text, at, line, column) in [
+        (b"".as_slice(), 0, 1, 1),
+        (b"ab", 1, 1, 2),
+        (b"ab", 7, 1, 3),
+        (b"a\nb\n", 1, 1, 2),
+        (b"a\nb\n", 2, 2, 1),
+        (b"a\nb\n", 4, 3, 1),
+    ] {
+        assert!(rt; Position::of(text, at) == Position { line, column });
+    }
+}
+
+const NETWORK: &[u8] = b"type store = monitor; begin end;
+line = class(s: store); begin end;
+sender = process(s: store; n: integer); var l: line; begin init l(s) end;
+var a: store; p, q: sender; b: store;
+begin init a, b; init p(a, 1), q(b, 2) end.";
+
+#[test]
+fn an_accepted_text_has_an_access_graph(rt: HostRuntime) {
+    let (answer, out) = explained(rt.alloc(), NETWORK, Form::Lines);
+    assert!(rt; answer == Ok(None));
+    assert!(rt;
+        out.as_slice()
+            == b"accepted
+process initial 1
+monitor a 1: store
+process p 2: sender
+process q 3: sender
+monitor b 2: store
+p 2 -> a 1
+q 3 -> b 2
+in sender: l -> s
+"
+                .as_slice()
+    );
+    let (_, out) = explained(rt.alloc(), NETWORK, Form::Dot);
+    assert!(rt;
+        out.as_slice()
+            == b"digraph access {
+  \"initial 1\" [shape=ellipse];
+  \"a 1\" [shape=box];
+  \"p 2\" [shape=ellipse];
+  \"q 3\" [shape=ellipse];
+  \"b 2\" [shape=box];
+  \"p 2\" -> \"a 1\";
+  \"q 3\" -> \"b 2\";
+  \"sender.l\" -> \"sender.s\";
+}
+"
+                .as_slice()
+    );
+}
+
+#[test]
+fn rules_have_pages(rt: HostRuntime) {
+    for rule in ["C1", "C13", "S6", "Y3", "I4", "F1", "M"] {
+        match rule_page(rule) {
+            Some(page) => assert!(rt; page.starts_with(rule)),
+            None => panic!(rt; "a page"),
+        }
+    }
+    assert!(rt; rule_page("C14").is_none() && rule_page("").is_none());
+}
+
+#[test]
+fn each_read_and_write_of_an_explanation_fails_in_turn(rt: HostRuntime) {
+    let text = b"begin x := 1 end.".as_slice();
+    let (_, due) = explained(rt.alloc(), text, Form::Lines);
+    for fails_at in 0..=text.len() {
+        let mut slow = Slow {
+            text,
+            at: 0,
+            fails_at,
+        };
+        let mut out = Vec::new(rt.alloc());
+        let answer = explain_text(rt.alloc(), b"t.cp", &mut slow, Form::Lines, &mut out);
+        assert!(rt; answer == Err(Refusal::Read) && out.is_empty());
+    }
+    for fails_at in 0..due.len() {
+        let mut slow = Slow {
+            text,
+            at: 0,
+            fails_at: NOWHERE,
+        };
+        let mut out = Narrow {
+            taken: Vec::new(rt.alloc()),
+            fails_at,
+            full_at: NOWHERE,
+        };
+        let answer = explain_text(rt.alloc(), b"t.cp", &mut slow, Form::Lines, &mut out);
+        assert!(rt; answer == Err(Refusal::Write));
+        assert!(rt; due.as_slice().starts_with(&out.taken) && out.taken.len() == fails_at);
+    }
+}

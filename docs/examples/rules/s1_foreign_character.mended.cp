@@ -1,0 +1,4 @@
+"A remark is a comment."
+begin
+  display(1) "one"
+end.

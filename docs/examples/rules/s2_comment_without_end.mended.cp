@@ -1,0 +1,3 @@
+begin
+  display(1) "one"
+end.

@@ -1,0 +1,5 @@
+"A number beyond the integers."
+var n: integer;
+begin
+  n := 40000
+end.

@@ -1,0 +1,3 @@
+"A short name."
+var messages: integer;
+begin end.

@@ -1,0 +1,4 @@
+"A text that stops before its end."
+var n: integer;
+begin
+  n := 1

@@ -1,0 +1,5 @@
+"A whole text."
+var n: integer;
+begin
+  n := 1
+end.
