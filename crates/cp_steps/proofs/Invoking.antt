@@ -43,9 +43,9 @@ use Rattle.cp_steps.specs.Left.{CallerAt, held_below, kept_below, site}
 use Rattle.cp_steps.specs.PartOf.{DataMeans, PartOf, RunsOn}
 use Rattle.cp_steps.proofs.Entering.{Opened, Waits, entered_on, environment_of_call, owner_of_call}
 use Rattle.cp_steps.proofs.Heres.{Sees, depth_is, seen_is, seen_mine}
-use Rattle.cp_steps.proofs.Layouts.{lies_under}
+use Rattle.cp_steps.proofs.Layouts.{PartsLie, lies_under}
 use Rattle.cp_steps.proofs.Holding.{SameBelow, SameLive}
-use Rattle.cp_steps.proofs.Passing.{Bound, KeptOutside, PartsLie, PassingAgrees, Stays, passes}
+use Rattle.cp_steps.proofs.Passing.{Bound, KeptOutside, PassingAgrees, Stays, passes}
 use Rattle.cp_steps.proofs.Returning.{forgotten}
 use Rattle.cp_steps.proofs.RunningOn.{runs_here, runs_over}
 use Rattle.cp_steps.proofs.Stepping.{Now, clock_of, faulted, stopped, went}

@@ -42,7 +42,7 @@ use Rattle.cp_steps.proofs.Bounds.{part_fits}
 use Rattle.cp_steps.proofs.Copying.{copied_length, copied_outside, copied_word, leaf_unwritten, leaf_writes, leaf_written, read_below, simple_cell, simple_holds, structure_writes}
 use Rattle.cp_steps.proofs.Finding.{in_context_none, or_else_none, some_is_not_none}
 use Rattle.cp_steps.proofs.Evaluates.{ordinal_is, place_agrees, value_agrees, value_reads}
-use Rattle.cp_steps.proofs.Layouts.{same_some}
+use Rattle.cp_steps.proofs.Layouts.{PartsLie, same_some}
 use Rattle.cp_steps.proofs.StartLeaves.{IsSimple, first_name, simple_part}
 use Rattle.cp_steps.proofs.Writing.{changed_other, same_owner_itself}
 
@@ -202,10 +202,6 @@ prepend_word site lies n to at p ps v m top ws x O P one distinct room in_words 
         let place_is : to + at + k ≡ to + at = omega (arith, whole.1) in
         ap (λ z. put (parameter_at n p.0) v st (under (parameter_at n p.0) z)) whole.0
         ∙ (put_here n p.0 v st ∙ (h.1 ∙ ap Ordinal (sym (ap (word (slice_set ws (to + at) m)) place_is ∙ held))))
-
--- The parts of what lies there lie in it.
-abbrev pub PartsLie : GlobalScope → (Location → Option Part) → Type 0
-PartsLie g lies = (l : Location) (path : Path) (n m : ℕ) (t u : ResolvedType) → lies l ≡ Some (n, t) → part g t path ≡ Some (m, u) → lies (under l path) ≡ Some (n + m, u)
 
 -- Here stays where words behind all that is live change: those from `to` on that are the process's own.
 abbrev pub Stays : Environment → Clock → Store → Outside → Knowns → (Location → Option Part) → ℕ → PrivateState → Type 0
