@@ -17,8 +17,8 @@ use Rattle.cp_typing.proofs.Facts.{structured_values}
 use Rattle.cp_code.specs.Programs as op
 use Rattle.cp_code.specs.Programs.{Arm, CodeUnit, Operation, Program}
 use Rattle.cp_code.specs.Sites.{IsNoClock, Site, UnitText}
-use Rattle.cp_code.specs.TermsFor.{SpotFor, TermFor, nothing_known}
-use Rattle.cp_code.specs.StatementsFor.{CodeFor, IsPlain, NamesResult}
+use Rattle.cp_code.specs.TermsFor.{IsPlain, SpotFor, TermFor, nothing_known}
+use Rattle.cp_code.specs.StatementsFor.{CodeFor, NamesResult}
 use Rattle.cp_code.specs.Tables.{arm_at}
 use Rattle.cp_code.specs.Scopes.{Scope, environment}
 use Rattle.cp_code.specs.CodedTerms.{CodedCall, coded_spot, coded_term, coded_variable}
@@ -179,7 +179,7 @@ module _ (scope : Scope) (program : Program) (texts : List UnitText) (systems : 
           refl,
           spot_grows scope d low,
           room,
-          subst IsPlain dt (standing.plain at o d td (ap is_structured dt ∙ structure) (ap has_queues dt ∙ queues)),
+          ((subst IsPlain dt (standing.plain at o d td (ap is_structured dt ∙ structure) (ap has_queues dt ∙ queues))).0, queues, structure),
           refl,
           none,
           is_no_clock f tf,

@@ -11,7 +11,7 @@ use Rattle.cp_model.specs.Locations.{Location, Owner}
 use Rattle.cp_model.specs.Places.{field_type, member_type, within}
 use Rattle.cp_model.specs.States.{Setup}
 use Rattle.cp_typing.specs.Declared.{AllFormed, Each, InitialVariable, IsData, IsReported, IsSystem, ResultFits, RoutineParameter, RoutineVariable, SystemParameter, SystemVariable, is_function}
-use Rattle.cp_typing.specs.Judgement.{HasField, IsArray, TypedPlace, find_member, has_queues, is_structured}
+use Rattle.cp_typing.specs.Judgement.{HasField, IsArray, TypedPlace, find_member, is_structured}
 use Rattle.cp_typing.specs.Magnitudes.{AreNegativesWithin, IsAbove}
 use Rattle.cp_typing.specs.Needs.{some_environment}
 use Rattle.cp_typing.specs.SoundTypes.{SoundMembers, SoundType}
@@ -21,7 +21,6 @@ use Rattle.cp_typing.specs.WellTyped.{Later, TypedBodies, TypedInOrder, TypedRou
 use Rattle.cp_typing.proofs.Facts.{variables_lie}
 use Rattle.cp_typing.proofs.LowerBounds.{lower_bounds}
 use Rattle.cp_code.specs.Scopes.{Scope, declared_type, environment_at, frame_at, groups_of, type_name}
-use Rattle.cp_code.specs.StatementsFor.{ArePlain, IsPlain}
 use Rattle.cp_code.specs.Starts.{unset}
 use Rattle.cp_code.specs.Known.{NamedBefore, NamesInOrder, RunsIn, SystemFacts, TextFacts, place_at}
 use Rattle.cp_code.proofs.CallsStand.{IsNamed, is_named}
@@ -33,19 +32,6 @@ use Rattle.cp_code.proofs.KnownStand.{DeclaredIn, declared_in, each_found, each_
 -- of data: its parts are sound
 abbrev IsFormed : Variable → Type 0
 IsFormed v = is_component v.type ≡ false → SoundType v.type
-
-mutual
-  plain_type : (t : ResolvedType) → SoundType t → has_queues t ≡ false → IsPlain t
-  plain_type (Simple b low high start) s free = tt
-  plain_type (ArrayOf low high t) s free = plain_type t s.1 free
-  plain_type (RecordOf ms) s free = plain_members ms s
-  plain_type Queue s free = absurd (true≢false free)
-  plain_type (ComponentOf y inner) s free = absurd s
-  plain_type NoType s free = absurd s
-
-  plain_members : (ms : Members) → SoundMembers ms → ArePlain ms
-  plain_members NoMembers s = tt
-  plain_members (MoreMembers x t ms) s = (plain_type t s.0 s.3, plain_members ms s.2)
 
 member_sound : (x : Name) (ms : Members) (t : ResolvedType) → SoundMembers ms → find_member x ms ≡ Some t → SoundType (member_type x ms)
 member_sound x NoMembers t s found = absurd (cc)
@@ -128,8 +114,7 @@ module _ (g : GlobalScope) (s : System) (before : List System) (bodies : TypedBo
     no_clock = λ scope at o x is_g is_s runs names.
         of_variable (λ z v. is_clock z ≡ false) bodies.no_clock (λ k r is. (bodies.routines k r is).no_clock) scope at o x names.0 names.1 is_g is_s runs names.2;
     plain = λ systems scope routines at o d is_g is_s runs typed structured free.
-        plain_type (place_type (environment_at scope at o) d)
-        (place_formed systems scope routines at o is_g is_s runs d typed (not_component (place_type (environment_at scope at o) d) structured)) free;
+        (place_formed systems scope routines at o is_g is_s runs d typed (not_component (place_type (environment_at scope at o) d) structured), free);
   }
 
 system_formed : (g : GlobalScope) (before : List System) (t : ResolvedType) → IsSystem g before t → is_component t ≡ false → SoundType t

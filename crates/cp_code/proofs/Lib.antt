@@ -13,7 +13,7 @@ mod ResultStand
 mod TablesStand
 mod CodeStands
 mod UnitsStand
-mod Pasting
+pub mod Pasting
 mod PlansStand
 mod PartsStart
 mod StartsStand

@@ -16,7 +16,7 @@ use Rattle.cp_typing.specs.StaticTypes.{is_clock, place_type}
 use Rattle.cp_code.specs.Programs as op
 use Rattle.cp_code.specs.Programs.{Call, CodeUnit, Program}
 use Rattle.cp_code.specs.Sites.{BodyOf, RoutineOf, UnitText, operation_at, system_of_callee}
-use Rattle.cp_code.specs.StatementsFor.{IsPlain}
+use Rattle.cp_code.specs.TermsFor.{IsPlain}
 use Rattle.cp_code.specs.Scopes.{Scope, body_of, unit_of}
 use Rattle.cp_code.specs.CodedTerms.{CodedCall}
 use Rattle.cp_code.proofs.Environments.{environment_at}

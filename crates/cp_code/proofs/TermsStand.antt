@@ -169,13 +169,14 @@ module _ (scope : Scope) (program : Program) (texts : List UnitText) (systems : 
         → ArgumentsFor site K ((x, record { by_reference = false; type = t }) ∷ ps) (a.MoreExpressions e es)
         (Copy n (words scope.globals t) (coded_variable scope e low).spot ∷ xs) n place next low high
 
-    copy_of : (t : ResolvedType) (d : a.Designator) → is_structured t ≡ true → callee env d ≡ None → TypedPlace p d → place_type env d ≡ t → SpotStands d → CopyStands t (a.Use d)
-    copy_of t d structure none typed_place type spot chain room rest = (
+    copy_of : (t : ResolvedType) (d : a.Designator) → SoundType t → has_queues t ≡ false → is_structured t ≡ true → callee env d ≡ None → TypedPlace p d → place_type env d ≡ t → SpotStands d → CopyStands t (a.Use d)
+    copy_of t d sound free structure none typed_place type spot chain room rest = (
       between,
       (coded_spot scope d low).temps,
       refl,
       refl,
       refl,
+      (sound, free, structure),
       none,
       spots.is_no_clock scope program texts systems routines before unit at o standing K d typed_place,
       spot_grows scope d low,
@@ -193,11 +194,11 @@ module _ (scope : Scope) (program : Program) (texts : List UnitText) (systems : 
         no_component (ComponentOf r inner) h = absurd (true≢false (sym h))
         no_component NoType h = refl
 
-    copy_stands : (t : ResolvedType) (e : a.Expression) → is_structured t ≡ true → Agree t (expression_type env e) → TypedExpression p e → VariableStands e → CopyStands t e
-    copy_stands t e structure (inl b) te variable = absurd (true≢false (sym structure ∙ ap is_structured b.1.is))
-    copy_stands t e structure (inr same) te variable =
+    copy_stands : (t : ResolvedType) (e : a.Expression) → SoundType t → has_queues t ≡ false → is_structured t ≡ true → Agree t (expression_type env e) → TypedExpression p e → VariableStands e → CopyStands t e
+    copy_stands t e sound free structure (inl b) te variable = absurd (true≢false (sym structure ∙ ap is_structured b.1.is))
+    copy_stands t e sound free structure (inr same) te variable =
         let k = structured_values p e te (sym (ap is_structured same.0) ∙ structure) in
-        subst (CopyStands t) (sym k.1) (copy_of t k.0 structure k.2 k.3 (k.4 ∙ sym same.0) (subst VariableStands k.1 variable))
+        subst (CopyStands t) (sym k.1) (copy_of t k.0 sound free structure k.2 k.3 (k.4 ∙ sym same.0) (subst VariableStands k.1 variable))
 
     value_stands : (b : BaseType) (lower upper start : ℤ) (e : a.Expression) → Agree (Simple b lower upper start) (expression_type env e) → TypedExpression p e → TermStands e
         → ArgumentStands false (Simple b lower upper start) e
@@ -220,8 +221,8 @@ module _ (scope : Scope) (program : Program) (texts : List UnitText) (systems : 
         → ArgumentStands b t e
     argument_stands true t e sound none fits te term variable = by_reference_stands t e sound fits te variable
     argument_stands false (Simple b lower upper start) e sound none fits te term variable = value_stands b lower upper start e fits te term
-    argument_stands false (ArrayOf lower upper t) e sound none fits te term variable = copy_stands (ArrayOf lower upper t) e refl fits te variable
-    argument_stands false (RecordOf ms) e sound none fits te term variable = copy_stands (RecordOf ms) e refl fits te variable
+    argument_stands false (ArrayOf lower upper t) e sound none fits te term variable = copy_stands (ArrayOf lower upper t) e sound none refl fits te variable
+    argument_stands false (RecordOf ms) e sound none fits te term variable = copy_stands (RecordOf ms) e sound none refl fits te variable
     argument_stands false Queue e sound none fits te term variable = absurd (true≢false none)
     argument_stands false (ComponentOf r inner) e sound none fits te term variable = absurd sound
     argument_stands false NoType e sound none fits te term variable = absurd sound

@@ -20,7 +20,7 @@ use Rattle.cp_typing.specs.Needs.{some_environment}
 use Rattle.cp_typing.specs.StaticTypes.{is_clock, place_type}
 use Rattle.cp_typing.specs.WellTyped.{TypedBodies, TypedSystem, WellTyped, text_systems}
 use Rattle.cp_code.specs.StandsFor.{StandsFor}
-use Rattle.cp_code.specs.StatementsFor.{IsPlain}
+use Rattle.cp_code.specs.TermsFor.{IsPlain}
 use Rattle.cp_code.specs.Scopes.{Scope, declared_type, environment_at, groups_of}
 use Rattle.cp_code.specs.Compile.{compile}
 

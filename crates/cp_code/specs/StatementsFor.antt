@@ -6,7 +6,7 @@ use Rattle.std.specs.Prelude.{◌≡◌, ◌≤◌, ℕ, ◌+◌, suc, ℤ, Bool
 use Rattle.std.specs.Str.{bytes_eq}
 use Rattle.cp_model.specs.Abstract as a
 use Rattle.cp_model.specs.Abstract.{BaseType, Char, Class, Monitor, Name, Process, System}
-use Rattle.cp_model.specs.Types.{ArrayOf, ComponentOf, Members, MoreMembers, NoMembers, NoType, Queue, RecordOf, ResolvedType, Simple, named_type}
+use Rattle.cp_model.specs.Types.{ComponentOf, Members, Queue, ResolvedType, Simple, named_type}
 use Rattle.cp_model.specs.Declarations.{Variable, declarations}
 use Rattle.cp_model.specs.Environments.{Environment, Frame, IsVariable, meaning}
 use Rattle.cp_model.specs.Components.{Component, component_named, process_number}
@@ -19,24 +19,10 @@ use Rattle.cp_code.specs.Programs.{Call, Counting, Operation, Table}
 use Rattle.cp_code.specs.Layout.{local, member, right}
 use Rattle.cp_code.specs.Tables.{place_in}
 use Rattle.cp_code.specs.Sites.{BodyOf, Calls, IsNoClock, NamesVariable, Runs, Site, TargetFor, first_parameter, local_location, operation_at, parameters}
-use Rattle.cp_code.specs.TermsFor.{ArgumentsFor, Knowns, SpotFor, TermFor, nothing_known}
+use Rattle.cp_code.specs.TermsFor.{ArgumentsFor, IsPlainStructure, Knowns, SpotFor, TermFor, nothing_known}
 
 abbrev pub stands_at : Site → ℕ → Operation → Type 0
 stands_at site place o = operation_at site.program place ≡ Some o
-
--- Neither a queue nor a component lies in it.
-abbrev mutual
-  pub IsPlain : ResolvedType → Type 0
-  IsPlain (Simple b low high start) = Unit {0}
-  IsPlain (ArrayOf low high t) = IsPlain t
-  IsPlain (RecordOf ms) = ArePlain ms
-  IsPlain Queue = ⊥
-  IsPlain (ComponentOf s inner) = ⊥
-  IsPlain NoType = ⊥
-
-  pub ArePlain : Members → Type 0
-  ArePlain NoMembers = Unit {0}
-  ArePlain (MoreMembers x t ms) = IsPlain t × ArePlain ms
 
 -- ---- Assignments
 
@@ -66,7 +52,7 @@ AssignsBy site K (a.Plain x) e (op.SetResult lower upper value n) place last nex
     × TermFor site K e value of place last low site.unit.temps
 AssignsBy site K d (a.Use e) (op.CopyWords to from size n) place last next low =
     (t : ResolvedType) × (between : ℕ) × (middle : ℕ) × (n ≡ next) × (low ≤ middle) × (middle ≤ site.unit.temps)
-    × IsPlain t × (size ≡ words site.env.globals t) × (callee site.env e ≡ None) × IsNoClock e
+    × IsPlainStructure t × (size ≡ words site.env.globals t) × (callee site.env e ≡ None) × IsNoClock e
     × SpotFor site K d to t place between low middle
     × SpotFor site K e from t between last middle site.unit.temps
 AssignsBy site K d e _ place last next low = ⊥

@@ -18,6 +18,8 @@ use Rattle.cp_model.specs.Operators.{is_empty_queue, standard_function}
 use Rattle.cp_model.specs.Calls.{Callee, callee}
 use Rattle.cp_model.specs.StateViews.{fault_number}
 use Rattle.cp_model.specs.declared.state.Fault as machine
+use Rattle.cp_typing.specs.Judgement.{has_queues, is_structured}
+use Rattle.cp_typing.specs.SoundTypes.{SoundType}
 use Rattle.cp_typing.specs.StaticTypes.{is_clock}
 use Rattle.cp_typing.specs.Words.{words}
 use Rattle.cp_code.specs.Terms.{Argument, Binary, Copy, Element, Empty, Function, Item, Local, Made, Member, Negative, Not, Number, Realtime, Reference, Root, Rooted, Spot, Standard, Term, Through, Value}
@@ -46,6 +48,16 @@ moved_root n (Through at plus) = Through at (plus + n)
 abbrev pub moved : ℕ → Spot → Spot
 moved n (Rooted r) = Rooted (moved_root n r)
 moved n (Element s low high size plus e) = Element s low high size (plus + n) e
+
+-- ---- Structured values
+
+-- Sound, and no queue lies in it.
+abbrev pub IsPlain : ResolvedType → Type 0
+IsPlain t = SoundType t × (has_queues t ≡ false)
+
+-- An array or a record that may be copied word by word.
+abbrev pub IsPlainStructure : ResolvedType → Type 0
+IsPlainStructure t = SoundType t × (has_queues t ≡ false) × (is_structured t ≡ true)
 
 -- ---- Functions and operators
 
@@ -131,7 +143,7 @@ abbrev mutual
       × ArgumentsFor site K ps es xs (at + local_words site.env.globals p.1) between next middle high
   ArgumentsFor site K (p ∷ ps) (a.MoreExpressions (a.Use d) es) (Copy to size from ∷ xs) at place next low high =
       (between : ℕ) × (middle : ℕ) × (to ≡ at) × (p.1.by_reference ≡ false) × (size ≡ words site.env.globals p.1.type)
-      × (callee site.env d ≡ None) × IsNoClock d × (low ≤ middle) × (middle ≤ high)
+      × IsPlainStructure p.1.type × (callee site.env d ≡ None) × IsNoClock d × (low ≤ middle) × (middle ≤ high)
       × SpotFor site K d from p.1.type place between low middle
       × ArgumentsFor site K ps es xs (at + local_words site.env.globals p.1) between next middle high
   ArgumentsFor site K (p ∷ ps) (a.MoreExpressions (a.Use d) es) (Reference to s ∷ xs) at place next low high =

@@ -1,5 +1,5 @@
 -- Whole private steps of calls: of functions, which any task can make, and of procedures.
-use Rattle.std.proofs.Common.{◌≡◌, ℕ, ◌+◌, ℤ, List, [], ◌∷◌, length, Bool, true, false, Option, Some, None, refl, ap, sym, subst, ◌∙◌, arith}
+use Rattle.std.proofs.Common.{◌≡◌, inl, inr, ℕ, ◌+◌, List, [], ◌∷◌, length, Bool, true, false, Option, Some, None, refl, ap, sym, subst, ◌∙◌, arith}
 use Rattle.std.specs.Prelude.{◌++◌, if◌then◌else◌, slice_get}
 use Rattle.std.proofs.lemmas.Bool.{true≢false}
 use Rattle.std.specs.Str.{bytes_eq}
@@ -15,12 +15,12 @@ use Rattle.cp_model.specs.Declarations as declared
 use Rattle.cp_model.specs.Declarations.{declarations}
 use Rattle.cp_model.specs.Environments.{Environment, local_variables, permanent_variables, result_variable}
 use Rattle.cp_model.specs.Invariant.{StoreInvariant}
-use Rattle.cp_model.specs.Locations.{Location, OfActivation, root}
+use Rattle.cp_model.specs.Locations.{OfActivation, root}
 use Rattle.cp_model.specs.Names.{lookup}
 use Rattle.cp_model.specs.Operators.{realtime}
 use Rattle.cp_model.specs.Parts.{is_own}
 use Rattle.cp_model.specs.States.{State}
-use Rattle.cp_model.specs.Stores.{Ordinal, Reference as Refers, Value as StoreValue, forget, put_all}
+use Rattle.cp_model.specs.Stores.{Store, forget, put_all}
 use Rattle.cp_model.specs.Types.{GlobalScope}
 use Rattle.cp_typing.specs.Declared.{Distinct}
 use Rattle.cp_typing.specs.Needs.{result_words}
@@ -33,14 +33,13 @@ use Rattle.cp_code.specs.Sites as sites
 use Rattle.cp_code.specs.Sites.{RoutineOf, Site, UnitText, TargetFor, TargetOf, first_parameter, operation_at, parameters, system_of_callee}
 use Rattle.cp_code.specs.StandsFor.{UnitStands}
 use Rattle.cp_code.specs.Starts.{started, word}
-use Rattle.cp_code.specs.StatementsFor.{PerformsBy, either}
+use Rattle.cp_code.specs.StatementsFor.{PerformsBy}
 use Rattle.cp_code.specs.TermsFor.{ArgumentsFor, Knowns, nothing_known}
 use Rattle.cp_steps.specs.PrivateStates.{PrivateState}
 use Rattle.cp_steps.specs.Passing.{component_called}
 use Rattle.cp_steps.specs.Calling.{Back, frame_of}
 use Rattle.cp_steps.specs.Steps.{alone, is_monitor}
 use Rattle.cp_steps.specs.Addresses.{Ground, activations, lies, scope, seen}
-use Rattle.cp_steps.specs.Laws.{NoCopies}
 use Rattle.cp_steps.specs.Left.{CallerAt, Left, held_below, kept_below, site}
 use Rattle.cp_steps.proofs.Declared.{distinct_first}
 use Rattle.cp_steps.proofs.Doing.{Ready, known}
@@ -51,33 +50,38 @@ use Rattle.cp_steps.proofs.Invoking.{Opens, invoked}
 use Rattle.cp_steps.proofs.Layouts.{same_some}
 use Rattle.cp_steps.proofs.LeftKept.{left_kept}
 use Rattle.cp_steps.proofs.NextCalls.{CallReady}
-use Rattle.cp_steps.proofs.Opening.{opened}
-use Rattle.cp_steps.proofs.Passing.{ParameterHas, parameter_at}
+use Rattle.cp_steps.proofs.Opening.{HoldsValues, opened}
+use Rattle.cp_steps.proofs.Passing.{Has, ParameterHas, parameter_at}
 use Rattle.cp_steps.proofs.StartLeaves.{IsSimple}
 use Rattle.cp_steps.proofs.Stepping.{Now, Stepped, both_step, clock_of, kernel_rests}
 use Rattle.cp_steps.proofs.Targets.{target_is}
 
 -- ---- parameters
 
--- A parameter that is passed by value is simple where no structured value is passed.
-parameters_simple : (site : Site) (K : Knowns) (ps : List (Name × declared.Variable)) (es : a.Expressions) (xs : List Argument) (at from last low high : ℕ) → ArgumentsFor site K ps es xs at from last low high → NoCopies xs
-    → (g : GlobalScope) (n : ℕ) (x : Name) (k : ℕ) (d : declared.Variable) → local_at g n ps x ≡ Some (k, d) → d.by_reference ≡ false → IsSimple d.type
-parameters_simple site K [] a.NoExpression [] at from last low high h none g n x k d e by_value = absurd (some_is_not_none _ (sym e))
-parameters_simple site K (p ∷ ps) (a.MoreExpressions y es) (Value to lower upper c ∷ xs) at from last low high h none g n x k d e by_value =
-    by (bytes_eq x p.0) e (λ q. parameters_simple site K ps es xs (at + local_words site.env.globals p.1) h.2 last h.3 high h.10 none g (n + local_words g p.1) x k d q by_value)
+-- A parameter that is passed by value holds simple values alone.
+parameters_plain : (site : Site) (K : Knowns) (ps : List (Name × declared.Variable)) (es : a.Expressions) (xs : List Argument) (at from last low high : ℕ) → ArgumentsFor site K ps es xs at from last low high
+    → (g : GlobalScope) (n : ℕ) (x : Name) (k : ℕ) (d : declared.Variable) → local_at g n ps x ≡ Some (k, d) → d.by_reference ≡ false → HoldsValues d.type
+parameters_plain site K [] a.NoExpression [] at from last low high h g n x k d e by_value = absurd (some_is_not_none _ (sym e))
+parameters_plain site K (p ∷ ps) (a.MoreExpressions y es) (Value to lower upper c ∷ xs) at from last low high h g n x k d e by_value =
+    by (bytes_eq x p.0) e (λ q. parameters_plain site K ps es xs (at + local_words site.env.globals p.1) h.2 last h.3 high h.10 g (n + local_words g p.1) x k d q by_value)
   where
-    by : (b : Bool) → (if b then Some (n, p.1) else local_at g (n + local_words g p.1) ps x) ≡ Some (k, d) → (local_at g (n + local_words g p.1) ps x ≡ Some (k, d) → IsSimple d.type) → IsSimple d.type
-    by true e go = subst (λ (v : declared.Variable). IsSimple v.type) (ap (λ z. z.1) (same_some {A = ℕ × declared.Variable} (n, p.1) (k, d) e)) (subst IsSimple (sym h.6) tt)
+    by : (b : Bool) → (if b then Some (n, p.1) else local_at g (n + local_words g p.1) ps x) ≡ Some (k, d) → (local_at g (n + local_words g p.1) ps x ≡ Some (k, d) → HoldsValues d.type) → HoldsValues d.type
+    by true e go = subst (λ (v : declared.Variable). HoldsValues v.type) (ap (λ z. z.1) (same_some {A = ℕ × declared.Variable} (n, p.1) (k, d) e)) (inl (subst IsSimple (sym h.6) tt))
     by false e go = go e
-parameters_simple site K (p ∷ ps) (a.MoreExpressions (a.Use y) es) (Reference to s ∷ xs) at from last low high h none g n x k d e by_value =
-    by (bytes_eq x p.0) e (λ q. parameters_simple site K ps es xs (at + local_words site.env.globals p.1) h.0 last h.1 high h.8 none g (n + local_words g p.1) x k d q by_value)
+parameters_plain site K (p ∷ ps) (a.MoreExpressions (a.Use y) es) (Reference to s ∷ xs) at from last low high h g n x k d e by_value =
+    by (bytes_eq x p.0) e (λ q. parameters_plain site K ps es xs (at + local_words site.env.globals p.1) h.0 last h.1 high h.8 g (n + local_words g p.1) x k d q by_value)
   where
-    by : (b : Bool) → (if b then Some (n, p.1) else local_at g (n + local_words g p.1) ps x) ≡ Some (k, d) → (local_at g (n + local_words g p.1) ps x ≡ Some (k, d) → IsSimple d.type) → IsSimple d.type
+    by : (b : Bool) → (if b then Some (n, p.1) else local_at g (n + local_words g p.1) ps x) ≡ Some (k, d) → (local_at g (n + local_words g p.1) ps x ≡ Some (k, d) → HoldsValues d.type) → HoldsValues d.type
     by true e go =
         absurd (true≢false (sym h.3 ∙ (ap (λ z. z.1.by_reference) (same_some {A = ℕ × declared.Variable} (n, p.1) (k, d) e) ∙ by_value)))
     by false e go = go e
-parameters_simple site K (p ∷ ps) (a.MoreExpressions (a.Use y) es) (Copy to size s ∷ xs) at from last low high h none g n x k d e by_value = absurd none
-parameters_simple site K _ _ _ at from last low high h none g n x k d e by_value = absurd h
+parameters_plain site K (p ∷ ps) (a.MoreExpressions (a.Use y) es) (Copy to size s ∷ xs) at from last low high h g n x k d e by_value =
+    by (bytes_eq x p.0) e (λ q. parameters_plain site K ps es xs (at + local_words site.env.globals p.1) h.0 last h.1 high h.11 g (n + local_words g p.1) x k d q by_value)
+  where
+    by : (b : Bool) → (if b then Some (n, p.1) else local_at g (n + local_words g p.1) ps x) ≡ Some (k, d) → (local_at g (n + local_words g p.1) ps x ≡ Some (k, d) → HoldsValues d.type) → HoldsValues d.type
+    by true e go = subst (λ (v : declared.Variable). HoldsValues v.type) (ap (λ z. z.1) (same_some {A = ℕ × declared.Variable} (n, p.1) (k, d) e)) (inr (h.5.0, h.5.1))
+    by false e go = go e
+parameters_plain site K _ _ _ at from last low high h g n x k d e by_value = absurd h
 
 -- ---- kinds
 
@@ -102,8 +106,7 @@ module _ (G : Ground) (s : State) (before : List ℕ) (o : PrivateState) (i : Ta
     (k : List Task) (v : UserCall) (call : Call) (back : Back) (place kept live : ℕ) (W : Waits G o (i ∷ l) k N.on.running place kept live)
     (C : sites.Runs (site G N.on.running) (RoutineOf (system_of_callee N.on.running.env v.callee.of) v.callee.routine) kept call)
     (stands : UnitStands G.program G.texts (scope G) C.unit (RoutineOf (system_of_callee N.on.running.env v.callee.of) v.callee.routine))
-    (from last low high : ℕ) (args : ArgumentsFor (site G N.on.running) (held_below N.on.live o.temps N.on.running.temp) (parameters (site G N.on.running) v.callee) v.arguments call.arguments (first_parameter v.callee) from last low high)
-    (none : NoCopies call.arguments) where
+    (from last low high : ℕ) (args : ArgumentsFor (site G N.on.running) (held_below N.on.live o.temps N.on.running.temp) (parameters (site G N.on.running) v.callee) v.arguments call.arguments (first_parameter v.callee) from last low high) where
   deep : depth k ≡ length (activations o.base o.frames k)
   deep = sym (depth_is G o.temps o.limit o.base (kept_below kept live o.temps N.on.running.temp) N.on.running o.frames place kept k W.left)
 
@@ -115,25 +118,30 @@ module _ (G : Ground) (s : State) (before : List ℕ) (o : PrivateState) (i : Ta
       (put_all (starting_writes (root (OfActivation G.p d)) (declarations (scope G) v.callee.routine.variables)) (put_all ws (forget (OfActivation G.p d) s.store))) (started (o.base + call.words) C.unit.starts new) (o.base + call.words) (record { owner = OfActivation G.p d; routine = v.callee.routine })) (sym deep)
       (opened G (activations o.base o.frames k) (system_of_callee N.on.running.env v.callee.of) v.callee.routine C.unit stands (o.base + call.words) s.store ws new
       (omega (arith, stands.1, C.fits.words, C.words, N.on.runs.words_fit, N.on.count, N.on.base, len))
-      (λ x n d e. subst (λ z. ParameterHas (lies G (activations o.base o.frames k)) d (put_all ws (forget (OfActivation G.p z) s.store) (parameter_at (OfActivation G.p z) x)) (word new (o.base + call.words + n))) deep (holds x n d e))
+      (λ x n d e. subst (λ z. ParameterHas (scope G) (lies G (activations o.base o.frames k)) d (parameter_at (OfActivation G.p z) x) (put_all ws (forget (OfActivation G.p z) s.store)) new (o.base + call.words + n)) deep (holds x n d e))
       (λ x e. subst (λ z. put_all ws (forget (OfActivation G.p z) s.store) (parameter_at (OfActivation G.p z) x) ≡ forget (OfActivation G.p z) s.store (parameter_at (OfActivation G.p z) x)) deep
-      (B.names x (forget (owner_of_call G k) s.store) (ap (λ g. lookup x (declarations g v.callee.routine.parameters)) N.on.runs.globals ∙ e)))
-      (λ x n d e by_value. parameters_simple (site G N.on.running) (held_below N.on.live o.temps N.on.running.temp) (parameters (site G N.on.running) v.callee) v.arguments call.arguments (first_parameter v.callee) from last low high args none
+      (B.names x [] (forget (owner_of_call G k) s.store) (ap (λ g. lookup x (declarations g v.callee.routine.parameters)) N.on.runs.globals ∙ e)))
+      (λ x n d e by_value. parameters_plain (site G N.on.running) (held_below N.on.live o.temps N.on.running.temp) (parameters (site G N.on.running) v.callee) v.arguments call.arguments (first_parameter v.callee) from last low high args
       (scope G) (result_words v.callee.routine.result) x n d (ap (λ g. local_at (scope G) (result_words v.callee.routine.result) (declarations g v.callee.routine.parameters) x) N.on.runs.globals ∙ e) by_value)))
     where
-      converted : (d : declared.Variable) (w : StoreValue) (n : ℤ) (b : Bool)
-          → either b ((j : Location) × (w ≡ Refers j) × (seen (is_own G.p) G (activations o.base o.frames (i ∷ l)) j ≡ Some (natural n, d.type))) (w ≡ Ordinal n)
-          → either b ((j : Location) × (w ≡ Refers j) × (lies G (activations o.base o.frames k) j ≡ Some (natural n, d.type))) (w ≡ Ordinal n)
-      converted d w n true h =
-          (h.0, h.1, ap (λ xs. lies G xs h.0) W.same ∙ (seen_mine (is_own G.p) G (activations o.base o.frames (i ∷ l)) h.0 (natural n, d.type) h.2).1)
-      converted d w n false h = h
+      bound : Store
+      bound = put_all ws (forget (owner_of_call G k) s.store)
+
+      -- What a parameter refers to lies where the caller sees it.
+      converted : (d : declared.Variable) (x : Name) (at : ℕ) (b : Bool)
+          → Has b (scope G) (seen (is_own G.p) G (activations o.base o.frames (i ∷ l))) d.type (parameter_at (owner_of_call G k) x) bound new at
+          → Has b (scope G) (lies G (activations o.base o.frames k)) d.type (parameter_at (owner_of_call G k) x) bound new at
+      converted d x at true h =
+          (h.0, h.1, ap (λ xs. lies G xs h.0) W.same ∙ (seen_mine (is_own G.p) G (activations o.base o.frames (i ∷ l)) h.0 (natural (word new at), d.type) h.2).1)
+      converted d x at false h = h
 
       holds : (x : Name) (n : ℕ) (d : declared.Variable) → local_at (scope G) (result_words v.callee.routine.result) (declarations (scope G) v.callee.routine.parameters) x ≡ Some (n, d)
-          → ParameterHas (lies G (activations o.base o.frames k)) d (put_all ws (forget (owner_of_call G k) s.store) (parameter_at (owner_of_call G k) x)) (word new (o.base + call.words + n))
+          → ParameterHas (scope G) (lies G (activations o.base o.frames k)) d (parameter_at (owner_of_call G k) x) bound new (o.base + call.words + n)
       holds x n d e =
-          subst (λ z. ParameterHas (lies G (activations o.base o.frames k)) d (put_all ws (forget (owner_of_call G k) s.store) (parameter_at (owner_of_call G k) x)) (word new (o.base + z + n))) (sym C.words)
-          (converted d (put_all ws (forget (owner_of_call G k) s.store) (parameter_at (owner_of_call G k) x)) (word new (o.base + (site G N.on.running).words + n)) d.by_reference
-          (B.parameters x n d (forget (owner_of_call G k) s.store) (ap (λ g. local_at g (result_words v.callee.routine.result) (declarations g v.callee.routine.parameters) x) N.on.runs.globals ∙ e)))
+          subst (λ z. ParameterHas (scope G) (lies G (activations o.base o.frames k)) d (parameter_at (owner_of_call G k) x) bound new (o.base + z + n)) (sym C.words)
+          (converted d x (o.base + (site G N.on.running).words + n) d.by_reference
+          (subst (λ g. ParameterHas g (seen (is_own G.p) G (activations o.base o.frames (i ∷ l))) d (parameter_at (owner_of_call G k) x) bound new (o.base + (site G N.on.running).words + n)) N.on.runs.globals
+          (B.parameters x n d (forget (owner_of_call G k) s.store) (ap (λ g. local_at g (result_words v.callee.routine.result) (declarations g v.callee.routine.parameters) x) N.on.runs.globals ∙ e))))
 
 -- ---- steps
 
@@ -151,9 +159,9 @@ parameters_distinct G g c y same h =
 -- A function that a task calls.
 pub function_steps : (G : Ground) (s : State) (before : List ℕ) (o : PrivateState) (i : Task) (l : List Task) (N : Now G s before o i l) → Sees G (is_own G.p) s.store N.on.running.env → StoreInvariant s.store → UnitsStand G
     → (v : UserCall) (temp after : ℕ) (base : BaseType) (C : CallReady (site G N.on.running) (held_below N.on.live o.temps N.on.running.temp) v o.place temp after base) (j : Task) → call_in_task (a.Literal 0) i ≡ Some (v, j)
-    → Left G o.temps o.limit (kept_below C.low N.on.live o.temps N.on.running.temp) N.on.running o.frames o.place C.low (i ∷ l) → NoCopies C.call.arguments
+    → Left G o.temps o.limit (kept_below C.low N.on.live o.temps N.on.running.temp) N.on.running o.frames o.place C.low (i ∷ l)
     → Stepped G s before o
-function_steps G s before o i l N sees I units v temp after base C j found left none = by (is_monitor C.call.target) refl
+function_steps G s before o i l N sees I units v temp after base C j found left = by (is_monitor C.call.target) refl
   where
     acts : action (i ∷ l) ≡ actions.Calls v (i ∷ l)
     acts = λ z. elim (found z) as (λ x. Action) [
@@ -179,20 +187,19 @@ function_steps G s before o i l N sees I units v temp after base C j found left 
           arguments = C.arguments;
           made = C.made;
           where_is = C.where_is;
-          no_copies = none;
           distinct = parameters_distinct G N.on.running.env.globals v.callee (system_of_callee N.on.running.env v.callee.of) N.on.runs.globals stands.2;
           target_is = target_is G s before o i l N sees I v.callee.of C.call.target C.calls.target e;
           caller = subst (λ z. CallerAt G C.call.routine C.low N.on.live z (frame_of o (component_called G.program (alone (realtime (clock_of G s)) o) o C.call.target) back) o.place) (sym C.answers.1)
               (C.call, temp, refl, C.calls.runs.temps, N.on.next_value C.call temp after C.op, C.op, refl);
-          opens = opens G s before o i l N sees (i ∷ l) v C.call back o.place C.low N.on.live W C.calls.runs stands C.from o.place C.low C.high C.arguments none;
+          opens = opens G s before o i l N sees (i ∷ l) v C.call back o.place C.low N.on.live W C.calls.runs stands C.from o.place C.low C.high C.arguments;
         })
 
 -- A procedure statement, of which no call is left in the arguments.
 pub procedure_steps : (G : Ground) (s : State) (before : List ℕ) (o : PrivateState) (d : a.Designator) (es : a.Expressions) (env : Environment) (k : List Task) → StoreInvariant s.store → UnitsStand G
     → (Y : Ready G s before o (a.Perform d es) env k) (call : Call) (n : ℕ) → operation_at G.program o.place ≡ Some (op.Procedure call n)
     → PerformsBy (site G Y.now.on.running) (known G s before o (Do (a.Perform d es) env) k Y.now) d es (op.Procedure call n) o.place Y.now.on.left.2.3.0 Y.now.on.left.2.0 Y.now.on.left.2.1
-    → NoCopies call.arguments → Stepped G s before o
-procedure_steps G s before o d es env k I units Y call n there h none = by (is_monitor call.target) refl
+    → Stepped G s before o
+procedure_steps G s before o d es env k I units Y call n there h = by (is_monitor call.target) refl
   where
     here : Environment
     here = Y.now.on.running.env
@@ -234,10 +241,9 @@ procedure_steps G s before o d es env k I units Y call n there h none = by (is_m
           arguments = h.6;
           made = in_context_none (a.Perform d) (call_in_arguments here (a.Literal 0) es) Y.none;
           where_is = refl;
-          no_copies = none;
           distinct = parameters_distinct G N.on.running.env.globals h.0 (system_of_callee N.on.running.env h.0.of) N.on.runs.globals stands.2;
           target_is = target_is G s before o i k N N.sees I h.0.of call.target h.2.target e;
           caller = subst (λ z. CallerAt G call.routine left.1 0 z (frame_of o (component_called G.program (alone (realtime (clock_of G s)) o) o call.target) back) left.0) (sym h.3)
               (sym h.4, refl);
-          opens = opens G s before o i k N N.sees k v call back left.0 left.1 0 W h.2.runs stands o.place left.3.0 left.1 h.1 h.6 none;
+          opens = opens G s before o i k N N.sees k v call back left.0 left.1 0 W h.2.runs stands o.place left.3.0 left.1 h.1 h.6;
         })

@@ -108,8 +108,9 @@ module _ (site : Site) (K L : Knowns) where
       h.6,
       h.7,
       h.8,
-      spot_kept d from p.1.type at h.0 low h.1 (narrowed K L low high low h.1 (omega arith) h.8 k) h.9,
-      arguments_kept ps es xs (to + local_words site.env.globals p.1) h.0 next h.1 high (narrowed K L low high h.1 high h.7 (omega arith) k) h.10,
+      h.9,
+      spot_kept d from p.1.type at h.0 low h.1 (narrowed K L low high low h.1 (omega arith) h.9 k) h.10,
+      arguments_kept ps es xs (to + local_words site.env.globals p.1) h.0 next h.1 high (narrowed K L low high h.1 high h.8 (omega arith) k) h.11,
     )
     arguments_kept (p ∷ ps) (a.MoreExpressions (a.Use d) es) (Reference place s ∷ xs) to at next low high k h = (
       h.0,

@@ -34,6 +34,7 @@ use Rattle.cp_steps.proofs.AssignCalls.{StatementAdvances}
 use Rattle.cp_steps.proofs.Assigning.{set_steps}
 use Rattle.cp_steps.proofs.CallSteps.{UnitsStand, function_steps, procedure_steps}
 use Rattle.cp_steps.proofs.Choosing.{case_steps}
+use Rattle.cp_steps.proofs.CopySteps.{copy_steps}
 use Rattle.cp_steps.proofs.Counting.{for_next_steps, for_steps}
 use Rattle.cp_steps.proofs.Declared.{no_local_result}
 use Rattle.cp_steps.proofs.Doing.{Ready, acts_itself, known}
@@ -97,13 +98,13 @@ module _ (G : Ground) (s : State) (before : List ℕ) (o : PrivateState) (F : St
       → Stepped G s before o
   assigns d e env k Y (op.Set to lower upper c n) there h = set_steps G s before o d e env k Y to lower upper c n there h
   assigns (a.Plain x) e env k Y (op.SetResult lower upper c n) there h = result_steps G s before o x e env k F Y lower upper c n there h
-  assigns d (a.Use e) env k Y (op.CopyWords to from size n) there h = absurd (subst IsTold there told)
+  assigns d (a.Use e) env k Y (op.CopyWords to from size n) there h = copy_steps G s before o d e env k Y to from size n there h
   assigns d e env k Y _ there h = absurd h
 
   performs : (d : a.Designator) (es : a.Expressions) (env : Environment) (k : List Task) (Y : Ready G s before o (a.Perform d es) env k) (x : Operation) → operation_at G.program o.place ≡ Some x
       → PerformsBy (site G Y.now.on.running) (known G s before o (Do (a.Perform d es) env) k Y.now) d es x o.place Y.now.on.left.2.3.0 Y.now.on.left.2.0 Y.now.on.left.2.1
       → Stepped G s before o
-  performs d es env k Y (op.Procedure call n) there h = procedure_steps G s before o d es env k I.store units Y call n there h (subst IsTold there told)
+  performs d es env k Y (op.Procedure call n) there h = procedure_steps G s before o d es env k I.store units Y call n there h
   performs (a.Plain x) (a.MoreExpressions e a.NoExpression) env k Y (op.Display c as_byte n) there h = display_steps G s before o x env k e Y c as_byte n (there, h)
   performs (a.Plain x) (a.MoreExpressions (a.Use d) a.NoExpression) env k Y (op.Accept to lower upper n) there h = accept_steps G s before o x env k d Y to lower upper n (there, h)
   performs (a.Plain x) (a.MoreExpressions (a.Use d) a.NoExpression) env k Y (op.Delay queue n) there h = delay_steps G s before o x env k d Y queue n (there, h)
@@ -166,7 +167,6 @@ module _ (G : Ground) (s : State) (before : List ℕ) (o : PrivateState) (F : St
           (let h = N.on.left in
           left_kept G o.temps o.temps o.limit refl (known G s before o (Do st env) k N) (kept_below C.ready.low N.on.live o.temps N.on.running.temp) N.on.running o.frames o.place C.ready.low (Do st env ∷ k)
           (held_within o.temps N.on.running.temp C.ready.low N.on.live) (λ n q. refl) (h.0, h.1, (h.2.0, h.2.1, C.keeps, h.2.3, h.2.4)))
-          (subst IsTold C.ready.op told)
 
   while_does : (now e : a.Expression) (st : a.Statement) (env : Environment) (k : List Task) → Now G s before o (WhileTest now e st env) k → Stepped G s before o
   while_does now e st env k N =
@@ -181,7 +181,6 @@ module _ (G : Ground) (s : State) (before : List ℕ) (o : PrivateState) (F : St
           (let h = N.on.left in
           left_kept G o.temps o.temps o.limit refl (known G s before o (WhileTest now e st env) k N) (kept_below C.ready.low N.on.live o.temps N.on.running.temp) N.on.running o.frames o.place C.ready.low (WhileTest now e st env ∷ k)
           (held_within o.temps N.on.running.temp C.ready.low N.on.live) (λ n q. refl) (h.0, (h.1.0, h.1.1, C.keeps, h.1.3, h.1.4)))
-          (subst IsTold C.ready.op told)
 
   repeat_does : (now : a.Expression) (st : a.Statement) (e : a.Expression) (env : Environment) (k : List Task) → Now G s before o (RepeatTest now st e env) k → Stepped G s before o
   repeat_does now st e env k N =
@@ -196,7 +195,6 @@ module _ (G : Ground) (s : State) (before : List ℕ) (o : PrivateState) (F : St
           (let h = N.on.left in
           left_kept G o.temps o.temps o.limit refl (known G s before o (RepeatTest now st e env) k N) (kept_below C.ready.low N.on.live o.temps N.on.running.temp) N.on.running o.frames o.place C.ready.low (RepeatTest now st e env ∷ k)
           (held_within o.temps N.on.running.temp C.ready.low N.on.live) (λ n q. refl) (h.0, (h.1.0, h.1.1, C.keeps, h.1.3, h.1.4)))
-          (subst IsTold C.ready.op told)
 
   -- ---- tasks
 

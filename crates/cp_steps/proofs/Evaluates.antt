@@ -218,7 +218,7 @@ module _ (site : Site) (clock : Clock) (store : Store) (v : View) (K : Knowns) (
   named_read x (root.Through at plus) t h =
       ap (value_of_meaning site.env store) h.1.means ∙ sym (ap (λ m. read store (place_of_meaning site.env store m)) h.1.means)
 
-  value_reads : (d : a.Designator) (s : Spot) (t : ResolvedType) (at next low high : ℕ) → IsNoClock d → SpotFor site K d s t at next low high
+  pub value_reads : (d : a.Designator) (s : Spot) (t : ResolvedType) (at next low high : ℕ) → IsNoClock d → SpotFor site K d s t at next low high
       → value clock site.env store (a.Use d) ≡ and_then (place clock site.env store d) (λ p. Gives (read store p))
   value_reads (a.Plain x) (Rooted r) t at next low high away h =
       ap (λ b. if b then integer_result (pos (realtime clock)) else Gives (value_of_meaning site.env store (meaning site.env x))) away

@@ -297,33 +297,34 @@ module _ (site : Site) (K : Knowns) where
           ]
         ]
     arguments_next (p ∷ ps) (a.MoreExpressions (a.Use d) es) (Copy place words from ∷ xs) to at next low high h =
-        elim (spot_next d from p.1.type at h.0 low h.1 h.9) [
+        elim (spot_next d from p.1.type at h.0 low h.1 h.10) [
           | Calling N ↦ Calling (next_left site K _ (λ v. in_context (a.MoreExpressions (a.Use d)) (call_in_arguments site.env v es)) _ at low high
-              (next_in site K (λ y. a.MoreExpressions y es) _ (λ L y after. (z : a.Designator) × (y ≡ a.Use z) × SpotFor site L z from p.1.type after h.0 low h.1 × IsIndexed z) _ at low h.1 low high (omega arith) h.8
+              (next_in site K (λ y. a.MoreExpressions y es) _ (λ L y after. (z : a.Designator) × (y ≡ a.Use z) × SpotFor site L z from p.1.type after h.0 low h.1 × IsIndexed z) _ at low h.1 low high (omega arith) h.9
               (next_left site K _ (λ v. user_call site.env d a.NoExpression v) _ at low h.1
               (next_in site K a.Use _ _ _ at low h.1 low h.1 (omega arith) (omega arith) N (λ r. r) (λ L y after k g. (y, refl, g.0, g.1))))
-              (follows_on site K _ _ _ N.temp N.after h.0 next h.1 high N.upper (arguments_next ps es xs (to + local_words site.env.globals p.1) h.0 next h.1 high h.10)) (λ L y after k g. subst (λ z. ArgumentsFor site L (p ∷ ps) (a.MoreExpressions z es) (Copy place words from ∷ xs) to after next low high) (sym g.1) (
+              (follows_on site K _ _ _ N.temp N.after h.0 next h.1 high N.upper (arguments_next ps es xs (to + local_words site.env.globals p.1) h.0 next h.1 high h.11)) (λ L y after k g. subst (λ z. ArgumentsFor site L (p ∷ ps) (a.MoreExpressions z es) (Copy place words from ∷ xs) to after next low high) (sym g.1) (
                 h.0,
                 h.1,
                 h.2,
                 h.3,
                 h.4,
+                h.5,
                 indexed_is_no_call site.env g.0 g.3,
                 indexed_is_no_clock g.0 g.3,
-                h.7,
                 h.8,
+                h.9,
                 g.2,
-                arguments_kept site K L ps es xs (to + local_words site.env.globals p.1) h.0 next h.1 high (learnt_above K L N.ready.low N.temp h.1 high N.upper k) h.10,
+                arguments_kept site K L ps es xs (to + local_words site.env.globals p.1) h.0 next h.1 high (learnt_above K L N.ready.low N.temp h.1 high N.upper k) h.11,
               ))))
-          | AllMade m q r ↦ elim (arguments_next ps es xs (to + local_words site.env.globals p.1) h.0 next h.1 high h.10) [
+          | AllMade m q r ↦ elim (arguments_next ps es xs (to + local_words site.env.globals p.1) h.0 next h.1 high h.11) [
             | AllMade m2 q2 r2 ↦ AllMade (m ∙ m2)
                 (λ v. (λ i. or_else (in_context (λ y. a.MoreExpressions y es) (or_else (in_context a.Use (q v i)) (user_call site.env d a.NoExpression v))) (in_context (a.MoreExpressions (a.Use d)) (q2 v i)))
-                ∙ ap (λ z. or_else (in_context (λ y. a.MoreExpressions y es) z) None) (user_call_none site.env d a.NoExpression v h.5))
-                (λ z. (z, h.1, h.2, h.3, h.4, h.5, h.6, h.7, h.8, r z, r2 z))
+                ∙ ap (λ z. or_else (in_context (λ y. a.MoreExpressions y es) z) None) (user_call_none site.env d a.NoExpression v h.6))
+                (λ z. (z, h.1, h.2, h.3, h.4, h.5, h.6, h.7, h.8, h.9, r z, r2 z))
             | Calling N ↦ moved_to _ _ _ at h.0 next low high m (Calling (next_right site K (λ v. in_context (λ y. a.MoreExpressions y es) (first_call site.env v (a.Use d))) _ _ h.0 low high
                 (λ v. ap (λ z. in_context (λ y. a.MoreExpressions y es) (or_else (in_context a.Use z) (user_call site.env d a.NoExpression v))) (q v)
-                ∙ ap (in_context (λ y. a.MoreExpressions y es)) (user_call_none site.env d a.NoExpression v h.5))
-                (next_in site K (a.MoreExpressions (a.Use d)) _ _ _ h.0 h.1 high low high h.7 (omega arith) N
+                ∙ ap (in_context (λ y. a.MoreExpressions y es)) (user_call_none site.env d a.NoExpression v h.6))
+                (next_in site K (a.MoreExpressions (a.Use d)) _ _ _ h.0 h.1 high low high h.8 (omega arith) N
                 (λ r. r) (λ L y after k g. (
                   after,
                   h.1,
@@ -334,6 +335,7 @@ module _ (site : Site) (K : Knowns) where
                   h.6,
                   h.7,
                   h.8,
+                  h.9,
                   spot_kept site K L d from p.1.type after after low h.1 (learnt_below K L N.ready.low N.temp low h.1 N.keeps k) (r after),
                   g,
                 )))))

@@ -166,7 +166,7 @@ member_lies G xs C s n x at t (ClassLies sort is) h =
 
 -- ---- all together
 
-seen_is : (mine : Owner → Bool) (G : Ground) (xs : List Activation) (l : Location) (v : Part) → mine l.owner ≡ true → lies G xs l ≡ Some v → seen mine G xs l ≡ Some v
+pub seen_is : (mine : Owner → Bool) (G : Ground) (xs : List Activation) (l : Location) (v : Part) → mine l.owner ≡ true → lies G xs l ≡ Some v → seen mine G xs l ≡ Some v
 seen_is mine G xs l v m h = ap (λ b. if b then lies G xs l else None) m ∙ h
 
 pub seen_mine : (mine : Owner → Bool) (G : Ground) (xs : List Activation) (l : Location) (v : Part) → seen mine G xs l ≡ Some v → (mine l.owner ≡ true) × (lies G xs l ≡ Some v)

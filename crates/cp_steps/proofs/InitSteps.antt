@@ -1,24 +1,25 @@
--- Whole private steps of the `init` of a class that is passed nothing.
-use Rattle.std.proofs.Common.{◌≡◌, ℕ, ◌+◌, ◌≤◌, ◌<◌, pos, List, [], ◌∷◌, length, Bool, true, false, Option, Some, None, refl, ap, sym, subst, ◌∙◌, arith}
+-- Whole private steps of the `init` of a class.
+use Rattle.std.proofs.Common.{◌≡◌, inl, ℕ, ℤ, ◌+◌, ◌≤◌, ◌<◌, pos, List, [], ◌∷◌, length, Bool, true, false, Option, Some, None, refl, ap, sym, subst, ◌∙◌, arith}
 use Rattle.std.specs.Prelude.{if◌then◌else◌, nat_lt, not}
 use Rattle.cp_model.specs.Abstract as a
 use Rattle.cp_model.specs.Abstract.{Class, Name, Sort, System}
 use Rattle.cp_model.specs.Arguments.{bind, init_argument_writes}
 use Rattle.cp_model.specs.CallSteps.{is_initialised}
 use Rattle.cp_model.specs.Components.{Component, class_or_here, component_named, name_location, same_sort}
-use Rattle.cp_model.specs.Configurations.{Configuration, StepResult, own_step, with_continuation}
+use Rattle.cp_model.specs.Configurations.{StepResult, own_step, with_continuation}
 use Rattle.cp_model.specs.Continuations.{Do, EndBody, Task, marked_monitors, push}
-use Rattle.cp_model.specs.Declarations.{Variable, declarations, reported_members}
+use Rattle.cp_model.specs.Calls.{call_in_arguments}
+use Rattle.cp_model.specs.Declarations.{Variable, declarations, is_component, reported_members}
 use Rattle.cp_model.specs.Environments.{Environment}
 use Rattle.cp_model.specs.Initialisation.{body_environment, init_component}
 use Rattle.cp_model.specs.Integers.{same_integer}
 use Rattle.cp_model.specs.Invariant.{StoreInvariant}
 use Rattle.cp_model.specs.Locations.{Location}
 use Rattle.cp_model.specs.Operators.{realtime}
-use Rattle.cp_model.specs.Outcomes.{Fault, and_then}
+use Rattle.cp_model.specs.Outcomes.{Fault, Gives, Outcome, and_then}
 use Rattle.cp_model.specs.Parts.{is_own}
 use Rattle.cp_model.specs.States.{State, configuration, context}
-use Rattle.cp_model.specs.Stores.{Initialised, Store, put, put_all}
+use Rattle.cp_model.specs.Stores.{Initialised, Store, Writes, put, put_all}
 use Rattle.cp_model.specs.Turns.{after_step}
 use Rattle.cp_model.specs.Types.{ComponentOf}
 use Rattle.cp_model.specs.declared.state.Fault.TheVariants as fault
@@ -26,20 +27,23 @@ use Rattle.cp_code.specs.Terms as target
 use Rattle.cp_code.specs.Terms.{Argument}
 use Rattle.cp_code.specs.Programs as op
 use Rattle.cp_code.specs.Programs.{Call, CodeUnit}
-use Rattle.cp_code.specs.Layout.{member}
+use Rattle.cp_typing.specs.Declared.{Distinct}
+use Rattle.cp_typing.specs.StartValues.{IsIn}
+use Rattle.cp_typing.specs.Words.{words}
+use Rattle.cp_code.specs.Layout.{Part, member}
 use Rattle.cp_code.specs.Sites as sites
 use Rattle.cp_code.specs.Sites.{BodyOf, Site, TargetOf, operation_at}
 use Rattle.cp_code.specs.StandsFor.{UnitStands, end_of}
-use Rattle.cp_code.specs.Starts.{word}
+use Rattle.cp_code.specs.Starts.{block, paste, word}
 use Rattle.cp_code.specs.StatementsFor.{InitArgumentsFor, InitsBy}
 use Rattle.cp_code.specs.TermsFor.{Knowns, nothing_known}
 use Rattle.cp_steps.specs.PrivateStates as machine
-use Rattle.cp_steps.specs.PrivateStates.{Acting, Outside, PrivateState, private_outcome, provided, set_word}
-use Rattle.cp_steps.specs.Passing.{component_called, pass_all, when_passed}
+use Rattle.cp_steps.specs.PrivateStates.{Acting, Outside, PrivateState, fault_in, private_outcome, provided, set_word}
+use Rattle.cp_steps.specs.Passing.{Passing, component_called, pass_all, when_passed}
 use Rattle.cp_steps.specs.Calling.{Back, class_at, enter, frame_of, has_room, init_class, settle}
 use Rattle.cp_steps.specs.Steps.{alone}
-use Rattle.cp_steps.specs.Addresses.{ClassLies, Ground, activations, component_type, lies, scope}
-use Rattle.cp_steps.specs.Laws.{AreNone}
+use Rattle.cp_steps.specs.Addresses.{ClassLies, Ground, activations, component_type, lies, scope, seen}
+use Rattle.cp_steps.specs.Laws.{HandsOnNoClass}
 use Rattle.cp_steps.specs.Left.{Left, Running, Runs, innermost_gate, site}
 use Rattle.cp_steps.specs.PartOf.{ActivationsMean, DataMeans, PartOf, RunsOn}
 use Rattle.cp_steps.proofs.Apart.{IsCell, IsClass}
@@ -47,18 +51,18 @@ use Rattle.cp_steps.proofs.CallSteps.{UnitsStand}
 use Rattle.cp_steps.proofs.Doing.{Ready, known, statement_steps}
 use Rattle.cp_steps.proofs.Heres.{lies_any}
 use Rattle.cp_steps.proofs.Pushing.{activations_push, marks_push, mean_push, push_left}
-use Rattle.cp_steps.proofs.RunningOn.{left_afresh, runs_stored}
-use Rattle.cp_steps.proofs.Stepping.{Stepped, clock_of, faulted, went}
+use Rattle.cp_steps.proofs.Copying.{copied_length}
+use Rattle.cp_steps.proofs.Declared.{distinct_first}
+use Rattle.cp_steps.proofs.Finding.{in_context_none}
+use Rattle.cp_steps.proofs.InitOffsets.{Offset}
+use Rattle.cp_steps.proofs.InitPassing.{InitAgrees, InitBound, passes_init}
+use Rattle.cp_steps.proofs.InitRights.{given}
+use Rattle.cp_steps.proofs.InitSettled.{init_count, init_offsets, init_settled, init_values}
+use Rattle.cp_steps.proofs.RunningOn.{left_afresh, runs_here, runs_over, runs_room, runs_stacked, runs_stored}
+use Rattle.cp_steps.proofs.Settling.{runs_settled}
+use Rattle.cp_steps.proofs.Stepping.{Stepped, clock_of, faulted, stopped, went}
 use Rattle.cp_steps.proofs.Targets.{class_lies, mark_is}
 use Rattle.cp_steps.specs.Means.{MarkMeans}
-
--- Nothing is passed to a class without parameters.
-nothing_passed : (at : Site) (K : Knowns) (s : System) (ps : List (Name × Variable)) (es : a.Expressions) (place last low high : ℕ) → InitArgumentsFor at K s ps es [] place last low high
-    → (ps ≡ []) × (es ≡ a.NoExpression)
-nothing_passed at K s [] a.NoExpression place last low high h = (refl, refl)
-nothing_passed at K s [] (a.MoreExpressions e es) place last low high h = absurd h
-nothing_passed at K s (p ∷ ps) a.NoExpression place last low high h = absurd h
-nothing_passed at K s (p ∷ ps) (a.MoreExpressions e es) place last low high h = absurd h
 
 -- The body of a class.
 abbrev body_of_class : Ground → System → Location → Environment
@@ -152,8 +156,8 @@ body_entered G store o i k R call back s at n kept C stands sort own there same 
 pub init_steps : (G : Ground) (s : State) (before : List ℕ) (o : PrivateState) (x : Name) (es : a.Expressions) (env : Environment) (k : List Task) → StoreInvariant s.store → UnitsStand G
     → (Y : Ready G s before o (a.Init x es) env k) (call : Call) (next : ℕ) → operation_at G.program o.place ≡ Some (op.InitClass call next)
     → InitsBy (site G Y.now.on.running) (known G s before o (Do (a.Init x es) env) k Y.now) Y.now.on.left.2.3.2 es (op.InitClass call next) o.place Y.now.on.left.2.3.0 Y.now.on.left.2.0 Y.now.on.left.2.1
-    → AreNone call.arguments → Stepped G s before o
-init_steps G s before o x es env k I units Y call next there h none =
+    → HandsOnNoClass call.arguments → Stepped G s before o
+init_steps G s before o x es env k I units Y call next there h fine =
     statement_steps G s before o (a.Init x es) env k Y (op.InitClass call next) refl private there refl
     (subst (λ (z : Option Component). PartOf G (after_step s G.p (elim z as (λ y. StepResult) [ None ↦ own_step (with_continuation (configuration s G.p) k) | Some m ↦ init_component m.system.sort (context G.setup s G.p) (configuration s G.p) here k es m ])) before computed)
     (sym Y.now.on.left.2.3.4)
@@ -211,61 +215,146 @@ init_steps G s before o x es env k I units Y call next there h none =
         (λ z. (elim (h.2.runs.there z) as (λ x. Acting) [ None ↦ private_outcome o | Some u ↦ if has_room o then started at call.arguments u else private_outcome o ]).0)
         ∙ ap (λ b. (if b then started at call.arguments h.2.runs.unit else private_outcome o).0) room
 
-    -- The mark is tested, and set.
-    marked : (off : ℕ) → member here.globals here.system n.name ≡ Some (off, ComponentOf n.system (reported_members here.globals n.system)) → (b : Bool) → same_integer (word o.words (o.component + off)) (pos 0) ≡ b
-        → PartOf G (after_step s G.p (inits (name_location here n) [] a.NoExpression)) before (started (o.component + off) [] h.2.runs.unit).0
-    marked off f b e =
-        subst (λ z. PartOf G (after_step s G.p (if z then Fault 7 else own_step after)) before (started (o.component + off) [] h.2.runs.unit).0) (mark ∙ refl)
-        (subst (λ z. PartOf G (after_step s G.p (if not z then Fault 7 else own_step after)) before (provided z o fault.InitialisedTwice begun).0) (sym e) (by b))
+    first : Task
+    first = Do (a.Init x es) env
+
+    top : ℕ
+    top = o.base + (site G Y.now.on.running).words
+
+    passed : List (Name × Variable)
+    passed = declarations (scope G) n.system.parameters
+
+    known_here : Knowns
+    known_here = known G s before o first k Y.now
+
+    lying' : Location → Option Part
+    lying' = seen (is_own G.p) G (activations o.base o.frames (first ∷ k))
+
+    back : Back
+    back = record { place = next; into = 0 }
+
+    stands : UnitStands G.program G.texts (scope G) h.2.runs.unit (BodyOf n.system)
+    stands = units call.routine h.2.runs.unit (BodyOf n.system) h.2.runs.there h.2.runs.text
+
+    names : Distinct (declarations (scope G) n.system.parameters)
+    names = distinct_first (declarations (scope G) n.system.parameters) (declarations (scope G) n.system.variables) stands.1
+
+    arguments : InitArgumentsFor (site G Y.now.on.running) known_here n.system passed es call.arguments o.place Y.now.on.left.2.3.0 Y.now.on.left.2.1 Y.now.on.running.unit.temps
+    arguments =
+        subst (λ g. InitArgumentsFor (site G Y.now.on.running) known_here n.system (declarations g n.system.parameters) es call.arguments o.place Y.now.on.left.2.3.0 Y.now.on.left.2.1 Y.now.on.running.unit.temps)
+        Y.now.on.runs.globals h.3
+
+    count : length call.arguments ≡ length passed
+    count = init_count (site G Y.now.on.running) known_here n.system passed es call.arguments o.place Y.now.on.left.2.3.0 Y.now.on.left.2.1 Y.now.on.running.unit.temps arguments
+
+    one : (p : Name × Variable) → IsIn p (declarations (scope G) n.system.parameters) → is_component p.1.type ≡ false → (words (scope G) p.1.type ≡ 1) × IsCell p.1.type
+    one p i component =
+        init_values (site G Y.now.on.running) known_here n.system passed es call.arguments o.place Y.now.on.left.2.3.0 Y.now.on.left.2.1 Y.now.on.running.unit.temps arguments (scope G) p i component
+
+    offsets : (p : Name × Variable) → IsIn p (declarations (scope G) n.system.parameters) → (k : ℕ) × Offset (scope G) n.system p k
+    offsets p i =
+        init_offsets (scope G) (site G Y.now.on.running) known_here n.system Y.now.on.runs.globals names one passed es call.arguments o.place Y.now.on.left.2.3.0 Y.now.on.left.2.1 Y.now.on.running.unit.temps arguments (λ q j. j) p i
+
+    -- The arguments are passed behind the running activation.
+    passed_ok : (c : ℕ)
+        → InitAgrees G n.system (name_location here n) c (o.base + call.words) names one passed w.own (record o { words = o.words }) o.words
+        (bind (λ l v e. init_argument_writes n.system.sort (clock_of G s) here s.store l v.type e) (name_location here n) passed es) (pass_all w (o.base + call.words) c call.arguments o)
+    passed_ok c =
+        subst (λ z. InitAgrees G n.system (name_location here n) c (o.base + z) names one passed w.own (record o { words = o.words }) o.words
+        (bind (λ l v e. init_argument_writes n.system.sort (clock_of G s) here s.store l v.type e) (name_location here n) passed es) (pass_all w (o.base + z) c call.arguments o)) (sym h.2.runs.words)
+        (passes_init G n.system (name_location here n) c top names one (site G Y.now.on.running) (clock_of G s) s.store w known_here lying' o
+        (λ ws len same. runs_here G s.store (record o { words = ws }) (first ∷ k) (clock_of G s) (runs_over G s.store s.store o ws (first ∷ k) Y.now.on (λ at q. refl) (λ j q. same j (inl q)) len) Y.now.sees)
+        Y.now.on.runs.globals
+        (λ m t f g ws same j inner l. given G s before o first k Y.now Y.now.sees I n.system c h.0 m t f g ws (λ z q. same z (inl q)) j inner l)
+        passed es call.arguments o.place Y.now.on.left.2.3.0 Y.now.on.left.2.1 Y.now.on.running.unit.temps o.words arguments
+        (in_context_none (a.Init x) (call_in_arguments here (a.Literal 0) es) Y.none) fine names (λ p i. i)
+        (omega (arith, h.2.room, count, Y.now.on.runs.words_fit, Y.now.on.count, Y.now.on.base)) (omega arith) refl (λ z q. refl))
+
+    -- The mark is tested, the arguments become the parameters, the mark is set, and the body is entered.
+    begins : (off : ℕ) → member here.globals here.system n.name ≡ Some (off, ComponentOf n.system (reported_members here.globals n.system))
+        → PartOf G (after_step s G.p (inits (name_location here n) (declarations here.globals n.system.parameters) es)) before (started (o.component + off) call.arguments h.2.runs.unit).0
+    begins off f =
+        subst (λ g. PartOf G (after_step s G.p (inits (name_location here n) (declarations g n.system.parameters) es)) before (started (o.component + off) call.arguments h.2.runs.unit).0) (sym Y.now.on.runs.globals)
+        (subst (λ z. PartOf G (after_step s G.p (if z then Fault 7 else meant)) before (started (o.component + off) call.arguments h.2.runs.unit).0) mark
+        (by (same_integer (word o.words (o.component + off)) (pos 0))))
       where
-        there' : lies G [] (name_location here n) ≡ Some (o.component + off, component_type G n.system)
-        there' = class_lies G s before o (Do (a.Init x es) env) k Y.now Y.now.sees I n off f
+        c : ℕ
+        c = o.component + off
+
+        at : Location
+        at = name_location here n
+
+        lying : lies G [] (name_location here n) ≡ Some (o.component + off, component_type G n.system)
+        lying = class_lies G s before o first k Y.now Y.now.sees I n off f
 
         mark : not (same_integer (word o.words (o.component + off)) (pos 0)) ≡ is_initialised (s.store (name_location here n))
-        mark = mark_is G (activations o.base o.frames (Do (a.Init x es) env ∷ k)) s.store o.words Y.now.on.data_means (name_location here n) (o.component + off) n.system Y.now.sees.component h.0 there'
+        mark = mark_is G (activations o.base o.frames (first ∷ k)) s.store o.words Y.now.on.data_means (name_location here n) (o.component + off) n.system Y.now.sees.component h.0 lying
 
-        back : Back
-        back = record { place = next; into = 0 }
-
-        after : Configuration
-        after = record (configuration s G.p) {
-          store = put (name_location here n) (Initialised true) s.store;
+        -- The body is left to do, with these parameters.
+        after_writes : Writes → StepResult
+        after_writes ws = own_step (record (configuration s G.p) {
+          store = put (name_location here n) (Initialised true) (put_all ws s.store);
           continuation = push n.system.body (body_environment here n.system (name_location here n)) (EndBody None ∷ k);
-        }
+        })
 
-        begun : Acting
-        begun = private_outcome (enter (set_word o (o.component + off) (pos 1)) (class_at (o.component + off)) h.2.runs.unit call (record { place = next; into = 0 }))
+        meant : StepResult
+        meant = and_then (bind (λ l v e. init_argument_writes n.system.sort (clock_of G s) here s.store l v.type e) (name_location here n) passed es) after_writes
+
+        begun : PrivateState → Acting
+        begun p = private_outcome (enter (set_word (settle p (o.base + call.words) (o.component + off) (length call.arguments)) (o.component + off) (pos 1)) (class_at (o.component + off)) h.2.runs.unit call back)
 
         env_is : body_environment here n.system (name_location here n) ≡ body_of_class G n.system (name_location here n)
         env_is = λ z. record { globals = Y.now.on.runs.globals z; system = n.system; component = name_location here n; frame = None }
 
-        by : (b : Bool) → PartOf G (after_step s G.p (if not b then Fault 7 else own_step after)) before (provided b o fault.InitialisedTwice begun).0
-        by false = faulted G s before o (Do (a.Init x es) env) k Y.now 7 fault.InitialisedTwice refl
-        by true =
-            subst (λ y. PartOf G (after_step s G.p (own_step (record (configuration s G.p) {
-              store = put (name_location here n) (Initialised true) s.store;
-              continuation = push n.system.body y (EndBody None ∷ k);
-            }))) before begun.0) (sym env_is)
-            (went G s before o Y.now.part (put (name_location here n) (Initialised true) s.store) begun.0 (push n.system.body (body_of_class G n.system (name_location here n)) (EndBody None ∷ k))
-            (body_entered G s.store o (Do (a.Init x es) env) k Y.now.on call back n.system (name_location here n) (o.component + off) Y.now.on.left.2.1 h.2.runs
-            (units call.routine h.2.runs.unit (BodyOf n.system) h.2.runs.there h.2.runs.text) h.0 Y.now.sees.component there' refl refl refl
-            (subst (λ z. Left G o.temps o.limit nothing_known Y.now.on.running o.frames z Y.now.on.left.2.1 k) (sym h.1) Y.now.on.left.2.4) Y.now.on.left.2.2)
-            record { number = refl; input = refl; consumed = refl; output = refl; activity = refl })
+        moved : List ℤ → List ℤ
+        moved us = paste (o.component + off + 1) (block us (o.base + call.words + 1) (length passed)) us
 
-    by_arguments : (xs : List Argument) → AreNone xs → call.arguments ≡ xs → (off : ℕ) → member here.globals here.system n.name ≡ Some (off, ComponentOf n.system (reported_members here.globals n.system))
-        → PartOf G (after_step s G.p (inits (name_location here n) (declarations here.globals n.system.parameters) es)) before (started (o.component + off) xs h.2.runs.unit).0
-    by_arguments [] empties is off f =
-        let empty = nothing_passed (site G Y.now.on.running) (known G s before o (Do (a.Init x es) env) k Y.now) n.system (declarations here.globals n.system.parameters) es o.place Y.now.on.left.2.3.0 Y.now.on.left.2.1 Y.now.on.running.unit.temps
-        (subst (λ xs. InitArgumentsFor (site G Y.now.on.running) (known G s before o (Do (a.Init x es) env) k Y.now) n.system (declarations here.globals n.system.parameters) es xs o.place Y.now.on.left.2.3.0 Y.now.on.left.2.1 Y.now.on.running.unit.temps) is h.3) in
-        subst (λ ps. PartOf G (after_step s G.p (inits (name_location here n) ps es)) before (started (o.component + off) [] h.2.runs.unit).0) (sym empty.0)
-        (subst (λ y. PartOf G (after_step s G.p (inits (name_location here n) [] y)) before (started (o.component + off) [] h.2.runs.unit).0) (sym empty.1)
-        (marked off f (same_integer (word o.words (o.component + off)) (pos 0)) refl))
-    by_arguments (y ∷ ys) empties is off f = absurd empties
+        entered : (ws : Writes) (us : List ℤ) → InitBound G n.system (name_location here n) (o.component + off) (o.base + call.words) names one passed ws o.words us
+            → PartOf G (after_step s G.p (after_writes ws)) before (begun (record o { words = us })).0
+        entered ws us B =
+            subst (λ z. PartOf G (after_step s G.p (after_writes ws)) before
+            (enter (set_word (settle (record o { words = us }) (o.base + call.words) (o.component + off) z) (o.component + off) (pos 1)) (class_at (o.component + off)) h.2.runs.unit call back)) (sym count)
+            (subst (λ y. PartOf G (after_step s G.p (own_step (record (configuration s G.p) {
+              store = put (name_location here n) (Initialised true) (put_all ws s.store);
+              continuation = push n.system.body y (EndBody None ∷ k);
+            }))) before result) (sym env_is)
+            (went G s before o Y.now.part (put (name_location here n) (Initialised true) (put_all ws s.store)) result (push n.system.body (body_of_class G n.system (name_location here n)) (EndBody None ∷ k))
+            (body_entered G (put_all ws s.store) (record o { words = moved us }) first k
+            (runs_settled G s.store (put_all ws s.store) o (moved us) (first ∷ k) Y.now.on (name_location here n) (o.component + off) n.system Y.now.sees.component h.0 lying stands.1 one offsets
+            (init_settled G (activations o.base o.frames (first ∷ k)) top (runs_stacked G s.store o (first ∷ k) Y.now.on) (name_location here n) (o.component + off) (o.base + call.words) n.system Y.now.sees.component h.0 lying names one
+            s.store o.words us ws B (ap (λ z. o.base + z) h.2.runs.words) (omega (arith, B.length_is, runs_room G s.store o (first ∷ k) Y.now.on)))
+            (copied_length us us (o.component + off + 1) (o.base + call.words + 1) (length passed) ∙ B.length_is))
+            call back n.system (name_location here n) (o.component + off) Y.now.on.left.2.1 h.2.runs stands h.0 Y.now.sees.component lying refl refl refl
+            (subst (λ z. Left G o.temps o.limit nothing_known Y.now.on.running o.frames z Y.now.on.left.2.1 k) (sym h.1) Y.now.on.left.2.4) Y.now.on.left.2.2)
+            record { number = refl; input = refl; consumed = refl; output = refl; activity = refl }))
+          where
+            result : PrivateState
+            result = enter (set_word (record o { words = moved us }) (o.component + off) (pos 1)) (class_at (o.component + off)) h.2.runs.unit call back
+
+        inner : (O : Outcome Writes) (P : Passing)
+            → InitAgrees G n.system (name_location here n) (o.component + off) (o.base + call.words) names one passed w.own (record o { words = o.words }) o.words O P
+            → PartOf G (after_step s G.p (and_then O after_writes)) before (when_passed P begun).0
+        inner (Fault j) P g =
+            subst (λ y. PartOf G (after_step s G.p (Fault j)) before (elim y as (λ z. Acting) [ None ↦ begun P.own | Some e ↦ fault_in P.own e ]).0) (sym g.1)
+            (subst (λ p. PartOf G (after_step s G.p (Fault j)) before (fault_in p g.0).0) (sym g.3)
+            (stopped G s before o Y.now.part P.own.words j g.0 g.2 over.count
+            (subst (λ y. DataMeans G (activations o.base o.frames y) (is_own G.p) s.store P.own.words) (sym Y.now.left) over.data_means)))
+          where
+            over : RunsOn G s.store (record o { words = P.own.words }) (first ∷ k)
+            over = runs_over G s.store s.store o P.own.words (first ∷ k) Y.now.on (λ l q. refl) (λ z q. g.4.1 z (inl (omega (arith, q, h.2.runs.words)))) g.4.0
+        inner (Gives ws) P g =
+            subst (λ y. PartOf G (after_step s G.p (after_writes ws)) before (elim y as (λ z. Acting) [ None ↦ begun P.own | Some e ↦ fault_in P.own e ]).0) (sym g.0)
+            (subst (λ p. PartOf G (after_step s G.p (after_writes ws)) before (begun p).0) (sym g.1) (entered ws P.own.words g.2))
+
+        by : (b : Bool) → PartOf G (after_step s G.p (if not b then Fault 7 else meant)) before
+            (provided b o fault.InitialisedTwice (when_passed (pass_all w (o.base + call.words) (o.component + off) call.arguments o) begun)).0
+        by false = faulted G s before o first k Y.now 7 fault.InitialisedTwice refl
+        by true = inner (bind (λ l v e. init_argument_writes n.system.sort (clock_of G s) here s.store l v.type e) (name_location here n) passed es) (pass_all w (o.base + call.words) (o.component + off) call.arguments o) (passed_ok (o.component + off))
 
     by_target : (t : target.Target) → TargetOf here n Class false t → call.target ≡ t
         → PartOf G (after_step s G.p (inits (name_location here n) (declarations here.globals n.system.parameters) es)) before computed
     by_target (target.Class off) f e =
         subst (λ z. PartOf G (after_step s G.p (inits (name_location here n) (declarations here.globals n.system.parameters) es)) before (init_class G.program w o call (component_called G.program w o z).component next).0) (sym e)
         (subst (PartOf G (after_step s G.p (inits (name_location here n) (declarations here.globals n.system.parameters) es)) before) (sym (has_unit (o.component + off)))
-        (by_arguments call.arguments none refl off f))
+        (begins off f))
     by_target _ f e = absurd f

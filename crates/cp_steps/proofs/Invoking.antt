@@ -14,7 +14,7 @@ use Rattle.cp_model.specs.Declarations as declared
 use Rattle.cp_model.specs.Declarations.{declarations}
 use Rattle.cp_model.specs.Environments.{Environment}
 use Rattle.cp_model.specs.Expressions.{place, value}
-use Rattle.cp_model.specs.Locations.{Location, OfActivation, Owner, root, same_location, same_owner}
+use Rattle.cp_model.specs.Locations.{Location, OfActivation, Owner, root, same_location, same_owner, under}
 use Rattle.cp_model.specs.Operators.{Clock, realtime}
 use Rattle.cp_model.specs.Outcomes.{Fault, Gives, Outcome, and_then}
 use Rattle.cp_model.specs.Parts.{is_own}
@@ -28,7 +28,7 @@ use Rattle.cp_model.proofs.ExpressionReach.{IfGives}
 use Rattle.cp_model.proofs.WriteReach.{WritesIn, bind_in, starting_writes_in, writes_in}
 use Rattle.cp_typing.specs.Declared.{Distinct}
 use Rattle.cp_code.specs.Programs.{Call, CodeUnit}
-use Rattle.cp_code.specs.Layout.{locals_words}
+use Rattle.cp_code.specs.Layout.{locals_words, part}
 use Rattle.cp_code.specs.Sites as sites
 use Rattle.cp_code.specs.Sites.{RoutineOf, first_parameter, parameters, system_of_callee}
 use Rattle.cp_code.specs.StandsFor.{UnitStands}
@@ -39,11 +39,11 @@ use Rattle.cp_steps.specs.Passing.{Called, Passing, component_called, pass_all, 
 use Rattle.cp_steps.specs.Calling.{Back, call_step, enter, frame_of, gate_effect, has_room, start_words}
 use Rattle.cp_steps.specs.Steps.{alone}
 use Rattle.cp_steps.specs.Addresses.{ComponentLies, Ground, activations, scope, seen}
-use Rattle.cp_steps.specs.Laws.{NoCopies}
 use Rattle.cp_steps.specs.Left.{CallerAt, held_below, kept_below, site}
 use Rattle.cp_steps.specs.PartOf.{DataMeans, PartOf, RunsOn}
 use Rattle.cp_steps.proofs.Entering.{Opened, Waits, entered_on, environment_of_call, owner_of_call}
-use Rattle.cp_steps.proofs.Heres.{Sees, depth_is}
+use Rattle.cp_steps.proofs.Heres.{Sees, depth_is, seen_is, seen_mine}
+use Rattle.cp_steps.proofs.Layouts.{PartsLie, lies_under}
 use Rattle.cp_steps.proofs.Holding.{SameBelow, SameLive}
 use Rattle.cp_steps.proofs.Passing.{Bound, KeptOutside, PassingAgrees, Stays, passes}
 use Rattle.cp_steps.proofs.Returning.{forgotten}
@@ -115,7 +115,6 @@ module _ (G : Ground) (s : State) (before : List ℕ) (o : PrivateState) (i : Ta
     pub arguments : ArgumentsFor (site G N.on.running) (held_below N.on.live o.temps N.on.running.temp) (parameters (site G N.on.running) v.callee) v.arguments call.arguments (first_parameter v.callee) from last low high
     pub made : call_in_arguments N.on.running.env (a.Literal 0) v.arguments ≡ None
     pub where_is : v.environment ≡ N.on.running.env
-    pub no_copies : NoCopies call.arguments
     pub distinct : Distinct (parameters (site G N.on.running) v.callee)
     pub target_is : TargetIs G (target (context G.setup s G.p) s.store N.on.running.env v.callee.of) (component_called G.program (alone (realtime (clock_of G s)) o) o call.target) callee_system
     pub caller : CallerAt G call.routine kept live v.callee.routine.result (frame_of o (component_called G.program (alone (realtime (clock_of G s)) o) o call.target) back) place
@@ -198,12 +197,18 @@ module _ (G : Ground) (s : State) (before : List ℕ) (o : PrivateState) (i : Ta
           let g = ap (λ z. locals_words z (declarations z v.callee.routine.parameters)) N.on.runs.globals in
           omega (arith, g, locals_two (scope G) (declarations (scope G) v.callee.routine.parameters) (declarations (scope G) v.callee.routine.variables), I.stands.1, I.runs.fits.words, N.on.runs.words_fit, N.on.count, N.on.base)
 
+      parts_lie : PartsLie N.on.running.env.globals (seen (is_own G.p) G (activations o.base o.frames (i ∷ l)))
+      parts_lie at path n m t u is there =
+          let z = seen_mine (is_own G.p) G (activations o.base o.frames (i ∷ l)) at (n, t) is in
+          seen_is (is_own G.p) G (activations o.base o.frames (i ∷ l)) (under at path) (n + m, u) z.0
+          (lies_under G (activations o.base o.frames (i ∷ l)) at path n m t u z.1 (ap (λ g. part g t path) (sym N.on.runs.globals) ∙ there))
+
       passed_ok : PassingAgrees Bounds (KeptOutside top (length o.words) o.words) o
           (bind (argument_writes (clock_of G s) N.on.running.env s.store) (root owner) (parameters (site G N.on.running) v.callee) v.arguments)
           (pass_all w top top call.arguments o)
       passed_ok =
-          passes (site G N.on.running) (clock_of G s) s.store w (held_below N.on.live o.temps N.on.running.temp) (seen (is_own G.p) G (activations o.base o.frames (i ∷ l))) owner top o stays
-          (parameters (site G N.on.running) v.callee) v.arguments call.arguments (first_parameter v.callee) from last low high o.words I.arguments I.made I.no_copies I.distinct sized (omega arith) refl (λ z q. refl)
+          passes (site G N.on.running) (clock_of G s) s.store w (held_below N.on.live o.temps N.on.running.temp) (seen (is_own G.p) G (activations o.base o.frames (i ∷ l))) owner top o stays parts_lie
+          (parameters (site G N.on.running) v.callee) v.arguments call.arguments (first_parameter v.callee) from last low high o.words I.arguments I.made I.distinct sized (omega arith) refl (λ z q. refl)
 
       env : Environment
       env = environment_of_call G k callee_system v.callee.routine t.component

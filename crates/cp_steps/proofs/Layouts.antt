@@ -111,6 +111,10 @@ path_leads G xs o [] q = λ n m u w h e. absurd (some_is_not_none (n, u) (sym h)
 path_leads G xs o (ByName x ∷ p) q = owner_leads G xs o x p q
 path_leads G xs o (ByIndex i ∷ p) q = λ n m u w h e. absurd (some_is_not_none (n, u) (sym h))
 
+-- The parts of what lies there lie in it.
+abbrev pub PartsLie : GlobalScope → (Location → Option Part) → Type 0
+PartsLie g lies = (l : Location) (path : Path) (n m : ℕ) (t u : ResolvedType) → lies l ≡ Some (n, t) → part g t path ≡ Some (m, u) → lies (under l path) ≡ Some (n + m, u)
+
 -- The part of a variable lies in it.
 pub lies_under : (G : Ground) (xs : List Activation) (l : Location) (q : Path) (n m : ℕ) (t u : ResolvedType) → lies G xs l ≡ Some (n, t) → part (scope G) t q ≡ Some (m, u)
     → lies G xs (under l q) ≡ Some (n + m, u)

@@ -42,6 +42,14 @@ pub mod PrivateTurns
 pub mod Entering
 pub mod Invoking
 pub mod StartLeaves
+pub mod LeafWords
+pub mod Copying
+pub mod CopySteps
+pub mod InitOffsets
+pub mod Settling
+pub mod InitPassing
+pub mod InitRights
+pub mod InitSettled
 pub mod Opening
 pub mod Targets
 pub mod CallSteps

@@ -1,5 +1,5 @@
 -- A new activation holds its parameters, the start values of its variables and no result.
-use Rattle.std.proofs.Common.{◌≡◌, ◌⊎◌, inl, inr, ℕ, suc, ◌+◌, ◌≤◌, ℤ, Bool, true, false, List, [], ◌∷◌, ◌++◌, length, Option, Some, None, refl, ap, sym, subst, ◌∙◌, arith}
+use Rattle.std.proofs.Common.{◌≡◌, ◌⊎◌, inl, inr, ℕ, suc, ◌+◌, ◌≤◌, ◌<◌, ℤ, Bool, true, false, List, [], ◌∷◌, ◌++◌, length, Option, Some, None, refl, ap, sym, subst, ◌∙◌, arith}
 use Rattle.std.specs.Prelude.{◌*◌, if◌then◌else◌, slice_get}
 use Rattle.std.proofs.lemmas.Bool.{eq-eqb, true≢false}
 use Rattle.std.specs.Str.{bytes_eq}
@@ -7,10 +7,10 @@ use Rattle.cp_model.specs.Abstract.{Name, Routine, System}
 use Rattle.cp_model.specs.Assignments.{starting_writes}
 use Rattle.cp_model.specs.Declarations.{Variable, declarations}
 use Rattle.cp_model.specs.Environments.{local_variables, permanent_variables, result_variable}
-use Rattle.cp_model.specs.Locations.{ByIndex, ByName, Location, OfActivation, Path, root}
+use Rattle.cp_model.specs.Locations.{ByIndex, ByName, OfActivation, Path, root, under}
 use Rattle.cp_model.specs.Names.{lookup}
 use Rattle.cp_model.specs.Places.{within}
-use Rattle.cp_model.specs.Stores.{Absent, Ordinal, Reference, Store, Value, Writes, forget, put_all}
+use Rattle.cp_model.specs.Stores.{Absent, Ordinal, Store, Writes, forget, put_all}
 use Rattle.cp_model.specs.Types.{ArrayOf, ComponentOf, GlobalScope, Members, MoreMembers, NoMembers, NoType, Queue, RecordOf, ResolvedType, Simple}
 use Rattle.cp_typing.specs.Declared.{Distinct, Each, RoutineVariable}
 use Rattle.cp_typing.specs.Judgement.{has_queues}
@@ -20,11 +20,10 @@ use Rattle.cp_typing.specs.StartValues.{IsIn}
 use Rattle.cp_typing.specs.Words.{words}
 use Rattle.cp_typing.proofs.Names.{bytes_same}
 use Rattle.cp_code.specs.Programs.{CodeUnit}
-use Rattle.cp_code.specs.Layout.{Part, activation_words, distance, farther, local, local_at, local_words, member_part, natural, part}
+use Rattle.cp_code.specs.Layout.{activation_words, distance, farther, local, local_at, local_words, member_part, natural, part}
 use Rattle.cp_code.specs.Sites.{RoutineOf}
 use Rattle.cp_code.specs.StandsFor.{UnitStands}
 use Rattle.cp_code.specs.Starts.{started, word}
-use Rattle.cp_code.specs.StatementsFor.{either}
 use Rattle.cp_steps.specs.Means.{CellMeans, ReferenceMeans}
 use Rattle.cp_steps.specs.Addresses.{Activation, Ground, activation_at, lies, part_at, part_of_activation, part_of_local, scope}
 use Rattle.cp_steps.specs.PartOf.{ResultMeans}
@@ -34,9 +33,12 @@ use Rattle.cp_steps.proofs.Entering.{Opened}
 use Rattle.cp_steps.proofs.Finding.{some_is_not_none}
 use Rattle.cp_steps.proofs.Heres.{found_here}
 use Rattle.cp_steps.proofs.Layouts.{same_some}
-use Rattle.cp_steps.proofs.Passing.{ParameterHas, parameter_at}
+use Rattle.cp_steps.proofs.Passing.{Has, ParameterHas, parameter_at}
 use Rattle.cp_steps.proofs.Separate.{local_inside}
-use Rattle.cp_steps.proofs.StartLeaves.{IsSimple, found_farther, starts_keep, starts_write, type_is}
+use Rattle.cp_steps.proofs.Apart.{cell_has_word}
+use Rattle.cp_steps.proofs.Bounds.{part_fits}
+use Rattle.cp_steps.proofs.Copying.{holds_simple}
+use Rattle.cp_steps.proofs.StartLeaves.{IsSimple, found_farther, simple_part, starts_keep, starts_write, type_is}
 use Rattle.cp_steps.proofs.Writing.{same_owner_itself}
 
 -- ---- variables that are found
@@ -80,16 +82,6 @@ names_apart x k n d g (p ∷ ps) ws h e = by (bytes_eq x p.0) refl e (names_apar
 
 -- ---- parts that hold values
 
-simple_part : (g : GlobalScope) (t : ResolvedType) (path : Path) (m : ℕ) (u : ResolvedType) → IsSimple t → part g t path ≡ Some (m, u) → (path ≡ []) × (m ≡ 0) × (t ≡ u)
-simple_part g (Simple b low high start) [] m u s e =
-    (refl, sym (ap (λ z. z.0) (same_some {A = Part} (0, Simple b low high start) (m, u) e)), type_is 0 (Simple b low high start) m u e)
-simple_part g (Simple b low high start) (x ∷ path) m u s e = absurd (some_is_not_none _ (sym e))
-simple_part g (ArrayOf low high t) path m u s e = absurd s
-simple_part g (RecordOf ms) path m u s e = absurd s
-simple_part g Queue path m u s e = absurd s
-simple_part g (ComponentOf y inner) path m u s e = absurd s
-simple_part g NoType path m u s e = absurd s
-
 mutual
   -- A part of data that holds a value is simple.
   cell_is_simple : (g : GlobalScope) (t : ResolvedType) (path : Path) (m : ℕ) (u : ResolvedType) → SoundType t → has_queues t ≡ false → part g t path ≡ Some (m, u) → IsCell u → IsSimple u
@@ -118,23 +110,23 @@ mutual
       by true e here later = let k = found_farther at (part g t path) m u e in here k.0 k.1
       by false e here later = later e
 
-simple_means : (t : ResolvedType) (v : Value) (n : ℤ) → IsSimple t → v ≡ Ordinal n → CellMeans t v n
-simple_means (Simple b low high start) v n s h = h
-simple_means (ArrayOf low high t) v n s h = absurd s
-simple_means (RecordOf ms) v n s h = absurd s
-simple_means Queue v n s h = absurd s
-simple_means (ComponentOf y inner) v n s h = absurd s
-simple_means NoType v n s h = absurd s
+-- All of it is simple values.
+abbrev pub HoldsValues : ResolvedType → Type 0
+HoldsValues t = IsSimple t ⊎ (SoundType t × (has_queues t ≡ false))
+
+part_is_simple : (g : GlobalScope) (t : ResolvedType) (path : Path) (m : ℕ) (u : ResolvedType) → HoldsValues t → part g t path ≡ Some (m, u) → IsCell u → IsSimple u
+part_is_simple g t path m u (inl s) e c = subst IsSimple (simple_part g t path m u s e).2 s
+part_is_simple g t path m u (inr h) e c = cell_is_simple g t path m u h.0 h.1 e c
 
 -- ---- the activation
 
 module _ (G : Ground) (ys : List Activation) (sys : System) (r : Routine) (u : CodeUnit) (stands : UnitStands G.program G.texts (scope G) u (RoutineOf sys r)) (base : ℕ) (store : Store) (ws : Writes) (new : List ℤ)
     (room : base + activation_words (scope G) r ≤ length new)
     (holds : (x : Name) (k : ℕ) (d : Variable) → local_at (scope G) (result_words r.result) (declarations (scope G) r.parameters) x ≡ Some (k, d)
-    → ParameterHas (lies G ys) d (put_all ws (forget (OfActivation G.p (length ys)) store) (parameter_at (OfActivation G.p (length ys)) x)) (word new (base + k)))
+    → ParameterHas (scope G) (lies G ys) d (parameter_at (OfActivation G.p (length ys)) x) (put_all ws (forget (OfActivation G.p (length ys)) store)) new (base + k))
     (names : (x : Name) → lookup x (declarations (scope G) r.parameters) ≡ None
     → put_all ws (forget (OfActivation G.p (length ys)) store) (parameter_at (OfActivation G.p (length ys)) x) ≡ forget (OfActivation G.p (length ys)) store (parameter_at (OfActivation G.p (length ys)) x))
-    (simple : (x : Name) (k : ℕ) (d : Variable) → local_at (scope G) (result_words r.result) (declarations (scope G) r.parameters) x ≡ Some (k, d) → d.by_reference ≡ false → IsSimple d.type) where
+    (plain : (x : Name) (k : ℕ) (d : Variable) → local_at (scope G) (result_words r.result) (declarations (scope G) r.parameters) x ≡ Some (k, d) → d.by_reference ≡ false → HoldsValues d.type) where
   abbrev pub new_store : Store
   new_store = put_all (starting_writes (root (OfActivation G.p (length ys))) (declarations (scope G) r.variables)) (put_all ws (forget (OfActivation G.p (length ys)) store))
 
@@ -147,9 +139,9 @@ module _ (G : Ground) (ys : List Activation) (sys : System) (r : Routine) (u : C
   abbrev variables : List (Name × Variable)
   variables = declarations (scope G) r.variables
 
-  -- What was bound to a parameter.
-  abbrev bound : Name → Value
-  bound x = put_all ws (forget (OfActivation G.p (length ys)) store) (parameter_at (OfActivation G.p (length ys)) x)
+  -- What was bound to the parameters.
+  abbrev bound : Store
+  bound = put_all ws (forget (OfActivation G.p (length ys)) store)
 
   both_distinct : Distinct (parameters ++ (variables ++ result_variable (scope G) r.name r.result))
   both_distinct = distinct_first (local_variables (scope G) r) (permanent_variables (scope G) sys) stands.2
@@ -163,13 +155,13 @@ module _ (G : Ground) (ys : List Activation) (sys : System) (r : Routine) (u : C
       absent_first x variables (result_variable (scope G) r.name r.result)
       (names_apart x k (result_words r.result) d (scope G) parameters (variables ++ result_variable (scope G) r.name r.result) both_distinct e)
 
-  parameter_kept : (x : Name) (k : ℕ) (d : Variable) → local_at (scope G) (result_words r.result) parameters x ≡ Some (k, d) → 1 ≤ local_words (scope G) d
-      → (new_store (parameter_at (OfActivation G.p (length ys)) x) ≡ put_all ws (forget (OfActivation G.p (length ys)) store) (parameter_at (OfActivation G.p (length ys)) x))
-      × (word new_words (base + k) ≡ word new (base + k))
-  parameter_kept x k d e one =
+  parameter_kept : (x : Name) (path : Path) (k m : ℕ) (d : Variable) → local_at (scope G) (result_words r.result) parameters x ≡ Some (k, d) → m < local_words (scope G) d
+      → (new_store (under (parameter_at (OfActivation G.p (length ys)) x) path) ≡ bound (under (parameter_at (OfActivation G.p (length ys)) x) path))
+      × (word new_words (base + k + m) ≡ word new (base + k + m))
+  parameter_kept x path k m d e less =
       let inside = local_inside (scope G) (result_words r.result) parameters x k d e in (
-        starts_keep (OfActivation G.p (length ys)) x [] variables _ variables_distinct (no_variable x k d e),
-        stands.0.outside base new (base + k) room (inl (omega (arith, inside.1, one)))
+        starts_keep (OfActivation G.p (length ys)) x path variables _ variables_distinct (no_variable x k d e),
+        stands.0.outside base new (base + k + m) room (inl (omega (arith, inside.1, less)))
             (λ t is q. absurd (omega (arith, q, inside.0, ap result_words is, one_word t))),
       )
     where
@@ -183,10 +175,10 @@ module _ (G : Ground) (ys : List Activation) (sys : System) (r : Routine) (u : C
       by : (local_at (scope G) (result_words r.result) parameters x ≡ Some (k, d)) ⊎ ((v : Name × Variable) × (i : ℕ) × (slice_get variables i ≡ Some v) × IsIn v variables × (v.0 ≡ x) × (v.1 ≡ d))
           → ReferenceMeans (lies G ys) (new_store (parameter_at (OfActivation G.p (length ys)) x)) (word new_words (base + k)) d.type
       by (inl f) =
-          let kept = parameter_kept x k d f (subst (λ b. 1 ≤ (if b then 1 else words (scope G) d.type)) (sym by_reference) (omega arith)) in
-          let h =
-          subst (λ b. either b ((j : Location) × (bound x ≡ Reference j) × (lies G ys j ≡ Some (natural (word new (base + k)), d.type))) (bound x ≡ Ordinal (word new (base + k)))) by_reference (holds x k d f) in
-          (h.0, kept.0 ∙ h.1, h.2 ∙ ap (λ z. Some (natural z, d.type)) (sym kept.1))
+          let kept = parameter_kept x [] k 0 d f (subst (λ b. 0 < (if b then 1 else words (scope G) d.type)) (sym by_reference) (omega arith)) in
+          let h = subst (λ b. Has b (scope G) (lies G ys) d.type (parameter_at (OfActivation G.p (length ys)) x) bound new (base + k)) by_reference (holds x k d f) in
+          let place_is : base + k + 0 ≡ base + k = omega arith in
+          (h.0, kept.0 ∙ h.1, h.2 ∙ ap (λ z. Some (natural z, d.type)) (sym (sym (ap (word new_words) place_is) ∙ (kept.1 ∙ ap (word new) place_is))))
       by (inr f) =
           absurd (true≢false (sym by_reference ∙ (ap (λ (v : Variable). v.by_reference) (sym f.5) ∙ (each_at (RoutineVariable (scope G)) variables f.0 stands.3 f.3).2)))
 
@@ -209,23 +201,13 @@ module _ (G : Ground) (ys : List Activation) (sys : System) (r : Routine) (u : C
       in_parameter : local_at (scope G) (result_words r.result) parameters x ≡ Some (k, d)
           → CellMeans t (new_store (record { owner = OfActivation G.p (length ys); path = ByName x ∷ path })) (word new_words (base + (k + m)))
       in_parameter f =
-          let s = simple x k d f by_value in
-          let p = simple_part (scope G) d.type path m t s there in
-          let kept = parameter_kept x k d f (subst (λ b. 1 ≤ (if b then 1 else words (scope G) d.type)) (sym by_value) (one_word d.type s)) in
-          let h =
-          subst (λ b. either b ((j : Location) × (bound x ≡ Reference j) × (lies G ys j ≡ Some (natural (word new (base + k)), d.type))) (bound x ≡ Ordinal (word new (base + k)))) by_value (holds x k d f) in
-          let place_is : base + k ≡ base + (k + m) = omega (arith, p.1) in
-          subst (λ z. CellMeans t (new_store (record { owner = OfActivation G.p (length ys); path = ByName x ∷ z })) (word new_words (base + (k + m)))) (sym p.0)
-          (subst (λ z. CellMeans t (new_store (parameter_at (OfActivation G.p (length ys)) x)) (word new_words z)) place_is
-          (simple_means t (new_store (parameter_at (OfActivation G.p (length ys)) x)) (word new_words (base + k)) (subst IsSimple p.2 s) (kept.0 ∙ (h ∙ ap Ordinal (sym kept.1)))))
-        where
-          one_word : (y : ResolvedType) → IsSimple y → 1 ≤ words (scope G) y
-          one_word (Simple b low high start) h = omega arith
-          one_word (ArrayOf low high y) h = absurd h
-          one_word (RecordOf ms) h = absurd h
-          one_word Queue h = absurd h
-          one_word (ComponentOf y inner) h = absurd h
-          one_word NoType h = absurd h
+          let simple = part_is_simple (scope G) d.type path m t (plain x k d f by_value) there c in
+          let h = subst (λ b. Has b (scope G) (lies G ys) d.type (parameter_at (OfActivation G.p (length ys)) x) bound new (base + k)) by_value (holds x k d f) in
+          let all : local_words (scope G) d ≡ words (scope G) d.type = ap (λ b. if b then 1 else words (scope G) d.type) by_value in
+          let kept = parameter_kept x path k m d f (omega (arith, all, part_fits (scope G) d.type path m t there, cell_has_word (scope G) t c)) in
+          let place_is : base + k + m ≡ base + (k + m) = omega arith in
+          holds_simple t (new_store (record { owner = OfActivation G.p (length ys); path = ByName x ∷ path })) (word new_words (base + (k + m))) simple
+          (kept.0 ∙ (h path m t simple there ∙ ap Ordinal (sym kept.1 ∙ ap (word new_words) place_is)))
 
       in_variable : (v : Name × Variable) (i : ℕ) → slice_get variables i ≡ Some v → IsIn v variables → v.0 ≡ x → v.1 ≡ d
           → CellMeans t (new_store (record { owner = OfActivation G.p (length ys); path = ByName x ∷ path })) (word new_words (base + (k + m)))

@@ -95,6 +95,17 @@ found_farther n None m t h = absurd (some_is_not_none _ (sym h))
 found_farther n (Some p) m t h =
     (p.0, ap (λ u. Some (p.0, u)) (type_is (n + p.0) p.1 m t h), ap (λ z. z.0) (same_some {A = Part} (n + p.0, p.1) (m, t) h))
 
+-- A simple variable has no part but itself.
+pub simple_part : (g : GlobalScope) (t : ResolvedType) (path : Path) (m : ℕ) (u : ResolvedType) → IsSimple t → part g t path ≡ Some (m, u) → (path ≡ []) × (m ≡ 0) × (t ≡ u)
+simple_part g (Simple b low high start) [] m u s e =
+    (refl, sym (ap (λ z. z.0) (same_some {A = Part} (0, Simple b low high start) (m, u) e)), type_is 0 (Simple b low high start) m u e)
+simple_part g (Simple b low high start) (x ∷ path) m u s e = absurd (some_is_not_none _ (sym e))
+simple_part g (ArrayOf low high t) path m u s e = absurd s
+simple_part g (RecordOf ms) path m u s e = absurd s
+simple_part g Queue path m u s e = absurd s
+simple_part g (ComponentOf y inner) path m u s e = absurd s
+simple_part g NoType path m u s e = absurd s
+
 mutual
   pub part_is_leaf : (g : GlobalScope) (t : ResolvedType) (path : Path) (m : ℕ) (b : BaseType) (low high start : ℤ) → SoundType t → part g t path ≡ Some (m, Simple b low high start)
       → IsIn (path, Ordinal start) (leaves t)
@@ -147,7 +158,7 @@ abbrev writes_at : Owner → Name × Variable → Writes
 writes_at o v = map (λ leaf. (under (root o) (ByName v.0 ∷ leaf.0), leaf.1)) (leaves v.1.type)
 
 -- A location that isn't written keeps its value.
-not_written : (ws : Writes) (st : Store) (l : Location) → ((v : Value) → IsIn (l, v) ws → ⊥) → put_all ws st l ≡ st l
+pub not_written : (ws : Writes) (st : Store) (l : Location) → ((v : Value) → IsIn (l, v) ws → ⊥) → put_all ws st l ≡ st l
 not_written [] st l none = refl
 not_written (w ∷ ws) st l none = not_written ws (put w.0 w.1 st) l (λ v h. none v (inr h)) ∙ by (same_location w.0 l) refl
   where
@@ -155,7 +166,7 @@ not_written (w ∷ ws) st l none = not_written ws (put w.0 w.1 st) l (λ v h. no
     by true e = absurd (none w.1 (inl (ap (λ k. (k, w.1)) (sym (location_is w.0 l e)))))
     by false e = refl
 
-abbrev first_name : Path → Name
+abbrev pub first_name : Path → Name
 first_name (ByName x ∷ path) = x
 first_name _ = []
 

@@ -1,10 +1,10 @@
 -- The law of private steps, which the function of `src/law.rt` states.
-use Rattle.std.specs.Prelude.{List, [], ◌∷◌, Option, Some, None, ℕ}
+use Rattle.std.specs.Prelude.{List, [], ◌∷◌, Option, Some, ℕ}
 use Rattle.cp_model.specs.Invariant.{Invariant}
 use Rattle.cp_model.specs.Operators.{realtime}
 use Rattle.cp_model.specs.States.{Setup, State, running_clock}
 use Rattle.cp_model.specs.Turns as meaning
-use Rattle.cp_code.specs.Terms.{Argument, Copy}
+use Rattle.cp_code.specs.Terms.{Argument, ClassRight, Right, Target}
 use Rattle.cp_code.specs.Programs as op
 use Rattle.cp_code.specs.Programs.{Operation, Program}
 use Rattle.cp_code.specs.Sites.{operation_at}
@@ -14,24 +14,20 @@ use Rattle.cp_steps.specs.Steps.{private_step, private_steps}
 use Rattle.cp_steps.specs.Addresses.{Ground}
 use Rattle.cp_steps.specs.PartOf.{PartOf}
 
--- No structured value is passed.
-abbrev pub NoCopies : List Argument → Type 0
-NoCopies [] = Unit {0}
-NoCopies (Copy at size from ∷ xs) = ⊥
-NoCopies (_ ∷ xs) = NoCopies xs
+-- Of the rights that are passed, none is to a class to which the running component has a right itself.
+abbrev pub IsNotHandedOn : Target → Type 0
+IsNotHandedOn (ClassRight at) = ⊥
+IsNotHandedOn _ = Unit {0}
 
-abbrev pub AreNone : List Argument → Type 0
-AreNone [] = Unit {0}
-AreNone (x ∷ xs) = ⊥
+abbrev pub HandsOnNoClass : List Argument → Type 0
+HandsOnNoClass [] = Unit {0}
+HandsOnNoClass (Right at t ∷ xs) = IsNotHandedOn t × HandsOnNoClass xs
+HandsOnNoClass (_ ∷ xs) = HandsOnNoClass xs
 
--- The law tells of all operations but `init` of a class with arguments and copies of structured values, also as arguments.
+-- The law tells of all operations but `init` of a class to which a right to a class is handed on.
 abbrev pub IsTold : Option Operation → Type 0
-IsTold None = Unit {0}
-IsTold (Some (op.Procedure call next)) = NoCopies call.arguments
-IsTold (Some (op.Function call into next)) = NoCopies call.arguments
-IsTold (Some (op.InitClass call next)) = AreNone call.arguments
-IsTold (Some (op.CopyWords to from size next)) = ⊥
-IsTold (Some _) = Unit {0}
+IsTold (Some (op.InitClass call next)) = HandsOnNoClass call.arguments
+IsTold _ = Unit {0}
 
 abbrev pub ground_of : (program : Program) (setup : Setup) → StandsFor program setup → (p own : ℕ) → Ground
 ground_of program setup F p own = record { program = program; texts = F.texts; setup = setup; p = p; own = own }

@@ -1,0 +1,263 @@
+-- The parameters of a class are stored in it, in the words after its mark.
+use Rattle.std.proofs.Common.{◌≡◌, ◌⊎◌, inl, inr, ℕ, suc, ◌+◌, ◌≤◌, ◌<◌, ℤ, List, [], ◌∷◌, ◌++◌, length, true, false, Some, None, refl, ap, sym, subst, ◌∙◌, arith}
+use Rattle.cp_model.specs.Abstract.{Class, Name, System}
+use Rattle.cp_model.specs.Continuations.{Task}
+use Rattle.cp_model.specs.Declarations.{Variable, declarations, is_component}
+use Rattle.cp_model.specs.Environments.{permanent_variables}
+use Rattle.cp_model.specs.Locations.{ByName, Location, Path, under}
+use Rattle.cp_model.specs.Parts.{is_own}
+use Rattle.cp_model.specs.Stores.{Store, Value}
+use Rattle.cp_model.specs.Types.{ComponentOf, ResolvedType}
+use Rattle.cp_typing.specs.Declared.{Distinct}
+use Rattle.cp_typing.specs.StartValues.{IsIn}
+use Rattle.cp_typing.specs.Words.{words}
+use Rattle.cp_typing.proofs.Leaves.{step_same}
+use Rattle.cp_code.specs.StandsFor.{system_of_process}
+use Rattle.cp_code.specs.Layout.{Part, activation_words, component_words, member, right, rights}
+use Rattle.cp_code.specs.Starts.{word}
+use Rattle.cp_steps.specs.PrivateStates.{PrivateState}
+use Rattle.cp_steps.specs.Means.{CellMeans}
+use Rattle.cp_steps.specs.Addresses.{Activation, ClassLies, ComponentLies, Ground, MonitorLies, ProcessLies, RightMeans, activation_at, activations, component_type, lies, scope}
+use Rattle.cp_steps.specs.Left.{held_below, site}
+use Rattle.cp_steps.specs.PartOf.{DataMeans, RunsOn}
+use Rattle.cp_steps.proofs.Apart.{InHead, IsCell, IsClass, cell_head}
+use Rattle.cp_steps.proofs.Copying.{Inside, inside_or_not}
+use Rattle.cp_steps.proofs.Declared.{distinct_first}
+use Rattle.cp_steps.proofs.Finding.{some_is_not_none}
+use Rattle.cp_steps.proofs.Heres.{lies_any, member_lies}
+use Rattle.cp_steps.proofs.Holding.{live_owner}
+use Rattle.cp_steps.proofs.InitOffsets.{Offset, offset_at, offset_within, right_is, right_is_no_member, right_same}
+use Rattle.cp_steps.proofs.Keeping.{KeepsActivation, activation_kept, activations_kept, local_named, right_kept, right_no_variable, right_place}
+use Rattle.cp_steps.proofs.Layouts.{same_some}
+use Rattle.cp_steps.proofs.RunningOn.{runs_stacked}
+use Rattle.cp_steps.proofs.Separate.{OwnRight, bottom_below, cell_below, cell_no_own_right, cell_no_reference, cell_no_result, reference_inside, result_inside, separate}
+use Rattle.cp_steps.proofs.Stacks.{Stacked, found_inside}
+use Rattle.cp_steps.proofs.Writing.{is_cell}
+
+-- Where a parameter of the component is stored.
+abbrev pub stored_at : Location → Name → Location
+stored_at at x = under at (ByName x ∷ [])
+
+-- What changed: the parameters of a class of the process, at their names and in their words.
+pub record Settled (G : Ground) (top : ℕ) (store after : Store) (old new : List ℤ) (at : Location) (c : ℕ) (s : System) : Type 0 where
+  pub values : (p : Name × Variable) (k : ℕ) → IsIn p (declarations (scope G) s.parameters) → is_component p.1.type ≡ false → member (scope G) s p.0 ≡ Some (k, p.1.type)
+      → CellMeans p.1.type (after (stored_at at p.0)) (word new (c + k))
+  pub rights : (p : Name × Variable) (k : ℕ) → IsIn p (declarations (scope G) s.parameters) → is_component p.1.type ≡ true → right (scope G) s p.0 ≡ Some (k, p.1)
+      → RightMeans G p.1.type (after (stored_at at p.0)) (c + k) (word new (c + k))
+  pub outside : (i : ℕ) → i < top → (i < c + 1) ⊎ (c + 1 + length (declarations (scope G) s.parameters) ≤ i) → word new i ≡ word old i
+  pub unwritten : (l : Location) → ((p : Name × Variable) → IsIn p (declarations (scope G) s.parameters) → l ≡ stored_at at p.0 → ⊥) → after l ≡ store l
+
+abbrev system_in : System → ResolvedType → System
+system_in s (ComponentOf r inner) = r
+system_in s _ = s
+
+abbrev pub last_name : Path → Name
+last_name [] = []
+last_name (ByName x ∷ []) = x
+last_name (s ∷ p) = last_name p
+
+never_empty : (q : Path) (y : Name) → ◌≡◌ {A = Path} [] (q ++ (ByName y ∷ [])) → ⊥
+never_empty [] y e = cc
+never_empty (u ∷ q) y e = cc
+
+pub snoc_same : (p q : Path) (x y : Name) → p ++ (ByName x ∷ []) ≡ q ++ (ByName y ∷ []) → (p ≡ q) × (x ≡ y)
+snoc_same [] [] x y e = (refl, ap last_name e)
+snoc_same [] (t ∷ q) x y e = absurd (never_empty q y (step_same (ByName x) t [] (q ++ (ByName y ∷ [])) e).1)
+snoc_same (s ∷ p) [] x y e = absurd (never_empty p x (sym (step_same s (ByName y) (p ++ (ByName x ∷ [])) [] e).1))
+snoc_same (s ∷ p) (t ∷ q) x y e =
+    let k = step_same s t (p ++ (ByName x ∷ [])) (q ++ (ByName y ∷ [])) e in
+    let r = snoc_same p q x y k.1 in
+    (λ i. k.0 i ∷ r.0 i, r.1)
+
+module _ (G : Ground) (xs : List Activation) (top : ℕ) (stack : Stacked G top xs) (store after : Store) (old new : List ℤ) (at : Location) (c : ℕ) (s : System)
+    (own : is_own G.p at.owner ≡ true) (sort : s.sort ≡ Class) (is : lies G [] at ≡ Some (c, component_type G s)) (distinct : Distinct (permanent_variables (scope G) s))
+    (one : (p : Name × Variable) → IsIn p (declarations (scope G) s.parameters) → is_component p.1.type ≡ false → (words (scope G) p.1.type ≡ 1) × IsCell p.1.type)
+    (offsets : (p : Name × Variable) → IsIn p (declarations (scope G) s.parameters) → (k : ℕ) × Offset (scope G) s p k)
+    (S : Settled G top store after old new at c s) where
+  abbrev passed : List (Name × Variable)
+  passed = declarations (scope G) s.parameters
+
+  own_names : Distinct (declarations (scope G) s.parameters)
+  own_names = distinct_first (declarations (scope G) s.parameters) (declarations (scope G) s.variables) distinct
+
+  here : lies G xs at ≡ Some (c, component_type G s)
+  here = lies_any G xs at _ is
+
+  there : ComponentLies G at s c
+  there = ClassLies sort is
+
+  value_lies : (p : Name × Variable) (k : ℕ) → member (scope G) s p.0 ≡ Some (k, p.1.type) → lies G xs (stored_at at p.0) ≡ Some (c + k, p.1.type)
+  value_lies p k h = member_lies G xs at s c p.0 k p.1.type there h
+
+  right_lies_not : (p : Name × Variable) → IsIn p (declarations (scope G) s.parameters) → is_component p.1.type ≡ true → lies G xs (stored_at at p.0) ≡ None
+  right_lies_not p i component = right_no_variable G xs at s c p.0 own there (right_is_no_member (scope G) s p distinct i component)
+
+  right_in_head : (p : Name × Variable) (k : ℕ) → right (scope G) s p.0 ≡ Some (k, p.1) → InHead (scope G) (component_type G s) k
+  right_in_head p k h = (subst IsClass (sym sort) tt, omega (arith, (right_is 1 (rights (scope G) s) p.0 k p.1 h).1))
+
+  -- An address that holds what lives is that of a parameter, or outside.
+  abbrev Around : ℕ → Type 0
+  Around i =
+      ((p : Name × Variable) × (k : ℕ) × IsIn p (declarations (scope G) s.parameters) × Offset (scope G) s p k × (i ≡ c + k))
+      ⊎ ((i < c + 1) ⊎ (c + 1 + length (declarations (scope G) s.parameters) ≤ i))
+
+  around : (i : ℕ) → Around i
+  around i = by (inside_or_not (c + 1) (length (declarations (scope G) s.parameters)) i)
+    where
+      by : Inside (c + 1) (length (declarations (scope G) s.parameters)) i ⊎ ((i < c + 1) ⊎ (c + 1 + length (declarations (scope G) s.parameters) ≤ i)) → Around i
+      by (inr apart) = inr apart
+      by (inl h) =
+          let o = offset_at (scope G) s own_names one (suc h.0) (omega arith) (omega (arith, h.1)) in
+          inl (o.0, suc h.0, o.1, o.2, omega (arith, h.2))
+
+  within : (p : Name × Variable) (k i : ℕ) → IsIn p (declarations (scope G) s.parameters) → Offset (scope G) s p k → i ≡ c + k → (i < c + 1) ⊎ (c + 1 + length (declarations (scope G) s.parameters) ≤ i) → ⊥
+  within p k i there' o e apart = by apart (offset_within (scope G) s own_names one p k there' o)
+    where
+      by : (i < c + 1) ⊎ (c + 1 + length (declarations (scope G) s.parameters) ≤ i) → (1 ≤ k) × (k ≤ length (declarations (scope G) s.parameters)) → ⊥
+      by (inl q) w = omega (arith, q, e, w.0)
+      by (inr q) w = omega (arith, q, e, w.1)
+
+  -- What lies outside is not stored.
+  cell_unwritten : (l : Location) (i : ℕ) (t : ResolvedType) → lies G xs l ≡ Some (i, t) → (i < c + 1) ⊎ (c + 1 + length (declarations (scope G) s.parameters) ≤ i) → after l ≡ store l
+  cell_unwritten l i t lying apart = S.unwritten l (λ p there' e. by p there' e (offsets p there'))
+    where
+      by : (p : Name × Variable) → IsIn p (declarations (scope G) s.parameters) → l ≡ stored_at at p.0 → (k : ℕ) × Offset (scope G) s p k → ⊥
+      by p there' e (k, inl h) = some_is_not_none _ (sym lying ∙ (ap (lies G xs) e ∙ right_lies_not p there' h.0))
+      by p there' e (k, inr h) =
+          within p k i there' (inr h) (ap (λ z. z.0) (same_some {A = Part} (i, t) (c + k, p.1.type) (sym lying ∙ (ap (lies G xs) e ∙ value_lies p k h.1)))) apart
+
+  cells_settled : (l : Location) (i : ℕ) (t : ResolvedType) → is_own G.p l.owner ≡ true → IsCell t → lies G xs l ≡ Some (i, t) → CellMeans t (store l) (word old i) → CellMeans t (after l) (word new i)
+  cells_settled l i t mine cell lying means = by (around i)
+    where
+      below : i + 0 < top
+      below = cell_below G xs top stack l i t 0 mine (cell_head (scope G) t cell) lying
+
+      by : Around i → CellMeans t (after l) (word new i)
+      by (inr apart) =
+          subst (λ z. CellMeans t z (word new i)) (sym (cell_unwritten l i t lying apart)) (subst (CellMeans t (store l)) (sym (S.outside i (omega (arith, below)) apart)) means)
+      by (inl (p, k, there', inl h, e)) =
+          let same : l ≡ at = separate G xs top stack l at i c t (component_type G s) 0 k mine own (cell_head (scope G) t cell) (right_in_head p k h.1) lying here (omega (arith, e)) in
+          let place_is : i ≡ c = ap (λ z. z.0) (same_some {A = Part} (i, t) (c, component_type G s) (sym lying ∙ (ap (lies G xs) same ∙ here))) in
+          absurd (omega (arith, place_is, e, (offset_within (scope G) s own_names one p k there' (inl h)).0))
+      by (inl (p, k, there', inr h, e)) =
+          let same : l ≡ stored_at at p.0 =
+          separate G xs top stack l (stored_at at p.0) i (c + k) t p.1.type 0 0 mine own (cell_head (scope G) t cell) (cell_head (scope G) p.1.type h.2) lying (value_lies p k h.1) (omega (arith, e)) in
+          let type : t ≡ p.1.type = ap (λ z. z.1) (same_some {A = Part} (i, t) (c + k, p.1.type) (sym lying ∙ (ap (lies G xs) same ∙ value_lies p k h.1))) in
+          subst (λ z. CellMeans z (after l) (word new i)) (sym type)
+          (subst (λ z. CellMeans p.1.type (after z) (word new i)) (sym same) (subst (λ z. CellMeans p.1.type (after (stored_at at p.0)) (word new z)) (sym e) (S.values p k there' h.0 h.1)))
+
+  -- A right of another component, or another right.
+  rights_settled : (j : Location) (r : System) (n m : ℕ) (x : Name) (v : Variable) → is_own G.p j.owner ≡ true → ComponentLies G j r n → right (scope G) r x ≡ Some (m, v) → member (scope G) r x ≡ None
+      → RightMeans G v.type (store (stored_at j x)) (n + m) (word old (n + m)) → RightMeans G v.type (after (stored_at j x)) (n + m) (word new (n + m))
+  rights_settled j r n m x v mine cl is' none means = by (around (n + m)) (right_place G xs j r n m x v mine cl is')
+    where
+      below : OwnRight G (n + m) ⊎ ((lies G xs j ≡ Some (n, component_type G r)) × InHead (scope G) (component_type G r) m × (1 ≤ m)) → n + m < top
+      below (inl o) = omega (arith, o.2, bottom_below G xs top stack top xs stack o.0 o.1)
+      below (inr o) = cell_below G xs top stack j n (component_type G r) m mine o.1 o.0
+
+      same_class : j ≡ at → (n ≡ c) × (r ≡ s)
+      same_class e = by_lies cl
+        where
+          by_lies : ComponentLies G j r n → (n ≡ c) × (r ≡ s)
+          by_lies (ClassLies sort' lying) =
+              let found : ◌≡◌ {A = Part} (n, component_type G r) (c, component_type G s) = same_some (n, component_type G r) (c, component_type G s) (sym lying ∙ (ap (lies G []) e ∙ is)) in
+              (ap (λ z. z.0) found, ap (λ z. system_in s z.1) found)
+          by_lies (ProcessLies where' is'' zero') = absurd (some_is_not_none _ (sym is ∙ (ap (lies G []) (sym e) ∙ ap (lies G []) where')))
+          by_lies (MonitorLies k where' is'' from) = absurd (some_is_not_none _ (sym is ∙ (ap (lies G []) (sym e) ∙ ap (lies G []) where')))
+
+      unwritten : (n + m < c + 1) ⊎ (c + 1 + length (declarations (scope G) s.parameters) ≤ n + m) → after (stored_at j x) ≡ store (stored_at j x)
+      unwritten apart = S.unwritten (stored_at j x) (λ p there' e. inner p there' e (offsets p there'))
+        where
+          inner : (p : Name × Variable) → IsIn p (declarations (scope G) s.parameters) → stored_at j x ≡ stored_at at p.0 → (k : ℕ) × Offset (scope G) s p k → ⊥
+          inner p there' e (k, inr h) = some_is_not_none _ (sym (value_lies p k h.1) ∙ (ap (lies G xs) (sym e) ∙ right_no_variable G xs j r n x mine cl none))
+          inner p there' e (k, inl h) =
+              let z = snoc_same j.path at.path x p.0 (ap (λ (l : Location). l.path) e) in
+              let same : j ≡ at = λ i. record { owner = (e i).owner; path = z.0 i } in
+              let q = same_class same in
+              let found : ◌≡◌ {A = ℕ × Variable} (m, v) (k, p.1) = same_some (m, v) (k, p.1) (sym is' ∙ (ap (λ y. right (scope G) y x) q.1 ∙ (ap (right (scope G) s) z.1 ∙ h.1))) in
+              within p k (n + m) there' (inl h) (λ i. q.0 i + (found i).0) apart
+
+      by : Around (n + m) → OwnRight G (n + m) ⊎ ((lies G xs j ≡ Some (n, component_type G r)) × InHead (scope G) (component_type G r) m × (1 ≤ m))
+          → RightMeans G v.type (after (stored_at j x)) (n + m) (word new (n + m))
+      by (inr apart) o = right_kept G store after old new xs j r n m x v (unwritten apart, S.outside (n + m) (below o) apart) means
+      by (inl (p, k, there', inr h, e)) (inl o) =
+          absurd (cell_no_own_right G xs top stack (stored_at at p.0) (c + k) (n + m) p.1.type 0 own (cell_head (scope G) p.1.type h.2) (value_lies p k h.1) o (omega (arith, e)))
+      by (inl (p, k, there', inr h, e)) (inr o) =
+          let same : stored_at at p.0 ≡ j =
+          separate G xs top stack (stored_at at p.0) j (c + k) n p.1.type (component_type G r) 0 m own mine (cell_head (scope G) p.1.type h.2) o.1 (value_lies p k h.1) o.0 (omega (arith, e)) in
+          let place_is : c + k ≡ n = ap (λ z. z.0) (same_some {A = Part} (c + k, p.1.type) (n, component_type G r) (sym (value_lies p k h.1) ∙ (ap (lies G xs) same ∙ o.0))) in
+          absurd (omega (arith, e, place_is, o.2))
+      by (inl (p, k, there', inl h, e)) (inl o) =
+          absurd (cell_no_own_right G xs top stack at c (n + m) (component_type G s) k own (right_in_head p k h.1) here o (sym e))
+      by (inl (p, k, there', inl h, e)) (inr o) =
+          let same : j ≡ at = separate G xs top stack j at n c (component_type G r) (component_type G s) m k mine own o.1 (right_in_head p k h.1) o.0 here e in
+          let q = same_class same in
+          let far : m ≡ k = omega (arith, e, q.0) in
+          let found = right_same 1 (rights (scope G) s) x p.0 k v p.1 (ap (λ y. right (scope G) y x) (sym q.1) ∙ (is' ∙ ap (λ z. Some (z, v)) far)) h.1 in
+          subst (λ z. RightMeans G z.type (after (stored_at j x)) (n + m) (word new (n + m))) (sym found.1)
+          (subst (λ l. RightMeans G p.1.type (after l) (n + m) (word new (n + m))) (sym (λ i. stored_at (same i) (found.0 i)))
+          (subst (λ z. RightMeans G p.1.type (after (stored_at at p.0)) z (word new z)) (sym e) (S.rights p k there' h.0 h.1)))
+
+  pub data_settled : DataMeans G xs (is_own G.p) store old → DataMeans G xs (is_own G.p) after new
+  data_settled D = record {
+    cells = λ l i t mine lying. by l i t mine lying (is_cell t);
+    rights = λ j r n m x v mine cl is' none. rights_settled j r n m x v mine cl is' none (D.rights j r n m x v mine cl is' none);
+  }
+    where
+      by : (l : Location) (i : ℕ) (t : ResolvedType) → is_own G.p l.owner ≡ true → lies G xs l ≡ Some (i, t) → IsCell t ⊎ ((v : Value) (z : ℤ) → CellMeans t v z) → CellMeans t (after l) (word new i)
+      by l i t mine lying (inl cell) = cells_settled l i t mine cell lying (D.cells l i t mine lying)
+      by l i t mine lying (inr f) = f (after l) (word new i)
+
+  -- A parameter is no variable of an activation.
+  local_unwritten : (d : ℕ) (x : Name) → after (local_named G d x) ≡ store (local_named G d x)
+  local_unwritten d x = S.unwritten (local_named G d x) (λ p there' e. absurd (omega (arith, live_owner G [] at _ d is (sym (ap (λ (l : Location). l.owner) e)))))
+
+  -- A word of an activation that is no part of a variable is as it was.
+  word_settled : (i : ℕ) → i < top → ((l : Location) (n : ℕ) (u : ResolvedType) (a : ℕ) → is_own G.p l.owner ≡ true → InHead (scope G) u a → lies G xs l ≡ Some (n, u) → n + a ≡ i → ⊥) → word new i ≡ word old i
+  word_settled i below none = by (around i)
+    where
+      by : Around i → word new i ≡ word old i
+      by (inr apart) = S.outside i below apart
+      by (inl (p, k, there', inl h, e)) = absurd (none at c (component_type G s) k own (right_in_head p k h.1) here (sym e))
+      by (inl (p, k, there', inr h, e)) = absurd (none (stored_at at p.0) (c + k) p.1.type 0 own (cell_head (scope G) p.1.type h.2) (value_lies p k h.1) (omega (arith, e)))
+
+  pub activation_settled : (d : ℕ) (z : Activation) → activation_at d xs ≡ Some z → KeepsActivation G store after old new d z
+  activation_settled d z found = (
+    λ x far v is' by_reference. (
+      local_unwritten d x,
+      word_settled (z.base + far) (omega (arith, inside.0, (reference_inside (scope G) z.routine x far v is' by_reference).1))
+          (λ l n u a mine head lying e. cell_no_reference G xs top stack l n u a d z x far v mine head lying found is' by_reference e),
+    ),
+    λ t is' none. (
+      local_unwritten d z.routine.name,
+      word_settled z.base (omega (arith, inside.0, result_inside (scope G) z.routine t is')) (λ l n u a mine head lying e. cell_no_result G xs top stack l n u a d z t mine head lying found is' e),
+    ),
+  )
+    where
+      inside : (z.base + activation_words (scope G) z.routine ≤ top) × ((y : System) → system_of_process G.setup G.p ≡ Some y → component_words (scope G) y ≤ z.base)
+      inside = found_inside G top d xs z stack found
+
+-- The process runs on with the parameters of the class.
+abbrev pub runs_settled : (G : Ground) (store after : Store) (o : PrivateState) (new : List ℤ) (k : List Task) (R : RunsOn G store o k) (at : Location) (c : ℕ) (s : System)
+    → is_own G.p at.owner ≡ true → s.sort ≡ Class → lies G [] at ≡ Some (c, component_type G s) → Distinct (permanent_variables (scope G) s)
+    → ((p : Name × Variable) → IsIn p (declarations (scope G) s.parameters) → is_component p.1.type ≡ false → (words (scope G) p.1.type ≡ 1) × IsCell p.1.type)
+    → ((p : Name × Variable) → IsIn p (declarations (scope G) s.parameters) → (k : ℕ) × Offset (scope G) s p k)
+    → Settled G (o.base + (site G R.running).words) store after o.words new at c s → length new ≡ length o.words
+    → RunsOn G after (record o { words = new }) k
+runs_settled G store after o new k R at c s own sort is distinct one offsets S count = record {
+  running = R.running;
+  runs = R.runs;
+  base = R.base;
+  temp = R.temp;
+  component = R.component;
+  gate = R.gate;
+  live = R.live;
+  left = R.left;
+  next_value = R.next_value;
+  count = count ∙ R.count;
+  activations_mean =
+      activations_kept G store after o.words new o.temps o.limit o.base (held_below R.live o.temps R.running.temp) R.running o.frames o.place R.running.unit.temps k R.left
+      (λ rest f b owner there. activation_kept G store after o.words new rest b (length rest) f owner
+      (activation_settled G (activations o.base o.frames k) _ (runs_stacked G store o k R) store after o.words new at c s own sort is distinct one offsets S (length rest) (record { base = b; routine = f.routine }) there)) R.activations_mean;
+  data_means = data_settled G (activations o.base o.frames k) _ (runs_stacked G store o k R) store after o.words new at c s own sort is distinct one offsets S R.data_means;
+}
