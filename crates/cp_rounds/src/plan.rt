@@ -83,7 +83,9 @@ impl Plan {
 
     /// How many threads make the rounds of so many processes: no more than there are chunks to draw at once, and the calling thread
     /// where it makes the kernel turns of a wave beside the next one.
-    pub fn threads(&self, processes: usize) -> usize {
+    pub fn threads(&self, processes: usize) -> usize
+        ensures { result ≤ self.now.workers }
+    {
         let wave = (self.wave as usize).min(processes);
         let chunk = self.chunk as usize;
         let chunks = (wave + chunk - 1) / chunk;
