@@ -11,3 +11,4 @@ pub mod Picking
 pub mod SystemsMade
 pub mod Counting
 pub mod ComponentsFound
+pub mod RoutinesNumbered

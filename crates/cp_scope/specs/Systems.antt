@@ -2,6 +2,7 @@
 use Rattle.std.specs.Prelude.{◌≡◌, Bool, true, false, ℕ, suc, List, [], ◌∷◌, Option, None, Some, filter, if◌then◌else◌, map}
 use Rattle.std.specs.Borrow.{Bor}
 use Rattle.std.specs.Option.{option_or}
+use Rattle.std.specs.Str.{bytes_eq}
 use Rattle.cp_model.specs.Abstract.{Monitor, Name, Process, Routine}
 use Rattle.cp_model.specs.Components as c
 use Rattle.cp_model.specs.Components.{count_before}
@@ -38,6 +39,11 @@ AreRoutines g types _ _ = ⊥
 abbrev pub routines_of : List tree.Routine → List Routine
 routines_of texts = map erase.routine (map view.routine texts)
 
+-- The number of the first routine of this name, where the first of them all has this one.
+abbrev pub routine_number : Name → ℕ → List Routine → Option ℕ
+routine_number x n [] = None
+routine_number x n (r ∷ rs) = if bytes_eq x r.name then Some n else routine_number x (suc n) rs
+
 pub record MakesRoutines (names : Names) (old new : Types) (before after : List Layout) (texts : List tree.Routine) (tables : List RoutineTable) : Type 0 where
   pub builds : Builds names old new before after
   pub stands : (g : GlobalScope) (later : Types) → ScopeStands names old g → AreLaid g old before → Grows new later
@@ -52,6 +58,7 @@ pub record SystemStands (g : GlobalScope) (types : Types) (table : SystemTable) 
   pub parameter_names : (x : Name) → NumberedIs types (parameters_of g ps) x (lookup x table.parameter_names) (lookup x (parameters_of g ps))
   pub variable_names : (x : Name) → NumberedIs types (variables_of g vs) x (lookup x table.variable_names) (lookup x (variables_of g vs))
   pub routines : AreRoutines g types table.routines.items (routines_of rs)
+  pub routine_names : (x : Name) → lookup x table.routine_names ≡ routine_number x 0 (routines_of rs)
 
 pub record MakesSystem (names : Names) (old new : Types) (before after : List Layout) (ps : List Parameters) (vs : List Fields) (rs : List tree.Routine) (table : SystemTable)
     : Type 0 where

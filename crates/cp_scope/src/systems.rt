@@ -2,12 +2,14 @@
 //! members and rights of its components lie.
 
 ghost use Rattle.std.specs.Prelude.{◌≡◌, IfOk};
-ghost use Rattle.cp_scope.specs.Systems.{ComponentFound, MakesRoutines, MakesSystem, component_of_name};
+ghost use Rattle.cp_model.specs.Abstract.{Name};
+ghost use Rattle.cp_model.specs.Names.{lookup};
+ghost use Rattle.cp_scope.specs.Systems.{ComponentFound, MakesRoutines, MakesSystem, component_of_name, routine_number, routines_of};
 
 use crate::components::Right;
 use crate::error::TableError;
 use crate::layout::{Layout, Layouts};
-use crate::names::Names;
+use crate::names::{Names, add_first};
 use crate::numbering::Numbered;
 use crate::routines::RoutineTable;
 use crate::types::Types;
@@ -18,8 +20,8 @@ use std::alloc::Global;
 
 /// A system type: its parameters, variables and routines in text order, and where the members and
 /// the rights of its components lie.
-/// The words of a component are those of `members`. Its parameters and its variables are also found
-/// by their names.
+/// The words of a component are those of `members`. Its parameters, variables and routines are also
+/// found by their names.
 #[derive(Drop)]
 pub struct SystemTable<'t> {
     pub parameters: Vec<Declared<'t>>,
@@ -29,6 +31,7 @@ pub struct SystemTable<'t> {
     pub parameter_names: NameTable<'t, Numbered>,
     pub variable_names: NameTable<'t, Numbered>,
     pub routines: Vec<RoutineTable<'t>>,
+    pub routine_names: NameTable<'t, usize>,
 }
 
 impl<'t> Layouts<'t> {
@@ -48,6 +51,18 @@ impl<'t> Layouts<'t> {
             tables.push(table)?;
         }
         Ok(tables)
+    }
+
+    // The numbers of routines by their names.
+    fn routine_names(&self, texts: &'t [Routine]) -> Result<NameTable<'t, usize>, TableError>
+        ensures { IfOk result (λ names. (x : Name) → lookup x names ≡ routine_number x 0
+            (routines_of texts.now)) }
+    {
+        let mut names = NameTable::new(self.alloc);
+        for i in 0..texts.len() {
+            add_first(&mut names, texts[i].name.name.as_bytes(), i)?;
+        }
+        Ok(names)
     }
 
     /// What is known of a system type with these parameters, variables and routines.
@@ -71,6 +86,7 @@ impl<'t> Layouts<'t> {
         let rights = types.rights_to(&components)?;
         let parameter_names = types.numbered(&own_parameters)?;
         let variable_names = types.numbered(&own_variables)?;
+        let routine_names = self.routine_names(routines)?;
         let routines = self.routines(names, types, routines)?;
         Ok(SystemTable {
             parameters: own_parameters,
@@ -80,6 +96,7 @@ impl<'t> Layouts<'t> {
             parameter_names,
             variable_names,
             routines,
+            routine_names,
         })
     }
 }
