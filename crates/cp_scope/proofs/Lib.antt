@@ -12,3 +12,4 @@ pub mod SystemsMade
 pub mod Counting
 pub mod ComponentsFound
 pub mod RoutinesNumbered
+pub mod Called

@@ -1,10 +1,10 @@
 //! What is known of a system type: its parameters and variables, its routines, and where the
 //! members and rights of its components lie.
 
-ghost use Rattle.std.specs.Prelude.{◌≡◌, IfOk};
+ghost use Rattle.std.specs.Prelude.{◌≡◌, IfOk, option_map, slice_get};
 ghost use Rattle.cp_model.specs.Abstract.{Name};
 ghost use Rattle.cp_model.specs.Names.{lookup};
-ghost use Rattle.cp_scope.specs.Systems.{ComponentFound, MakesRoutines, MakesSystem, component_of_name, routine_number, routines_of};
+ghost use Rattle.cp_scope.specs.Systems.{ComponentFound, MakesRoutines, MakesSystem, RoutineFound, component_of_name, routine_number, routines_of};
 
 use crate::components::Right;
 use crate::error::TableError;
@@ -101,11 +101,18 @@ impl<'t> Layouts<'t> {
     }
 }
 
-/// A component that a parameter or variable names: the number of its system type, whether it is a
-/// parameter, and how many monitors and
-/// processes are declared before it.
+/// A routine of a system type: its number in text order, and what is known of it.
 #[derive(Clone, Copy)]
-pub struct Component {
+pub struct IndexedRoutine<'s, 't> {
+    pub index: usize,
+    pub table: &'s RoutineTable<'t>,
+}
+
+/// A component that a parameter or variable names: its name, the number of its system type, whether
+/// it is a parameter, and how many monitors and processes are declared before it.
+#[derive(Clone, Copy)]
+pub struct Component<'n> {
+    pub name: &'n [u8],
     pub system: usize,
     pub is_parameter: bool,
     pub monitors: usize,
@@ -113,12 +120,18 @@ pub struct Component {
 }
 
 // What a parameter or variable names, if it is a component.
-fn as_component(types: &Types, is_parameter: bool, named: Option<Numbered>) -> Option<Component>
-    ensures { result ≡ component_of_name types.now is_parameter named }
+fn as_component<'n>(
+    types: &Types,
+    name: &'n [u8],
+    is_parameter: bool,
+    named: Option<Numbered>,
+) -> Option<Component<'n>>
+    ensures { result ≡ component_of_name types.now name.entry is_parameter named }
 {
     let named = named?;
     let system = types.system_of(named.of)?;
     Some(Component {
+        name,
         system,
         is_parameter,
         monitors: named.monitors,
@@ -127,13 +140,33 @@ fn as_component(types: &Types, is_parameter: bool, named: Option<Numbered>) -> O
 }
 
 impl<'t> SystemTable<'t> {
+    /// The routine of a number, if there is one.
+    pub fn routine_at(&self, index: usize) -> Option<&RoutineTable<'t>>
+        ensures { option_map (λ t. t.now) result ≡ slice_get self.now.routines.items index }
+    {
+        self.routines.get(index)
+    }
+
+    /// The first routine of a name.
+    pub fn routine(&self, name: &[u8]) -> Result<Option<IndexedRoutine<'_, 't>>, TableError>
+        ensures { IfOk result (λ r. RoutineFound self.now name.now r) }
+    {
+        match self.routine_names.find(name) {
+            None => Ok(None),
+            Some(index) => match self.routine_at(index) {
+                None => Err(TableError::Unaccepted),
+                Some(table) => Ok(Some(IndexedRoutine { index, table })),
+            },
+        }
+    }
+
     /// The component that a name means in a component of this system type.
-    pub fn component(&self, types: &Types<'t>, name: &[u8]) -> Option<Component>
+    pub fn component<'n>(&self, types: &Types<'t>, name: &'n [u8]) -> Option<Component<'n>>
         ensures { ComponentFound types.now self.now name.now result }
     {
-        match as_component(types, true, self.parameter_names.find(name)) {
+        match as_component(types, name, true, self.parameter_names.find(name)) {
             Some(c) => Some(c),
-            None => as_component(types, false, self.variable_names.find(name)),
+            None => as_component(types, name, false, self.variable_names.find(name)),
         }
     }
 }
