@@ -13,3 +13,4 @@ pub mod Counting
 pub mod ComponentsFound
 pub mod RoutinesNumbered
 pub mod Called
+pub mod Meanings

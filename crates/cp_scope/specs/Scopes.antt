@@ -1,10 +1,12 @@
 -- When a scope is one that code is compiled with, and what its queries find.
-use Rattle.std.specs.Prelude.{◌≡◌, ℕ, List, Option, None, Some, find, map}
+use Rattle.std.specs.Prelude.{◌≡◌, ℕ, List, [], Option, None, Some, find, map}
 use Rattle.std.specs.Borrow.{Bor}
 use Rattle.std.specs.Str.{bytes_eq}
 use Rattle.cp_model.specs.Abstract.{Name, Routine, System}
 use Rattle.cp_model.specs.Calls as calls
-use Rattle.cp_model.specs.Declarations.{declarations}
+use Rattle.cp_model.specs.Declarations.{Variable, declarations}
+use Rattle.cp_model.specs.Environments as environments
+use Rattle.cp_model.specs.Environments.{local_variables, result_variable}
 use Rattle.cp_model.specs.Erase as erase
 use Rattle.cp_model.specs.View as view
 use Rattle.cp_model.specs.Names.{lookup}
@@ -18,12 +20,14 @@ use Rattle.cp_code.specs.Scopes.{environment, routine_index}
 use Rattle.cp_code.specs.Sites.{system_of_callee}
 use Rattle.cp_scope.specs.declared.routines.RoutineTable.{RoutineTable}
 use Rattle.cp_scope.specs.declared.scope.Callee.{Callee}
+use Rattle.cp_scope.specs.declared.scope.Meaning.{Meaning}
+use Rattle.cp_scope.specs.declared.scope.Meaning.TheVariants as meaning
 use Rattle.cp_scope.specs.declared.scope.Scope.{Scope}
 use Rattle.cp_scope.specs.declared.systems.IndexedRoutine.{IndexedRoutine}
 use Rattle.cp_scope.specs.declared.types.Types.{Types}
 use Rattle.cp_scope.specs.Layouts.{AreLaid}
 use Rattle.cp_scope.specs.Routines.{RoutineStands}
-use Rattle.cp_scope.specs.Standing.{ScopeStands}
+use Rattle.cp_scope.specs.Standing.{ScopeStands, Stands, value_of}
 use Rattle.cp_scope.specs.Systems.{ComponentIs, IsIndexed, SystemStands, routines_of}
 use Rattle.cp_scope.specs.Texts.{AreSystems}
 
@@ -66,3 +70,26 @@ abbrev pub CalleeIs : Scope → code.Scope → Option Callee → Option calls.Ca
 CalleeIs scope s None None = Unit {0}
 CalleeIs scope s (Some f) (Some c) = IsCallee scope s f c
 CalleeIs scope s _ _ = ⊥
+
+-- ---- Meanings
+
+abbrev pub VariableIs : Types → Option ℕ → Option Variable → Type 0
+VariableIs types None None = Unit {0}
+VariableIs types (Some n) (Some v) = Stands types n v.type
+VariableIs types _ _ = ⊥
+
+-- The variable that holds the result of the routine.
+abbrev pub results_of : GlobalScope → Option Routine → List (Name × Variable)
+results_of g None = []
+results_of g (Some r) = result_variable g r.name r.result
+
+abbrev pub locals_of : GlobalScope → Option Routine → List (Name × Variable)
+locals_of g None = []
+locals_of g (Some r) = local_variables g r
+
+-- A constant has this value, a variable a type of this number.
+abbrev pub MeaningIs : Types → Meaning → environments.Meaning → Type 0
+MeaningIs types (meaning.Constant v) (environments.IsConstant b n) = value_of v ≡ (b, n)
+MeaningIs types (meaning.Variable of) (environments.IsVariable at v) = Stands types of v.type
+MeaningIs types meaning.Unknown environments.IsUnknown = Unit {0}
+MeaningIs types _ _ = ⊥

@@ -45,7 +45,7 @@ pub use names::{Names, Value};
 pub use numbering::Numbered;
 pub use outer::Outer;
 pub use routines::RoutineTable;
-pub use scope::{Callee, Scope};
+pub use scope::{Callee, Meaning, Scope};
 pub use systems::{Component, IndexedRoutine, SystemTable};
 pub use tables::Tables;
 pub use types::{Base, Field, Simple, TypeRow, Types};

@@ -1,8 +1,10 @@
 //! What the code of a unit is compiled with, and what names mean in it.
 
-ghost use Rattle.std.specs.Prelude.{IfOk, OnOk};
+ghost use Rattle.std.specs.Prelude.{◌≡◌, IfOk, OnOk, option_map};
 ghost use Rattle.cp_model.specs.Calls as calls;
+ghost use Rattle.cp_model.specs.Environments.{constant_or_unknown, meaning, permanent_variables};
 ghost use Rattle.cp_model.specs.Erase as erase;
+ghost use Rattle.cp_model.specs.Names.{lookup};
 ghost use Rattle.cp_model.specs.View as view;
 ghost use Rattle.cp_code.specs.Scopes as code;
 ghost use Rattle.cp_code.specs.Layout as layout;
@@ -10,12 +12,14 @@ ghost use Rattle.cp_model.specs.Abstract as a;
 ghost use Rattle.cp_scope.specs.Components.{RightIs};
 ghost use Rattle.cp_scope.specs.Layouts.{PartIs};
 ghost use Rattle.cp_scope.specs.Locals.{LocalIs};
-ghost use Rattle.cp_scope.specs.Scopes.{CalleeIs, IsScope, Selects};
+ghost use Rattle.cp_scope.specs.Scopes.{CalleeIs, IsScope, MeaningIs, Selects, VariableIs, locals_of, results_of};
 
 use crate::components::Right;
 use crate::error::TableError;
 use crate::layout::Part;
 use crate::locals::Local;
+use crate::names::Value;
+use crate::numbering::Numbered;
 use crate::routines::RoutineTable;
 use crate::systems::{Component, IndexedRoutine, SystemTable};
 use crate::tables::Tables;
@@ -35,6 +39,21 @@ pub struct Scope<'s, 't> {
 pub struct Callee<'s, 't, 'n> {
     pub routine: IndexedRoutine<'s, 't>,
     pub of: Option<Component<'n>>,
+}
+
+/// What a name means: the value of a constant, or the number of a variable's type.
+#[derive(Clone, Copy)]
+pub enum Meaning<'t> {
+    Constant(Value<'t>),
+    Variable(usize),
+    Unknown,
+}
+
+// The number of its type, if a parameter or variable was found.
+fn type_of(found: Option<Numbered>) -> Option<usize>
+    ensures { result ≡ option_map (λ n. n.of) found }
+{
+    Some(found?.of)
 }
 
 // Every index list of a text has an index.
@@ -73,6 +92,66 @@ impl<'s, 't> Scope<'s, 't> {
             (layout.right s.globals s.system name.now) }
     {
         self.system.rights.find(name)
+    }
+
+    // The type of the variable that has the name of a function, for its result.
+    fn result_type(&self, name: &[u8]) -> Option<usize>
+        ensures { (s : code.Scope) → IsScope self.now s → VariableIs self.now.tables.now.types
+            result (lookup name.now (results_of s.globals s.routine)) }
+    {
+        let routine = self.routine?;
+        if name != routine.name {
+            return None;
+        }
+        routine.result
+    }
+
+    // The type of the routine's parameter, variable or result that has a name.
+    fn local_type(&self, name: &[u8]) -> Option<usize>
+        ensures { (s : code.Scope) → IsScope self.now s → VariableIs self.now.tables.now.types
+            result (lookup name.now (locals_of s.globals s.routine)) }
+    {
+        match self.local(name) {
+            Some(local) => Some(local.of),
+            None => self.result_type(name),
+        }
+    }
+
+    // The type of the component's parameter or variable that has a name.
+    fn permanent_type(&self, name: &[u8]) -> Option<usize>
+        ensures { (s : code.Scope) → IsScope self.now s → VariableIs self.now.tables.now.types
+            result (lookup name.now (permanent_variables s.globals s.system)) }
+    {
+        match type_of(self.system.parameter_names.find(name)) {
+            Some(of) => Some(of),
+            None => type_of(self.system.variable_names.find(name)),
+        }
+    }
+
+    // What a name means in the outermost scope.
+    fn outer_meaning(&self, name: &[u8]) -> Meaning<'t>
+        ensures { (s : code.Scope) → IsScope self.now s → MeaningIs self.now.tables.now.types result
+            (constant_or_unknown (lookup name.now s.globals.constants)) }
+    {
+        match self.tables.names.constants.find(name) {
+            Some(value) => Meaning::Constant(value),
+            None => Meaning::Unknown,
+        }
+    }
+
+    /// What a name means: a variable of the routine or its result, else one of the component, else
+    /// a constant.
+    pub fn meaning(&self, name: &[u8]) -> Meaning<'t>
+        ensures { (s : code.Scope) → IsScope self.now s → MeaningIs self.now.tables.now.types result
+            (meaning (code.environment s) name.now) }
+    {
+        if let Some(of) = self.local_type(name) {
+            return Meaning::Variable(of);
+        }
+        match self.permanent_type(name) {
+            Some(of) => Meaning::Variable(of),
+            None => self.outer_meaning(name),
+        }
     }
 
     // The routine of this system type that a name calls.
