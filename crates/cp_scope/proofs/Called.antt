@@ -1,5 +1,5 @@
 -- What a designator calls.
-use Rattle.std.proofs.Common.{◌≡◌, Global, Vec, ◌≤◌, ◌∷◌, ◌+◌, ◌∙◌, ◌++◌, Bool, Bor, true, false, ℕ, zero, suc, List, [], Option, None, Some, if◌then◌else◌, ap, arith, find, is_some, length, map, refl, option_map, slice_get, slice_index_or, subst, sym}
+use Rattle.std.proofs.Common.{◌≡◌, Global, Vec, ◌≤◌, ◌∷◌, ◌+◌, ◌∙◌, Bool, true, false, ℕ, zero, suc, List, [], Option, None, Some, if◌then◌else◌, ap, arith, find, is_some, length, map, refl, option_map, slice_get, slice_index_or, subst, sym}
 use Rattle.std.proofs.lemmas.Option.{same_Some}
 use Rattle.std.proofs.lemmas.Slice.Eq.{bytes_eq-Decides}
 use Rattle.std.specs.Str.{bytes_eq}
@@ -16,10 +16,11 @@ use Rattle.cp_model.specs.View as view
 use Rattle.cp_model.specs.View.{PlacedIndex, designator_layer, expression_layer, index_layer, operation_layer, selector_layer}
 use Rattle.cp_model.specs.declared.tree.Designator.{Designator}
 use Rattle.cp_model.specs.declared.tree.Expression.TheFolds.{fold-roll-Selector, fold_out-Designator}
+use Rattle.cp_model.specs.declared.tree.Identifier.{Identifier}
 use Rattle.cp_model.specs.declared.tree.Index.{Index}
 use Rattle.cp_model.specs.declared.tree.Selector.{Selector}
 use Rattle.cp_model.specs.declared.tree.Selector.TheVariants as tree
-use Rattle.cp_model.specs.declared.tree.Selector.TheVariants.{rolls-Indexed}
+use Rattle.cp_model.specs.declared.tree.Selector.TheVariants.{rolls-Field, rolls-Indexed}
 use Rattle.cp_model.specs.Names.{lookup}
 use Rattle.cp_model.specs.Syntax as s
 use Rattle.cp_model.specs.Types.{GlobalScope}
@@ -38,7 +39,7 @@ use Rattle.cp_scope.specs.declared.systems.IndexedRoutine.{IndexedRoutine}
 use Rattle.cp_scope.specs.declared.types.Types.{Types}
 use Rattle.cp_scope.specs.Routines.{RoutineStands}
 use Rattle.cp_scope.specs.Scopes.{CalleeIs, IsScope, Selects}
-use Rattle.cp_scope.specs.Systems.{AreRoutines, ComponentIs, RoutineFound, RoutineIs, component_among, routine_number, routines_of}
+use Rattle.cp_scope.specs.Systems.{AreRoutines, ComponentIs, RoutineFound, RoutineIs, component_among, routine_number}
 use Rattle.cp_scope.specs.Variables.{parameters_of, variables_of}
 
 -- ---- Designators that call nothing
@@ -86,12 +87,17 @@ deep_twice x (s.Indexed s.NoIndices) z first second = absurd first
 deep_twice x (s.Indexed (s.MoreIndices at e is)) z first second =
     deep_select (erase.indexed (a.At (a.Plain x) (erase.expression e)) is) z (deep_indexed (a.At (a.Plain x) (erase.expression e)) is tt)
 
-view_indexed : (v : Vec Index Global) → view.selector (tree.Indexed v) ≡ s.Indexed (view.indices_of (map view.index v.items))
+pub view_indexed : (v : Vec Index Global) → view.selector (tree.Indexed v) ≡ s.Indexed (view.indices_of (map view.index v.items))
 view_indexed v =
     ap view.selector (sym (rolls-Indexed v))
     ∙ fold-roll-Selector s.Expression s.Selector s.Designator PlacedIndex s.Operation expression_layer selector_layer designator_layer index_layer operation_layer _
 
-view_designator : (d : Designator) → view.designator d ≡ s.Designate d.root (view.selectors_of (map view.selector d.selectors.items))
+pub view_field : (at : ℕ) (x : Identifier) → view.selector (tree.Field at x) ≡ s.Field at x
+view_field at x =
+    ap view.selector (sym (rolls-Field at x))
+    ∙ fold-roll-Selector s.Expression s.Selector s.Designator PlacedIndex s.Operation expression_layer selector_layer designator_layer index_layer operation_layer _
+
+pub view_designator : (d : Designator) → view.designator d ≡ s.Designate d.root (view.selectors_of (map view.selector d.selectors.items))
 view_designator = fold_out-Designator s.Expression s.Selector s.Designator PlacedIndex s.Operation expression_layer selector_layer designator_layer index_layer operation_layer
 
 index_selects : (is : List Index) → 1 ≤ length is → Selects (s.Indexed (view.indices_of (map view.index is)))

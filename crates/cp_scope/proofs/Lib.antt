@@ -14,3 +14,4 @@ pub mod ComponentsFound
 pub mod RoutinesNumbered
 pub mod Called
 pub mod Meanings
+pub mod Parts

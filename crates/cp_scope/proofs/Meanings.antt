@@ -4,7 +4,7 @@ use Rattle.std.specs.Option.{option_or}
 use Rattle.std.specs.Str.{bytes_eq}
 use Rattle.cp_model.specs.Abstract.{Name, Routine, System}
 use Rattle.cp_model.specs.Declarations.{Variable, declarations}
-use Rattle.cp_model.specs.Environments.{Environment, Meaning, local_variables, meaning, permanent_variables, result_variable, variable_or}
+use Rattle.cp_model.specs.Environments.{Meaning, local_variables, meaning, permanent_variables, result_variable, variable_or}
 use Rattle.cp_model.specs.Locations.{Owner, Path}
 use Rattle.cp_model.specs.Names.{lookup}
 use Rattle.cp_model.specs.Types.{GlobalScope}
@@ -19,7 +19,6 @@ use Rattle.cp_scope.specs.declared.types.Types.{Types}
 use Rattle.cp_scope.specs.Locals.{LocalIs}
 use Rattle.cp_scope.specs.Numbering.{NumberedIs}
 use Rattle.cp_scope.specs.Scopes.{IsScope, MeaningIs, VariableIs, locals_of, results_of}
-use Rattle.cp_scope.specs.Standing.{Stands}
 use Rattle.cp_scope.specs.Variables.{parameters_of, variables_of}
 
 looked_up : (x : Name) (vs ws : List (Name × Variable)) → lookup x (vs ++ ws) ≡ option_or (lookup x vs) (lookup x ws)

@@ -10,3 +10,4 @@ pub mod Systems
 pub mod Texts
 pub mod Numbering
 pub mod Scopes
+pub mod Places

@@ -1,7 +1,6 @@
 -- When a scope is one that code is compiled with, and what its queries find.
-use Rattle.std.specs.Prelude.{◌≡◌, ℕ, List, [], Option, None, Some, find, map}
+use Rattle.std.specs.Prelude.{◌≡◌, ℕ, List, [], Option, None, Some, map}
 use Rattle.std.specs.Borrow.{Bor}
-use Rattle.std.specs.Str.{bytes_eq}
 use Rattle.cp_model.specs.Abstract.{Name, Routine, System}
 use Rattle.cp_model.specs.Calls as calls
 use Rattle.cp_model.specs.Declarations.{Variable, declarations}
@@ -9,7 +8,6 @@ use Rattle.cp_model.specs.Environments as environments
 use Rattle.cp_model.specs.Environments.{local_variables, result_variable}
 use Rattle.cp_model.specs.Erase as erase
 use Rattle.cp_model.specs.View as view
-use Rattle.cp_model.specs.Names.{lookup}
 use Rattle.cp_model.specs.Syntax as syntax
 use Rattle.cp_model.specs.Types.{GlobalScope}
 use Rattle.cp_model.specs.declared.tree.Fields.{Fields}
@@ -23,7 +21,6 @@ use Rattle.cp_scope.specs.declared.scope.Callee.{Callee}
 use Rattle.cp_scope.specs.declared.scope.Meaning.{Meaning}
 use Rattle.cp_scope.specs.declared.scope.Meaning.TheVariants as meaning
 use Rattle.cp_scope.specs.declared.scope.Scope.{Scope}
-use Rattle.cp_scope.specs.declared.systems.IndexedRoutine.{IndexedRoutine}
 use Rattle.cp_scope.specs.declared.types.Types.{Types}
 use Rattle.cp_scope.specs.Layouts.{AreLaid}
 use Rattle.cp_scope.specs.Routines.{RoutineStands}
