@@ -273,9 +273,9 @@ own_called scope s i x found other finds =
 -- A component that is found is the one that is named.
 pub component_known : (scope : Scope) (s : code.Scope) (i : IsScope scope s) (x : Name) (found : Option Component)
     → ComponentIs scope.tables.now.types (parameters_of s.globals i.parameters) (variables_of s.globals i.variables) found
-        (component_among (parameters_of s.globals i.parameters) (variables_of s.globals i.variables) x)
+    (component_among (parameters_of s.globals i.parameters) (variables_of s.globals i.variables) x)
     → ComponentIs scope.tables.now.types (declarations s.globals s.system.parameters) (declarations s.globals s.system.variables) found
-        (component_named (environment s) x)
+    (component_named (environment s) x)
 component_known scope s i x found h =
     let types = scope.tables.now.types in
     let g = s.globals in
@@ -290,7 +290,7 @@ called_in y (Some c) = elim (routine_named y c.system) [ None ↦ None | Some r 
 
 pub no_component_called : (scope : Scope) (s : code.Scope) (x y : Name)
     → ComponentIs scope.tables.now.types (declarations s.globals s.system.parameters) (declarations s.globals s.system.variables) None
-        (component_named (environment s) x)
+    (component_named (environment s) x)
     → callee (environment s) (a.Part (a.Plain x) y) ≡ None
 no_component_called scope s x y none = go (component_named (environment s) x) none
   where
@@ -302,7 +302,7 @@ no_component_called scope s x y none = go (component_named (environment s) x) no
 
 pub component_called : (scope : Scope) (s : code.Scope) → IsScope scope s → (x y : Name) (f : Component) (table : SystemTable) (r : Option IndexedRoutine)
     → ComponentIs scope.tables.now.types (declarations s.globals s.system.parameters) (declarations s.globals s.system.variables) (Some f)
-        (component_named (environment s) x)
+    (component_named (environment s) x)
     → slice_get scope.tables.now.systems.items f.system ≡ Some table → RoutineFound table y r
     → CalleeIs scope s (option_map (called_of f) r) (callee (environment s) (a.Part (a.Plain x) y))
 component_called scope s i x y f table r named here finds = go (component_named (environment s) x) named

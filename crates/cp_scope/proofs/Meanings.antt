@@ -107,8 +107,8 @@ numbered_typed types vs x (Some n) None h = absurd h
 
 pub permanent_found : (scope : Scope) (s : code.Scope) → IsScope scope s → (x : Name)
     → VariableIs scope.tables.now.types
-        (option_or (option_map (λ k. k.of) (lookup x scope.system.now.parameter_names)) (option_map (λ k. k.of) (lookup x scope.system.now.variable_names)))
-        (lookup x (permanent_variables s.globals s.system))
+    (option_or (option_map (λ k. k.of) (lookup x scope.system.now.parameter_names)) (option_map (λ k. k.of) (lookup x scope.system.now.variable_names)))
+    (lookup x (permanent_variables s.globals s.system))
 permanent_found scope s i x =
     let types = scope.tables.now.types in
     let ps = parameters_of s.globals i.parameters in

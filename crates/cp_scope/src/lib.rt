@@ -13,6 +13,8 @@
 //!   those of its parts. A `SystemTable` has the parameters and variables of a system type, where
 //!   its members and rights lie, which
 //!   components its names mean, and a `RoutineTable` of each routine, where its locals lie.
+//! - **Scopes.** A `Scope` is what the code of a unit is compiled with. It tells what names,
+//!   designators and calls mean there (`specs/Scopes.antt`, `specs/Places.antt`).
 //!
 //! Names are lent by the tree and found by comparison, in a time that grows as the logarithm of
 //! their number. Numbers and names stand for
