@@ -11,3 +11,7 @@ pub mod Picking
 pub mod SystemsMade
 pub mod Counting
 pub mod ComponentsFound
+pub mod RoutinesNumbered
+pub mod Called
+pub mod Meanings
+pub mod Parts

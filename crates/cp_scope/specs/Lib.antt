@@ -9,3 +9,5 @@ pub mod Components
 pub mod Systems
 pub mod Texts
 pub mod Numbering
+pub mod Scopes
+pub mod Places

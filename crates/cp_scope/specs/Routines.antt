@@ -1,5 +1,5 @@
 -- When a table tells what is known of a routine.
-use Rattle.std.specs.Prelude.{ℕ, List, Option, None, Some, map}
+use Rattle.std.specs.Prelude.{◌≡◌, ℕ, List, Option, None, Some, map}
 use Rattle.cp_model.specs.Abstract.{Name, Routine}
 use Rattle.cp_model.specs.Declarations.{declarations}
 use Rattle.cp_model.specs.Erase as erase
@@ -30,6 +30,7 @@ pub record MakesResult (names : Names) (old new : Types) (of : Option Identifier
 
 -- The table is that of the routine. So many words have the activations, and there its parameters and variables lie.
 pub record RoutineStands (g : GlobalScope) (types : Types) (table : RoutineTable) (r : Routine) : Type 0 where
+  pub name : table.name.now ≡ r.name
   pub parameters : AreDeclared types (map declared_entry table.parameters.items) (declarations g r.parameters)
   pub locals : LocalsLie g types (result_words r.result) (code.locals g r) table.locals
   pub result : ResultIs g types table.result r.result

@@ -1,7 +1,8 @@
 -- When a table tells what is known of a system type.
-use Rattle.std.specs.Prelude.{◌≡◌, Bool, true, false, ℕ, suc, List, [], ◌∷◌, Option, None, Some, filter, if◌then◌else◌, map}
+use Rattle.std.specs.Prelude.{◌≡◌, Bool, true, false, ℕ, suc, List, [], ◌∷◌, Option, None, Some, filter, find, if◌then◌else◌, map}
 use Rattle.std.specs.Borrow.{Bor}
 use Rattle.std.specs.Option.{option_or}
+use Rattle.std.specs.Str.{bytes_eq}
 use Rattle.cp_model.specs.Abstract.{Monitor, Name, Process, Routine}
 use Rattle.cp_model.specs.Components as c
 use Rattle.cp_model.specs.Components.{count_before}
@@ -15,11 +16,13 @@ use Rattle.cp_model.specs.declared.tree.Parameters.{Parameters}
 use Rattle.cp_model.specs.declared.tree.Routine as tree
 use Rattle.cp_model.specs.declared.tree.System.{System}
 use Rattle.cp_code.specs.Layout.{right_at}
+use Rattle.cp_code.specs.Scopes.{routine_index}
 use Rattle.cp_scope.specs.declared.layout.Layout.{Layout}
 use Rattle.cp_scope.specs.declared.names.Names.{Names}
 use Rattle.cp_scope.specs.declared.routines.RoutineTable.{RoutineTable}
 use Rattle.cp_scope.specs.declared.numbering.Numbered.{Numbered}
 use Rattle.cp_scope.specs.declared.systems.Component.{Component}
+use Rattle.cp_scope.specs.declared.systems.IndexedRoutine.{IndexedRoutine}
 use Rattle.cp_scope.specs.declared.systems.SystemTable.{SystemTable}
 use Rattle.cp_scope.specs.declared.types.Types.{Types}
 use Rattle.cp_scope.specs.Components.{RightIs, own_members}
@@ -38,6 +41,11 @@ AreRoutines g types _ _ = ⊥
 abbrev pub routines_of : List tree.Routine → List Routine
 routines_of texts = map erase.routine (map view.routine texts)
 
+-- The number of the first routine of this name, where the first of them all has this one.
+abbrev pub routine_number : Name → ℕ → List Routine → Option ℕ
+routine_number x n [] = None
+routine_number x n (r ∷ rs) = if bytes_eq x r.name then Some n else routine_number x (suc n) rs
+
 pub record MakesRoutines (names : Names) (old new : Types) (before after : List Layout) (texts : List tree.Routine) (tables : List RoutineTable) : Type 0 where
   pub builds : Builds names old new before after
   pub stands : (g : GlobalScope) (later : Types) → ScopeStands names old g → AreLaid g old before → Grows new later
@@ -52,6 +60,7 @@ pub record SystemStands (g : GlobalScope) (types : Types) (table : SystemTable) 
   pub parameter_names : (x : Name) → NumberedIs types (parameters_of g ps) x (lookup x table.parameter_names) (lookup x (parameters_of g ps))
   pub variable_names : (x : Name) → NumberedIs types (variables_of g vs) x (lookup x table.variable_names) (lookup x (variables_of g vs))
   pub routines : AreRoutines g types table.routines.items (routines_of rs)
+  pub routine_names : (x : Name) → lookup x table.routine_names ≡ routine_number x 0 (routines_of rs)
 
 pub record MakesSystem (names : Names) (old new : Types) (before after : List Layout) (ps : List Parameters) (vs : List Fields) (rs : List tree.Routine) (table : SystemTable)
     : Type 0 where
@@ -59,35 +68,54 @@ pub record MakesSystem (names : Names) (old new : Types) (before after : List La
   pub stands : (g : GlobalScope) (later : Types) → ScopeStands names old g → AreLaid g old before → Grows new later
       → SystemStands g later table ps vs rs
 
+-- ---- Routines
+
+-- The routine has this table, and so many routines come before it.
+pub record IsIndexed (g : GlobalScope) (types : Types) (rs : List Routine) (found : IndexedRoutine) (r : Routine) : Type 0 where
+  pub table : RoutineStands g types found.table.now r
+  pub index : routine_index r.name rs ≡ found.index
+
+abbrev pub RoutineIs : GlobalScope → Types → List Routine → Option IndexedRoutine → Option Routine → Type 0
+RoutineIs g types rs None None = Unit {0}
+RoutineIs g types rs (Some f) (Some r) = IsIndexed g types rs f r
+RoutineIs g types rs _ _ = ⊥
+
+abbrev pub RoutineFound : SystemTable → Name → Option IndexedRoutine → Type 0
+RoutineFound table x found =
+    (g : GlobalScope) (types : Types) (ps : List Parameters) (vs : List Fields) (rs : List tree.Routine) → SystemStands g types table ps vs rs
+    → RoutineIs g types (routines_of rs) found (find (λ r. bytes_eq x r.name) (routines_of rs))
+
 -- ---- Components
 
-abbrev pub component_with : Numbered → Bool → Option ℕ → Option Component
-component_with n p None = None
-component_with n p (Some k) = Some (record { system = k; is_parameter = p; monitors = n.monitors; processes = n.processes })
+abbrev pub component_with : Bor Name → Numbered → Bool → Option ℕ → Option Component
+component_with x n p None = None
+component_with x n p (Some k) =
+    Some (record { name = x; system = k; is_parameter = p; monitors = n.monitors; processes = n.processes })
 
-abbrev pub component_of_name : Types → Bool → Option Numbered → Option Component
-component_of_name types p None = None
-component_of_name types p (Some n) = component_with n p (system_of (row_at types n.of))
+abbrev pub component_of_name : Types → Bor Name → Bool → Option Numbered → Option Component
+component_of_name types x p None = None
+component_of_name types x p (Some n) = component_with x n p (system_of (row_at types n.of))
 
 -- The component that a name means among these parameters and variables.
 abbrev pub component_among : List (Name × Variable) → List (Name × Variable) → Name → Option c.Component
 component_among ps vs x = option_or (c.as_component x true (lookup x ps)) (c.as_component x false (lookup x vs))
 
 -- Of a variable of a component, after so many monitors and processes.
-pub record IsComponent (types : Types) (ps vs : List (Name × Variable)) (x : Name) (found : Component) (n : c.Component) : Type 0 where
+pub record IsComponent (types : Types) (ps vs : List (Name × Variable)) (found : Component) (n : c.Component) : Type 0 where
+  pub name : found.name.now ≡ n.name
   pub text : Bor System
   pub there : system_at types found.system ≡ Some text
   pub system : erase.system (view.system text.now) ≡ n.system
   pub parameter : found.is_parameter ≡ n.is_parameter
-  pub monitors : count_before Monitor x (if n.is_parameter then ps else vs) ≡ found.monitors
-  pub processes : count_before Process x (if n.is_parameter then ps else vs) ≡ found.processes
+  pub monitors : count_before Monitor n.name (if n.is_parameter then ps else vs) ≡ found.monitors
+  pub processes : count_before Process n.name (if n.is_parameter then ps else vs) ≡ found.processes
 
-abbrev pub ComponentIs : Types → List (Name × Variable) → List (Name × Variable) → Name → Option Component → Option c.Component → Type 0
-ComponentIs types ps vs x None None = Unit {0}
-ComponentIs types ps vs x (Some f) (Some n) = IsComponent types ps vs x f n
-ComponentIs types ps vs x _ _ = ⊥
+abbrev pub ComponentIs : Types → List (Name × Variable) → List (Name × Variable) → Option Component → Option c.Component → Type 0
+ComponentIs types ps vs None None = Unit {0}
+ComponentIs types ps vs (Some f) (Some n) = IsComponent types ps vs f n
+ComponentIs types ps vs _ _ = ⊥
 
 abbrev pub ComponentFound : Types → SystemTable → Name → Option Component → Type 0
 ComponentFound types table x found =
     (g : GlobalScope) (ps : List Parameters) (vs : List Fields) (rs : List tree.Routine) → SystemStands g types table ps vs rs
-    → ComponentIs types (parameters_of g ps) (variables_of g vs) x found (component_among (parameters_of g ps) (variables_of g vs) x)
+    → ComponentIs types (parameters_of g ps) (variables_of g vs) found (component_among (parameters_of g ps) (variables_of g vs) x)

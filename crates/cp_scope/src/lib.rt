@@ -13,6 +13,8 @@
 //!   those of its parts. A `SystemTable` has the parameters and variables of a system type, where
 //!   its members and rights lie, which
 //!   components its names mean, and a `RoutineTable` of each routine, where its locals lie.
+//! - **Scopes.** A `Scope` is what the code of a unit is compiled with. It tells what names,
+//!   designators and calls mean there (`specs/Scopes.antt`, `specs/Places.antt`).
 //!
 //! Names are lent by the tree and found by comparison, in a time that grows as the logarithm of
 //! their number. Numbers and names stand for
@@ -29,8 +31,10 @@ mod locals;
 mod names;
 mod numbering;
 mod outer;
+mod places;
 mod resolving;
 mod routines;
+mod scope;
 mod systems;
 mod tables;
 mod types;
@@ -43,8 +47,10 @@ pub use locals::{Local, Locals};
 pub use names::{Names, Value};
 pub use numbering::Numbered;
 pub use outer::Outer;
+pub use places::Elements;
 pub use routines::RoutineTable;
-pub use systems::{Component, SystemTable};
+pub use scope::{Callee, Meaning, Scope};
+pub use systems::{Component, IndexedRoutine, SystemTable};
 pub use tables::Tables;
 pub use types::{Base, Field, Simple, TypeRow, Types};
 pub use variables::Declared;

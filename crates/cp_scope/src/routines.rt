@@ -14,11 +14,12 @@ use crate::types::Types;
 use crate::variables::Declared;
 use cp_model::tree::{Identifier, Routine};
 
-/// A routine: its parameters, where they and its variables lie in an activation, whose words are
+/// A routine: its name and its parameters, where they and its variables lie in an activation, whose words are
 /// those of `locals`, and the number of
 /// the type of its result, where it is a function.
 #[derive(Drop)]
 pub struct RoutineTable<'t> {
+    pub name: &'t [u8],
     pub parameters: Vec<Declared<'t>>,
     pub locals: Locals<'t>,
     pub result: Option<usize>,
@@ -69,6 +70,7 @@ impl<'t> Layouts<'t> {
         self.extend(names, types)?;
         let locals = self.locals(&all, Some(words_of_result(&text.result_type)))?;
         Ok(RoutineTable {
+            name: text.name.name.as_bytes(),
             parameters,
             locals,
             result,

@@ -1,13 +1,15 @@
 //! What is known of a system type: its parameters and variables, its routines, and where the
 //! members and rights of its components lie.
 
-ghost use Rattle.std.specs.Prelude.{◌≡◌, IfOk};
-ghost use Rattle.cp_scope.specs.Systems.{ComponentFound, MakesRoutines, MakesSystem, component_of_name};
+ghost use Rattle.std.specs.Prelude.{◌≡◌, IfOk, option_map, slice_get};
+ghost use Rattle.cp_model.specs.Abstract.{Name};
+ghost use Rattle.cp_model.specs.Names.{lookup};
+ghost use Rattle.cp_scope.specs.Systems.{ComponentFound, MakesRoutines, MakesSystem, RoutineFound, component_of_name, routine_number, routines_of};
 
 use crate::components::Right;
 use crate::error::TableError;
 use crate::layout::{Layout, Layouts};
-use crate::names::Names;
+use crate::names::{Names, add_first};
 use crate::numbering::Numbered;
 use crate::routines::RoutineTable;
 use crate::types::Types;
@@ -18,8 +20,8 @@ use std::alloc::Global;
 
 /// A system type: its parameters, variables and routines in text order, and where the members and
 /// the rights of its components lie.
-/// The words of a component are those of `members`. Its parameters and its variables are also found
-/// by their names.
+/// The words of a component are those of `members`. Its parameters, variables and routines are also
+/// found by their names.
 #[derive(Drop)]
 pub struct SystemTable<'t> {
     pub parameters: Vec<Declared<'t>>,
@@ -29,6 +31,7 @@ pub struct SystemTable<'t> {
     pub parameter_names: NameTable<'t, Numbered>,
     pub variable_names: NameTable<'t, Numbered>,
     pub routines: Vec<RoutineTable<'t>>,
+    pub routine_names: NameTable<'t, usize>,
 }
 
 impl<'t> Layouts<'t> {
@@ -48,6 +51,18 @@ impl<'t> Layouts<'t> {
             tables.push(table)?;
         }
         Ok(tables)
+    }
+
+    // The numbers of routines by their names.
+    fn routine_names(&self, texts: &'t [Routine]) -> Result<NameTable<'t, usize>, TableError>
+        ensures { IfOk result (λ names. (x : Name) → lookup x names ≡ routine_number x 0
+            (routines_of texts.now)) }
+    {
+        let mut names = NameTable::new(self.alloc);
+        for i in 0..texts.len() {
+            add_first(&mut names, texts[i].name.name.as_bytes(), i)?;
+        }
+        Ok(names)
     }
 
     /// What is known of a system type with these parameters, variables and routines.
@@ -71,6 +86,7 @@ impl<'t> Layouts<'t> {
         let rights = types.rights_to(&components)?;
         let parameter_names = types.numbered(&own_parameters)?;
         let variable_names = types.numbered(&own_variables)?;
+        let routine_names = self.routine_names(routines)?;
         let routines = self.routines(names, types, routines)?;
         Ok(SystemTable {
             parameters: own_parameters,
@@ -80,15 +96,23 @@ impl<'t> Layouts<'t> {
             parameter_names,
             variable_names,
             routines,
+            routine_names,
         })
     }
 }
 
-/// A component that a parameter or variable names: the number of its system type, whether it is a
-/// parameter, and how many monitors and
-/// processes are declared before it.
+/// A routine of a system type: its number in text order, and what is known of it.
 #[derive(Clone, Copy)]
-pub struct Component {
+pub struct IndexedRoutine<'s, 't> {
+    pub index: usize,
+    pub table: &'s RoutineTable<'t>,
+}
+
+/// A component that a parameter or variable names: its name, the number of its system type, whether
+/// it is a parameter, and how many monitors and processes are declared before it.
+#[derive(Clone, Copy)]
+pub struct Component<'n> {
+    pub name: &'n [u8],
     pub system: usize,
     pub is_parameter: bool,
     pub monitors: usize,
@@ -96,12 +120,18 @@ pub struct Component {
 }
 
 // What a parameter or variable names, if it is a component.
-fn as_component(types: &Types, is_parameter: bool, named: Option<Numbered>) -> Option<Component>
-    ensures { result ≡ component_of_name types.now is_parameter named }
+fn as_component<'n>(
+    types: &Types,
+    name: &'n [u8],
+    is_parameter: bool,
+    named: Option<Numbered>,
+) -> Option<Component<'n>>
+    ensures { result ≡ component_of_name types.now name.entry is_parameter named }
 {
     let named = named?;
     let system = types.system_of(named.of)?;
     Some(Component {
+        name,
         system,
         is_parameter,
         monitors: named.monitors,
@@ -110,13 +140,33 @@ fn as_component(types: &Types, is_parameter: bool, named: Option<Numbered>) -> O
 }
 
 impl<'t> SystemTable<'t> {
+    /// The routine of a number, if there is one.
+    pub fn routine_at(&self, index: usize) -> Option<&RoutineTable<'t>>
+        ensures { option_map (λ t. t.now) result ≡ slice_get self.now.routines.items index }
+    {
+        self.routines.get(index)
+    }
+
+    /// The first routine of a name.
+    pub fn routine(&self, name: &[u8]) -> Result<Option<IndexedRoutine<'_, 't>>, TableError>
+        ensures { IfOk result (λ r. RoutineFound self.now name.now r) }
+    {
+        match self.routine_names.find(name) {
+            None => Ok(None),
+            Some(index) => match self.routine_at(index) {
+                None => Err(TableError::Unaccepted),
+                Some(table) => Ok(Some(IndexedRoutine { index, table })),
+            },
+        }
+    }
+
     /// The component that a name means in a component of this system type.
-    pub fn component(&self, types: &Types<'t>, name: &[u8]) -> Option<Component>
+    pub fn component<'n>(&self, types: &Types<'t>, name: &'n [u8]) -> Option<Component<'n>>
         ensures { ComponentFound types.now self.now name.now result }
     {
-        match as_component(types, true, self.parameter_names.find(name)) {
+        match as_component(types, name, true, self.parameter_names.find(name)) {
             Some(c) => Some(c),
-            None => as_component(types, false, self.variable_names.find(name)),
+            None => as_component(types, name, false, self.variable_names.find(name)),
         }
     }
 }

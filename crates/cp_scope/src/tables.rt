@@ -1,6 +1,6 @@
 //! The tables of a text: its outermost scope, the layouts of its types, and its system types.
 
-ghost use Rattle.std.specs.Prelude.{IfOk};
+ghost use Rattle.std.specs.Prelude.{◌≡◌, IfOk, option_map, slice_get};
 ghost use Rattle.cp_model.specs.Declarations.{globals};
 ghost use Rattle.cp_model.specs.Erase as erase;
 ghost use Rattle.cp_model.specs.View as view;
@@ -48,6 +48,13 @@ impl<'t> Layouts<'t> {
 }
 
 impl<'t> Tables<'t> {
+    /// The table of a system type's number, if there is one.
+    pub fn system(&self, number: usize) -> Option<&SystemTable<'t>>
+        ensures { option_map (λ t. t.now) result ≡ slice_get self.now.systems.items number }
+    {
+        self.systems.get(number)
+    }
+
     /// The tables of a text, whatever it is. They are refused where memory is, where a name is
     /// declared twice in the outermost scope,
     /// and where an enumeration has more values than ordinals.

@@ -50,6 +50,7 @@ returns c =
           let declared = one.stands g later (two.added ++ []) (with_declared_groups vs g []) scope (grows_more t1 t3 later from_1 grows) inner in
           let alone = one.stands g later [] [] scope (grows_more t1 t3 later from_1 grows) tt in
           record {
+            name = c.as_bytes.ensures;
             parameters =
                 subst (AreDeclared later (map declared_entry listed)) (parameters_declared g ps [] ∙ append-nil (parameters_of g ps))
                 (rw own alone);

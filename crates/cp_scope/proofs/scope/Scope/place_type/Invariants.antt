@@ -1,0 +1,13 @@
+use Rattle.std.proofs.Common.{drop}
+use Rattle.cp_model.specs.Erase as erase
+use Rattle.cp_model.specs.View as view
+use Rattle.cp_code.specs.Scopes as code
+use Rattle.cp_scope.specs.Scopes.{IsScope}
+use Rattle.cp_scope.proofs.Parts.{PartlySelected}
+use Rattle.cp_scope.proofs.scope.Scope.place_type.Given as goal
+
+-- a part of so many selectors has this type
+abbrev pub invariant-loop-selector : goal.invariant-loop-selector
+invariant-loop-selector l =
+    (s : code.Scope) → IsScope l.fn.self s
+    → PartlySelected l.fn.self s (erase.designator (view.designator l.fn.d)) l.of (drop l.selector-index l.fn.d.selectors.items)

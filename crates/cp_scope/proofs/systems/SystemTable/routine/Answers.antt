@@ -1,0 +1,17 @@
+use Rattle.std.proofs.Common.{◌∙◌, sym}
+use Rattle.cp_scope.specs.declared.systems.IndexedRoutine.{IndexedRoutine}
+use Rattle.cp_scope.specs.Systems.{routines_of}
+use Rattle.cp_scope.proofs.Called.{not_found, routine_found}
+use Rattle.cp_scope.proofs.systems.SystemTable.routine.Goals as goal
+
+pub returns-in-None : goal.returns-in-None
+returns-in-None c = λ g types ps vs rs table.
+    let x = c.args.name.now in
+    not_found g types (routines_of rs) x (sym (table.routine_names x) ∙ sym c.find.ensures ∙ c.in-None.is)
+
+pub returns-in-Some-routine_at : goal.returns-in-Some-routine_at
+returns-in-Some-routine_at c = λ g types ps vs rs table.
+    let x = c.args.name.now in
+    let f : IndexedRoutine = record { index = c.in-Some.index; table = c.in-Some-routine_at.table } in
+    routine_found g types c.args.self.now.routines.items (routines_of rs) x f table.routines
+    (sym (table.routine_names x) ∙ sym c.find.ensures ∙ c.in-Some.is) (sym c.in-Some-routine_at.ensures)

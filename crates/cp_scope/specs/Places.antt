@@ -1,0 +1,30 @@
+-- Of what types places are.
+use Rattle.std.specs.Prelude.{◌≡◌, Bool, true, false, ℕ, Option, None, Some}
+use Rattle.cp_model.specs.Abstract as a
+use Rattle.cp_model.specs.Types.{NoType, RecordOf, ResolvedType}
+use Rattle.cp_typing.specs.StaticTypes.{place_type}
+use Rattle.cp_code.specs.Scopes as code
+use Rattle.cp_code.specs.Scopes.{environment}
+use Rattle.cp_scope.specs.declared.places.Elements.{Elements}
+use Rattle.cp_scope.specs.declared.scope.Scope.{Scope}
+use Rattle.cp_scope.specs.declared.types.TypeRow.{TypeRow}
+use Rattle.cp_scope.specs.declared.types.TypeRow.TheVariants as row
+use Rattle.cp_scope.specs.declared.types.Types.{Types}
+use Rattle.cp_scope.specs.Standing.{Stands}
+
+abbrev pub is_record : ResolvedType → Bool
+is_record (RecordOf ms) = true
+is_record t = false
+
+abbrev pub elements_of : Option TypeRow → Option Elements
+elements_of (Some (row.Array low high e)) = Some (record { low = low; high = high; of = e })
+elements_of r = None
+
+-- The number of a type, or none of no type.
+abbrev pub TypeIs : Types → Option ℕ → ResolvedType → Type 0
+TypeIs types None t = t ≡ NoType
+TypeIs types (Some n) t = Stands types n t
+
+-- Of the place of a designator.
+abbrev pub PlaceIs : Scope → code.Scope → Option ℕ → a.Designator → Type 0
+PlaceIs scope s of d = TypeIs scope.tables.now.types of (place_type (environment s) d)

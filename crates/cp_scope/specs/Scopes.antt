@@ -1,0 +1,92 @@
+-- When a scope is one that code is compiled with, and what its queries find.
+use Rattle.std.specs.Prelude.{◌≡◌, ℕ, List, [], Option, None, Some, map}
+use Rattle.std.specs.Borrow.{Bor}
+use Rattle.cp_model.specs.Abstract.{Name, Routine, System}
+use Rattle.cp_model.specs.Calls as calls
+use Rattle.cp_model.specs.Declarations.{Variable, declarations}
+use Rattle.cp_model.specs.Environments as environments
+use Rattle.cp_model.specs.Environments.{local_variables, result_variable}
+use Rattle.cp_model.specs.Erase as erase
+use Rattle.cp_model.specs.View as view
+use Rattle.cp_model.specs.Syntax as syntax
+use Rattle.cp_model.specs.Types.{GlobalScope}
+use Rattle.cp_model.specs.declared.tree.Fields.{Fields}
+use Rattle.cp_model.specs.declared.tree.Parameters.{Parameters}
+use Rattle.cp_model.specs.declared.tree.Routine as tree
+use Rattle.cp_code.specs.Scopes as code
+use Rattle.cp_code.specs.Scopes.{environment, routine_index}
+use Rattle.cp_code.specs.Sites.{system_of_callee}
+use Rattle.cp_scope.specs.declared.routines.RoutineTable.{RoutineTable}
+use Rattle.cp_scope.specs.declared.scope.Callee.{Callee}
+use Rattle.cp_scope.specs.declared.scope.Meaning.{Meaning}
+use Rattle.cp_scope.specs.declared.scope.Meaning.TheVariants as meaning
+use Rattle.cp_scope.specs.declared.scope.Scope.{Scope}
+use Rattle.cp_scope.specs.declared.types.Types.{Types}
+use Rattle.cp_scope.specs.Layouts.{AreLaid}
+use Rattle.cp_scope.specs.Routines.{RoutineStands}
+use Rattle.cp_scope.specs.Standing.{ScopeStands, Stands, value_of}
+use Rattle.cp_scope.specs.Systems.{ComponentIs, IsIndexed, SystemStands, routines_of}
+use Rattle.cp_scope.specs.Texts.{AreSystems}
+
+-- The system type declares these.
+pub record IsWritten (s : System) (ps : List Parameters) (vs : List Fields) (rs : List tree.Routine) : Type 0 where
+  pub parameters : s.parameters ≡ map erase.parameter_group (map view.parameters ps)
+  pub variables : s.variables ≡ map erase.variable_group (map view.variables vs)
+  pub routines : s.routines ≡ routines_of rs
+
+abbrev pub IsRoutine : GlobalScope → Types → Option (Bor RoutineTable) → Option Routine → Type 0
+IsRoutine g types None None = Unit {0}
+IsRoutine g types (Some t) (Some r) = RoutineStands g types t.now r
+IsRoutine g types _ _ = ⊥
+
+-- The scope is that of a unit: the tables stand for its text, and those of its system type and routine for these.
+pub record IsScope (scope : Scope) (s : code.Scope) : Type 0 where
+  pub parameters : List Parameters
+  pub variables : List Fields
+  pub routines : List tree.Routine
+  pub written : IsWritten s.system parameters variables routines
+  pub names : ScopeStands scope.tables.now.names scope.tables.now.types s.globals
+  pub laid : AreLaid s.globals scope.tables.now.types scope.tables.now.layouts.rows.items
+  pub systems : AreSystems s.globals scope.tables.now.types scope.tables.now.systems.items
+  pub system : SystemStands s.globals scope.tables.now.types scope.system.now parameters variables routines
+  pub routine : IsRoutine s.globals scope.tables.now.types scope.routine s.routine
+
+-- ---- Calls
+
+-- A selector that selects a part: one with an index, if it isn't a field.
+abbrev pub Selects : syntax.Selector → Type 0
+Selects (syntax.Indexed syntax.NoIndices) = ⊥
+Selects _ = Unit {0}
+
+-- The called routine, its number in its system type, and the component of which it is one.
+pub record IsCallee (scope : Scope) (s : code.Scope) (found : Callee) (c : calls.Callee) : Type 0 where
+  pub routine : IsIndexed s.globals scope.tables.now.types (system_of_callee (environment s) c.of).routines found.routine c.routine
+  pub of : ComponentIs scope.tables.now.types (declarations s.globals s.system.parameters) (declarations s.globals s.system.variables) found.of c.of
+
+abbrev pub CalleeIs : Scope → code.Scope → Option Callee → Option calls.Callee → Type 0
+CalleeIs scope s None None = Unit {0}
+CalleeIs scope s (Some f) (Some c) = IsCallee scope s f c
+CalleeIs scope s _ _ = ⊥
+
+-- ---- Meanings
+
+abbrev pub VariableIs : Types → Option ℕ → Option Variable → Type 0
+VariableIs types None None = Unit {0}
+VariableIs types (Some n) (Some v) = Stands types n v.type
+VariableIs types _ _ = ⊥
+
+-- The variable that holds the result of the routine.
+abbrev pub results_of : GlobalScope → Option Routine → List (Name × Variable)
+results_of g None = []
+results_of g (Some r) = result_variable g r.name r.result
+
+abbrev pub locals_of : GlobalScope → Option Routine → List (Name × Variable)
+locals_of g None = []
+locals_of g (Some r) = local_variables g r
+
+-- A constant has this value, a variable a type of this number.
+abbrev pub MeaningIs : Types → Meaning → environments.Meaning → Type 0
+MeaningIs types (meaning.Constant v) (environments.IsConstant b n) = value_of v ≡ (b, n)
+MeaningIs types (meaning.Variable of) (environments.IsVariable at v) = Stands types of v.type
+MeaningIs types meaning.Unknown environments.IsUnknown = Unit {0}
+MeaningIs types _ _ = ⊥

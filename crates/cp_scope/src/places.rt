@@ -1,0 +1,133 @@
+//! Of what types the parts of variables are.
+
+ghost use Rattle.std.specs.Prelude.{◌≡◌, IfOk, map, option_map};
+ghost use Rattle.cp_model.specs.Erase as erase;
+ghost use Rattle.cp_model.specs.Places as places;
+ghost use Rattle.cp_model.specs.Types.{ResolvedType};
+ghost use Rattle.cp_model.specs.View as view;
+ghost use Rattle.cp_typing.specs.StaticTypes as static;
+ghost use Rattle.cp_code.specs.Scopes as code;
+ghost use Rattle.cp_model.specs.Abstract as a;
+ghost use Rattle.cp_scope.specs.Places.{PlaceIs, TypeIs, elements_of, is_record};
+ghost use Rattle.cp_scope.specs.Scopes.{IsScope};
+ghost use Rattle.cp_scope.specs.Standing.{Stands, row_at};
+
+use crate::error::TableError;
+use crate::layout::Part;
+use crate::scope::{Meaning, Scope};
+use crate::types::{TypeRow, Types};
+use cp_model::tree::{Designator, Index, Selector};
+
+/// What an array type is: its bounds, and the number of its elements' type.
+#[derive(Clone, Copy)]
+pub struct Elements {
+    pub low: i32,
+    pub high: i32,
+    pub of: usize,
+}
+
+impl<'t> Types<'t> {
+    /// Whether a type is one of records.
+    pub fn is_record(&self, number: usize) -> bool
+        ensures { (t : ResolvedType) → Stands self.now number t → result ≡ is_record t }
+    {
+        matches!(self.row(number), Some(TypeRow::Record(_)))
+    }
+
+    /// The elements of an array type.
+    pub fn elements(&self, number: usize) -> Option<Elements>
+        ensures { result ≡ elements_of (row_at self.now number) }
+    {
+        match self.row(number) {
+            Some(TypeRow::Array { low, high, element }) => Some(Elements {
+                low: *low,
+                high: *high,
+                of: *element,
+            }),
+            _ => None,
+        }
+    }
+
+    /// The type of an element of what has this type. None is that of what has no type.
+    pub fn element_type(&self, of: Option<usize>) -> Option<usize>
+        ensures { (t : ResolvedType) → TypeIs self.now of t → TypeIs self.now result
+            (static.element_type t) }
+    {
+        Some(self.elements(of?)?.of)
+    }
+}
+
+fn part_type(part: Option<Part>) -> Option<usize>
+    ensures { result ≡ option_map (λ p. p.of) part }
+{
+    Some(part?.of)
+}
+
+impl<'s, 't> Scope<'s, 't> {
+    /// The type of a field of what has this type.
+    pub fn field_type(&self, of: Option<usize>, name: &[u8]) -> Result<Option<usize>, TableError>
+        ensures { IfOk result (λ n. (s : code.Scope) (t : ResolvedType) → IsScope self.now s
+            → TypeIs self.now.tables.now.types of t → TypeIs self.now.tables.now.types n
+            (places.field_type name.now t)) }
+    {
+        match of {
+            None => Ok(None),
+            Some(of) => {
+                if self.tables.types.is_record(of) {
+                    Ok(part_type(self.tables.layouts.part(of, name)?))
+                } else {
+                    Ok(None)
+                }
+            }
+        }
+    }
+
+    /// The type of the place that a name means.
+    pub fn named_place_type(&self, name: &[u8]) -> Option<usize>
+        ensures { (s : code.Scope) → IsScope self.now s → PlaceIs self.now s result
+            (a.Plain name.now) }
+    {
+        match self.meaning(name) {
+            Meaning::Variable(of) => Some(of),
+            _ => None,
+        }
+    }
+    // The type of an element, or of an element of an element and so on, one for each index.
+    fn indexed_type(&self, mut of: Option<usize>, indices: &[Index]) -> Option<usize>
+        ensures { (s : code.Scope) (d : a.Designator) → PlaceIs self.now s of d → PlaceIs
+            self.now s result (erase.indexed d (view.indices_of (map view.index indices.now))) }
+    {
+        for _index in indices {
+            of = self.tables.types.element_type(of);
+        }
+        of
+    }
+
+    // The type of a part that is selected.
+    fn selected_type(
+        &self,
+        of: Option<usize>,
+        selector: &Selector,
+    ) -> Result<Option<usize>, TableError>
+        ensures { IfOk result (λ n. (s : code.Scope) (d : a.Designator) → IsScope self.now s
+            → PlaceIs self.now s of d → PlaceIs self.now s n
+            (erase.select d (view.selector selector.now))) }
+    {
+        match selector {
+            Selector::Field { name, .. } => self.field_type(of, name.name.as_bytes()),
+            Selector::Indexed(indices) => Ok(self.indexed_type(of, indices)),
+        }
+    }
+
+    /// The type of the place of a designator, if it has one.
+    pub fn place_type(&self, d: &Designator) -> Result<Option<usize>, TableError>
+        ensures { IfOk result (λ n. (s : code.Scope) → IsScope self.now s → PlaceIs self.now s n
+            (erase.designator (view.designator d.now))) }
+    {
+        let mut of = self.named_place_type(d.root.name.as_bytes());
+        for selector in &d.selectors {
+            of = self.selected_type(of, selector)?;
+        }
+        Ok(of)
+    }
+}

@@ -1,0 +1,232 @@
+//! What the code of a unit is compiled with, and what names mean in it.
+
+ghost use Rattle.std.specs.Prelude.{◌≡◌, IfOk, OnOk, option_map};
+ghost use Rattle.cp_model.specs.Calls as calls;
+ghost use Rattle.cp_model.specs.Environments.{constant_or_unknown, meaning, permanent_variables};
+ghost use Rattle.cp_model.specs.Erase as erase;
+ghost use Rattle.cp_model.specs.Names.{lookup};
+ghost use Rattle.cp_model.specs.View as view;
+ghost use Rattle.cp_code.specs.Scopes as code;
+ghost use Rattle.cp_code.specs.Layout as layout;
+ghost use Rattle.cp_model.specs.Abstract as a;
+ghost use Rattle.cp_scope.specs.Components.{RightIs};
+ghost use Rattle.cp_scope.specs.Layouts.{PartIs};
+ghost use Rattle.cp_scope.specs.Locals.{LocalIs};
+ghost use Rattle.cp_scope.specs.Scopes.{CalleeIs, IsScope, MeaningIs, Selects, VariableIs, locals_of, results_of};
+
+use crate::components::Right;
+use crate::error::TableError;
+use crate::layout::Part;
+use crate::locals::Local;
+use crate::names::Value;
+use crate::numbering::Numbered;
+use crate::routines::RoutineTable;
+use crate::systems::{Component, IndexedRoutine, SystemTable};
+use crate::tables::Tables;
+use cp_model::tree::{Designator, Selector};
+
+/// What the code of a unit is compiled with: the tables of its text, its system type, and its
+/// routine, where it isn't a body.
+#[derive(Clone, Copy)]
+pub struct Scope<'s, 't> {
+    pub tables: &'s Tables<'t>,
+    pub system: &'s SystemTable<'t>,
+    pub routine: Option<&'s RoutineTable<'t>>,
+}
+
+/// What a designator calls: a routine, and the component of which it is one, where that is another.
+#[derive(Clone, Copy)]
+pub struct Callee<'s, 't, 'n> {
+    pub routine: IndexedRoutine<'s, 't>,
+    pub of: Option<Component<'n>>,
+}
+
+/// What a name means: the value of a constant, or the number of a variable's type.
+#[derive(Clone, Copy)]
+pub enum Meaning<'t> {
+    Constant(Value<'t>),
+    Variable(usize),
+    Unknown,
+}
+
+// The number of its type, if a parameter or variable was found.
+fn type_of(found: Option<Numbered>) -> Option<usize>
+    ensures { result ≡ option_map (λ n. n.of) found }
+{
+    Some(found?.of)
+}
+
+// Every index list of a text has an index.
+fn refuse_no_index(selector: &Selector) -> Result<(), TableError>
+    ensures { OnOk result (Selects (view.selector selector.now)) }
+{
+    match selector {
+        Selector::Field { .. } => Ok(()),
+        Selector::Indexed(indices) => match indices.as_slice() {
+            [] => Err(TableError::Unaccepted),
+            [_, ..] => Ok(()),
+        },
+    }
+}
+
+impl<'s, 't> Scope<'s, 't> {
+    /// The parameter or variable of the routine that has a name.
+    pub fn local(&self, name: &[u8]) -> Option<Local>
+        ensures { (s : code.Scope) → IsScope self.now s → LocalIs self.now.tables.now.types result
+            (code.local_in s name.now) }
+    {
+        self.routine?.locals.names.find(name)
+    }
+
+    /// The own member of the component that has a name.
+    pub fn member(&self, name: &[u8]) -> Option<Part>
+        ensures { (s : code.Scope) → IsScope self.now s → PartIs self.now.tables.now.types result
+            (layout.member s.globals s.system name.now) }
+    {
+        self.system.members.parts.find(name)
+    }
+
+    /// The right of the component that has a name.
+    pub fn right(&self, name: &[u8]) -> Option<Right>
+        ensures { (s : code.Scope) → IsScope self.now s → RightIs self.now.tables.now.types result
+            (layout.right s.globals s.system name.now) }
+    {
+        self.system.rights.find(name)
+    }
+
+    // The type of the variable that has the name of a function, for its result.
+    fn result_type(&self, name: &[u8]) -> Option<usize>
+        ensures { (s : code.Scope) → IsScope self.now s → VariableIs self.now.tables.now.types
+            result (lookup name.now (results_of s.globals s.routine)) }
+    {
+        let routine = self.routine?;
+        if name != routine.name {
+            return None;
+        }
+        routine.result
+    }
+
+    // The type of the routine's parameter, variable or result that has a name.
+    fn local_type(&self, name: &[u8]) -> Option<usize>
+        ensures { (s : code.Scope) → IsScope self.now s → VariableIs self.now.tables.now.types
+            result (lookup name.now (locals_of s.globals s.routine)) }
+    {
+        match self.local(name) {
+            Some(local) => Some(local.of),
+            None => self.result_type(name),
+        }
+    }
+
+    // The type of the component's parameter or variable that has a name.
+    fn permanent_type(&self, name: &[u8]) -> Option<usize>
+        ensures { (s : code.Scope) → IsScope self.now s → VariableIs self.now.tables.now.types
+            result (lookup name.now (permanent_variables s.globals s.system)) }
+    {
+        match type_of(self.system.parameter_names.find(name)) {
+            Some(of) => Some(of),
+            None => type_of(self.system.variable_names.find(name)),
+        }
+    }
+
+    // What a name means in the outermost scope.
+    fn outer_meaning(&self, name: &[u8]) -> Meaning<'t>
+        ensures { (s : code.Scope) → IsScope self.now s → MeaningIs self.now.tables.now.types result
+            (constant_or_unknown (lookup name.now s.globals.constants)) }
+    {
+        match self.tables.names.constants.find(name) {
+            Some(value) => Meaning::Constant(value),
+            None => Meaning::Unknown,
+        }
+    }
+
+    /// What a name means: a variable of the routine or its result, else one of the component, else
+    /// a constant.
+    pub fn meaning(&self, name: &[u8]) -> Meaning<'t>
+        ensures { (s : code.Scope) → IsScope self.now s → MeaningIs self.now.tables.now.types result
+            (meaning (code.environment s) name.now) }
+    {
+        if let Some(of) = self.local_type(name) {
+            return Meaning::Variable(of);
+        }
+        match self.permanent_type(name) {
+            Some(of) => Meaning::Variable(of),
+            None => self.outer_meaning(name),
+        }
+    }
+
+    // The routine of this system type that a name calls.
+    fn own_callee<'n>(&self, name: &[u8]) -> Result<Option<Callee<'s, 't, 'n>>, TableError>
+        ensures { IfOk result (λ c. (s : code.Scope) → IsScope self.now s → CalleeIs self.now s c
+            (calls.callee (code.environment s) (a.Plain name.now))) }
+    {
+        if self.local(name).is_some() {
+            return Ok(None);
+        }
+        match self.system.routine(name)? {
+            None => Ok(None),
+            Some(routine) => Ok(Some(Callee { routine, of: None })),
+        }
+    }
+
+    // The routine of a component that a name after a point calls.
+    fn component_callee<'n>(
+        &self,
+        component: &'n [u8],
+        name: &[u8],
+    ) -> Result<Option<Callee<'s, 't, 'n>>, TableError>
+        ensures { IfOk result (λ c. (s : code.Scope) → IsScope self.now s → CalleeIs self.now s c
+            (calls.callee (code.environment s) (a.Part (a.Plain component.now) name.now))) }
+    {
+        match self.system.component(&self.tables.types, component) {
+            None => Ok(None),
+            Some(of) => match self.tables.system(of.system) {
+                None => Err(TableError::Unaccepted),
+                Some(system) => match system.routine(name)? {
+                    None => Ok(None),
+                    Some(routine) => Ok(Some(Callee {
+                        routine,
+                        of: Some(of),
+                    })),
+                },
+            },
+        }
+    }
+
+    // What a name with one selector calls.
+    fn selected_callee<'n>(
+        &self,
+        name: &'n [u8],
+        selector: &Selector,
+    ) -> Result<Option<Callee<'s, 't, 'n>>, TableError>
+        ensures { IfOk result (λ c. (s : code.Scope) → IsScope self.now s → CalleeIs self.now s c
+            (calls.callee (code.environment s)
+            (erase.select (a.Plain name.now) (view.selector selector.now)))) }
+    {
+        match selector {
+            Selector::Field { name: routine, .. } => {
+                self.component_callee(name, routine.name.as_bytes())
+            }
+            Selector::Indexed(_) => {
+                refuse_no_index(selector)?;
+                Ok(None)
+            }
+        }
+    }
+
+    /// What a designator calls, if it calls a routine. A selector without an index is refused.
+    pub fn callee<'n>(&self, d: &'n Designator) -> Result<Option<Callee<'s, 't, 'n>>, TableError>
+        ensures { IfOk result (λ c. (s : code.Scope) → IsScope self.now s → CalleeIs self.now s c
+            (calls.callee (code.environment s) (erase.designator (view.designator d.now)))) }
+    {
+        let name = d.root.name.as_bytes();
+        match d.selectors.as_slice() {
+            [] => self.own_callee(name),
+            [only] => self.selected_callee(name, only),
+            [first, second, ..] => {
+                refuse_no_index(first)?;
+                refuse_no_index(second)?;
+                Ok(None)
+            }
+        }
+    }
+}
