@@ -8,10 +8,13 @@
 #![tactic(auto)]
 
 pub mod call;
+pub mod draft;
 pub mod emission;
 pub mod emitter;
 pub mod error;
 pub mod need;
+pub mod plan;
+mod start_values;
 pub mod table;
 pub mod unit;
 
