@@ -1,5 +1,5 @@
 -- Starts in front of others, as the last ones of a list.
-use Rattle.std.proofs.Common.{◌≡◌, ◌∙◌, ◌+◌, ℕ, ℤ, zero, suc, List, [], ◌∷◌, ◌++◌, Option, None, Some, Bool, true, false, ap, refl, sym, subst, drop, length, map, reverse, if◌then◌else◌, arith}
+use Rattle.std.proofs.Common.{◌≡◌, ◌∙◌, ◌+◌, ℕ, ℤ, List, [], ◌∷◌, ◌++◌, Option, None, Some, Bool, true, false, ap, refl, sym, drop, length, map, reverse, if◌then◌else◌, arith}
 use Rattle.std.specs.Prelude.{MatchOption, T, nat_eq, not}
 use Rattle.std.proofs.lemmas.List.{length-map, length-reverse, reverse-append}
 use Rattle.std.proofs.lemmas.Bool.{eq-eqb}
@@ -9,7 +9,7 @@ use Rattle.cp_code.specs.Programs as code
 use Rattle.cp_code.specs.Plans.{fill_before}
 use Rattle.cp_threaded.specs.declared.program.Start.{Start}
 use Rattle.cp_threaded.specs.View as view
-use Rattle.cp_compile.specs.Drafts.{Joins, closed, joined_with, starts_of}
+use Rattle.cp_compile.specs.Drafts.{Joins, closed, starts_of}
 
 pub one_more : (xs ys : List Start) (x : Start) → ys ≡ xs ++ x ∷ [] → starts_of ys ≡ view.start x ∷ starts_of xs
 one_more xs ys x is = ap starts_of is ∙ ap (map view.start) (reverse-append xs (x ∷ []))

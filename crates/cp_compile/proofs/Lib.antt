@@ -7,3 +7,4 @@ pub mod Drafting
 pub mod PlansJoined
 pub mod Planning
 pub mod StartingValues
+pub mod Membership

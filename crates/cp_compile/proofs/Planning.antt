@@ -1,5 +1,5 @@
 -- What is left to plan, as it is done.
-use Rattle.std.proofs.Common.{◌≡◌, ◌∙◌, ◌+◌, ◌*◌, ℕ, ℤ, suc, List, [], ◌∷◌, ◌++◌, Option, None, Some, Bool, true, false, ap, refl, sym, subst, length, map}
+use Rattle.std.proofs.Common.{◌≡◌, ◌∙◌, ◌+◌, ℕ, ℤ, List, [], ◌∷◌, ◌++◌, None, Some, Bool, true, false, ap, refl, sym, subst, length}
 use Rattle.std.proofs.lemmas.Option.{same_Some}
 use Rattle.cp_model.specs.Abstract.{Name}
 use Rattle.cp_model.specs.Integers.{count_between}
@@ -14,7 +14,7 @@ use Rattle.cp_scope.specs.Standing.{AreMembers, Stands, row_at}
 use Rattle.cp_compile.specs.declared.draft.Draft.{Draft}
 use Rattle.cp_compile.specs.declared.draft.Work.{Work}
 use Rattle.cp_compile.specs.declared.draft.Work.TheVariants as work
-use Rattle.cp_compile.specs.Drafts.{closed, planned, with_end}
+use Rattle.cp_compile.specs.Drafts.{closed, planned, starts_of, with_end}
 use Rattle.cp_compile.specs.Planning.{AllDone, Done, Leaves}
 use Rattle.cp_compile.proofs.PlansJoined.{array_closed, array_repeated}
 
@@ -50,6 +50,10 @@ module _ (zeros : Bool) (g : GlobalScope) (types : Types) where
   popped (v ∷ ws) w now after all =
       let rest = popped ws w now all.0 all.1 in
       (rest.0, rest.1, (all.0, rest.2, all.2))
+
+  -- Nothing was planned, and nothing is left.
+  pub begun : (d : Draft) (f : List Start → List Start) → d.starts.items ≡ [] → d.left.items ≡ [] → AllDone zeros g types d.left.items (f (planned d)) (f [])
+  begun d f starts left = rw left (sym (ap (λ xs. f (starts_of xs)) starts))
 
   -- So much was planned, and what is left is the same.
   pub leaves_planned : (old new : Draft) (f : List Start → List Start) → new.left ≡ old.left → planned new ≡ f (planned old)

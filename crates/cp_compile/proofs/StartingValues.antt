@@ -1,10 +1,8 @@
 -- One more type of which the start value is known.
-use Rattle.std.proofs.Common.{◌≡◌, ◌∙◌, ℕ, ℤ, List, [], ◌∷◌, ◌++◌, Option, Some, ap, sym, subst, ⊎_elim, length, slice_get}
-use Rattle.cp_code.specs.Plans.{start_of}
-use Rattle.cp_model.specs.Types.{ResolvedType}
+use Rattle.std.proofs.Common.{◌≡◌, ◌∙◌, ℤ, List, [], ◌∷◌, ◌++◌, Option, Some, ap, sym, ⊎_elim, length}
 use Rattle.cp_scope.specs.declared.types.TypeRow.{TypeRow}
 use Rattle.cp_scope.specs.declared.types.Types.{Types}
-use Rattle.cp_scope.specs.Standing.{Stands, row_at}
+use Rattle.cp_scope.specs.Standing.{row_at}
 use Rattle.cp_scope.proofs.Laying.{last_or_before}
 use Rattle.cp_compile.specs.StartValues.{AreStartValues, StartsRow}
 

@@ -4,3 +4,4 @@ pub mod Arms
 pub mod Drafts
 pub mod StartValues
 pub mod Planning
+pub mod Members

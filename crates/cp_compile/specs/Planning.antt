@@ -1,5 +1,5 @@
 -- What is left to plan, and what each step does to it.
-use Rattle.std.specs.Prelude.{◌≡◌, Bool, ℕ, List, [], ◌∷◌}
+use Rattle.std.specs.Prelude.{◌≡◌, Bool, List, [], ◌∷◌}
 use Rattle.cp_model.specs.Types.{GlobalScope, ResolvedType}
 use Rattle.cp_code.specs.Plans.{plan}
 use Rattle.cp_code.specs.Programs.{Start}

@@ -1,6 +1,6 @@
 //! Plans under way: they are made from their ends.
 
-ghost use Rattle.std.specs.Prelude.{◌≡◌, [], ◌∷◌, IfOk, OnOk, length};
+ghost use Rattle.std.specs.Prelude.{◌≡◌, [], ◌∷◌, IfOk, OnOk, length, map};
 ghost use Rattle.cp_code.specs.Plans.{fill_before, fill_unless};
 ghost use Rattle.cp_code.specs.Programs as code;
 ghost use Rattle.cp_compile.specs.Drafts.{Joins, closed, planned, with_end};
@@ -124,5 +124,17 @@ impl Draft {
         if self.starts.len() == count {
             self.starts.pop();
         }
+    }
+
+    /// What was planned, the first start first.
+    pub fn into_starts(self) -> Vec<Start>
+        ensures { map view.start result.items ≡ planned self }
+    {
+        let Draft {
+            mut starts,
+            left: _,
+        } = self;
+        starts.reverse();
+        starts
     }
 }

@@ -12,9 +12,11 @@ pub mod draft;
 pub mod emission;
 pub mod emitter;
 pub mod error;
+mod members;
 pub mod need;
 pub mod plan;
 mod start_values;
+pub mod starts;
 pub mod table;
 pub mod unit;
 

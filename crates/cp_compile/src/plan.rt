@@ -4,17 +4,19 @@
 //! any depth. Each equals the plan of `cp_code`'s `specs/Plans.antt`.
 
 ghost use Rattle.std.specs.Prelude.{◌≡◌, ◌∷◌, ◌++◌, ◌+◌, [], Bool, List, ℕ, suc, IfOk, OnOk, map, slice_get};
+ghost use Rattle.cp_code.specs.Layout.{local_words};
 ghost use Rattle.cp_code.specs.Plans.{plan, plan_of_members};
 ghost use Rattle.cp_code.specs.Programs as code;
 ghost use Rattle.cp_compile.specs.Drafts.{planned};
 ghost use Rattle.cp_compile.specs.Planning.{AllDone, Done, Knows, Leaves, types_of};
 ghost use Rattle.cp_compile.specs.declared.draft.Work.TheVariants as work;
+ghost use Rattle.cp_model.specs.Declarations.{Variable};
 ghost use Rattle.cp_model.specs.Erase as erase;
 ghost use Rattle.cp_model.specs.Integers as integers;
 ghost use Rattle.cp_model.specs.Types.{ArrayOf, ComponentOf, GlobalScope, Members, ResolvedType};
 ghost use Rattle.cp_model.specs.View as view;
-ghost use Rattle.cp_scope.specs.Layouts.{rights_of};
-ghost use Rattle.cp_scope.specs.Standing.{AreMembers, Stands, entry};
+ghost use Rattle.cp_scope.specs.Layouts.{AreLaid, rights_of};
+ghost use Rattle.cp_scope.specs.Standing.{AreMembers, ScopeStands, Stands, entry};
 ghost use Rattle.cp_typing.specs.Words.{words};
 
 use crate::draft::{Draft, Work};
@@ -45,12 +47,38 @@ pub struct Planner<'a, 't> {
 }
 
 impl<'a, 't> Planner<'a, 't> {
+    /// A planner over the tables of a text.
+    pub fn new(alloc: Global, tables: &'a Tables<'t>) -> Result<Planner<'a, 't>, CompileError>
+        ensures tables { IfOk result (λ planner. planner.tables ≡ tables.entry) }
+        ensures knows { IfOk result (λ planner. (g : GlobalScope) → ScopeStands tables.now.names tables.now.types g
+            → AreLaid g tables.now.types tables.now.layouts.rows.items → Knows planner g) }
+    {
+        let values = start_values(alloc, &tables.types)?;
+        Ok(Planner {
+            alloc,
+            tables,
+            values,
+        })
+    }
+
     // How many words a variable of this type takes.
     fn words(&self, of: usize) -> Result<u32, CompileError>
         ensures { IfOk result (λ n. (g : GlobalScope) (t : ResolvedType) → Knows self.now g
             → Stands (types_of self.now) of t → n ≡ words g t) }
     {
         match self.tables.layouts.words(of) {
+            Some(words) => Ok(words),
+            None => Err(CompileError::Unaccepted),
+        }
+    }
+
+    // How many words a parameter or variable takes in an activation.
+    pub(crate) fn local_words(&self, by_reference: bool, of: usize) -> Result<u32, CompileError>
+        ensures { IfOk result (λ n. (g : GlobalScope) (v : Variable) → Knows self.now g
+            → by_reference ≡ v.by_reference → Stands (types_of self.now) of v.type
+            → n ≡ local_words g v) }
+    {
+        match self.tables.layouts.local_words(by_reference, of) {
             Some(words) => Ok(words),
             None => Err(CompileError::Unaccepted),
         }
@@ -87,7 +115,7 @@ impl<'a, 't> Planner<'a, 't> {
     }
 
     // Leaves members to be planned, the first of which lies at a word.
-    fn leave_members(
+    pub(crate) fn leave_members(
         &self,
         zeros: bool,
         members: &[Field<'t>],
@@ -204,7 +232,7 @@ impl<'a, 't> Planner<'a, 't> {
     }
 
     // Does all that is left.
-    fn run(&self, zeros: bool, draft: &mut Draft) -> Result<(), CompileError>
+    pub(crate) fn run(&self, zeros: bool, draft: &mut Draft) -> Result<(), CompileError>
         ensures { OnOk result ((g : GlobalScope) (after : List code.Start) → Knows self.now g
             → AllDone zeros g (types_of self.now) draft.old.left.items (planned draft.old) after
             → planned draft.new ≡ after) }

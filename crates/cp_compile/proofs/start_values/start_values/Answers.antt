@@ -1,4 +1,4 @@
-use Rattle.std.proofs.Common.{rules, ◌≡◌, ◌∷◌, ◌++◌, [], Some, length, subst, sym}
+use Rattle.std.proofs.Common.{rules, ◌≡◌, Some, length, subst, sym}
 use Rattle.cp_scope.specs.Standing.{row_at}
 use Rattle.cp_compile.specs.StartValues.{AreStartValues, StartsRow}
 use Rattle.cp_compile.proofs.StartingValues.{one_more}

@@ -1,4 +1,4 @@
-use Rattle.std.proofs.Common.{rules, ◌≡◌, ◌∷◌, ◌++◌, ◌∙◌, [], ℤ, Option, Some, None, ap, length, slice_get, sym, w32}
+use Rattle.std.proofs.Common.{rules, ◌≡◌, ◌∷◌, ◌++◌, ◌∙◌, [], ℤ, Some, None, ap, length, slice_get, sym, w32}
 use Rattle.std.proofs.lemmas.Int.{to_z-of_z}
 use Rattle.cp_model.specs.Integers.{count_between}
 use Rattle.cp_model.specs.Types.{ArrayOf}
