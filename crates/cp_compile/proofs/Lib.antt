@@ -8,3 +8,4 @@ pub mod PlansJoined
 pub mod Planning
 pub mod StartingValues
 pub mod Membership
+pub mod ComponentsPlanned

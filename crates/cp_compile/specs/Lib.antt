@@ -5,3 +5,4 @@ pub mod Drafts
 pub mod StartValues
 pub mod Planning
 pub mod Members
+pub mod ComponentPlans

@@ -59,7 +59,8 @@ impl Draft {
 
     /// Plans so many words of one value in front.
     pub fn fill(&mut self, at: u32, count: u32, value: i32) -> Result<(), CompileError>
-        ensures starts { OnOk result (planned self.new ≡ fill_before at count value (planned self.old)) }
+        ensures starts { OnOk result (planned self.new
+            ≡ fill_before at count value (planned self.old)) }
         ensures left { self.new.left ≡ self.old.left }
     {
         let first = Start::Fill { at, count, value };
@@ -85,7 +86,8 @@ impl Draft {
         count: u32,
         value: i32,
     ) -> Result<(), CompileError>
-        ensures starts { OnOk result (planned self.new ≡ fill_unless zeros at count value (planned self.old)) }
+        ensures starts { OnOk result (planned self.new
+            ≡ fill_unless zeros at count value (planned self.old)) }
         ensures left { self.new.left ≡ self.old.left }
     {
         if zeros && value == 0 {
@@ -96,7 +98,8 @@ impl Draft {
 
     /// Plans so many blocks like the first one in front.
     pub fn repeat(&mut self, at: u32, size: u32, count: u32) -> Result<(), CompileError>
-        ensures starts { OnOk result (planned self.new ≡ code.Repeat at size count ∷ planned self.old) }
+        ensures starts { OnOk result (planned self.new
+            ≡ code.Repeat at size count ∷ planned self.old) }
         ensures left { self.new.left ≡ self.old.left }
     {
         self.starts.push(Start::Repeat { at, size, count })?;
@@ -106,7 +109,8 @@ impl Draft {
     /// Leaves the end of an array to be planned, whose `Repeat` was planned just now, if its words
     /// may all be 0 before.
     pub fn leave_end(&mut self, zeros: bool) -> Result<(), CompileError>
-        ensures left { OnOk result (self.new.left.items ≡ with_end zeros (length self.old.starts.items) self.old.left.items) }
+        ensures left { OnOk result (self.new.left.items ≡ with_end zeros
+            (length self.old.starts.items) self.old.left.items) }
         ensures starts { self.new.starts ≡ self.old.starts }
     {
         if zeros {

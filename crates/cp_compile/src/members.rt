@@ -14,7 +14,8 @@ fn keep<'t>(
     kept: &mut Vec<Declared<'t>>,
     d: Declared<'t>,
 ) -> Result<(), CompileError>
-    ensures { OnOk result (kept.new.items ≡ (if is_own types.now d.entry then kept.old.items ++ d.entry ∷ [] else kept.old.items)) }
+    ensures { OnOk result (kept.new.items ≡ (if is_own types.now d.entry
+        then kept.old.items ++ d.entry ∷ [] else kept.old.items)) }
 {
     if types.system_of(d.of).is_none() {
         kept.push(d)?;
@@ -42,7 +43,8 @@ pub fn add_members<'t>(
     members: &mut Vec<Field<'t>>,
     list: &[Declared<'t>],
 ) -> Result<(), CompileError>
-    ensures { OnOk result (map entry members.new.items ≡ map entry members.old.items ++ map member_of list.now) }
+    ensures { OnOk result (map entry members.new.items ≡ map entry members.old.items
+        ++ map member_of list.now) }
 {
     for d in list {
         members.push(Field {

@@ -50,7 +50,8 @@ impl<'a, 't> Planner<'a, 't> {
     /// A planner over the tables of a text.
     pub fn new(alloc: Global, tables: &'a Tables<'t>) -> Result<Planner<'a, 't>, CompileError>
         ensures tables { IfOk result (λ planner. planner.tables ≡ tables.entry) }
-        ensures knows { IfOk result (λ planner. (g : GlobalScope) → ScopeStands tables.now.names tables.now.types g
+        ensures knows { IfOk result (λ planner. (g : GlobalScope)
+            → ScopeStands tables.now.names tables.now.types g
             → AreLaid g tables.now.types tables.now.layouts.rows.items → Knows planner g) }
     {
         let values = start_values(alloc, &tables.types)?;
@@ -106,7 +107,8 @@ impl<'a, 't> Planner<'a, 't> {
     fn leave(&self, of: usize, at: u32, draft: &mut Draft) -> Result<u32, CompileError>
         ensures next { IfOk result (λ next. (g : GlobalScope) (t : ResolvedType) → Knows self.now g
             → Stands (types_of self.now) of t → next ≡ at + words g t) }
-        ensures left { OnOk result (draft.new.left.items ≡ draft.old.left.items ++ work.Variable of at ∷ []) }
+        ensures left { OnOk result (draft.new.left.items ≡ draft.old.left.items
+            ++ work.Variable of at ∷ []) }
         ensures starts { OnOk result (draft.new.starts ≡ draft.old.starts) }
     {
         let words = self.words(of)?;
@@ -124,7 +126,8 @@ impl<'a, 't> Planner<'a, 't> {
     ) -> Result<(), CompileError>
         ensures { OnOk result ((g : GlobalScope) (ms : Members) → Knows self.now g
             → AreMembers (types_of self.now) (map entry members.now) ms
-            → Leaves zeros g (types_of self.now) draft.old draft.new (plan_of_members zeros g ms at)) }
+            → Leaves zeros g (types_of self.now) draft.old draft.new
+            (plan_of_members zeros g ms at)) }
     {
         let mut next = at;
         for member in members {
@@ -147,7 +150,8 @@ impl<'a, 't> Planner<'a, 't> {
         ensures { OnOk result ((g : GlobalScope) (t : ResolvedType) → Knows self.now g
             → Stands (types_of self.now) of (ArrayOf low high t)
             → Stands (types_of self.now) element t
-            → Leaves zeros g (types_of self.now) draft.old draft.new (plan zeros g (ArrayOf low high t) at)) }
+            → Leaves zeros g (types_of self.now) draft.old draft.new
+            (plan zeros g (ArrayOf low high t) at)) }
     {
         match self.value(element) {
             None => Err(CompileError::Unaccepted),
@@ -196,7 +200,8 @@ impl<'a, 't> Planner<'a, 't> {
     ) -> Result<(), CompileError>
         ensures { OnOk result ((g : GlobalScope) (t : ResolvedType) → Knows self.now g
             → Stands (types_of self.now) of t
-            → Leaves zeros g (types_of self.now) draft.old draft.new (plan zeros g t at)) }
+            → Leaves zeros g (types_of self.now) draft.old draft.new
+            (plan zeros g t at)) }
     {
         let types = &self.tables.types;
         match types.row(of) {
@@ -217,7 +222,8 @@ impl<'a, 't> Planner<'a, 't> {
 
     // Does what is left last.
     fn step(&self, zeros: bool, next: Work, draft: &mut Draft) -> Result<(), CompileError>
-        ensures { OnOk result ((g : GlobalScope) (between after : List code.Start) → Knows self.now g
+        ensures { OnOk result ((g : GlobalScope) (between after : List code.Start)
+            → Knows self.now g
             → Done zeros g (types_of self.now) next (planned draft.old) between
             → AllDone zeros g (types_of self.now) draft.old.left.items between after
             → AllDone zeros g (types_of self.now) draft.new.left.items (planned draft.new) after) }

@@ -1,15 +1,17 @@
 //! How activations and components start.
 
-ghost use Rattle.std.specs.Prelude.{◌≡◌, ◌+◌, ◌-◌, List, [], suc, IfOk, OnOk, if◌then◌else◌, is_some, map};
+ghost use Rattle.std.specs.Prelude.{◌≡◌, ◌≤◌, ◌+◌, ◌-◌, List, [], suc, IfOk, OnOk, if◌then◌else◌, is_some, length, map, option_map, slice_get};
 ghost use Rattle.cp_code.specs.Layout.{locals_words};
 ghost use Rattle.cp_code.specs.Plans.{fill_before, plan_of_component, plan_of_members, plan_of_routine};
 ghost use Rattle.cp_code.specs.Starts.{unset};
+ghost use Rattle.cp_compile.specs.ComponentPlans.{ArePlans};
 ghost use Rattle.cp_compile.specs.Drafts.{planned};
 ghost use Rattle.cp_compile.specs.Planning.{Knows, types_of};
 ghost use Rattle.cp_model.specs.Abstract.{Name, Routine, System};
 ghost use Rattle.cp_model.specs.Declarations.{Variable, declarations};
 ghost use Rattle.cp_model.specs.Types.{GlobalScope, Members};
 ghost use Rattle.cp_scope.specs.Standing.{AreMembers, entry};
+ghost use Rattle.cp_scope.specs.Texts.{AreSystems};
 ghost use Rattle.cp_scope.specs.Variables.{AreDeclared, declared_entry};
 ghost use Rattle.cp_threaded.specs.View as view;
 
@@ -17,8 +19,8 @@ use crate::draft::Draft;
 use crate::error::CompileError;
 use crate::members::{add_members, own_parameters};
 use crate::plan::Planner;
-use cp_scope::{Declared, Field};
-use cp_threaded::program::Start;
+use cp_scope::{Declared, Field, SystemTable};
+use cp_threaded::program::{Plan, Start};
 
 /// The word of a result that isn't set.
 const UNSET: i32 = i32::MIN;
@@ -61,7 +63,8 @@ impl<'a, 't> Planner<'a, 't> {
 
     // Where the variables of an activation begin: after its parameters, which begin at a word.
     fn first_variable(&self, parameters: &[Declared<'t>], at: u32) -> Result<u32, CompileError>
-        ensures { IfOk result (λ first. (g : GlobalScope) (vs : List (Name × Variable)) → Knows self.now g
+        ensures { IfOk result (λ first. (g : GlobalScope) (vs : List (Name × Variable))
+            → Knows self.now g
             → AreDeclared (types_of self.now) (map declared_entry parameters.now) vs
             → first ≡ at + locals_words g vs) }
     {
@@ -81,8 +84,10 @@ impl<'a, 't> Planner<'a, 't> {
         variables: &[Declared<'t>],
     ) -> Result<Vec<Start>, CompileError>
         ensures { IfOk result (λ starts. (g : GlobalScope) (r : Routine) → Knows self.now g
-            → AreDeclared (types_of self.now) (map declared_entry parameters.now) (declarations g r.parameters)
-            → AreDeclared (types_of self.now) (map declared_entry variables.now) (declarations g r.variables)
+            → AreDeclared (types_of self.now) (map declared_entry parameters.now)
+            (declarations g r.parameters)
+            → AreDeclared (types_of self.now) (map declared_entry variables.now)
+            (declarations g r.variables)
             → is_function ≡ is_some r.result → map view.start starts.items ≡ plan_of_routine g r) }
     {
         let mut members = Vec::new(self.alloc);
@@ -101,8 +106,10 @@ impl<'a, 't> Planner<'a, 't> {
         variables: &[Declared<'t>],
     ) -> Result<Vec<Start>, CompileError>
         ensures { IfOk result (λ starts. (g : GlobalScope) (s : System) → Knows self.now g
-            → AreDeclared (types_of self.now) (map declared_entry parameters.now) (declarations g s.parameters)
-            → AreDeclared (types_of self.now) (map declared_entry variables.now) (declarations g s.variables)
+            → AreDeclared (types_of self.now) (map declared_entry parameters.now)
+            (declarations g s.parameters)
+            → AreDeclared (types_of self.now) (map declared_entry variables.now)
+            (declarations g s.variables)
             → map view.start starts.items ≡ plan_of_component g s) }
     {
         let own = own_parameters(self.alloc, &self.tables.types, parameters)?;
@@ -112,6 +119,29 @@ impl<'a, 't> Planner<'a, 't> {
         let head = head_words(parameters.len(), own.len())?;
         let draft = self.plan_members(true, &members, head)?;
         Ok(draft.into_starts())
+    }
+
+    // What is known of the system type of this number.
+    fn table(&self, number: usize) -> Option<&SystemTable<'t>>
+        ensures { option_map (λ t. t.now) result ≡ slice_get self.now.tables.now.systems.items number }
+    {
+        self.tables.systems.get(number)
+    }
+
+    /// The plans of components, of system types by their numbers.
+    pub fn components(&self) -> Result<Vec<Plan>, CompileError>
+        ensures plans { IfOk result (λ plans. (g : GlobalScope) → Knows self.now g
+            → AreSystems g (types_of self.now) self.now.tables.now.systems.items
+            → ArePlans g (types_of self.now) plans.items) }
+        ensures complete { IfOk result (λ plans. length self.now.tables.now.systems.items
+            ≤ length plans.items) }
+    {
+        let mut plans = Vec::new(self.alloc);
+        while let Some(table) = self.table(plans.len()) {
+            let starts = self.component(&table.parameters, &table.variables)?;
+            plans.push(Plan { starts })?;
+        }
+        Ok(plans)
     }
 }
 
