@@ -3,3 +3,9 @@ pub mod Changing
 pub mod CallsEmitted
 pub mod Placing
 pub mod Loops
+pub mod Drafting
+pub mod PlansJoined
+pub mod Planning
+pub mod StartingValues
+pub mod Membership
+pub mod ComponentsPlanned

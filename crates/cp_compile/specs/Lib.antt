@@ -1,3 +1,8 @@
 pub mod PlainNeeds
 pub mod Emission
 pub mod Arms
+pub mod Drafts
+pub mod StartValues
+pub mod Planning
+pub mod Members
+pub mod ComponentPlans

@@ -3,15 +3,23 @@
 //! - `emitter`: operations with their calls, loops whose first operation is completed once their body stands, and units.
 //! - `need`: what an operation and a unit need of words, temps and frames.
 //! - `table`: where a `case` leads.
+//! - `starts`: plans, by which the words of activations and components start.
+//! - `plan`, `draft`: a plan as it is made, from its end, by a stack of what is left to plan.
+//! - `members`, `start_values`: what plans are made from.
 //!
 //! Each equals a function of `cp_code`'s definitions, over the plain data that `cp_threaded` makes of operations.
 #![tactic(auto)]
 
 pub mod call;
+pub mod draft;
 pub mod emission;
 pub mod emitter;
 pub mod error;
+mod members;
 pub mod need;
+pub mod plan;
+mod start_values;
+pub mod starts;
 pub mod table;
 pub mod unit;
 

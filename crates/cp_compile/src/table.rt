@@ -53,7 +53,7 @@ fn bounds(arms: &[Arm]) -> Option<(i32, i32)>
 }
 
 // How many numbers lie from one to another.
-fn count_between(low: i32, high: i32) -> usize
+pub(crate) fn count_between(low: i32, high: i32) -> usize
     ensures { result ≡ integers.count_between low high }
 {
     if high < low {
