@@ -25,7 +25,9 @@ pub fn make_call(
     call: Call,
     into: u32,
 ) -> Result<MadeTerm, CompileError>
-    ensures calls { OnOk result (map coded_call calls.new.items ≡ map coded_call calls.old.items ++ record { call = view.call call; into = into } ∷ []) }
+    ensures calls { OnOk result
+        (map coded_call calls.new.items ≡ map coded_call calls.old.items ++
+        record { call = view.call call; into = into } ∷ []) }
     ensures term { IfOk result (λ made. view.term made.term ≡ plain.Made into) }
     ensures temps { IfOk result (λ made. made.temps ≡ suc into) }
 {

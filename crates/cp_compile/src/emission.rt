@@ -32,7 +32,8 @@ fn complete_repeat(operation: &mut Operation, body: u32)
 
 // Completes the operation at a place, if there is one.
 fn complete_at(operations: &mut Vec<Operation>, place: u32, body: u32)
-    ensures { map view.operation operations.new.items ≡ changed_at place (with_body body) (map view.operation operations.old.items) }
+    ensures { map view.operation operations.new.items ≡ changed_at place (with_body body)
+        (map view.operation operations.old.items) }
 {
     let place = place as usize;
     if place < operations.len() {
@@ -41,7 +42,8 @@ fn complete_at(operations: &mut Vec<Operation>, place: u32, body: u32)
 }
 
 fn complete_repeat_at(operations: &mut Vec<Operation>, place: u32, body: u32)
-    ensures { map view.operation operations.new.items ≡ changed_at place (with_repeated body) (map view.operation operations.old.items) }
+    ensures { map view.operation operations.new.items ≡ changed_at place (with_repeated body)
+        (map view.operation operations.old.items) }
 {
     let place = place as usize;
     if place < operations.len() {
@@ -76,22 +78,26 @@ impl Emitter {
 
     /// Completes the operation that closes a loop, once its body begins there: of a `cycle`, a `for` or a `while`.
     pub fn close_loop(&mut self, place: u32, body: u32)
-        ensures { Goes self.old self.new (changed_at place (with_body body) (operations_of self.old)) }
+        ensures { Goes self.old self.new
+            (changed_at place (with_body body) (operations_of self.old)) }
     {
         complete_at(&mut self.operations, place, body);
     }
 
     /// Completes the operation that closes a `repeat`, once its body begins there.
     pub fn close_repeat(&mut self, place: u32, body: u32)
-        ensures { Goes self.old self.new (changed_at place (with_repeated body) (operations_of self.old)) }
+        ensures { Goes self.old self.new
+            (changed_at place (with_repeated body) (operations_of self.old)) }
     {
         complete_repeat_at(&mut self.operations, place, body);
     }
 
     // Emits calls that lead to the next place, the last one first, and answers where they are entered.
     fn emit_calls(&mut self, calls: Vec<CodedCall>, next: u32) -> Result<u32, CompileError>
-        ensures entry { IfOk result (λ entry. entry ≡ (calls_from self.old calls.items next).entry) }
-        ensures emits { OnOk result (Emits self.old self.new (calls_from self.old calls.items next).operations) }
+        ensures entry { IfOk result
+            (λ entry. entry ≡ (calls_from self.old calls.items next).entry) }
+        ensures emits { OnOk result
+            (Emits self.old self.new (calls_from self.old calls.items next).operations) }
     {
         let mut left = calls;
         let mut entry = next;
@@ -107,8 +113,10 @@ impl Emitter {
 
     /// Emits an operation after the calls of its terms, and answers where they are entered.
     pub fn emit(&mut self, calls: Vec<CodedCall>, operation: Operation) -> Result<u32, CompileError>
-        ensures entry { IfOk result (λ entry. entry ≡ (operation_from self.old calls.items operation).entry) }
-        ensures emits { OnOk result (Emits self.old self.new (operation_from self.old calls.items operation).operations) }
+        ensures entry { IfOk result
+            (λ entry. entry ≡ (operation_from self.old calls.items operation).entry) }
+        ensures emits { OnOk result
+            (Emits self.old self.new (operation_from self.old calls.items operation).operations) }
     {
         let place = self.push(operation)?;
         self.emit_calls(calls, place)

@@ -25,5 +25,6 @@ pub struct Emitter {
     pub(crate) words: u32,
     pub(crate) need: Need,
     ghost begun: { first ≤ length operations.items },
-    ghost needed: { plain_need need ≡ need_of_all (map view.code_unit units.items) words (drop first (map view.operation operations.items)) },
+    ghost needed: { plain_need need ≡ need_of_all (map view.code_unit units.items) words
+        (drop first (map view.operation operations.items)) },
 }

@@ -82,7 +82,8 @@ impl Need {
 
     // With room for the arguments of an `init`, after so many words.
     fn with_room(self, words: u32, arguments: &[Argument]) -> Result<Need, CompileError>
-        ensures { IfOk result (λ n. plain_need n ≡ needs.with_room words (length arguments.now) (plain_need self)) }
+        ensures { IfOk result
+            (λ n. plain_need n ≡ needs.with_room words (length arguments.now) (plain_need self)) }
     {
         let room = sum(words, sum(count(arguments)?, 1)?)?;
         Ok(Need {
@@ -93,7 +94,9 @@ impl Need {
 
     // What a call needs. The callee stands already.
     fn of_call(units: &[CodeUnit], call: &Call) -> Result<Need, CompileError>
-        ensures { IfOk result (λ n. plain_need n ≡ needs.need_of_call (map view.code_unit units.now) (view.call call.now)) }
+        ensures { IfOk result
+            (λ n. plain_need n ≡ needs.need_of_call (map view.code_unit units.now)
+            (view.call call.now)) }
     {
         let Some(unit) = units.get(call.routine as usize) else {
             return Ok(Need::none());
@@ -107,14 +110,18 @@ impl Need {
 
     // What an `init` of a class or a monitor needs.
     fn of_init(units: &[CodeUnit], call: &Call) -> Result<Need, CompileError>
-        ensures { IfOk result (λ n. plain_need n ≡ needs.with_room call.now.words (length call.now.arguments.items) (needs.need_of_call (map view.code_unit units.now) (view.call call.now))) }
+        ensures { IfOk result
+            (λ n. plain_need n ≡ needs.with_room call.now.words (length call.now.arguments.items)
+            (needs.need_of_call (map view.code_unit units.now) (view.call call.now))) }
     {
         Need::of_call(units, call)?.with_room(call.words, &call.arguments)
     }
 
     /// What an operation needs, where these units stand.
     pub fn of(units: &[CodeUnit], operation: &Operation) -> Result<Need, CompileError>
-        ensures { IfOk result (λ n. plain_need n ≡ needs.need_of (map view.code_unit units.now) (view.operation operation.now)) }
+        ensures { IfOk result
+            (λ n. plain_need n ≡ needs.need_of (map view.code_unit units.now)
+            (view.operation operation.now)) }
     {
         match operation {
             Operation::Procedure { call, .. } => Need::of_call(units, call),

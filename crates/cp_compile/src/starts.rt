@@ -123,7 +123,8 @@ impl<'a, 't> Planner<'a, 't> {
 
     // What is known of the system type of this number.
     fn table(&self, number: usize) -> Option<&SystemTable<'t>>
-        ensures { option_map (λ t. t.now) result ≡ slice_get self.now.tables.now.systems.items number }
+        ensures { option_map (λ t. t.now) result ≡ slice_get self.now.tables.now.systems.items
+            number }
     {
         self.tables.systems.get(number)
     }

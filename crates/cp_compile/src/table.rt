@@ -64,7 +64,9 @@ pub(crate) fn count_between(low: i32, high: i32) -> usize
 
 // Puts the place of a label among those of the numbers from the lowest on.
 fn put(places: &mut Vec<Option<u32>>, low: i32, arm: Arm)
-    ensures { places.new.items ≡ (if int_le low arm.label then slice_set places.old.items (distance low arm.label) (Some arm.place) else places.old.items) }
+    ensures { places.new.items
+        ≡ (if int_le low arm.label then slice_set places.old.items (distance low arm.label)
+        (Some arm.place) else places.old.items) }
 {
     if arm.label < low {
         return;
@@ -90,7 +92,8 @@ fn places(
     low: i32,
     count: usize,
 ) -> Result<Vec<Option<u32>>, CompileError>
-    ensures places { IfOk result (λ places. places.items ≡ coded.places_from (map arm arms.now) low count) }
+    ensures places { IfOk result
+        (λ places. places.items ≡ coded.places_from (map arm arms.now) low count) }
     ensures memory { IfErr result (λ e. e ≡ error.Memory) }
 {
     let mut places = no_places(alloc, count)?;

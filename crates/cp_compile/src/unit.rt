@@ -43,7 +43,8 @@ impl Emitter {
     pub fn end(&mut self, entry: u32, starts: Vec<Start>) -> Result<(), CompileError>
         ensures memory { IfErr result (λ e. e ≡ error.Memory) }
         ensures operations { OnOk result (operations_of self.new ≡ operations_of self.old) }
-        ensures unit { OnOk result (units_of self.new ≡ units_of self.old ++ unit_ended self.old entry starts.items ∷ []) }
+        ensures unit { OnOk result
+            (units_of self.new ≡ units_of self.old ++ unit_ended self.old entry starts.items ∷ []) }
     {
         let need = self.need;
         self.units.push(CodeUnit {

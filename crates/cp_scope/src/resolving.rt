@@ -143,7 +143,8 @@ impl<'t> Types<'t> {
         indices: &'t [TypeExpression],
         element: usize,
     ) -> Result<usize, TableError>
-        ensures { IfOk result (λ n. MakesIndexed names.now self.old self.new indices.now element n) }
+        ensures { IfOk result
+            (λ n. MakesIndexed names.now self.old self.new indices.now element n) }
     {
         let mut of = element;
         let mut left = indices.len();

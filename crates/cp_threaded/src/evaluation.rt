@@ -137,7 +137,8 @@ impl<'a> Reach<'a> {
     #[inline(always)]
     fn word(&self, at: usize) -> i32
         ensures word { result ≡ starts.word (self.now.own.now ++ self.now.shared.now) at }
-        ensures capped { (place : ℕ) → capped place ≡ at → result ≡ starts.word (self.now.own.now ++ self.now.shared.now) place }
+        ensures capped { (place : ℕ) → capped place ≡ at
+            → result ≡ starts.word (self.now.own.now ++ self.now.shared.now) place }
     {
         match self.own.get(at) {
             Some(n) => *n,
@@ -170,7 +171,8 @@ impl<'a> Reach<'a> {
     }
 
     fn through(&self, parameter: u32, plus: u32) -> usize
-        ensures place { result ≡ values.root_place (view_of self.now) (terms.Through parameter plus) }
+        ensures place { result ≡ values.root_place (view_of self.now)
+            (terms.Through parameter plus) }
         ensures small { result < 2 ^ 33 }
     {
         natural(self.word(self.local(parameter))) + plus as usize
@@ -309,7 +311,8 @@ fn offset(i: &Index, n: i32) -> Result<usize, Fault>
 // The place to which indices lead from this one.
 #[cycle(value)]
 fn place_of_element(from: usize, indices: &[Index], reach: &Reach) -> Result<usize, Fault>
-    ensures { result ≡ capped_result (elements_place (view_of reach.now) from (map view.index indices.now)) }
+    ensures { result ≡ capped_result
+        (elements_place (view_of reach.now) from (map view.index indices.now)) }
 {
     let mut at = from;
     for i in indices {
@@ -328,7 +331,8 @@ impl Spot {
     #[cycle(value)]
     #[inline(always)]
     pub fn place(&self, reach: &Reach) -> Result<usize, Fault>
-        ensures { result ≡ capped_result (values.place_of (view_of reach.now) (view.spot self.now)) }
+        ensures { result ≡ capped_result
+            (values.place_of (view_of reach.now) (view.spot self.now)) }
     {
         let from = reach.root_place(self.root);
         if self.indices.is_empty() {

@@ -71,10 +71,13 @@ impl Program {
         plans: Vec<Plan>,
         shared: u32,
     ) -> Program
-        ensures operations { (view.program result).operations ≡ map view.operation operations.items }
+        ensures operations { (view.program result).operations ≡ map view.operation
+            operations.items }
         ensures units { (view.program result).units ≡ map view.code_unit units.items }
-        ensures monitors { (view.program result).monitors ≡ map (view.monitor plans.items) monitors.items }
-        ensures processes { (view.program result).processes ≡ map (view.process plans.items) processes.items }
+        ensures monitors { (view.program result).monitors ≡ map (view.monitor plans.items)
+            monitors.items }
+        ensures processes { (view.program result).processes ≡ map (view.process plans.items)
+            processes.items }
         ensures shared { (view.program result).shared ≡ shared }
     {
         Program {
@@ -90,28 +93,32 @@ impl Program {
     /// The operation at a place, if there is one.
     #[inline(always)]
     pub fn operation(&self, place: u32) -> Option<&Operation>
-        ensures { option_map (λ o. view.operation o.now) result ≡ slice_get (view.program self.now).operations place }
+        ensures { option_map (λ o. view.operation o.now) result ≡ slice_get
+            (view.program self.now).operations place }
     {
         self.operations.get(place as usize)
     }
 
     /// The unit of this number, from 0, if there is one.
     pub fn unit(&self, number: u32) -> Option<&CodeUnit>
-        ensures { option_map (λ u. view.code_unit u.now) result ≡ slice_get (view.program self.now).units number }
+        ensures { option_map (λ u. view.code_unit u.now) result ≡ slice_get
+            (view.program self.now).units number }
     {
         self.units.get(number as usize)
     }
 
     /// The monitor of this number, from 1, if there is one. The number 0 is read as 1.
     pub fn monitor(&self, number: usize) -> Option<&Monitor>
-        ensures { option_map (λ m. view.monitor (plans_of self.now) m.now) result ≡ slice_get (view.program self.now).monitors (number - 1) }
+        ensures { option_map (λ m. view.monitor (plans_of self.now) m.now) result ≡ slice_get
+            (view.program self.now).monitors (number - 1) }
     {
         self.monitors.get(number.saturating_sub(1))
     }
 
     /// The process of this number, from 1, if there is one. The number 0 is read as 1.
     pub fn process(&self, number: usize) -> Option<&Process>
-        ensures { option_map (λ p. view.process (plans_of self.now) p.now) result ≡ slice_get (view.program self.now).processes (number - 1) }
+        ensures { option_map (λ p. view.process (plans_of self.now) p.now) result ≡ slice_get
+            (view.program self.now).processes (number - 1) }
     {
         self.processes.get(number.saturating_sub(1))
     }

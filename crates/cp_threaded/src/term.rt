@@ -120,7 +120,8 @@ impl Spot {
 
     /// An element of a variable, or of a part of one.
     pub fn element(self, low: i32, high: i32, size: u32, value: Term) -> Result<Spot, AllocError>
-        ensures { IfOk result (λ s. view.spot s ≡ plain.Element (view.spot self) low high size 0 (view.term value)) }
+        ensures { IfOk result
+            (λ s. view.spot s ≡ plain.Element (view.spot self) low high size 0 (view.term value)) }
     {
         let Spot { root, mut indices } = self;
         indices.push(Index {
@@ -153,7 +154,8 @@ impl Spot {
 
 impl Application {
     fn new(operator: Operator, operand: Operand) -> Application
-        ensures { view.application result ≡ record { operator = operator_of operator; operand = view.operand operand } }
+        ensures { view.application
+            result ≡ record { operator = operator_of operator; operand = view.operand operand } }
     {
         match operand {
             Operand::Number(number) => Application::WithNumber(operator, number),
@@ -237,7 +239,8 @@ impl Term {
 
     /// A standard function of it.
     pub fn standard(self, alloc: Global, function: Function) -> Result<Term, AllocError>
-        ensures { IfOk result (λ t. view.term t ≡ plain.Standard (view.function function) (view.term self)) }
+        ensures { IfOk result
+            (λ t. view.term t ≡ plain.Standard (view.function function) (view.term self)) }
     {
         let argument = Box::new(alloc, self)?;
         Ok(Term::lone(alloc, Operand::Standard(function, argument)))
@@ -255,7 +258,9 @@ impl Term {
 
     /// An operator between it and a right operand.
     pub fn binary(self, alloc: Global, operator: Operator, right: Term) -> Result<Term, AllocError>
-        ensures { IfOk result (λ t. view.term t ≡ plain.Binary (operator_of operator) (view.term self) (view.term right)) }
+        ensures { IfOk result
+            (λ t. view.term t ≡ plain.Binary (operator_of operator) (view.term self)
+            (view.term right)) }
     {
         let operand = right.into_operand(alloc)?;
         let Term { first, mut rest } = self;
