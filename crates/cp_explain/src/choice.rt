@@ -122,7 +122,7 @@ impl<'t> Site<'t> {
         }
     }
 
-    fn c2_mark(&self, mark: Mark<'t>) -> Message {
+    fn c2_mark(&self, mark: Mark) -> Message {
         match mark {
             Mark::Operator => m::OPERANDS,
             Mark::Point => m::NO_PARTS,
@@ -143,7 +143,7 @@ impl<'t> Site<'t> {
             NameRole::Type(_) => m::NO_TYPE,
             NameRole::Constant => m::NO_CONSTANT,
             NameRole::Counter if self.is_variable() => m::COUNTER,
-            NameRole::Value => self.c2_value(0),
+            NameRole::Value => self.c2_value(),
             NameRole::Function(arguments) => self.c2_function(arguments),
             NameRole::Procedure(arguments) => self.c2_procedure(arguments),
             NameRole::Member(_, call) => self.c2_member(call),
@@ -153,9 +153,9 @@ impl<'t> Site<'t> {
     }
 
     // A name that stands alone where a value is wanted.
-    fn c2_value(&self, arguments: usize) -> Message {
+    fn c2_value(&self) -> Message {
         match self.kind() {
-            Some(Kind::Function) => self.call_message(arguments),
+            Some(Kind::Function) => self.call_message(0),
             None => m::ARGUMENTS,
             _ if self.is_component() => m::NO_VALUE,
             _ if self.is_variable() || self.is_constant() => self.disagreement(),
@@ -240,7 +240,7 @@ impl<'t> Site<'t> {
 
     fn c7(&self) -> Message {
         match (self.mark, self.role()) {
-            (Some(Mark::Var(_)), _) => m::VAR_RIGHT,
+            (Some(Mark::Var), _) => m::VAR_RIGHT,
             (_, Some(NameRole::Type(TypePlace::RoutineParameter))) => m::ROUTINE_PARAMETER,
             _ => m::SYSTEM_PARAMETER,
         }
@@ -274,7 +274,7 @@ impl<'t> Site<'t> {
 
     fn c11(&self) -> Message {
         match self.mark {
-            Some(Mark::Var(_)) => m::VAR_OF_FUNCTION,
+            Some(Mark::Var) => m::VAR_OF_FUNCTION,
             _ => m::RESULT,
         }
     }

@@ -40,7 +40,7 @@ impl<'t> Finder<'t> {
         }
     }
 
-    pub(crate) fn mark(&mut self, at: usize, mark: Mark<'t>) {
+    pub(crate) fn mark(&mut self, at: usize, mark: Mark) {
         if at == self.at && self.site.mark.is_none() {
             self.site.scope = self.scope;
             self.site.mark = Some(mark);

@@ -211,7 +211,11 @@ impl<'t> Drawing<'t> {
     }
 }
 
-fn draw(alloc: Global, tree: &Tree, form: Form) -> Result<Page, AllocError> {
+/// The components of an accepted text, and which has a right to which.
+///
+/// The rights that the initial process hands over are told by component, those that the body of a system type hands over by type. It
+/// fails only when memory runs out.
+pub fn graph(alloc: Global, tree: &Tree, form: Form) -> Result<Page, AllocError> {
     let systems = Systems::of(alloc, tree)?;
     let mut drawing = Drawing {
         page: Page::new(alloc),
@@ -230,12 +234,4 @@ fn draw(alloc: Global, tree: &Tree, form: Form) -> Result<Page, AllocError> {
         drawing.page.bytes(b"}\n")?;
     }
     Ok(drawing.page)
-}
-
-/// The components of an accepted text, and which has a right to which.
-///
-/// The rights that the initial process hands over are told by component, those that the body of a system type hands over by type. It
-/// fails only when memory runs out.
-pub fn graph(alloc: Global, tree: &Tree, form: Form) -> Result<Page, AllocError> {
-    draw(alloc, tree, form)
 }

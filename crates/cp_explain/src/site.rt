@@ -1,7 +1,7 @@
 //! What stands at a place of a text: which part a name plays there, or what an expression is wanted for.
 
 use crate::scope::Scope;
-use cp_model::tree::{Designator, Identifier, Routine, Sort, TypeExpression};
+use cp_model::tree::{Designator, Identifier, Sort};
 
 /// The declaration in which a name stands.
 #[derive(Clone, Copy)]
@@ -28,7 +28,7 @@ pub enum TypePlace {
     Index,
     Variable,
     RoutineVariable,
-    SystemParameter(Sort),
+    SystemParameter,
     RoutineParameter,
     Result,
 }
@@ -78,15 +78,15 @@ pub enum Purpose<'t> {
 
 /// A token that is no name and begins no expression.
 #[derive(Clone, Copy)]
-pub enum Mark<'t> {
+pub enum Mark {
     Operator,
     Point,
     Index,
     Becomes,
     Init,
     Entry,
-    /// The `var` before a parameter: of this routine, or of a system type.
-    Var(Option<&'t Routine>),
+    /// The `var` before a parameter.
+    Var,
     /// The `begin` of the initial process.
     InitialBegin,
     /// A written type.
@@ -104,23 +104,7 @@ pub struct Site<'t> {
     pub scope: Scope<'t>,
     pub name: Option<(&'t Identifier, NameRole<'t>)>,
     pub purpose: Option<Purpose<'t>>,
-    pub mark: Option<Mark<'t>>,
+    pub mark: Option<Mark>,
     /// The number of the process or monitor that the name declares, where the initial process declares it.
     pub number: Option<(Sort, usize)>,
-}
-
-impl<'t> Site<'t> {
-    /// Whether anything was found at the place.
-    pub fn is_found(&self) -> bool {
-        self.name.is_some() || self.purpose.is_some() || self.mark.is_some()
-    }
-}
-
-/// The place of the first token of a written type.
-pub fn first_of_type(of: &TypeExpression) -> Option<usize> {
-    match of {
-        TypeExpression::Named(x) => Some(x.at),
-        TypeExpression::Array { at, .. } | TypeExpression::Record { at, .. } => Some(*at),
-        TypeExpression::Subrange(..) => None,
-    }
 }

@@ -19,7 +19,7 @@ impl<'t> Finder<'t> {
         finder.site
     }
 
-    pub(crate) fn constant(&mut self, c: &'t Constant, mark: Mark<'t>) {
+    pub(crate) fn constant(&mut self, c: &'t Constant, mark: Mark) {
         match c {
             Constant::Number { at, .. }
             | Constant::Negative { at, .. }
@@ -100,7 +100,7 @@ impl<'t> Finder<'t> {
     fn parameters(&mut self, groups: &'t [Parameters], place: TypePlace) {
         for group in groups {
             if let Some(at) = group.by_reference {
-                self.mark(at, Mark::Var(self.scope.routine));
+                self.mark(at, Mark::Var);
             }
             self.declaring_names(&group.names, Declaring::Parameter);
             self.name(&group.of, NameRole::Type(place));
@@ -130,7 +130,7 @@ impl<'t> Finder<'t> {
 
     fn system(&mut self, system: &'t System) {
         self.scope.system = Some(system);
-        self.parameters(&system.parameters, TypePlace::SystemParameter(system.sort));
+        self.parameters(&system.parameters, TypePlace::SystemParameter);
         self.variables(&system.variables);
         self.routines(&system.routines);
         self.statements(&system.body.statements);
