@@ -45,7 +45,8 @@ pub fn report_of<H: Threads + Wait + Sync, G: TurnGate>(
     ensures report { IfOk result
         (λ bytes. (setup : Setup) → StandsFor program setup → HasInputs input.now setup
         → setup.tick ≡ run.now.tick.rounds
-        → bytes.items ≡ Report.report setup (r.run setup run.now.plan.turn.steps run.now.rounds (start setup))) }
+        → bytes.items ≡ Report.report setup
+        (r.run setup run.now.plan.turn.steps run.now.rounds (start setup))) }
     ensures memory { IfErr result (λ e. e ≡ refusal.Memory) }
 {
     let inputs = cut_input(alloc, input, program.processes())?;

@@ -98,7 +98,8 @@ fn finish_next<'a, C: Course, R: Wait, G: TurnGate>(
     ensures made { (k : Kernel)
         → WavesMade program.now turn.steps start.now.value.value.items k
         (length parts.old.privates.items) parts.old.privates.items parts.old.kernel
-        → WavesMade program.now turn.steps start.now.value.value.items k (length parts.new.privates.items) parts.new.privates.items parts.new.kernel }
+        → WavesMade program.now turn.steps start.now.value.value.items k
+        (length parts.new.privates.items) parts.new.privates.items parts.new.kernel }
     ensures count { length parts.new.privates.items ≡ length parts.old.privates.items + 1 }
     ensures capacity { length desk.now.tasks.items ≤ vec_capacity parts.new.privates }
     ensures room { AllRoom C.most (length parts.new.privates.items) start.now.value.value.items
