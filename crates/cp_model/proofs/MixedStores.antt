@@ -3,7 +3,8 @@ use Rattle.std.specs.Prelude.{Bool, false, if◌then◌else◌, nat_eq, refl, tr
 use Rattle.std.proofs.Common.{ap, arith, subst, ◌∙◌}
 use Rattle.std.proofs.lemmas.Bool.{eqb-true}
 use Rattle.cp_model.specs.Locations.{Location, OfActivation, OfMonitor, OfProcess, Owner, same_location, same_owner}
-use Rattle.cp_model.specs.Stores.{Absent, ClassRight, Reference, Store, Value, forget, put}
+use Rattle.cp_model.specs.Stores.{Absent, ClassRight, Initialised, MonitorRight, Ordinal, QueueHolds, Reference, Store, Value, forget, put}
+use Rattle.cp_model.specs.Components.{class_or_here}
 
 -- The store a at the owners that pass, b elsewhere.
 abbrev pub mix : (Owner → Bool) → Store → Store → Store
@@ -61,3 +62,14 @@ mix_same t a = λ i l. go l (t l.owner) i
     go : (l : Location) (b : Bool) → (if b then a l else a l) ≡ a l
     go l true = refl
     go l false = refl
+
+-- A right to a class leads from what is in reach to what is.
+pub class_or_here_in : (t : Owner → Bool) (store : Store) → IsClosed t store → (l : Location) (v : Value) → t l.owner ≡ true → store l ≡ v
+    → t (class_or_here l v).owner ≡ true
+class_or_here_in t store closed l (ClassRight k) h e = closed.classes l k h e
+class_or_here_in t store closed l Absent h e = h
+class_or_here_in t store closed l (Ordinal n) h e = h
+class_or_here_in t store closed l (QueueHolds x) h e = h
+class_or_here_in t store closed l (MonitorRight m) h e = h
+class_or_here_in t store closed l (Reference k) h e = h
+class_or_here_in t store closed l (Initialised x) h e = h

@@ -26,7 +26,7 @@ use Rattle.cp_model.specs.StatementSteps.{chosen_arm, execute, for_step, is_past
 use Rattle.cp_model.specs.Step.{run_task, step_of, take_action}
 use Rattle.cp_model.specs.Start.{start}
 use Rattle.cp_model.specs.Invariant.{EnvironmentIn, FrameIn, TaskIn}
-use Rattle.cp_model.proofs.MixedStores.{IsClosed, forget_mix, get_mix, mix, put_mix}
+use Rattle.cp_model.proofs.MixedStores.{IsClosed, class_or_here_in, forget_mix, get_mix, mix, put_mix}
 use Rattle.cp_model.proofs.ExpressionReach.{IfGives, PlaceIn, anything, place_in, place_same, then_gives, value_same}
 use Rattle.cp_model.proofs.WriteReach.{WritesIn, bind_in, bind_same, put_all_mix, starting_writes_in, writes_in}
 use Rattle.cp_model.proofs.ActionReach.{ActionIn, ContinuationIn, action_in}
@@ -48,22 +48,13 @@ module _ (t : Owner → Bool) (b : Store) (w : Context) (f g : ℕ → Bool) (co
     pub same_started : f ≡ w.is_started
     pub same_set : g ≡ w.is_set
 
-  class_or_here_in : (l : Location) (v : Value) → t l.owner ≡ true → config.store l ≡ v → t (class_or_here l v).owner ≡ true
-  class_or_here_in l (ClassRight k) h e = closed.classes l k h e
-  class_or_here_in l Absent h e = h
-  class_or_here_in l (Ordinal n) h e = h
-  class_or_here_in l (QueueHolds x) h e = h
-  class_or_here_in l (MonitorRight m) h e = h
-  class_or_here_in l (Reference k) h e = h
-  class_or_here_in l (Initialised x) h e = h
-
   class_location_in : (env : Environment) (n : Component) → EnvironmentIn t env
       → t (class_location env config.store n).owner ≡ true
   class_location_in env n s = go n.is_parameter
     where
       go : (x : Bool) → t (if x then class_or_here (name_location env n) (config.store (name_location env n)) else
           name_location env n).owner ≡ true
-      go true = class_or_here_in (name_location env n) (config.store (name_location env n)) s.component refl
+      go true = class_or_here_in t config.store closed (name_location env n) (config.store (name_location env n)) s.component refl
       go false = s.component
 
   class_location_same : (env : Environment) (n : Component) → EnvironmentIn t env
