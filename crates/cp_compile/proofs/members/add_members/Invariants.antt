@@ -1,9 +1,0 @@
-use Rattle.std.proofs.Common.{◌≡◌, ◌++◌, drop, map}
-use Rattle.cp_scope.specs.Standing.{entry}
-use Rattle.cp_compile.specs.Members.{member_of}
-use Rattle.cp_compile.proofs.members.add_members.Given as goal
-
--- With those that are left the members are all.
-abbrev pub invariant-loop-d : goal.invariant-loop-d
-invariant-loop-d l =
-    map entry l.members.items ++ map member_of (drop l.d-index l.list) ≡ map entry l.fn.members.items ++ map member_of l.fn.list

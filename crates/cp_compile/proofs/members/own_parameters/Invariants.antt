@@ -1,7 +1,0 @@
-use Rattle.std.proofs.Common.{◌≡◌, ◌++◌, drop}
-use Rattle.cp_compile.specs.Members.{own_of}
-use Rattle.cp_compile.proofs.members.own_parameters.Given as goal
-
--- With those among the ones that are left they are all.
-abbrev pub invariant-loop-d : goal.invariant-loop-d
-invariant-loop-d l = l.kept.items ++ own_of l.types (drop l.d-index l.list) ≡ own_of l.types l.fn.list

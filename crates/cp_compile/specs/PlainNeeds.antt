@@ -1,6 +1,0 @@
--- What is needed, as the plain data of the definitions.
-use Rattle.cp_code.specs.CodeNeeds as needs
-use Rattle.cp_compile.specs.declared.need.Need.{Need}
-
-abbrev pub plain_need : Need → needs.Need
-plain_need n = record { words = n.words; temps = n.temps; frames = n.frames }

@@ -1,0 +1,17 @@
+use Rattle.std.proofs.Common.{◌≡◌, drop, length, map, take, vec_len}
+use Rattle.cp_code.specs.CodedStatements.{calls_at}
+use Rattle.cp_emit.specs.Emission.{Emits, coded_call, place_of}
+use Rattle.cp_emit.proofs.emitter.Emitter.emit_calls.Given as goal
+
+-- The calls that aren't left were emitted.
+abbrev pub invariant-loop-made : goal.invariant-loop-made
+invariant-loop-made l =
+    let made = calls_at (map coded_call (drop (length l.left.items) l.fn.calls.items)) (place_of l.fn.self) l.next in
+    record {
+      left : l.left.items ≡ take (length l.left.items) l.fn.calls.items;
+      entry : l.entry ≡ made.entry;
+      emits : Emits l.fn.self l.self made.operations;
+    }
+
+abbrev pub decreases-loop-made : goal.decreases-loop-made
+decreases-loop-made l = vec_len l.left

@@ -1,0 +1,36 @@
+-- Plans under way, as the plain data of the definitions.
+use Rattle.std.specs.Prelude.{◌≡◌, Bool, true, false, ℕ, ℤ, nat_eq, List, [], ◌∷◌, ◌++◌, Option, None, Some, drop, if◌then◌else◌, length, map, reverse}
+use Rattle.cp_code.specs.Plans.{fill_before}
+use Rattle.cp_code.specs.Programs as code
+use Rattle.cp_threaded.specs.declared.program.Start.{Start}
+use Rattle.cp_threaded.specs.View as view
+use Rattle.cp_emit.specs.declared.draft.Draft.{Draft}
+use Rattle.cp_emit.specs.declared.draft.Work.{Work}
+use Rattle.cp_emit.specs.declared.draft.Work.TheVariants as work
+
+-- The first start is the one that was planned last.
+abbrev pub starts_of : List Start → List code.Start
+starts_of xs = map view.start (reverse xs)
+
+abbrev pub planned : Draft → List code.Start
+planned d = starts_of d.starts.items
+
+-- The first start is taken away, if there are so many.
+abbrev pub closed : ℕ → List code.Start → List code.Start
+closed n xs = if nat_eq (length xs) n then drop 1 xs else xs
+
+-- The end of an array is left, if its words may all be 0 before.
+abbrev pub with_end : Bool → ℕ → List Work → List Work
+with_end true n ws = ws ++ work.EndOfArray n ∷ []
+with_end false n ws = ws
+
+-- ---- Neighbours
+
+abbrev pub joined_with : Option Start → code.Start → code.Start → List code.Start → List code.Start
+joined_with (Some both) first next rest = view.start both ∷ rest
+joined_with None first next rest = first ∷ next ∷ rest
+
+abbrev pub Joins : (at count : ℕ) (value : ℤ) → Start → Option Start → Type 0
+Joins at count value next both =
+    (rest : List code.Start)
+    → fill_before at count value (view.start next ∷ rest) ≡ joined_with both (code.Fill at count value) (view.start next) rest

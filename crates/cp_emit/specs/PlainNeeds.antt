@@ -1,0 +1,6 @@
+-- What is needed, as the plain data of the definitions.
+use Rattle.cp_code.specs.CodeNeeds as needs
+use Rattle.cp_emit.specs.declared.need.Need.{Need}
+
+abbrev pub plain_need : Need → needs.Need
+plain_need n = record { words = n.words; temps = n.temps; frames = n.frames }

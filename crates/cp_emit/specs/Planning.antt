@@ -1,0 +1,41 @@
+-- What is left to plan, and what each step does to it.
+use Rattle.std.specs.Prelude.{◌≡◌, Bool, List, [], ◌∷◌}
+use Rattle.cp_model.specs.Types.{GlobalScope, ResolvedType}
+use Rattle.cp_code.specs.Plans.{plan}
+use Rattle.cp_code.specs.Programs.{Start}
+use Rattle.cp_scope.specs.declared.types.Types.{Types}
+use Rattle.cp_scope.specs.Layouts.{AreLaid}
+use Rattle.cp_scope.specs.Standing.{ScopeStands, Stands}
+use Rattle.cp_emit.specs.declared.draft.Draft.{Draft}
+use Rattle.cp_emit.specs.declared.draft.Work.{Work}
+use Rattle.cp_emit.specs.declared.draft.Work.TheVariants as work
+use Rattle.cp_emit.specs.declared.plan.Planner.{Planner}
+use Rattle.cp_emit.specs.Drafts.{closed, planned}
+use Rattle.cp_emit.specs.StartValues.{AreStartValues}
+
+abbrev pub types_of : Planner → Types
+types_of p = p.tables.now.types
+
+-- What a planner knows is so in this outermost scope.
+pub record Knows (p : Planner) (g : GlobalScope) : Type 0 where
+  pub scope : ScopeStands p.tables.now.names (types_of p) g
+  pub laid : AreLaid g (types_of p) p.tables.now.layouts.rows.items
+  pub values : AreStartValues (types_of p) p.values.items
+
+-- What was planned becomes this, once that is done.
+abbrev pub Done : Bool → GlobalScope → Types → Work → List Start → List Start → Type 0
+Done zeros g types (work.Variable of at) now after =
+    (t : ResolvedType) × Stands types of t × (after ≡ plan zeros g t at now)
+Done zeros g types (work.EndOfArray n) now after = after ≡ closed n now
+
+-- Once all is done that is left, the last one first.
+abbrev pub AllDone : Bool → GlobalScope → Types → List Work → List Start → List Start → Type 0
+AllDone zeros g types [] now after = after ≡ now
+AllDone zeros g types (w ∷ ws) now after =
+    (between : List Start) × AllDone zeros g types ws now between × Done zeros g types w between after
+
+-- What was left after this is left after that, which plans so much more or leaves it to be planned.
+abbrev pub Leaves : Bool → GlobalScope → Types → Draft → Draft → (List Start → List Start) → Type 0
+Leaves zeros g types old new f =
+    (after : List Start) → AllDone zeros g types old.left.items (f (planned old)) after
+    → AllDone zeros g types new.left.items (planned new) after

@@ -1,0 +1,40 @@
+//! The calls of a statement's terms, in the order in which they are made.
+
+ghost use Rattle.std.specs.Prelude.{◌≡◌, [], ◌∷◌, ◌++◌, IfOk, OnOk, map, suc};
+ghost use Rattle.cp_code.specs.Terms as plain;
+ghost use Rattle.cp_emit.specs.Emission.{coded_call};
+ghost use Rattle.cp_threaded.specs.View as view;
+
+use crate::emitter::CodedCall;
+use crate::error::CompileError;
+use cp_threaded::operation::Call;
+use cp_threaded::term::Term;
+use std::alloc::Global;
+
+/// A term for the value of a call, and the first temp after it.
+#[derive(Debug, Drop)]
+pub struct MadeTerm {
+    pub term: Term,
+    pub temps: u32,
+}
+
+/// Adds a call whose value goes to a temp, and answers the term for its value.
+pub fn make_call(
+    alloc: Global,
+    calls: &mut Vec<CodedCall>,
+    call: Call,
+    into: u32,
+) -> Result<MadeTerm, CompileError>
+    ensures calls { OnOk result
+        (map coded_call calls.new.items ≡ map coded_call calls.old.items ++
+        record { call = view.call call; into = into } ∷ []) }
+    ensures term { IfOk result (λ made. view.term made.term ≡ plain.Made into) }
+    ensures temps { IfOk result (λ made. made.temps ≡ suc into) }
+{
+    let temps = into.checked_add(1).ok_or(CompileError::Unaccepted)?;
+    calls.push(CodedCall { call, into })?;
+    Ok(MadeTerm {
+        term: Term::made(alloc, into),
+        temps,
+    })
+}

@@ -1,0 +1,144 @@
+//! Plans under way: they are made from their ends.
+
+ghost use Rattle.std.specs.Prelude.{◌≡◌, [], ◌∷◌, IfOk, OnOk, length, map};
+ghost use Rattle.cp_code.specs.Plans.{fill_before, fill_unless};
+ghost use Rattle.cp_code.specs.Programs as code;
+ghost use Rattle.cp_emit.specs.Drafts.{Joins, closed, planned, with_end};
+ghost use Rattle.cp_threaded.specs.View as view;
+
+use crate::error::CompileError;
+use cp_threaded::program::Start;
+use std::alloc::Global;
+
+/// What is left to plan.
+#[derive(Clone, Copy, Debug)]
+pub enum Work {
+    /// A variable of this type that lies at a word.
+    Variable { of: usize, at: u32 },
+    /// The end of an array whose words may all be 0 before. With its `Repeat` so many starts were
+    /// planned: if no more were, its elements stay 0, and it is not repeated.
+    EndOfArray { planned: usize },
+}
+
+/// A plan under way: what was planned so far, the last start first, and what is left to plan in
+/// front of it, the next one last.
+#[derive(Debug, Drop)]
+pub struct Draft {
+    pub(crate) starts: Vec<Start>,
+    pub(crate) left: Vec<Work>,
+}
+
+// The fill that both are, if the second goes on where the first ends, and with the same value.
+fn joined(at: u32, count: u32, value: i32, next: Start) -> Result<Option<Start>, CompileError>
+    ensures { IfOk result (λ joined. Joins at count value next joined) }
+{
+    match next {
+        Start::Fill {
+            at: after,
+            count: more,
+            value: same,
+        } if at.checked_add(count) == Some(after) && same == value => {
+            let count = count.checked_add(more).ok_or(CompileError::Unaccepted)?;
+            Ok(Some(Start::Fill { at, count, value }))
+        }
+        _ => Ok(None),
+    }
+}
+
+impl Draft {
+    /// Nothing planned, and nothing left to plan.
+    pub fn new(alloc: Global) -> Draft
+        ensures starts { result.starts.items ≡ [] }
+        ensures left { result.left.items ≡ [] }
+    {
+        Draft {
+            starts: Vec::new(alloc),
+            left: Vec::new(alloc),
+        }
+    }
+
+    /// Plans so many words of one value in front.
+    pub fn fill(&mut self, at: u32, count: u32, value: i32) -> Result<(), CompileError>
+        ensures starts { OnOk result (planned self.new
+            ≡ fill_before at count value (planned self.old)) }
+        ensures left { self.new.left ≡ self.old.left }
+    {
+        let first = Start::Fill { at, count, value };
+        let Some(next) = self.starts.pop() else {
+            self.starts.push(first)?;
+            return Ok(());
+        };
+        match joined(at, count, value, next)? {
+            Some(both) => self.starts.push(both)?,
+            None => {
+                self.starts.push(next)?;
+                self.starts.push(first)?;
+            }
+        }
+        Ok(())
+    }
+
+    /// Plans so many words of one value in front, if they aren't 0 already.
+    pub fn fill_unless(
+        &mut self,
+        zeros: bool,
+        at: u32,
+        count: u32,
+        value: i32,
+    ) -> Result<(), CompileError>
+        ensures starts { OnOk result (planned self.new
+            ≡ fill_unless zeros at count value (planned self.old)) }
+        ensures left { self.new.left ≡ self.old.left }
+    {
+        if zeros && value == 0 {
+            return Ok(());
+        }
+        self.fill(at, count, value)
+    }
+
+    /// Plans so many blocks like the first one in front.
+    pub fn repeat(&mut self, at: u32, size: u32, count: u32) -> Result<(), CompileError>
+        ensures starts { OnOk result (planned self.new
+            ≡ code.Repeat at size count ∷ planned self.old) }
+        ensures left { self.new.left ≡ self.old.left }
+    {
+        self.starts.push(Start::Repeat { at, size, count })?;
+        Ok(())
+    }
+
+    /// Leaves the end of an array to be planned, whose `Repeat` was planned just now, if its words
+    /// may all be 0 before.
+    pub fn leave_end(&mut self, zeros: bool) -> Result<(), CompileError>
+        ensures left { OnOk result (self.new.left.items ≡ with_end zeros
+            (length self.old.starts.items) self.old.left.items) }
+        ensures starts { self.new.starts ≡ self.old.starts }
+    {
+        if zeros {
+            let planned = self.starts.len();
+            self.left.push(Work::EndOfArray { planned })?;
+        }
+        Ok(())
+    }
+
+    /// Takes the first start away again, if so many were planned.
+    pub fn close(&mut self, count: usize)
+        ensures starts { planned self.new ≡ closed count (planned self.old) }
+        ensures left { self.new.left ≡ self.old.left }
+    {
+        if self.starts.len() == count {
+            self.starts.pop();
+        }
+    }
+
+    /// What was planned, the first start first.
+    pub fn into_starts(self) -> Vec<Start>
+        ensures { map view.start result.items ≡ planned self }
+    {
+        let Draft {
+            mut starts,
+            left: _,
+        } = self;
+        starts.reverse();
+        starts
+    }
+}

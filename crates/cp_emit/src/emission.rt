@@ -1,0 +1,124 @@
+//! Operations as they are emitted: with their calls, and loops that are closed once their body stands.
+
+ghost use Rattle.std.specs.Prelude.{◌≡◌, [], ◌∷◌, ◌++◌, IfOk, OnOk, length, map};
+ghost use Rattle.cp_emit.specs.Emission.{Emits, Goes, calls_from, changed_at, operation_from, operations_of, place_of, with_body, with_repeated};
+ghost use Rattle.cp_threaded.specs.View as view;
+
+use crate::emitter::{CodedCall, Emitter};
+use crate::error::CompileError;
+use crate::need::Need;
+use cp_threaded::operation::Operation;
+
+// Completes the operation that closes a loop, whose body begins there.
+fn complete(operation: &mut Operation, body: u32)
+    ensures { view.operation operation.new ≡ with_body body (view.operation operation.old) }
+{
+    match operation {
+        Operation::Cycle { body: place } => *place = body,
+        Operation::ForNext(counting) => counting.body = body,
+        Operation::Test { yes, .. } => *yes = body,
+        _ => {}
+    }
+}
+
+// Completes the operation that closes a `repeat`.
+fn complete_repeat(operation: &mut Operation, body: u32)
+    ensures { view.operation operation.new ≡ with_repeated body (view.operation operation.old) }
+{
+    if let Operation::Test { no, .. } = operation {
+        *no = body;
+    }
+}
+
+// Completes the operation at a place, if there is one.
+fn complete_at(operations: &mut Vec<Operation>, place: u32, body: u32)
+    ensures { map view.operation operations.new.items ≡ changed_at place (with_body body)
+        (map view.operation operations.old.items) }
+{
+    let place = place as usize;
+    if place < operations.len() {
+        complete(&mut operations[place], body);
+    }
+}
+
+fn complete_repeat_at(operations: &mut Vec<Operation>, place: u32, body: u32)
+    ensures { map view.operation operations.new.items ≡ changed_at place (with_repeated body)
+        (map view.operation operations.old.items) }
+{
+    let place = place as usize;
+    if place < operations.len() {
+        complete_repeat(&mut operations[place], body);
+    }
+}
+
+impl Emitter {
+    // The place of the next operation, if it is a number of 32 bits.
+    fn place(&self) -> Result<u32, CompileError>
+        ensures { IfOk result (λ place. place ≡ place_of self.now) }
+    {
+        let place = self.operations.len();
+        if place <= 4_294_967_295 {
+            Ok(place as u32)
+        } else {
+            Err(CompileError::Unaccepted)
+        }
+    }
+
+    /// Emits an operation, and answers its place.
+    pub fn push(&mut self, operation: Operation) -> Result<u32, CompileError>
+        ensures place { IfOk result (λ place. place ≡ place_of self.old) }
+        ensures emits { OnOk result (Emits self.old self.new (view.operation operation ∷ [])) }
+    {
+        let place = self.place()?;
+        let own = Need::of(&self.units, &operation)?;
+        self.operations.push(operation)?;
+        self.need = own.greater(self.need);
+        Ok(place)
+    }
+
+    /// Completes the operation that closes a loop, once its body begins there: of a `cycle`, a `for` or a `while`.
+    pub fn close_loop(&mut self, place: u32, body: u32)
+        ensures { Goes self.old self.new
+            (changed_at place (with_body body) (operations_of self.old)) }
+    {
+        complete_at(&mut self.operations, place, body);
+    }
+
+    /// Completes the operation that closes a `repeat`, once its body begins there.
+    pub fn close_repeat(&mut self, place: u32, body: u32)
+        ensures { Goes self.old self.new
+            (changed_at place (with_repeated body) (operations_of self.old)) }
+    {
+        complete_repeat_at(&mut self.operations, place, body);
+    }
+
+    // Emits calls that lead to the next place, the last one first, and answers where they are entered.
+    fn emit_calls(&mut self, calls: Vec<CodedCall>, next: u32) -> Result<u32, CompileError>
+        ensures entry { IfOk result
+            (λ entry. entry ≡ (calls_from self.old calls.items next).entry) }
+        ensures emits { OnOk result
+            (Emits self.old self.new (calls_from self.old calls.items next).operations) }
+    {
+        let mut left = calls;
+        let mut entry = next;
+        while let Some(made) = left.pop() {
+            entry = self.push(Operation::Function {
+                call: made.call,
+                into: made.into,
+                next: entry,
+            })?;
+        }
+        Ok(entry)
+    }
+
+    /// Emits an operation after the calls of its terms, and answers where they are entered.
+    pub fn emit(&mut self, calls: Vec<CodedCall>, operation: Operation) -> Result<u32, CompileError>
+        ensures entry { IfOk result
+            (λ entry. entry ≡ (operation_from self.old calls.items operation).entry) }
+        ensures emits { OnOk result
+            (Emits self.old self.new (operation_from self.old calls.items operation).operations) }
+    {
+        let place = self.push(operation)?;
+        self.emit_calls(calls, place)
+    }
+}

@@ -1,0 +1,30 @@
+//! The emitter: the operations so far, and the unit under way.
+
+ghost use Rattle.std.specs.Prelude.{◌≡◌, ◌≤◌, drop, length, map};
+ghost use Rattle.cp_code.specs.CodeNeeds.{need_of_all};
+ghost use Rattle.cp_emit.specs.PlainNeeds.{plain_need};
+ghost use Rattle.cp_threaded.specs.View as view;
+
+use crate::need::Need;
+use cp_threaded::operation::{Call, Operation};
+use cp_threaded::program::CodeUnit;
+
+/// A call that is made before a statement, and the temp that takes its value.
+#[derive(Debug, Drop)]
+pub struct CodedCall {
+    pub call: Call,
+    pub into: u32,
+}
+
+/// The operations and units so far, of which the unit under way begins at an operation, with so many words of an activation.
+#[derive(Debug, Drop)]
+pub struct Emitter {
+    pub(crate) operations: Vec<Operation>,
+    pub(crate) units: Vec<CodeUnit>,
+    pub(crate) first: usize,
+    pub(crate) words: u32,
+    pub(crate) need: Need,
+    ghost begun: { first ≤ length operations.items },
+    ghost needed: { plain_need need ≡ need_of_all (map view.code_unit units.items) words
+        (drop first (map view.operation operations.items)) },
+}

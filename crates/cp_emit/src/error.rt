@@ -1,0 +1,31 @@
+//! Why a text isn't compiled.
+
+ghost use Rattle.std.specs.Prelude.{◌≡◌};
+ghost use Rattle.cp_emit.specs.declared.error.CompileError.TheVariants as error;
+
+use std::alloc::{AllocError, AllocFailed};
+
+/// Why a text isn't compiled.
+#[derive(Clone, Copy, Debug, PartialEq, Eq)]
+pub enum CompileError {
+    /// Memory was refused.
+    Memory,
+    /// A number is beyond those of any accepted text.
+    Unaccepted,
+}
+
+impl From<AllocError> for CompileError {
+    ghost from_gives = { λ _ e. e ≡ error.Memory };
+
+    fn from(_error: AllocError) -> CompileError {
+        CompileError::Memory
+    }
+}
+
+impl<T: Drop> From<AllocFailed<T>> for CompileError {
+    ghost from_gives = { λ _ e. e ≡ error.Memory };
+
+    fn from(_error: AllocFailed<T>) -> CompileError {
+        CompileError::Memory
+    }
+}

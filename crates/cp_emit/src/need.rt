@@ -1,0 +1,145 @@
+//! What a unit needs of words, temps and frames, with all that it calls.
+
+ghost use Rattle.std.specs.Prelude.{◌≡◌, ◌+◌, max, suc, IfOk, map, length};
+ghost use Rattle.cp_code.specs.CodeNeeds as needs;
+ghost use Rattle.cp_emit.specs.PlainNeeds.{plain_need};
+ghost use Rattle.cp_threaded.specs.View as view;
+
+use crate::error::CompileError;
+use cp_threaded::operation::{Argument, Call, Operation};
+use cp_threaded::program::CodeUnit;
+
+/// Words, temps and frames that are needed.
+#[derive(Clone, Copy, Debug, PartialEq, Eq)]
+pub struct Need {
+    pub words: u32,
+    pub temps: u32,
+    pub frames: u32,
+}
+
+// The sum, if it is a number of 32 bits.
+fn sum(a: u32, b: u32) -> Result<u32, CompileError>
+    ensures { IfOk result (λ n. n ≡ a + b) }
+{
+    a.checked_add(b).ok_or(CompileError::Unaccepted)
+}
+
+// How many there are, if that is a number of 32 bits.
+fn count(arguments: &[Argument]) -> Result<u32, CompileError>
+    ensures { IfOk result (λ n. n ≡ length arguments.now) }
+{
+    let count = arguments.len();
+    if count <= 4_294_967_295 {
+        Ok(count as u32)
+    } else {
+        Err(CompileError::Unaccepted)
+    }
+}
+
+impl Need {
+    /// Nothing.
+    pub fn none() -> Need
+        ensures { plain_need result ≡ needs.no_need }
+    {
+        Need {
+            words: 0,
+            temps: 0,
+            frames: 0,
+        }
+    }
+
+    /// An activation of so many words.
+    pub fn of_activation(words: u32) -> Need
+        ensures { plain_need result ≡ record { words = words; temps = 0; frames = 0 } }
+    {
+        Need {
+            words,
+            temps: 0,
+            frames: 0,
+        }
+    }
+
+    /// The greater of two.
+    pub fn greater(self, other: Need) -> Need
+        ensures { plain_need result ≡ needs.greater_need (plain_need self) (plain_need other) }
+    {
+        Need {
+            words: self.words.max(other.words),
+            temps: self.temps.max(other.temps),
+            frames: self.frames.max(other.frames),
+        }
+    }
+
+    // With so many temps.
+    fn with_temps(self, temps: u32) -> Need
+        ensures { plain_need result ≡ needs.with_temps temps (plain_need self) }
+    {
+        Need {
+            temps: self.temps.max(temps),
+            ..self
+        }
+    }
+
+    // With room for the arguments of an `init`, after so many words.
+    fn with_room(self, words: u32, arguments: &[Argument]) -> Result<Need, CompileError>
+        ensures { IfOk result
+            (λ n. plain_need n ≡ needs.with_room words (length arguments.now) (plain_need self)) }
+    {
+        let room = sum(words, sum(count(arguments)?, 1)?)?;
+        Ok(Need {
+            words: self.words.max(room),
+            ..self
+        })
+    }
+
+    // What a call needs. The callee stands already.
+    fn of_call(units: &[CodeUnit], call: &Call) -> Result<Need, CompileError>
+        ensures { IfOk result
+            (λ n. plain_need n ≡ needs.need_of_call (map view.code_unit units.now)
+            (view.call call.now)) }
+    {
+        let Some(unit) = units.get(call.routine as usize) else {
+            return Ok(Need::none());
+        };
+        Ok(Need {
+            words: sum(call.words, unit.words)?,
+            temps: sum(call.temps, unit.temps)?,
+            frames: sum(1, unit.frames)?,
+        })
+    }
+
+    // What an `init` of a class or a monitor needs.
+    fn of_init(units: &[CodeUnit], call: &Call) -> Result<Need, CompileError>
+        ensures { IfOk result
+            (λ n. plain_need n ≡ needs.with_room call.now.words (length call.now.arguments.items)
+            (needs.need_of_call (map view.code_unit units.now) (view.call call.now))) }
+    {
+        Need::of_call(units, call)?.with_room(call.words, &call.arguments)
+    }
+
+    /// What an operation needs, where these units stand.
+    pub fn of(units: &[CodeUnit], operation: &Operation) -> Result<Need, CompileError>
+        ensures { IfOk result
+            (λ n. plain_need n ≡ needs.need_of (map view.code_unit units.now)
+            (view.operation operation.now)) }
+    {
+        match operation {
+            Operation::Procedure { call, .. } => Need::of_call(units, call),
+            Operation::Function { call, into, .. } => {
+                let own = Need::of_call(units, call)?;
+                Ok(own.with_temps(sum(*into, 1)?))
+            }
+            Operation::InitClass { call, .. } => Need::of_init(units, call),
+            Operation::InitMonitor { call, .. } => Need::of_init(units, call),
+            Operation::InitProcess {
+                arguments,
+                words,
+                ..
+            } => Need::none().with_room(*words, arguments),
+            Operation::For { counting, .. } => {
+                Ok(Need::none().with_temps(sum(counting.temp, 2)?))
+            }
+            _ => Ok(Need::none()),
+        }
+    }
+}

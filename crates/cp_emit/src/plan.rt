@@ -1,0 +1,254 @@
+//! Plans: how the words of activations and components are made to start.
+//!
+//! A plan is made from its end, by a stack of what is left to plan, for types name one another to
+//! any depth. Each equals the plan of `cp_code`'s `specs/Plans.antt`.
+
+ghost use Rattle.std.specs.Prelude.{◌≡◌, ◌∷◌, ◌++◌, ◌+◌, [], Bool, List, ℕ, suc, IfOk, OnOk, map, slice_get};
+ghost use Rattle.cp_code.specs.Layout.{local_words};
+ghost use Rattle.cp_code.specs.Plans.{plan, plan_of_members};
+ghost use Rattle.cp_code.specs.Programs as code;
+ghost use Rattle.cp_emit.specs.Drafts.{planned};
+ghost use Rattle.cp_emit.specs.Planning.{AllDone, Done, Knows, Leaves, types_of};
+ghost use Rattle.cp_emit.specs.declared.draft.Work.TheVariants as work;
+ghost use Rattle.cp_model.specs.Declarations.{Variable};
+ghost use Rattle.cp_model.specs.Erase as erase;
+ghost use Rattle.cp_model.specs.Integers as integers;
+ghost use Rattle.cp_model.specs.Types.{ArrayOf, ComponentOf, GlobalScope, Members, ResolvedType};
+ghost use Rattle.cp_model.specs.View as view;
+ghost use Rattle.cp_scope.specs.Layouts.{AreLaid, rights_of};
+ghost use Rattle.cp_scope.specs.Standing.{AreMembers, ScopeStands, Stands, entry};
+ghost use Rattle.cp_typing.specs.Words.{words};
+
+use crate::draft::{Draft, Work};
+use crate::error::CompileError;
+use crate::start_values::start_values;
+use crate::table::count_between;
+use cp_model::tree::{Parameters, Sort, System};
+use cp_scope::{Field, Tables, TypeRow};
+use std::alloc::Global;
+
+// How many integers there are from one to another.
+fn count_of(low: i32, high: i32) -> Result<u32, CompileError>
+    ensures { IfOk result (λ count. count ≡ integers.count_between low high) }
+{
+    let count = count_between(low, high);
+    if count > 0xffff_ffff {
+        return Err(CompileError::Unaccepted);
+    }
+    Ok(count as u32)
+}
+
+/// What plans are made from.
+#[derive(Drop)]
+pub struct Planner<'a, 't> {
+    pub(crate) alloc: Global,
+    pub(crate) tables: &'a Tables<'t>,
+    pub(crate) values: Vec<Option<i32>>,
+}
+
+impl<'a, 't> Planner<'a, 't> {
+    /// A planner over the tables of a text.
+    pub fn new(alloc: Global, tables: &'a Tables<'t>) -> Result<Planner<'a, 't>, CompileError>
+        ensures tables { IfOk result (λ planner. planner.tables ≡ tables.entry) }
+        ensures knows { IfOk result (λ planner. (g : GlobalScope)
+            → ScopeStands tables.now.names tables.now.types g
+            → AreLaid g tables.now.types tables.now.layouts.rows.items → Knows planner g) }
+    {
+        let values = start_values(alloc, &tables.types)?;
+        Ok(Planner {
+            alloc,
+            tables,
+            values,
+        })
+    }
+
+    // How many words a variable of this type takes.
+    fn words(&self, of: usize) -> Result<u32, CompileError>
+        ensures { IfOk result (λ n. (g : GlobalScope) (t : ResolvedType) → Knows self.now g
+            → Stands (types_of self.now) of t → n ≡ words g t) }
+    {
+        match self.tables.layouts.words(of) {
+            Some(words) => Ok(words),
+            None => Err(CompileError::Unaccepted),
+        }
+    }
+
+    // How many words a parameter or variable takes in an activation.
+    pub(crate) fn local_words(&self, by_reference: bool, of: usize) -> Result<u32, CompileError>
+        ensures { IfOk result (λ n. (g : GlobalScope) (v : Variable) → Knows self.now g
+            → by_reference ≡ v.by_reference → Stands (types_of self.now) of v.type
+            → n ≡ local_words g v) }
+    {
+        match self.tables.layouts.local_words(by_reference, of) {
+            Some(words) => Ok(words),
+            None => Err(CompileError::Unaccepted),
+        }
+    }
+
+    // The value by which all words of this type start, if there is one, of a type that is known.
+    fn value(&self, of: usize) -> Option<Option<i32>>
+        ensures { result ≡ slice_get self.now.values.items of }
+    {
+        self.values.get(of).copied()
+    }
+
+    // How many words lie in front of the members of a component with these parameters.
+    fn head_words(&self, parameters: &[Parameters]) -> Result<u32, CompileError>
+        ensures { IfOk result (λ n. (g : GlobalScope) → Knows self.now g
+            → n ≡ suc (rights_of g parameters.now)) }
+    {
+        let tables = self.tables;
+        let rights = tables.types.rights(&tables.names, parameters);
+        let rights = rights.ok_or(CompileError::Unaccepted)?;
+        rights.checked_add(1).ok_or(CompileError::Unaccepted)
+    }
+
+    // Leaves a variable to be planned, and answers where the next one lies.
+    fn leave(&self, of: usize, at: u32, draft: &mut Draft) -> Result<u32, CompileError>
+        ensures next { IfOk result (λ next. (g : GlobalScope) (t : ResolvedType) → Knows self.now g
+            → Stands (types_of self.now) of t → next ≡ at + words g t) }
+        ensures left { OnOk result (draft.new.left.items ≡ draft.old.left.items
+            ++ work.Variable of at ∷ []) }
+        ensures starts { OnOk result (draft.new.starts ≡ draft.old.starts) }
+    {
+        let words = self.words(of)?;
+        draft.left.push(Work::Variable { of, at })?;
+        at.checked_add(words).ok_or(CompileError::Unaccepted)
+    }
+
+    // Leaves members to be planned, the first of which lies at a word.
+    pub(crate) fn leave_members(
+        &self,
+        zeros: bool,
+        members: &[Field<'t>],
+        at: u32,
+        draft: &mut Draft,
+    ) -> Result<(), CompileError>
+        ensures { OnOk result ((g : GlobalScope) (ms : Members) → Knows self.now g
+            → AreMembers (types_of self.now) (map entry members.now) ms
+            → Leaves zeros g (types_of self.now) draft.old draft.new
+            (plan_of_members zeros g ms at)) }
+    {
+        let mut next = at;
+        for member in members {
+            next = self.leave(member.of, next, draft)?;
+        }
+        Ok(())
+    }
+
+    // Plans an array, or leaves its first element to be planned.
+    fn plan_array(
+        &self,
+        zeros: bool,
+        of: usize,
+        low: i32,
+        high: i32,
+        element: usize,
+        at: u32,
+        draft: &mut Draft,
+    ) -> Result<(), CompileError>
+        ensures { OnOk result ((g : GlobalScope) (t : ResolvedType) → Knows self.now g
+            → Stands (types_of self.now) of (ArrayOf low high t)
+            → Stands (types_of self.now) element t
+            → Leaves zeros g (types_of self.now) draft.old draft.new
+            (plan zeros g (ArrayOf low high t) at)) }
+    {
+        match self.value(element) {
+            None => Err(CompileError::Unaccepted),
+            Some(Some(value)) => draft.fill_unless(zeros, at, self.words(of)?, value),
+            Some(None) => {
+                let count = count_of(low, high)?;
+                draft.repeat(at, self.words(element)?, count)?;
+                draft.leave_end(zeros)?;
+                draft.left.push(Work::Variable { of: element, at })?;
+                Ok(())
+            }
+        }
+    }
+
+    // Leaves the members of a component to be planned, where they lie in its variable.
+    fn plan_component(
+        &self,
+        zeros: bool,
+        system: &System,
+        members: &[Field<'t>],
+        at: u32,
+        draft: &mut Draft,
+    ) -> Result<(), CompileError>
+        ensures { OnOk result ((g : GlobalScope) (ms : Members) → Knows self.now g
+            → AreMembers (types_of self.now) (map entry members.now) ms
+            → Leaves zeros g (types_of self.now) draft.old draft.new
+            (plan zeros g (ComponentOf (erase.system (view.system system.now)) ms) at)) }
+    {
+        match system.sort {
+            Sort::Class => {
+                let head = self.head_words(&system.parameters)?;
+                let first = at.checked_add(head).ok_or(CompileError::Unaccepted)?;
+                self.leave_members(zeros, members, first, draft)
+            }
+            _ => Ok(()),
+        }
+    }
+
+    // Plans a variable of this type, or leaves its parts to be planned.
+    fn plan_variable(
+        &self,
+        zeros: bool,
+        of: usize,
+        at: u32,
+        draft: &mut Draft,
+    ) -> Result<(), CompileError>
+        ensures { OnOk result ((g : GlobalScope) (t : ResolvedType) → Knows self.now g
+            → Stands (types_of self.now) of t
+            → Leaves zeros g (types_of self.now) draft.old draft.new
+            (plan zeros g t at)) }
+    {
+        let types = &self.tables.types;
+        match types.row(of) {
+            None => Err(CompileError::Unaccepted),
+            Some(TypeRow::Simple(simple)) => draft.fill_unless(zeros, at, 1, simple.start),
+            Some(TypeRow::Array { low, high, element }) => {
+                self.plan_array(zeros, of, *low, *high, *element, at, draft)
+            }
+            Some(TypeRow::Record(fields)) => self.leave_members(zeros, fields, at, draft),
+            Some(TypeRow::Queue) => draft.fill_unless(zeros, at, 1, 0),
+            Some(TypeRow::Component { system, members }) => match types.system(*system) {
+                Some(system) => self.plan_component(zeros, system, members, at, draft),
+                None => Err(CompileError::Unaccepted),
+            },
+            Some(TypeRow::Unknown) => Ok(()),
+        }
+    }
+
+    // Does what is left last.
+    fn step(&self, zeros: bool, next: Work, draft: &mut Draft) -> Result<(), CompileError>
+        ensures { OnOk result ((g : GlobalScope) (between after : List code.Start)
+            → Knows self.now g
+            → Done zeros g (types_of self.now) next (planned draft.old) between
+            → AllDone zeros g (types_of self.now) draft.old.left.items between after
+            → AllDone zeros g (types_of self.now) draft.new.left.items (planned draft.new) after) }
+    {
+        match next {
+            Work::Variable { of, at } => self.plan_variable(zeros, of, at, draft),
+            Work::EndOfArray { planned } => {
+                draft.close(planned);
+                Ok(())
+            }
+        }
+    }
+
+    // Does all that is left.
+    pub(crate) fn run(&self, zeros: bool, draft: &mut Draft) -> Result<(), CompileError>
+        ensures { OnOk result ((g : GlobalScope) (after : List code.Start) → Knows self.now g
+            → AllDone zeros g (types_of self.now) draft.old.left.items (planned draft.old) after
+            → planned draft.new ≡ after) }
+    {
+        for _turn in 0..u64::MAX {
+            match draft.left.pop() {
+                None => return Ok(()),
+                Some(next) => self.step(zeros, next, draft)?,
+            }
+        }
+        Err(CompileError::Unaccepted)
+    }
+}

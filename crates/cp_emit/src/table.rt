@@ -1,0 +1,120 @@
+//! Where a `case` leads: by a place for each number where the labels lie close to one another, else by the labels.
+
+ghost use Rattle.std.specs.Prelude.{◌≡◌, ℕ, ◌*◌, None, Some, IfErr, IfOk, [], if◌then◌else◌, int_le, length, map, replicate, slice_set};
+ghost use Rattle.cp_code.specs.CodedStatements as coded;
+ghost use Rattle.cp_code.specs.Layout.{distance};
+ghost use Rattle.cp_emit.specs.declared.error.CompileError.TheVariants as error;
+ghost use Rattle.cp_emit.specs.Arms.{bounds_of};
+ghost use Rattle.cp_model.specs.Integers as integers;
+ghost use Rattle.cp_threaded.specs.Labels.{arm};
+ghost use Rattle.cp_threaded.specs.View as view;
+
+use crate::error::CompileError;
+use cp_threaded::arm::Arm;
+use cp_threaded::arms::Arms;
+use cp_threaded::operation::Table;
+use std::alloc::Global;
+
+// The lowest of a number and labels.
+fn lowest(n: i32, arms: &[Arm]) -> i32
+    ensures { result ≡ coded.lowest n (map arm arms.now) }
+{
+    let mut least = n;
+    for x in arms {
+        least = if least <= x.label { least } else { x.label };
+    }
+    least
+}
+
+// The highest of a number and labels.
+fn highest(n: i32, arms: &[Arm]) -> i32
+    ensures { result ≡ coded.highest n (map arm arms.now) }
+{
+    let mut greatest = n;
+    for x in arms {
+        greatest = if greatest <= x.label {
+            x.label
+        } else {
+            greatest
+        };
+    }
+    greatest
+}
+
+// The lowest and the highest label, where there is one.
+fn bounds(arms: &[Arm]) -> Option<(i32, i32)>
+    ensures { result ≡ bounds_of (map arm arms.now) }
+{
+    let first = arms.first()?;
+    Some((
+        lowest(first.label, &arms[1..]),
+        highest(first.label, &arms[1..]),
+    ))
+}
+
+// How many numbers lie from one to another.
+pub(crate) fn count_between(low: i32, high: i32) -> usize
+    ensures { result ≡ integers.count_between low high }
+{
+    if high < low {
+        return 0;
+    }
+    (i64::from(high) - i64::from(low) + 1) as usize
+}
+
+// Puts the place of a label among those of the numbers from the lowest on.
+fn put(places: &mut Vec<Option<u32>>, low: i32, arm: Arm)
+    ensures { places.new.items
+        ≡ (if int_le low arm.label then slice_set places.old.items (distance low arm.label)
+        (Some arm.place) else places.old.items) }
+{
+    if arm.label < low {
+        return;
+    }
+    let far = (i64::from(arm.label) - i64::from(low)) as usize;
+    if far < places.len() {
+        places[far] = Some(arm.place);
+    }
+}
+
+// No place for each of so many numbers.
+fn no_places(alloc: Global, count: usize) -> Result<Vec<Option<u32>>, CompileError>
+    ensures places { IfOk result (λ places. places.items ≡ replicate count None) }
+    ensures memory { IfErr result (λ e. e ≡ error.Memory) }
+{
+    Ok(vec![in alloc; None; count]?)
+}
+
+// The place of each of so many numbers, from the lowest on. The first arm with a label is put last.
+fn places(
+    alloc: Global,
+    arms: &[Arm],
+    low: i32,
+    count: usize,
+) -> Result<Vec<Option<u32>>, CompileError>
+    ensures places { IfOk result
+        (λ places. places.items ≡ coded.places_from (map arm arms.now) low count) }
+    ensures memory { IfErr result (λ e. e ≡ error.Memory) }
+{
+    let mut places = no_places(alloc, count)?;
+    for i in (0..arms.len()).rev() {
+        put(&mut places, low, arms[i]);
+    }
+    Ok(places)
+}
+
+/// The table of a `case` with these arms. One with a place for each number has at most four places a label.
+pub fn table_of(alloc: Global, arms: Vec<Arm>) -> Result<Table, CompileError>
+    ensures table { IfOk result (λ table. view.table table ≡ coded.table_of (map arm arms.items)) }
+    ensures memory { IfErr result (λ e. e ≡ error.Memory) }
+{
+    let Some((low, high)) = bounds(&arms) else {
+        return Ok(Table::Sparse(Arms::new(alloc, arms)?));
+    };
+    let count = count_between(low, high);
+    if count > 4 * arms.len() {
+        return Ok(Table::Sparse(Arms::new(alloc, arms)?));
+    }
+    let places = places(alloc, &arms, low, count)?;
+    Ok(Table::Dense { low, places })
+}

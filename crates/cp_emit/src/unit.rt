@@ -1,0 +1,70 @@
+//! Units: an emitter begins one, emits its operations, and ends it.
+
+ghost use Rattle.std.specs.Prelude.{◌≡◌, [], ◌∷◌, ◌++◌, IfErr, OnOk, map};
+ghost use Rattle.cp_emit.specs.declared.error.CompileError.TheVariants as error;
+ghost use Rattle.cp_emit.specs.Emission.{operations_of, place_of, unit_ended, units_of};
+ghost use Rattle.cp_threaded.specs.View as view;
+
+use crate::emitter::Emitter;
+use crate::error::CompileError;
+use crate::need::Need;
+use cp_threaded::operation::Operation;
+use cp_threaded::program::{CodeUnit, Start};
+use std::alloc::Global;
+
+impl Emitter {
+    /// No operations and no units.
+    pub fn new(alloc: Global) -> Emitter
+        ensures operations { operations_of result ≡ [] }
+        ensures units { units_of result ≡ [] }
+    {
+        Emitter {
+            operations: Vec::new(alloc),
+            units: Vec::new(alloc),
+            first: 0,
+            words: 0,
+            need: Need::none(),
+        }
+    }
+
+    /// Begins a unit, an activation of which has so many words.
+    pub fn begin(&mut self, words: u32)
+        ensures operations { operations_of self.new ≡ operations_of self.old }
+        ensures units { units_of self.new ≡ units_of self.old }
+        ensures first { self.new.first ≡ place_of self.old }
+        ensures words { self.new.words ≡ words }
+    {
+        self.first = self.operations.len();
+        self.words = words;
+        self.need = Need::of_activation(words);
+    }
+
+    /// Ends the unit under way, which begins at an operation and whose words start by this plan.
+    pub fn end(&mut self, entry: u32, starts: Vec<Start>) -> Result<(), CompileError>
+        ensures memory { IfErr result (λ e. e ≡ error.Memory) }
+        ensures operations { OnOk result (operations_of self.new ≡ operations_of self.old) }
+        ensures unit { OnOk result
+            (units_of self.new ≡ units_of self.old ++ unit_ended self.old entry starts.items ∷ []) }
+    {
+        let need = self.need;
+        self.units.push(CodeUnit {
+            start: entry,
+            starts,
+            words: need.words,
+            temps: need.temps,
+            frames: need.frames,
+        })?;
+        self.first = self.operations.len();
+        self.words = 0;
+        self.need = Need::none();
+        Ok(())
+    }
+
+    /// The operations and units.
+    pub fn into_parts(self) -> (Vec<Operation>, Vec<CodeUnit>)
+        ensures operations { map view.operation result.0.items ≡ operations_of self }
+        ensures units { map view.code_unit result.1.items ≡ units_of self }
+    {
+        (self.operations, self.units)
+    }
+}
