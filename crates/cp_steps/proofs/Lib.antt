@@ -51,6 +51,10 @@ pub mod InitOffsets
 pub mod Settling
 pub mod InitPassing
 pub mod ProcessRights
+pub mod PartLeaves
+pub mod Naming
+pub mod StartStores
+pub mod Starting
 pub mod InitRights
 pub mod InitSettled
 pub mod Opening

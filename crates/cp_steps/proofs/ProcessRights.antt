@@ -12,6 +12,7 @@ use Rattle.cp_typing.specs.Judgement.{IsSimple, has_queues}
 use Rattle.cp_typing.specs.StartValues.{IsIn}
 use Rattle.cp_typing.specs.SoundTypes.{SoundType}
 use Rattle.cp_typing.specs.WellTyped.{WellTyped, text_systems}
+use Rattle.cp_typing.proofs.StartValues.{each_in}
 use Rattle.cp_code.specs.Layout.{right, rights}
 use Rattle.cp_code.specs.StandsFor.{component_at, component_in, system_of_process}
 use Rattle.cp_steps.specs.Addresses.{Ground, scope}
@@ -26,17 +27,12 @@ HasNoClassRight g s =
 abbrev pub NoClassRights : Ground → Type 0
 NoClassRights G = (s : System) → system_of_process G.setup G.p ≡ Some s → HasNoClassRight (scope G) s
 
-each_in : (P : Name × Variable → Type 0) (vs : List (Name × Variable)) (v : Name × Variable) → Each P vs → IsIn v vs → P v
-each_in P [] v h i = absurd i
-each_in P (w ∷ vs) v h (inl i) = subst P (sym i) h.0
-each_in P (w ∷ vs) v h (inr i) = each_in P vs v h.1 i
-
 system_at : (vs : List (Name × Variable)) (k : ℕ) (s : System) → component_at vs k ≡ Some s → (v : Name × Variable) × IsIn v vs × (component_in v.1.type ≡ Some s)
 system_at [] k s h = absurd (some_is_not_none s (sym h))
 system_at (v ∷ vs) zero s h = (v, inl refl, h)
 system_at (v ∷ vs) (suc k) s h = let r = system_at vs k s h in (r.0, inr r.1, r.2)
 
-is_process : (z : Sort) → same_sort Process z ≡ true → z ≡ Process
+pub is_process : (z : Sort) → same_sort Process z ≡ true → z ≡ Process
 is_process Process h = refl
 is_process Monitor h = absurd (true≢false (sym h))
 is_process Class h = absurd (true≢false (sym h))

@@ -108,7 +108,7 @@ local_cells_apart g z x y p q n m u w a b c d F E e = by (local_apart g (result_
 -- ---- all owners of a process
 
 -- What is found in the process's own component.
-component_part : (G : Ground) (xs : List Activation) (q : ℕ) (x : Name) (path : Path) (n : ℕ) (u : ResolvedType) → part_of_owner G xs (OfProcess q) x path ≡ Some (n, u)
+pub component_part : (G : Ground) (xs : List Activation) (q : ℕ) (x : Name) (path : Path) (n : ℕ) (u : ResolvedType) → part_of_owner G xs (OfProcess q) x path ≡ Some (n, u)
     → (G.p ≡ q) × ((s : System) × (system_of_process G.setup q ≡ Some s) × (member_part (scope G) (head_words (scope G) s) (declared.reported_members (scope G) s) x path ≡ Some (n, u)))
 component_part G xs q x path n u h = by (nat_eq G.p q) refl h
   where
