@@ -3,11 +3,10 @@ use Rattle.std.proofs.Common.{List, None, Some, [], ap, arith, refl, subst, sym,
 use Rattle.cp_model.specs.Abstract.{Class, Name, System}
 use Rattle.cp_model.specs.Declarations.{Variable}
 use Rattle.cp_model.specs.Locations.{ByName, Location, under}
-use Rattle.cp_model.specs.Parts.{is_own}
 use Rattle.cp_model.specs.Stores.{Store}
 use Rattle.cp_model.specs.Types.{ComponentOf, ResolvedType}
 use Rattle.cp_code.specs.Layout.{Part, member, right}
-use Rattle.cp_steps.specs.Addresses.{Activation, AllHaveRights, ClassHasRights, Ground, HasRights, IsGiven, component_type, lies, scope}
+use Rattle.cp_steps.specs.Addresses.{Activation, AllHaveRights, ClassHasRights, Ground, HasRights, IsGiven, component_type, in_sight, lies, scope}
 use Rattle.cp_steps.proofs.Apart.{InHead, IsClass}
 use Rattle.cp_steps.proofs.Heres.{lies_any}
 use Rattle.cp_steps.proofs.Layouts.{same_some}
@@ -16,9 +15,9 @@ use Rattle.cp_steps.proofs.Stacks.{Stacked}
 
 abbrev pub KeepsGiven : Ground → Store → Store → Type 0
 KeepsGiven G store after =
-    (at : Location) (s : System) (n : ℕ) → is_own G.p at.owner ≡ true → s.sort ≡ Class → lies G [] at ≡ Some (n, component_type G s) → HasRights G store at s → HasRights G after at s
+    (at : Location) (s : System) (n : ℕ) → in_sight G at.owner ≡ true → s.sort ≡ Class → lies G [] at ≡ Some (n, component_type G s) → HasRights G store at s → HasRights G after at s
 
-pub all_kept : (G : Ground) (store after : Store) → KeepsGiven G store after → (ns : List ℕ) → AllHaveRights G (is_own G.p) store ns → AllHaveRights G (is_own G.p) after ns
+pub all_kept : (G : Ground) (store after : Store) → KeepsGiven G store after → (ns : List ℕ) → AllHaveRights G store ns → AllHaveRights G after ns
 all_kept G store after keeps [] h = tt
 all_kept G store after keeps (n ∷ ns) h = (λ at s own sort is. keeps at s n own sort is (h.0 at s own sort is), all_kept G store after keeps ns h.1)
 
@@ -42,13 +41,13 @@ pub class_head : (G : Ground) (s : System) → s.sort ≡ Class → InHead (scop
 class_head G s sort = (subst IsClass (sym sort) tt, omega arith)
 
 module _ (G : Ground) (xs : List Activation) (top : ℕ) (stack : Stacked G top xs) (at : Location) (s : System) (n : ℕ)
-    (own : is_own G.p at.owner ≡ true) (sort : s.sort ≡ Class) (is : lies G [] at ≡ Some (n, component_type G s)) where
-  pub one_class : (j : Location) (r : System) → is_own G.p j.owner ≡ true → r.sort ≡ Class → lies G [] j ≡ Some (n, component_type G r) → (j ≡ at) × (r ≡ s)
+    (own : in_sight G at.owner ≡ true) (sort : s.sort ≡ Class) (is : lies G [] at ≡ Some (n, component_type G s)) where
+  pub one_class : (j : Location) (r : System) → in_sight G j.owner ≡ true → r.sort ≡ Class → lies G [] j ≡ Some (n, component_type G r) → (j ≡ at) × (r ≡ s)
   one_class j r mine class' there =
       let same : j ≡ at =
       separate G xs top stack j at n n (component_type G r) (component_type G s) 0 0 mine own (class_head G r class') (class_head G s sort) (lies_any G xs j _ there) (lies_any G xs at _ is) refl in
       (same, system_same G r s (ap (λ z. z.1) (same_some {A = Part} (n, component_type G r) (n, component_type G s) (sym there ∙ (ap (lies G []) same ∙ is)))))
 
-  pub class_has_rights : (store : Store) → HasRights G store at s → ClassHasRights G (is_own G.p) store n
+  pub class_has_rights : (store : Store) → HasRights G store at s → ClassHasRights G store n
   class_has_rights store h j r mine class' there =
       let e = one_class j r mine class' there in subst (λ z. HasRights G store z r) (sym e.0) (subst (HasRights G store at) (sym e.1) h)

@@ -27,6 +27,7 @@ pub mod Pushing
 pub mod Answered
 pub mod RunningOn
 pub mod Stepping
+pub mod Alone
 pub mod Doing
 pub mod Testing
 pub mod Choosing

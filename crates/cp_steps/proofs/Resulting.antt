@@ -9,7 +9,6 @@ use Rattle.cp_model.specs.Continuations.{Task}
 use Rattle.cp_model.specs.Declarations.{reported_members}
 use Rattle.cp_model.specs.Environments.{Frame}
 use Rattle.cp_model.specs.Locations.{ByName, Location, OfActivation, Path, same_location, under}
-use Rattle.cp_model.specs.Parts.{is_own}
 use Rattle.cp_model.specs.Stores.{Ordinal, Store, put}
 use Rattle.cp_model.specs.Types.{ComponentOf}
 use Rattle.cp_typing.specs.Needs.{result_words}
@@ -17,7 +16,7 @@ use Rattle.cp_code.specs.Layout.{local, natural}
 use Rattle.cp_code.specs.Starts.{unset, word}
 use Rattle.cp_steps.specs.PrivateStates.{PrivateState, set_word}
 use Rattle.cp_steps.specs.Means.{CellMeans}
-use Rattle.cp_steps.specs.Addresses.{Activation, ClassLies, ComponentLies, Ground, MonitorLies, ProcessLies, activation_at, activations, lies, scope}
+use Rattle.cp_steps.specs.Addresses.{Activation, ClassLies, ComponentLies, Ground, MonitorLies, ProcessLies, activation_at, activations, in_sight, lies, scope}
 use Rattle.cp_steps.specs.Left.{held_below, site}
 use Rattle.cp_steps.specs.PartOf.{ActivationMeans, ResultMeans, RunsOn, components}
 use Rattle.cp_steps.proofs.Apart.{InHead, cell_head}
@@ -94,9 +93,9 @@ runs_resulted G store o k R f t v runs is none differs = record {
     owners at s n (MonitorLies j w i z) e = absurd (omega (arith, ap (depth_of (suc (length T.rest))) (sym (ap (λ (l : Location). l.owner) w) ∙ e)))
     owners at s n (ClassLies c i) e = absurd (omega (arith, live_owner G [] at _ (length T.rest) i e))
 
-    right_apart : (at : Location) (s : System) (n m : ℕ) → is_own G.p at.owner ≡ true → n + m ≡ o.base
+    right_apart : (at : Location) (s : System) (n m : ℕ) → in_sight G at.owner ≡ true → n + m ≡ o.base
         → OwnRight G (n + m) ⊎ ((lies G xs at ≡ Some (n, ComponentOf s (reported_members (scope G) s))) × InHead (scope G) (ComponentOf s (reported_members (scope G) s)) m × (1 ≤ m)) → ⊥
-    right_apart at s n m mine e (inl r) = local_no_own_right G xs top stack (length T.rest) (n + m) z0 there0 (omega (arith, e)) r
+    right_apart at s n m mine e (inl r) = local_no_own_right G xs top stack (length T.rest) (n + m) z0 there0 (omega (arith, e)) (omega (arith, e, result_inside (scope G) f.routine t is)) r
     right_apart at s n m mine e (inr r) = cell_no_result G xs top stack at n (ComponentOf s (reported_members (scope G) s)) m (length T.rest) z0 t mine r.1 r.0 there0 is e
 
     keeps : KeepsData G store after o.words new xs
@@ -112,7 +111,7 @@ runs_resulted G store o k R f t v runs is none differs = record {
     }
 
     room : o.base < length o.words
-    room = omega (arith, (found_inside G top (length T.rest) xs z0 stack there0).0, result_inside (scope G) f.routine t is, runs_room G store o k R)
+    room = omega (arith, (found_inside G top (length T.rest) xs z0 stack.stack there0).0, result_inside (scope G) f.routine t is, runs_room G store o k R)
 
     -- The running function's own: its `var` parameters, and the new result.
     own : (rest : List Activation) (g : Frame) (c : ℕ) → g.owner ≡ OfActivation G.p (length T.rest) → ◌≡◌ {A = Activation} (record { base = c; routine = g.routine }) z0

@@ -190,9 +190,10 @@ module _ (program : Program) (setup : Setup) (F : StandsFor program setup) (p : 
 
       zero_right : (at : Location) (s : System) (n m : ℕ) → is_own p at.owner ≡ true
           → OwnRight G (n + m) ⊎ ((lies G [] at ≡ Some (n, component_type G s)) × InHead g (component_type G s) m × (1 ≤ m)) → word own.words (n + m) ≡ pos 0
-      zero_right at s n m mine (inl r) =
+      zero_right at s n m mine (inl (inl r)) =
           let same : r.0 ≡ P.system = same_some r.0 P.system (sym r.1 ∙ P.is_system) in
           sym (here (n + m)) ∙ P.starts.head 0 before room (n + m) zeros (subst (λ z. n + m < head_words g z) same r.2)
+      zero_right at s n m mine (inl (inr r)) = absurd (true≢false (sym r.3))
       zero_right at s n m mine (inr r) =
           let f = found at n (component_type G s) mine r.0 in
           sym (here (n + m)) ∙ P.starts.heads 0 before room f.name f.path n m s (reported_members g s) zeros f.there (sort s.sort refl r.1.0) r.1.1

@@ -10,14 +10,22 @@ use Rattle.cp_code.specs.Programs.{Program}
 use Rattle.cp_code.specs.StandsFor.{StandsFor}
 use Rattle.cp_steps.specs.PrivateStates.{PrivateState}
 use Rattle.cp_steps.specs.Steps.{private_step, private_steps}
-use Rattle.cp_steps.specs.Addresses.{Ground}
+use Rattle.cp_steps.specs.Addresses.{Ground, OwnWords}
 use Rattle.cp_steps.specs.PartOf.{PartOf}
 use Rattle.cp_steps.specs.KernelSteps.{Kernel}
 use Rattle.cp_steps.specs.Machines.{first_part}
 use Rattle.cp_steps.specs.Beginning.{Begins}
 
 abbrev pub ground_of : (program : Program) (setup : Setup) → StandsFor program setup → (p own : ℕ) → Ground
-ground_of program setup F p own = record { program = program; texts = F.texts; setup = setup; p = p; own = own }
+ground_of program setup F p own = record {
+  program = program;
+  texts = F.texts;
+  setup = setup;
+  p = p;
+  own = own;
+  sight = OwnWords;
+  monitors_lie = tt;
+}
 
 -- Where o is the private state of p in a state with the invariant, its private step is that of p in the state after the
 -- meaning's private step, also where neither has one.
