@@ -30,7 +30,8 @@ use Rattle.cp_steps.proofs.Holding.{reference_no_variable, result_no_variable}
 use Rattle.cp_steps.proofs.Keeping.{KeepsActivation, local_named, right_kept, right_no_variable, right_place}
 use Rattle.cp_steps.proofs.Layouts.{lies_under, same_some}
 use Rattle.cp_steps.proofs.LeafWords.{leaf_is_part, word_is_part}
-use Rattle.cp_steps.proofs.Separate.{OwnRight, cell_no_own_right, cell_no_reference, cell_no_result, separate}
+use Rattle.cp_steps.proofs.Owned.{OwnRight}
+use Rattle.cp_steps.proofs.Separate.{cell_no_own_right, cell_no_reference, cell_no_result, separate}
 use Rattle.cp_steps.proofs.Stacks.{Stacked}
 use Rattle.cp_steps.proofs.StartLeaves.{IsSimple, not_written, part_is_leaf}
 use Rattle.cp_steps.proofs.Writing.{is_cell}

@@ -22,7 +22,8 @@ use Rattle.cp_steps.proofs.Heres.{found_below, lies_any}
 use Rattle.cp_steps.proofs.Keeping.{KeepsActivation, KeepsData, depth_of, local_named, right_kept, right_no_variable, right_place}
 use Rattle.cp_steps.proofs.Layouts.{same_some}
 use Rattle.cp_steps.proofs.Stacks.{Stacked, found_inside}
-use Rattle.cp_steps.proofs.Separate.{OwnRight, cell_below, cell_no_own_right, cell_no_reference, cell_no_result, own_right_below, reference_inside, result_inside, separate}
+use Rattle.cp_steps.proofs.Owned.{OwnRight, reference_inside, result_inside}
+use Rattle.cp_steps.proofs.Separate.{cell_below, cell_no_own_right, cell_no_reference, cell_no_result, own_right_below, separate}
 use Rattle.cp_steps.proofs.Writing.{cell_written, changed_other, location_is}
 
 -- What lies in an activation lies in one that there is.

@@ -47,7 +47,8 @@ use Rattle.cp_steps.proofs.Passing.{Bound, KeptOutside, PassingAgrees, Stays, pa
 use Rattle.cp_steps.proofs.Returning.{forgotten}
 use Rattle.cp_steps.proofs.Rooms.{room_for}
 use Rattle.cp_steps.proofs.RunningOn.{runs_here, runs_over, runs_stacked}
-use Rattle.cp_steps.proofs.Separate.{part_below, result_inside}
+use Rattle.cp_steps.proofs.Owned.{result_inside}
+use Rattle.cp_steps.proofs.Separate.{part_below}
 use Rattle.cp_steps.proofs.Stepping.{Now, beyond, clock_of, faulted, stopped, went}
 use Rattle.cp_steps.proofs.Writing.{location_is, owner_is, same_owner_itself}
 use Rattle.cp_steps.proofs.Stacks.{own_in_whole}

@@ -27,7 +27,7 @@ use Rattle.cp_steps.proofs.Given.{KeepsGiven, rights_kept}
 use Rattle.cp_steps.proofs.Heres.{depth_is, found_behind, found_here, lies_any}
 use Rattle.cp_steps.proofs.Layouts.{same_some}
 use Rattle.cp_steps.proofs.Leads.{lies_on}
-use Rattle.cp_steps.proofs.Separate.{OwnRight}
+use Rattle.cp_steps.proofs.Owned.{OwnRight}
 use Rattle.cp_steps.proofs.Writing.{is_cell}
 use Rattle.cp_steps.specs.Passing.{monitor_start}
 

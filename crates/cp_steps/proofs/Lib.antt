@@ -8,6 +8,7 @@ pub mod Heres
 pub mod Leads
 pub mod Apart
 pub mod Stacks
+pub mod Owned
 pub mod Separate
 pub mod Given
 pub mod Writing
@@ -62,4 +63,5 @@ pub mod Opening
 pub mod Targets
 pub mod CallSteps
 pub mod InitSteps
+pub mod Puts
 pub mod Passing

@@ -26,7 +26,8 @@ use Rattle.cp_steps.proofs.Holding.{live_owner, put_apart, result_no_variable}
 use Rattle.cp_steps.proofs.Keeping.{KeepsData, activation_kept, activations_kept, data_kept, depth_of, keeps_given, local_named, right_place}
 use Rattle.cp_steps.proofs.Layouts.{same_some}
 use Rattle.cp_steps.proofs.RunningOn.{runs_room, runs_stacked}
-use Rattle.cp_steps.proofs.Separate.{OwnRight, cell_no_result, local_no_own_right, locals_apart, reference_inside, result_inside}
+use Rattle.cp_steps.proofs.Owned.{OwnRight, reference_inside, result_inside}
+use Rattle.cp_steps.proofs.Separate.{cell_no_result, local_no_own_right, locals_apart}
 use Rattle.cp_steps.proofs.Stacks.{Stacked, found_inside}
 use Rattle.cp_steps.proofs.Writing.{changed_other, location_itself}
 use Rattle.cp_steps.proofs.Given.{all_kept}

@@ -29,7 +29,8 @@ use Rattle.cp_steps.proofs.InitOffsets.{Offset, of_filter, offset_at, offset_wit
 use Rattle.cp_steps.proofs.Keeping.{KeepsActivation, activation_kept, activations_kept, local_named, right_kept, right_no_variable, right_place}
 use Rattle.cp_steps.proofs.Layouts.{same_some}
 use Rattle.cp_steps.proofs.RunningOn.{runs_stacked}
-use Rattle.cp_steps.proofs.Separate.{OwnRight, cell_below, cell_no_own_right, cell_no_reference, cell_no_result, own_right_below, reference_inside, result_inside, separate}
+use Rattle.cp_steps.proofs.Owned.{OwnRight, reference_inside, result_inside}
+use Rattle.cp_steps.proofs.Separate.{cell_below, cell_no_own_right, cell_no_reference, cell_no_result, own_right_below, separate}
 use Rattle.cp_steps.proofs.Stacks.{Stacked, found_inside}
 use Rattle.cp_steps.proofs.Writing.{is_cell, location_is, location_itself}
 use Rattle.cp_steps.proofs.Given.{KeepsGiven, all_kept, rights_kept, system_in, system_same}

@@ -40,7 +40,7 @@ use Rattle.cp_steps.proofs.Layouts.{same_some}
 use Rattle.cp_steps.proofs.PartLeaves.{member_cell_is_leaf, member_leaf_lies, start_value}
 use Rattle.cp_steps.proofs.Pushing.{activations_push, marks_push, mean_push, push_left}
 use Rattle.cp_steps.proofs.RunningOn.{left_afresh}
-use Rattle.cp_steps.proofs.Separate.{OwnRight, component_part}
+use Rattle.cp_steps.proofs.Owned.{OwnRight, component_part}
 use Rattle.cp_steps.proofs.StartStores.{Owns, initial_owns, process_owns}
 use Rattle.cp_steps.proofs.Writing.{is_cell}
 

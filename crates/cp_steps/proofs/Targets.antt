@@ -33,7 +33,8 @@ use Rattle.cp_steps.proofs.Given.{class_has_rights}
 use Rattle.cp_steps.proofs.Invoking.{TargetIs}
 use Rattle.cp_steps.proofs.Keeping.{right_place}
 use Rattle.cp_steps.proofs.RunningOn.{runs_stacked}
-use Rattle.cp_steps.proofs.Separate.{OwnRight, cell_below, cell_inside, own_right_below, own_right_inside, part_below}
+use Rattle.cp_steps.proofs.Owned.{OwnRight}
+use Rattle.cp_steps.proofs.Separate.{cell_below, cell_inside, own_right_below, own_right_inside, part_below}
 use Rattle.cp_steps.proofs.Stepping.{Now}
 use Rattle.cp_steps.proofs.Stacks.{monitor_seen}
 
