@@ -220,8 +220,8 @@ module _ (G : Ground) (xs : List Activation) (top : ℕ) (stack : Stacked G top 
       by (inl h) = let p = leaf_at h.0 h.1 in absurd (none p.0 h.0 p.1 p.2 p.4 (sym h.2))
 
   pub changed_keeps : KeepsGiven G store changed
-  changed_keeps at s k mine sort there =
-      rights_kept G store changed at s (λ i x v r none. not_there (under at (ByName x ∷ [])) (right_no_variable G xs at s k x mine (ClassLies sort there) none))
+  changed_keeps at s k sort there =
+      rights_kept G store changed at s (λ i x v r none. not_there (under at (ByName x ∷ [])) (right_no_variable G xs at s k x (ClassLies sort there) none))
 
   -- No mark is changed.
   mark_unwritten : (at : Location) (s : System) (k : ℕ) → lies G [] at ≡ Some (k, component_type G s) → changed at ≡ store at
@@ -237,9 +237,9 @@ module _ (G : Ground) (xs : List Activation) (top : ℕ) (stack : Stacked G top 
     cells = λ l i w mine there. cells l i w mine there (is_cell w);
     rights = λ at s k i x v mine cl r none.
         right_kept G store changed old new xs at s k i x v
-        (not_there (under at (ByName x ∷ [])) (right_no_variable G xs at s k x mine cl none), apart_word (k + i) (λ path j u simple there e. by at s k i mine path j u simple there e (right_place G xs at s k i x v mine cl r)))
+        (not_there (under at (ByName x ∷ [])) (right_no_variable G xs at s k x cl none), apart_word (k + i) (λ path j u simple there e. by at s k i mine path j u simple there e (right_place G xs at s k i x v mine cl r)))
         (D.rights at s k i x v mine cl r none);
-    given = λ at s k mine sort there set. changed_keeps at s k mine sort there (D.given at s k mine sort there (ap is_initialised (sym (mark_unwritten at s k there)) ∙ set));
+    given = λ at s k mine sort there set. changed_keeps at s k sort there (D.given at s k mine sort there (ap is_initialised (sym (mark_unwritten at s k there)) ∙ set));
   }
     where
       cells : (l : Location) (i : ℕ) (w : ResolvedType) → in_sight G l.owner ≡ true → lies G xs l ≡ Some (i, w) → IsCell w ⊎ ((v : Value) (z : ℤ) → CellMeans w v z) → CellMeans w (changed l) (word new i)

@@ -60,10 +60,10 @@ without_zero G top n (inr h) = inr (omega (arith, h))
 
 module _ (G : Ground) (xs : List Activation) (top : ℕ) (stack : Stacked G top xs) (store after : Store) (old new : List ℤ)
     (live : SameLive G xs store after) (same : SameBelow G top old new) where
-  right_owner : (at : Location) (s : System) (n : ℕ) → in_sight G at.owner ≡ true → ComponentLies G at s n → (d : ℕ) → at.owner ≡ OfActivation G.p d → d < length xs
-  right_owner at s n mine (ProcessLies where' is zero') d e = absurd (omega (arith, ap (depth_of (suc d)) (sym (ap (λ (l : Location). l.owner) where') ∙ e)))
-  right_owner at s n mine (MonitorLies k where' is from) d e = absurd (omega (arith, ap (depth_of (suc d)) (sym (ap (λ (l : Location). l.owner) where') ∙ e)))
-  right_owner at s n mine (ClassLies sort is) d e = live_owner G xs at _ d (lies_any G xs at _ is) e
+  right_owner : (at : Location) (s : System) (n : ℕ) → ComponentLies G at s n → (d : ℕ) → at.owner ≡ OfActivation G.p d → d < length xs
+  right_owner at s n (ProcessLies where' is zero') d e = absurd (omega (arith, ap (depth_of (suc d)) (sym (ap (λ (l : Location). l.owner) where') ∙ e)))
+  right_owner at s n (MonitorLies k where' is from) d e = absurd (omega (arith, ap (depth_of (suc d)) (sym (ap (λ (l : Location). l.owner) where') ∙ e)))
+  right_owner at s n (ClassLies sort is) d e = live_owner G xs at _ d (lies_any G xs at _ is) e
 
   pub data_below : KeepsData G store after old new xs
   data_below = record {
@@ -72,7 +72,8 @@ module _ (G : Ground) (xs : List Activation) (top : ℕ) (stack : Stacked G top 
         subst (λ z. CellMeans t z (word new n)) (sym (live l (λ d e. live_owner G xs l (n, t) d h e)))
         (subst (λ z. CellMeans t (store l) z) (sym (same n (without_zero G top n low))) m);
     rights = λ at s n m x v mine cl r none.
-        (live (under at (ByName x ∷ [])) (right_owner at s n mine cl), same (n + m) (by at s n m mine (right_place G xs at s n m x v mine cl r)));
+        (live (under at (ByName x ∷ [])) (right_owner at s n cl), same (n + m) (by at s n m mine (right_place G xs at s n m x v mine cl r)));
+    stored = λ at s n x sort is none. live (under at (ByName x ∷ [])) (right_owner at s n (ClassLies sort is));
     marks = λ at s n mine sort is. live at (λ d e. live_owner G xs at _ d (lies_any G xs at _ is) e);
   }
     where
@@ -125,8 +126,8 @@ module _ (G : Ground) (xs : List Activation) (top : ℕ) (stack : Stacked G top 
   not_there k none e = absurd (some_is_not_none _ (sym (ap (lies G xs) (sym e) ∙ is) ∙ none))
 
   pub written_keeps : KeepsGiven G store (put l w store)
-  written_keeps at s k mine sort there =
-      rights_kept G store (put l w store) at s (λ i x v r none. put_apart l (under at (ByName x ∷ [])) w store (not_there (under at (ByName x ∷ [])) (right_no_variable G xs at s k x mine (ClassLies sort there) none)))
+  written_keeps at s k sort there =
+      rights_kept G store (put l w store) at s (λ i x v r none. put_apart l (under at (ByName x ∷ [])) w store (not_there (under at (ByName x ∷ [])) (right_no_variable G xs at s k x (ClassLies sort there) none)))
 
   -- Where it is a mark that is set, the class has its rights.
   abbrev pub MarksGiven : Type 0
@@ -137,11 +138,11 @@ module _ (G : Ground) (xs : List Activation) (top : ℕ) (stack : Stacked G top 
     cells = cell_written G xs top store words l n u w m cell means stack D.cells own is room;
     rights = λ at s k i x v mine cl r none.
         right_kept G store (put l w store) words (slice_set words n m) xs at s k i x v (
-          put_apart l (under at (ByName x ∷ [])) w store (not_there (under at (ByName x ∷ [])) (right_no_variable G xs at s k x mine cl none)),
+          put_apart l (under at (ByName x ∷ [])) w store (not_there (under at (ByName x ∷ [])) (right_no_variable G xs at s k x cl none)),
           changed_other words (k + i) n m (by at s k i mine (right_place G xs at s k i x v mine cl r)),
         )
         (D.rights at s k i x v mine cl r none);
-    given = λ at s k mine sort there set. written_keeps at s k mine sort there (marked at s k mine sort there (same_location l at) refl set);
+    given = λ at s k mine sort there set. written_keeps at s k sort there (marked at s k mine sort there (same_location l at) refl set);
   }
     where
       marked : (at : Location) (s : System) (k : ℕ) → in_sight G at.owner ≡ true → s.sort ≡ Class → lies G [] at ≡ Some (k, component_type G s) → (b : Bool) → same_location l at ≡ b

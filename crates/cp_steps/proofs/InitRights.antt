@@ -54,7 +54,7 @@ module _ (G : Ground) (s : State) (w : Outside) (before : List ℕ) (o : Private
 
       by : ComponentLies G here.component here.system N.on.running.component → IsGiven r.variable.type (s.store (name_location here n))
       by (ClassLies class' is) =
-          N.on.given.0 here.component here.system sees.component class' (is ∙ ap (λ z. Some (z, component_type G here.system)) (sym N.on.component)) off n.name r.variable lying
+          N.on.given.0 here.component here.system class' (is ∙ ap (λ z. Some (z, component_type G here.system)) (sym N.on.component)) off n.name r.variable lying
           (ap (λ g. member g here.system n.name) (sym N.on.runs.globals) ∙ r.no_member)
       by (ProcessLies where' is zero') = absurd (none.0 here.system is off n.name r.variable n.system r.inner lying r.type sort)
       by (MonitorLies m where' is from) = absurd (none.1 m here.system is off n.name r.variable n.system r.inner lying r.type sort)

@@ -110,7 +110,7 @@ body_entered G store o i k R call back s at n kept C stands sort own there has s
       (subst (λ (T : Type 0). T) means S.activations_mean);
   data_means = subst (λ ys. DataMeans G ys (in_sight G) (put at (Initialised true) store) (set_word o n (pos 1)).words) (sym (activations_push (o.base + call.words) (f ∷ o.frames) s.body env (EndBody None ∷ k)))
       (subst (λ ys. DataMeans G ys (in_sight G) (put at (Initialised true) store) (set_word o n (pos 1)).words) same S.data_means);
-  given = (class_has_rights G ys top stack at s n own sort there (put at (Initialised true) store) (written at s n own sort there has), S.given);
+  given = (class_has_rights G ys top stack at s n own sort there (put at (Initialised true) store) (written at s n sort there has), S.given);
 }
   where
     N : Running

@@ -60,17 +60,17 @@ right_place G xs at s n m x v mine (ClassLies sort is) r =
 
 -- No variable lies at the name of a right that no member has.
 pub right_no_variable : (G : Ground) (xs : List Activation) (at : Location) (s : System) (n : ℕ) (x : Name)
-    → in_sight G at.owner ≡ true → ComponentLies G at s n → member (scope G) s x ≡ None
+    → ComponentLies G at s n → member (scope G) s x ≡ None
     → lies G xs (under at (ByName x ∷ [])) ≡ None
-right_no_variable G xs at s n x mine (ProcessLies where' is zero') none =
+right_no_variable G xs at s n x (ProcessLies where' is zero') none =
     ap (λ l. lies G xs (under l (ByName x ∷ []))) where'
     ∙ (ap (λ b. if b then part_of_component (scope G) (system_of_process G.setup G.p) x [] else None) (eq-eqb G.p G.p refl)
     ∙ (ap (λ z. part_of_component (scope G) z x []) is ∙ none))
-right_no_variable G xs at s n x mine (MonitorLies k where' is from) none =
+right_no_variable G xs at s n x (MonitorLies k where' is from) none =
     ap (λ l. lies G xs (under l (ByName x ∷ []))) where'
     ∙ (ap (λ z. farther (G.own + monitor_start G.program k) (part_of_component (scope G) z x [])) is
     ∙ ap (farther (G.own + monitor_start G.program k)) none)
-right_no_variable G xs at s n x mine (ClassLies sort is) none =
+right_no_variable G xs at s n x (ClassLies sort is) none =
     lies_on G xs at (ByName x ∷ []) n (ComponentOf s (reported_members (scope G) s)) (lies_any G xs at _ is)
     ∙ ap (farther n) (ap (λ z. of_class z (member_part (scope G) (head_words (scope G) s) (reported_members (scope G) s) x [])) sort ∙ none)
 
@@ -160,10 +160,12 @@ module _ (G : Ground) (store after : Store) (old new : List ℤ) where
     pub rights : (at : Location) (s : System) (n m : ℕ) (x : Name) (v : declared.Variable) → in_sight G at.owner ≡ true → ComponentLies G at s n
         → right (scope G) s x ≡ Some (m, v) → member (scope G) s x ≡ None
         → (after (under at (ByName x ∷ [])) ≡ store (under at (ByName x ∷ []))) × (word new (n + m) ≡ word old (n + m))
+    pub stored : (at : Location) (s : System) (n : ℕ) (x : Name) → s.sort ≡ Class → lies G [] at ≡ Some (n, component_type G s) → member (scope G) s x ≡ None
+        → after (under at (ByName x ∷ [])) ≡ store (under at (ByName x ∷ []))
     pub marks : (at : Location) (s : System) (n : ℕ) → in_sight G at.owner ≡ true → s.sort ≡ Class → lies G [] at ≡ Some (n, component_type G s) → after at ≡ store at
 
   pub keeps_given : (xs : List Activation) → KeepsData xs → KeepsGiven G store after
-  keeps_given xs K at s n mine sort is = rights_kept G store after at s (λ m x v r none. (K.rights at s n m x v mine (ClassLies sort is) r none).0)
+  keeps_given xs K at s n sort is = rights_kept G store after at s (λ m x v r none. K.stored at s n x sort is none)
 
   pub right_kept : (xs : List Activation) (at : Location) (s : System) (n m : ℕ) (x : Name) (v : declared.Variable)
       → (after (under at (ByName x ∷ [])) ≡ store (under at (ByName x ∷ []))) × (word new (n + m) ≡ word old (n + m))
@@ -177,7 +179,7 @@ module _ (G : Ground) (store after : Store) (old new : List ℤ) where
     cells = λ l n t mine h. by l n t mine h (is_cell t);
     rights = λ at s n m x v mine cl r none.
         right_kept xs at s n m x v (K.rights at s n m x v mine cl r none) (D.rights at s n m x v mine cl r none);
-    given = λ at s n mine sort is set. keeps_given xs K at s n mine sort is (D.given at s n mine sort is (ap is_initialised (sym (K.marks at s n mine sort is)) ∙ set));
+    given = λ at s n mine sort is set. keeps_given xs K at s n sort is (D.given at s n mine sort is (ap is_initialised (sym (K.marks at s n mine sort is)) ∙ set));
   }
     where
       by : (l : Location) (n : ℕ) (t : ResolvedType) → in_sight G l.owner ≡ true → lies G xs l ≡ Some (n, t)

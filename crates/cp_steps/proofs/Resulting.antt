@@ -108,6 +108,7 @@ runs_resulted G store o k R f t v runs is none differs = record {
         put_apart L (under at (ByName x ∷ [])) (Ordinal v) store (λ e. owners at s n cl (sym (ap (λ (j : Location). j.owner) e) ∙ T.owner)),
         changed_other o.words (n + m) o.base v (λ e. right_apart at s n m mine e (right_place G xs at s n m x w mine cl r)),
       );
+      stored = λ at s n x sort there no. put_apart L (under at (ByName x ∷ [])) (Ordinal v) store (λ e. owners at s n (ClassLies sort there) (sym (ap (λ (j : Location). j.owner) e) ∙ T.owner));
       marks = λ at s n mine sort there. put_apart L at (Ordinal v) store (λ e. owners at s n (ClassLies sort there) (sym (ap (λ (j : Location). j.owner) e) ∙ T.owner));
     }
 

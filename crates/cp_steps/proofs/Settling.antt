@@ -90,7 +90,7 @@ module _ (G : Ground) (xs : List Activation) (top : ℕ) (stack : Stacked G top 
   value_lies p k h = member_lies G xs at s c p.0 k p.1.type there h
 
   right_lies_not : (p : Name × Variable) → IsIn p (declarations (scope G) s.parameters) → is_component p.1.type ≡ true → lies G xs (stored_at at p.0) ≡ None
-  right_lies_not p i component = right_no_variable G xs at s c p.0 own there (right_is_no_member (scope G) s p distinct i component)
+  right_lies_not p i component = right_no_variable G xs at s c p.0 there (right_is_no_member (scope G) s p distinct i component)
 
   right_in_head : (p : Name × Variable) (k : ℕ) → right (scope G) s p.0 ≡ Some (k, p.1) → InHead (scope G) (component_type G s) k
   right_in_head p k h = (subst IsClass (sym sort) tt, omega (arith, (right_is 1 (rights (scope G) s) p.0 k p.1 h).1))
@@ -169,7 +169,7 @@ module _ (G : Ground) (xs : List Activation) (top : ℕ) (stack : Stacked G top 
       unwritten apart = S.unwritten (stored_at j x) (λ p there' e. inner p there' e (offsets p there'))
         where
           inner : (p : Name × Variable) → IsIn p (declarations (scope G) s.parameters) → stored_at j x ≡ stored_at at p.0 → (k : ℕ) × Offset (scope G) s p k → ⊥
-          inner p there' e (k, inr h) = some_is_not_none _ (sym (value_lies p k h.1) ∙ (ap (lies G xs) (sym e) ∙ right_no_variable G xs j r n x mine cl none))
+          inner p there' e (k, inr h) = some_is_not_none _ (sym (value_lies p k h.1) ∙ (ap (lies G xs) (sym e) ∙ right_no_variable G xs j r n x cl none))
           inner p there' e (k, inl h) =
               let z = snoc_same j.path at.path x p.0 (ap (λ (l : Location). l.path) e) in
               let same : j ≡ at = λ i. record { owner = (e i).owner; path = z.0 i } in
@@ -204,8 +204,8 @@ module _ (G : Ground) (xs : List Activation) (top : ℕ) (stack : Stacked G top 
       let i = of_filter (λ d. is_component d.1.type) (declarations (scope G) s.parameters) (x, v) (right_is 1 (rights (scope G) s) x m v r).2 in
       S.given (x, v) m i.0 i.1 r
 
-  rights_there : (j : Location) (r : System) (n : ℕ) → in_sight G j.owner ≡ true → r.sort ≡ Class → lies G [] j ≡ Some (n, component_type G r) → ((j ≡ at → ⊥) → HasRights G store j r) → HasRights G after j r
-  rights_there j r n mine class' there' h = by (same_location j at) refl
+  rights_there : (j : Location) (r : System) (n : ℕ) → r.sort ≡ Class → lies G [] j ≡ Some (n, component_type G r) → ((j ≡ at → ⊥) → HasRights G store j r) → HasRights G after j r
+  rights_there j r n class' there' h = by (same_location j at) refl
     where
       by : (b : Bool) → same_location j at ≡ b → HasRights G after j r
       by true e =
@@ -218,7 +218,7 @@ module _ (G : Ground) (xs : List Activation) (top : ℕ) (stack : Stacked G top 
           apart (λ y. record { owner = (z y).owner; path = (snoc_same j.path at.path x p.0 (ap (λ (l : Location). l.path) z)).0 y }))) (h apart)
 
   pub settled_keeps : KeepsGiven G store after
-  settled_keeps j r n mine class' there' h = rights_there j r n mine class' there' (λ apart. h)
+  settled_keeps j r n class' there' h = rights_there j r n class' there' (λ apart. h)
 
   -- No mark is stored.
   mark_unwritten : (j : Location) (r : System) (n : ℕ) → lies G [] j ≡ Some (n, component_type G r) → after j ≡ store j
@@ -235,7 +235,7 @@ module _ (G : Ground) (xs : List Activation) (top : ℕ) (stack : Stacked G top 
   data_settled D = record {
     cells = λ l i t mine lying. by l i t mine lying (is_cell t);
     rights = λ j r n m x v mine cl is' none. rights_settled j r n m x v mine cl is' none (D.rights j r n m x v mine cl is' none);
-    given = λ j r n mine class' there' set. settled_keeps j r n mine class' there' (D.given j r n mine class' there' (ap is_initialised (sym (mark_unwritten j r n there')) ∙ set));
+    given = λ j r n mine class' there' set. settled_keeps j r n class' there' (D.given j r n mine class' there' (ap is_initialised (sym (mark_unwritten j r n there')) ∙ set));
   }
     where
       by : (l : Location) (i : ℕ) (t : ResolvedType) → in_sight G l.owner ≡ true → lies G xs l ≡ Some (i, t) → IsCell t ⊎ ((v : Value) (z : ℤ) → CellMeans t v z) → CellMeans t (after l) (word new i)

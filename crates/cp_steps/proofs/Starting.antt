@@ -40,7 +40,7 @@ use Rattle.cp_steps.proofs.Layouts.{same_some}
 use Rattle.cp_steps.proofs.PartLeaves.{member_cell_is_leaf, member_leaf_lies, start_value}
 use Rattle.cp_steps.proofs.Pushing.{activations_push, marks_push, mean_push, push_left}
 use Rattle.cp_steps.proofs.RunningOn.{left_afresh}
-use Rattle.cp_steps.proofs.Owned.{OwnRight, component_part}
+use Rattle.cp_steps.proofs.Owned.{OwnRight, component_part, found_monitor}
 use Rattle.cp_steps.proofs.StartStores.{Owns, initial_owns, process_owns}
 use Rattle.cp_steps.proofs.Writing.{is_cell}
 
@@ -186,7 +186,7 @@ module _ (program : Program) (setup : Setup) (F : StandsFor program setup) (p : 
           (λ i. part_at G [] (owner_of at s n mine cl i) (k.2 i))
           ∙ (ap (λ b. if b then part_of_component g (system_of_process setup p) k.0 k.1 else None) (eq-eqb p p refl)
           ∙ (ap (λ z. part_of_component g z k.0 k.1) P.is_system ∙ k.3.2)) in
-          some_is_not_none _ (sym there ∙ right_no_variable G [] at s n x mine cl none))
+          some_is_not_none _ (sym there ∙ right_no_variable G [] at s n x cl none))
 
       zero_right : (at : Location) (s : System) (n m : ℕ) → is_own p at.owner ≡ true
           → OwnRight G (n + m) ⊎ ((lies G [] at ≡ Some (n, component_type G s)) × InHead g (component_type G s) m × (1 ≤ m)) → word own.words (n + m) ≡ pos 0
@@ -207,10 +207,21 @@ module _ (program : Program) (setup : Setup) (F : StandsFor program setup) (p : 
   begins : UnitStands program F.texts g P.unit (BodyOf P.system)
   begins = F.units P.row.body P.unit (BodyOf P.system) P.unit_there P.body
 
-  none_at_zero : (at : Location) (s : System) → is_own p at.owner ≡ true → lies G [] at ≡ Some (0, component_type G s) → ⊥
-  none_at_zero at s mine is =
-      let f = found at 0 (component_type G s) mine is in
-      omega (arith, member_above g (head_words g P.system) (reported_members g P.system) f.name f.path 0 (component_type G s) f.there)
+  none_at_zero : (j : Location) (s : System) → lies G [] j ≡ Some (0, component_type G s) → ⊥
+  none_at_zero j s is = by j.owner j.path is
+    where
+      by : (o : Owner) (q : Path) → part_at G [] o q ≡ Some (0, component_type G s) → ⊥
+      by o [] h = some_is_not_none _ (sym h)
+      by o (ByIndex i ∷ q) h = some_is_not_none _ (sym h)
+      by (OfProcess r) (ByName x ∷ q) h =
+          let C = component_part G [] r x q 0 (component_type G s) h in
+          omega (arith, member_above g (head_words g C.1.0) (reported_members g C.1.0) x q 0 (component_type G s) C.1.2)
+      by (OfActivation r d) (ByName x ∷ q) h = nowhere (nat_eq p r) None refl h
+        where
+          nowhere : (b : Bool) (o : Option Part) → o ≡ None → (if b then o else None) ≡ Some (0, component_type G s) → ⊥
+          nowhere true o none e = some_is_not_none _ (sym e ∙ none)
+          nowhere false o none e = some_is_not_none _ (sym e)
+      by (OfMonitor m) (ByName x ∷ q) h = omega (arith, (found_monitor G [] m x q 0 (component_type G s) h).place, count, P.words)
 
   abbrev at : Location
   at = root (OfProcess p)
@@ -256,7 +267,7 @@ module _ (program : Program) (setup : Setup) (F : StandsFor program setup) (p : 
     count = refl;
     activations_mean = subst (λ (T : Type 0). T) (sym (mean_push G (start setup).store own.words own.base [] P.system.body env (EndProcess ∷ []))) tt;
     data_means = subst (λ ys. DataMeans G ys (is_own p) (start setup).store own.words) (sym (activations_push own.base [] P.system.body env (EndProcess ∷ []))) data_starts;
-    given = (λ j s mine class' is. absurd (none_at_zero j s mine is), tt);
+    given = (λ j s class' is. absurd (none_at_zero j s is), tt);
   }
 
 -- ---- all processes

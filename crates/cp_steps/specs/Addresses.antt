@@ -164,11 +164,10 @@ HasRights G store at s =
     (m : ℕ) (x : Name) (v : Variable) → right (scope G) s x ≡ Some (m, v) → member (scope G) s x ≡ None
     → IsGiven v.type (store (under at (ByName x ∷ [])))
 
--- What is a class there, and in reach, has them.
+-- What is a class there has them.
 abbrev pub ClassHasRights : Ground → Store → ℕ → Type 0
 ClassHasRights G store n =
-    (at : Location) (s : System) → in_sight G at.owner ≡ true → s.sort ≡ Class → lies G [] at ≡ Some (n, component_type G s)
-    → HasRights G store at s
+    (at : Location) (s : System) → s.sort ≡ Class → lies G [] at ≡ Some (n, component_type G s) → HasRights G store at s
 
 abbrev pub AllHaveRights : Ground → Store → List ℕ → Type 0
 AllHaveRights G store [] = Unit {0}
