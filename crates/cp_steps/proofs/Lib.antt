@@ -29,6 +29,9 @@ pub mod Answered
 pub mod RunningOn
 pub mod Stepping
 pub mod Alone
+pub mod Sights
+pub mod MonitorsThere
+pub mod Joining
 pub mod Doing
 pub mod Testing
 pub mod Choosing
