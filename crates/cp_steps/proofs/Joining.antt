@@ -1,30 +1,27 @@
 -- A private state with the words of all monitors behind its own: what runs on does so with them in reach.
-use Rattle.std.proofs.Common.{◌≡◌, ◌⊎◌, inl, inr, ℕ, zero, suc, ◌+◌, ◌≤◌, ◌<◌, ℤ, pos, negsuc, Bool, true, false, List, [], ◌∷◌, ◌++◌, length, Option, Some, None, refl, ap, sym, subst, ◌∙◌, arith}
+use Rattle.std.proofs.Common.{◌≡◌, ◌⊎◌, inl, inr, ℕ, zero, suc, ◌+◌, ◌≤◌, ◌<◌, ℤ, pos, Bool, true, false, List, [], ◌∷◌, ◌++◌, length, Option, Some, None, refl, ap, sym, subst, ◌∙◌, arith}
 use Rattle.std.specs.Prelude.{if◌then◌else◌, nat_eq, ◌+ℤ◌}
 use Rattle.std.proofs.lemmas.Bool.{true≢false}
 use Rattle.std.proofs.lemmas.Int.{ints}
 use Rattle.cp_model.specs.Abstract.{Class, Monitor, Name, Process, Sort, System}
 use Rattle.cp_model.specs.Continuations.{Task}
 use Rattle.cp_model.specs.Declarations.{Variable, reported_members}
-use Rattle.cp_model.specs.Locations.{ByIndex, ByName, Location, OfActivation, OfMonitor, OfProcess, Owner, Path, root, under}
-use Rattle.cp_model.specs.Parts.{is_own}
-use Rattle.cp_model.specs.States.{State}
+use Rattle.cp_model.specs.Locations.{ByIndex, ByName, Location, OfActivation, OfMonitor, OfProcess, Owner, Path, under}
 use Rattle.cp_model.specs.Stores.{Absent, ClassRight, MonitorRight, Store, Value}
 use Rattle.cp_model.specs.Types.{ArrayOf, ComponentOf, NoType, Queue, RecordOf, ResolvedType, Simple}
-use Rattle.cp_code.specs.Layout.{Part, activation_words, component_words, farther, head_words, member, member_part, natural, right}
+use Rattle.cp_code.specs.Layout.{Part, activation_words, component_words, farther, head_words, member, natural, right}
 use Rattle.cp_code.specs.Starts.{word}
 use Rattle.cp_steps.specs.PrivateStates.{PrivateState}
-use Rattle.cp_steps.specs.Addresses.{Activation, AllWords, ClassLies, ComponentLies, Ground, HasRights, MonitorLies, MonitorsLie, OwnWords, ProcessLies, RightMeans, RightOf, activation_at, activations, component_type, in_sight, lies, part_at, part_of_component, scope, sees, whole, words_seen}
-use Rattle.cp_steps.specs.KernelOf.{KernelOf, is_shared, kernel_ground}
-use Rattle.cp_steps.specs.KernelSteps.{Kernel}
+use Rattle.cp_steps.specs.Addresses.{Activation, AllWords, ClassLies, ComponentLies, Ground, HasRights, MonitorLies, MonitorsLie, OwnWords, ProcessLies, RightMeans, RightOf, activation_at, activations, component_type, in_sight, lies, part_at, scope, sees, whole, words_seen}
+use Rattle.cp_steps.specs.KernelOf.{is_shared, kernel_ground}
 use Rattle.cp_steps.specs.Left.{held_below, site}
 use Rattle.cp_steps.specs.Means.{CellMeans}
 use Rattle.cp_steps.specs.Passing.{monitor_start}
-use Rattle.cp_steps.specs.PartOf.{ActivationsMean, DataMeans, RunsOn, components}
+use Rattle.cp_steps.specs.PartOf.{DataMeans, RunsOn, components}
 use Rattle.cp_steps.proofs.Apart.{InHead, IsCell, cell_head, member_above}
 use Rattle.cp_steps.proofs.Finding.{some_is_not_none}
 use Rattle.cp_steps.proofs.Keeping.{KeepsActivation, activation_kept, activations_kept, right_place}
-use Rattle.cp_steps.proofs.Layouts.{farther_some, same_some}
+use Rattle.cp_steps.proofs.Layouts.{farther_some}
 use Rattle.cp_steps.proofs.Owned.{OwnRight, component_part, found_monitor, reference_inside, result_inside}
 use Rattle.cp_steps.proofs.RunningOn.{runs_stacked}
 use Rattle.cp_steps.proofs.Separate.{cell_inside, own_right_inside}
@@ -90,7 +87,7 @@ module _ (G : Ground) (lie : MonitorsLie G.program G.setup) where
           (0 + monitor_start G.program m + f.0, omega (arith, f.2), ap (farther (0 + monitor_start G.program m)) f.1)
 
   -- What lies in a monitor lies behind its mark.
-  not_first : (j : Location) (n : ℕ) (t : ResolvedType) → lies shared [] j ≡ Some (n, t) → (is_shared j.owner ≡ true) × (1 ≤ n)
+  pub not_first : (j : Location) (n : ℕ) (t : ResolvedType) → lies shared [] j ≡ Some (n, t) → (is_shared j.owner ≡ true) × (1 ≤ n)
   not_first j n t h = by j.owner j.path h
     where
       nowhere : (b : Bool) (o : Option Part) → o ≡ None → (if b then o else None) ≡ Some (n, t) → ⊥

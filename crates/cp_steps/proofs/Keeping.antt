@@ -33,7 +33,7 @@ use Rattle.cp_steps.specs.Passing.{monitor_start}
 
 -- ---- where rights lie
 
-right_within : (k : ℕ) (vs : List (Name × declared.Variable)) (x : Name) (m : ℕ) (v : declared.Variable) → right_at k vs x ≡ Some (m, v) → (k ≤ m) × (m < k + length vs)
+pub right_within : (k : ℕ) (vs : List (Name × declared.Variable)) (x : Name) (m : ℕ) (v : declared.Variable) → right_at k vs x ≡ Some (m, v) → (k ≤ m) × (m < k + length vs)
 right_within k [] x m v h = absurd (some_is_not_none (m, v) (sym h))
 right_within k (y ∷ vs) x m v h = by (bytes_eq x y.0) h (right_within (suc k) vs x m v)
   where

@@ -32,6 +32,7 @@ pub mod Alone
 pub mod Sights
 pub mod MonitorsThere
 pub mod Joining
+pub mod Parting
 pub mod Doing
 pub mod Testing
 pub mod Choosing

@@ -1,27 +1,18 @@
 -- Where monitors lie: their words are among the shared ones, apart from one another, and follow behind a process's own.
-use Rattle.std.proofs.Common.{Bool, List, None, Option, Some, [], ap, arith, false, inl, inr, length, negsuc, pos, refl, subst, suc, sym, true, zero, ℕ, ℤ, ◌++◌, ◌+◌, ◌-◌, ◌<◌, ◌∙◌, ◌∷◌, ◌≡◌, ◌≤◌, ◌⊎◌}
-use Rattle.std.specs.Prelude.{filter, if◌then◌else◌, nat_eq, slice_get, ◌+ℤ◌}
-use Rattle.std.proofs.lemmas.Int.{ints}
-use Rattle.cp_model.specs.Abstract.{Class, Monitor, Name, Process, Sort, System}
+use Rattle.std.proofs.Common.{Bool, List, None, Option, Some, [], ap, arith, false, inl, inr, length, refl, suc, sym, true, zero, ℕ, ◌<◌, ◌∙◌, ◌∷◌, ◌≡◌}
+use Rattle.std.specs.Prelude.{filter, if◌then◌else◌}
+use Rattle.cp_model.specs.Abstract.{Monitor, Name, Sort, System}
 use Rattle.cp_model.specs.Components.{is_component_of}
-use Rattle.cp_model.specs.Declarations.{Variable, reported_members}
-use Rattle.cp_model.specs.Locations.{ByIndex, ByName, Location, OfActivation, OfMonitor, OfProcess, Owner, Path}
+use Rattle.cp_model.specs.Declarations.{Variable}
 use Rattle.cp_model.specs.Report.{components_of}
-use Rattle.cp_model.specs.States.{Setup, count_components, initial_variables, monitor_count}
-use Rattle.cp_model.specs.Stores.{Absent, ClassRight, MonitorRight, Value}
-use Rattle.cp_model.specs.Types.{ArrayOf, ComponentOf, NoType, Queue, RecordOf, ResolvedType, Simple}
-use Rattle.cp_code.specs.Layout.{Part, component_words, farther, head_words, natural}
-use Rattle.cp_code.specs.Programs as code
+use Rattle.cp_model.specs.States.{Setup, count_components, initial_variables}
+use Rattle.cp_code.specs.Layout.{component_words}
 use Rattle.cp_code.specs.Programs.{Program}
-use Rattle.cp_code.specs.Sites.{UnitText}
 use Rattle.cp_code.specs.StandsFor.{Apart, MonitorStands, StandsFor, component_at, system_of_monitor}
-use Rattle.cp_code.specs.Starts.{word}
-use Rattle.cp_steps.specs.Addresses.{Activation, Ground, MonitorsLie, RightMeans, RightOf, component_type, lies, part_at, part_of_component, scope}
-use Rattle.cp_steps.specs.KernelOf.{is_shared, kernel_ground}
+use Rattle.cp_steps.specs.Addresses.{MonitorsLie, scope}
+use Rattle.cp_steps.specs.KernelOf.{kernel_ground}
 use Rattle.cp_steps.specs.Passing.{monitor_start}
-use Rattle.cp_steps.proofs.Apart.{member_above}
 use Rattle.cp_steps.proofs.Finding.{some_is_not_none}
-use Rattle.cp_steps.proofs.Owned.{found_monitor}
 
 -- ---- the blocks of monitors
 

@@ -18,18 +18,15 @@ use Rattle.cp_steps.proofs.Layouts.{same_some}
 use Rattle.cp_steps.proofs.Stacks.{Stack, Stacked, found_apart, found_inside, monitor_seen, own_in_whole}
 use Rattle.cp_steps.specs.Passing.{monitor_start}
 use Rattle.cp_steps.proofs.Owned.{FoundActivation, FoundLocal, FoundMonitor, OwnRight, activation_cell, component_cell, component_part, found_monitor, local_apart, local_cell_inside, local_cells_apart, local_inside}
+use Rattle.cp_steps.specs.KernelOf.{is_shared}
 
 module _ (G : Ground) (xs : List Activation) (top : ℕ) (stack : Stacked G top xs) where
   pub bottom_below : (n : ℕ) (zs : List Activation) → Stack G n zs → (s : System) → system_of_process G.setup G.p ≡ Some s → component_words (scope G) s ≤ n
   bottom_below n [] h s i = omega (arith, h.2, ap (component_words (scope G)) (same_some s h.0 (sym i ∙ h.1)))
   bottom_below n (z ∷ zs) h s i = omega (arith, h.0, bottom_below z.base zs h.1 s i)
 
-  abbrev is_monitor : Owner → Bool
-  is_monitor (OfMonitor m) = true
-  is_monitor _ = false
-
   -- A word of the process lies below the top.
-  own_cell : (o : Owner) (x : Name) (p : Path) (n : ℕ) (u : ResolvedType) (a : ℕ) → is_monitor o ≡ false → InHead (scope G) u a → part_of_owner G xs o x p ≡ Some (n, u) → n + a < top
+  own_cell : (o : Owner) (x : Name) (p : Path) (n : ℕ) (u : ResolvedType) (a : ℕ) → is_shared o ≡ false → InHead (scope G) u a → part_of_owner G xs o x p ≡ Some (n, u) → n + a < top
   own_cell (OfProcess q) x p n u a m c h =
       let C = component_cell G xs top q x p n u a c h in
       omega (arith, C.1.4, bottom_below top xs stack.stack C.1.0 (ap (system_of_process G.setup) C.0 ∙ C.1.1))
@@ -130,6 +127,14 @@ module _ (G : Ground) (xs : List Activation) (top : ℕ) (stack : Stacked G top 
       by (OfProcess q) (ByName x ∷ p) h = inl (own_cell (OfProcess q) x p n u a refl c h)
       by (OfActivation q d) (ByName x ∷ p) h = inl (own_cell (OfActivation q d) x p n u a refl c h)
       by (OfMonitor m) (ByName x ∷ p) h = inr (omega (arith, (found_monitor G xs m x p n u h).place))
+
+  pub own_below : (l : Location) (n : ℕ) (u : ResolvedType) (a : ℕ) → is_shared l.owner ≡ false → InHead (scope G) u a → lies G xs l ≡ Some (n, u) → n + a < top
+  own_below l n u a own c h = by l.owner l.path own h
+    where
+      by : (o : Owner) (p : Path) → is_shared o ≡ false → part_at G xs o p ≡ Some (n, u) → n + a < top
+      by o [] own h = absurd (some_is_not_none (n, u) (sym h))
+      by o (ByIndex i ∷ p) own h = absurd (some_is_not_none (n, u) (sym h))
+      by o (ByName x ∷ p) own h = own_cell o x p n u a own c h
 
   -- Each is among the words that are in reach.
   pub cell_inside : (l : Location) (n : ℕ) (u : ResolvedType) (a : ℕ) → in_sight G l.owner ≡ true → InHead (scope G) u a → lies G xs l ≡ Some (n, u) → n + a < whole G

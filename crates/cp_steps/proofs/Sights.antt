@@ -1,8 +1,8 @@
 -- What is left to do, what runs and what words mean are the same whatever words are in reach.
-use Rattle.std.proofs.Common.{◌≡◌, ℕ, ◌+◌, ℤ, Bool, List, [], ◌∷◌, length, Option, Some, None, refl, ap, sym, ◌∙◌}
+use Rattle.std.proofs.Common.{◌≡◌, ℕ, ◌+◌, ℤ, Bool, List, [], ◌∷◌, length, Option, Some, None, refl, sym, ◌∙◌}
 use Rattle.cp_model.specs.Abstract.{Class, Monitor, Name, Process, Sort, System}
 use Rattle.cp_model.specs.Continuations.{Do, EndBody, EndCall, EndProcess, ForNext, RepeatTest, Task, WhileTest}
-use Rattle.cp_model.specs.Environments.{Environment, Frame}
+use Rattle.cp_model.specs.Environments.{Frame}
 use Rattle.cp_model.specs.Locations.{ByIndex, ByName, Location, OfActivation, OfMonitor, OfProcess, Owner, Path}
 use Rattle.cp_model.specs.Stores.{Absent, ClassRight, MonitorRight, Store, Value}
 use Rattle.cp_model.specs.Types.{ArrayOf, ComponentOf, NoType, Queue, RecordOf, ResolvedType, Simple}
