@@ -70,10 +70,8 @@ other_sort z y e h = subst (SameSort z) e h
 abbrev pub Reaches : Ground → State → Type 0
 Reaches G s = (o : Owner) → in_reach G.p (marked_monitors (s.continuation G.p)) o ≡ true → in_sight G o ≡ true
 
--- The steps that a process takes only where it holds a gate, and where `delay` and `continue` stand.
+-- The steps that a process takes where `delay` and `continue` stand.
 pub record AtGates (G : Ground) (s : State) (w : Outside) (before : List ℕ) (o : PrivateState) : Type 0 where
-  pub returns : (env : Environment) (m : ℕ) (k : List Task) → Now G s w before o (EndCall env (Some m)) k → Stepped G s w before o
-  pub ends : (m : ℕ) (k : List Task) → Now G s w before o (EndBody (Some m)) k → Stepped G s w before o
   pub delays : (x : Name) (env : Environment) (k : List Task) (d : a.Designator) (Y : Ready G s w before o (a.Perform (a.Plain x) (one (a.Use d))) env k) (queue : Spot) (n : ℕ)
       → By G s w before o x env k (one (a.Use d)) Y (op.Delay queue n) → Stepped G s w before o
   pub continues : (x : Name) (env : Environment) (k : List Task) (d : a.Designator) (Y : Ready G s w before o (a.Perform (a.Plain x) (one (a.Use d))) env k) (queue : Spot) (function : Bool)
@@ -197,13 +195,12 @@ module _ (G : Ground) (s : State) (w : Outside) (before : List ℕ) (o : Private
   -- ---- tasks
 
   return_does : (env : Environment) (gate : Option ℕ) (k : List Task) → Now G s w before o (EndCall env gate) k → Stepped G s w before o
-  return_does env (Some m) k N = gates.returns env m k N
-  return_does env None k N =
-      return_steps G s w before o env k N
+  return_does env gate k N =
+      return_steps G s w before o env gate k N
       (λ f t is result. names f t (text_is N.on.running.text N.on.running.env.frame f (ap (λ (y : Environment). y.frame) (sym here) ∙ is) N.on.runs.frame) result)
     where
       here : env ≡ N.on.running.env
-      here = end_environment G o.temps o.limit (held_below N.on.live o.temps N.on.running.temp) N.on.running o.frames o.place N.on.running.unit.temps env None k N.on.left
+      here = end_environment G o.temps o.limit (held_below N.on.live o.temps N.on.running.temp) N.on.running o.frames o.place N.on.running.unit.temps env gate k N.on.left
 
       names : (f : Frame) (t : Name) → (y : a.System) × (N.on.running.text ≡ RoutineOf y f.routine) → f.routine.result ≡ Some t → local (scope G) f.routine f.routine.name ≡ None
       names f t y result =
@@ -236,6 +233,5 @@ module _ (G : Ground) (s : State) (w : Outside) (before : List ℕ) (o : Private
           return_does env gate k
           (now_of (EndCall env gate) k R left ready
           (sees_in R.running env (EndCall env gate ∷ k) (end_environment G o.temps o.limit (held_below R.live o.temps R.running.temp) R.running o.frames o.place R.running.unit.temps env gate k R.left) left there))
-      by (EndBody None) R left there = body_ends G s w before o k (now_of (EndBody None) k R left ready tt)
-      by (EndBody (Some m)) R left there = gates.ends m k (now_of (EndBody (Some m)) k R left ready tt)
+      by (EndBody gate) R left there = body_ends G s w before o gate k (now_of (EndBody gate) k R left ready tt)
       by EndProcess R left there = process_ends G s w before o k (now_of EndProcess k R left ready tt)

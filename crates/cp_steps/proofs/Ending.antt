@@ -1,5 +1,5 @@
 -- Whole private steps at the ends of bodies: of a class, behind its `init`, and of the process.
-use Rattle.std.proofs.Common.{ℕ, List, [], ◌∷◌, None, refl, ap, sym, subst, ◌∙◌, arith}
+use Rattle.std.proofs.Common.{List, Option, [], ap, arith, refl, subst, sym, ℕ, ◌∙◌, ◌∷◌}
 use Rattle.cp_model.specs.Actions.{Acts}
 use Rattle.cp_model.specs.Configurations as stage
 use Rattle.cp_model.specs.Configurations.{Ends, with_continuation}
@@ -15,7 +15,7 @@ use Rattle.cp_steps.specs.Addresses.{Ground, activations, in_sight}
 use Rattle.cp_steps.specs.PartOf.{DataMeans}
 use Rattle.cp_steps.proofs.Doing.{acts_itself}
 use Rattle.cp_steps.proofs.RunningOn.{left_afresh}
-use Rattle.cp_steps.proofs.Stepping.{Now, Stepped, both_step, went}
+use Rattle.cp_steps.proofs.Stepping.{Now, Stepped, both_step, gate_left, went}
 
 -- The end of a process.
 pub process_ends : (G : Ground) (s : State) (w : Outside) (before : List ℕ) (o : PrivateState) (k : List Task) → Now G s w before o EndProcess k → Stepped G s w before o
@@ -32,16 +32,17 @@ process_ends G s w before o k N =
       runs_on = λ goes. absurd goes;
     }
 
--- The end of a class's body: its `init` is done.
-pub body_ends : (G : Ground) (s : State) (w : Outside) (before : List ℕ) (o : PrivateState) (k : List Task) → Now G s w before o (EndBody None) k → Stepped G s w before o
-body_ends G s w before o k N = by o.frames N
+-- The end of the body of a class or a monitor: its `init` is done.
+pub body_ends : (G : Ground) (s : State) (w : Outside) (before : List ℕ) (o : PrivateState) (gate : Option ℕ) (k : List Task) → Now G s w before o (EndBody gate) k → Stepped G s w before o
+body_ends G s w before o gate k N = by o.frames N
   where
-    by : (gs : List private.Frame) → Now G s w before (record o { frames = gs }) (EndBody None) k → Stepped G s w before (record o { frames = gs })
+    by : (gs : List private.Frame) → Now G s w before (record o { frames = gs }) (EndBody gate) k → Stepped G s w before (record o { frames = gs })
     by [] N = absurd N.on.left
     by (f ∷ fs) N =
         let P = record o { frames = f ∷ fs } in
         let c = N.on.left.3 in
-        both_step G s w before P (EndBody None) k N (Acts (EndBody None) k) op.EndBody (acts_itself (EndBody None) k refl refl) refl N.on.left.1 refl
+        both_step G s w before P (EndBody gate) k N (Acts (EndBody gate) k) op.EndBody (acts_itself (EndBody gate) k refl refl) refl N.on.left.1 refl
+        (gate_left G s before gate _ _
         (went G s before P N.part s.store (leave P f fs) k
         record {
           running = c.0;
@@ -58,4 +59,4 @@ body_ends G s w before o k N = by o.frames N
           data_means = N.on.data_means;
           given = N.on.given.1;
         }
-        record { number = refl; input = refl; consumed = refl; output = refl; activity = refl })
+        record { number = refl; input = refl; consumed = refl; output = refl; activity = refl }))

@@ -122,8 +122,6 @@ reach_own p (OfMonitor m) h = absurd (true≢false (sym h))
 -- It stands at no gate.
 free_gates : (G : Ground) (s : State) (w : Outside) (before : List ℕ) (o : PrivateState) → IsFree G s o → AtGates G s w before o
 free_gates G s w before o free = record {
-  returns = λ env m k N. absurd (cons_is_not_nil m (marked_monitors k) (ap marked_monitors (sym N.left) ∙ free.0));
-  ends = λ m k N. absurd (cons_is_not_nil m (marked_monitors k) (ap marked_monitors (sym N.left) ∙ free.0));
   delays = λ x env k d Y queue n h. delay_steps G s w before o x env k free d Y queue n h;
   continues = λ x env k d Y queue function h. continue_steps G s w before o x env k free d Y queue function h;
 }

@@ -38,7 +38,7 @@ use Rattle.cp_steps.proofs.Keeping.{activation_kept, activations_kept, data_kept
 use Rattle.cp_steps.proofs.Layouts.{same_some}
 use Rattle.cp_steps.proofs.LeftKept.{left_kept, left_raised}
 use Rattle.cp_steps.proofs.Stacks.{Stack, Stacked, stacked}
-use Rattle.cp_steps.proofs.Stepping.{Now, Stepped, both_step, faulted, went}
+use Rattle.cp_steps.proofs.Stepping.{Now, Stepped, both_step, faulted, gate_left, went}
 use Rattle.cp_steps.proofs.Writing.{integer_is, owner_is}
 use Rattle.cp_steps.proofs.Given.{all_kept}
 
@@ -106,8 +106,8 @@ text_is t None f e h = absurd (some_is_not_none f (sym e))
 text_is (RoutineOf s r) (Some g) f e h = (s, ap (RoutineOf s) (sym h ∙ ap (λ (y : Frame). y.routine) (same_some g f e)))
 text_is (BodyOf s) (Some g) f e h = absurd h
 
-module _ (G : Ground) (s : State) (w : Outside) (before : List ℕ) (o : PrivateState) (f : machine.Frame) (fs : List machine.Frame) (env : Environment) (k : List Task)
-    (N : Now G s w before (record o { frames = f ∷ fs }) (EndCall env None) k) where
+module _ (G : Ground) (s : State) (w : Outside) (before : List ℕ) (o : PrivateState) (f : machine.Frame) (fs : List machine.Frame) (env : Environment) (gate : Option ℕ) (k : List Task)
+    (N : Now G s w before (record o { frames = f ∷ fs }) (EndCall env gate) k) where
   abbrev returning : PrivateState
   returning = record o { frames = f ∷ fs }
 
@@ -155,7 +155,7 @@ module _ (G : Ground) (s : State) (w : Outside) (before : List ℕ) (o : Private
       }
 
   abbrev gone : Outcome Configuration → State
-  gone O = after_step s G.p (and_then O (λ after. Gives (after, leaving None)))
+  gone O = after_step s G.p (and_then O (λ after. Gives (after, leaving gate)))
 
   abbrev caller_is : (x : Option Name) → Type 0
   caller_is x = CallerAt G N.on.running.number N.on.left.3.2 N.on.left.3.3 x f N.on.left.3.1
@@ -168,19 +168,20 @@ module _ (G : Ground) (s : State) (w : Outside) (before : List ℕ) (o : Private
   procedure_returns none =
       let c = N.on.left.3 in
       let there = caller_there None none in
-      went G s before (record o { frames = f ∷ fs }) N.part (forget N.on.left.1.frame.owner s.store) (leave o f fs) k
+      gate_left G s before gate _ _
+      (went G s before (record o { frames = f ∷ fs }) N.part (forget N.on.left.1.frame.owner s.store) (leave o f fs) k
       (caller_on o.temps f.place 0 k refl
       (subst (λ z. Left G o.temps o.limit (held_below 0 o.temps c.0.temp) c.0 fs z c.0.unit.temps k) there.0
       (left_raised G o.temps o.limit (held_below 0 o.temps c.0.temp) c.0 fs c.1 c.2 c.0.unit.temps k c.5.kept_fit
       (left_kept G o.temps o.temps o.limit refl (kept_below c.2 c.3 o.temps c.0.temp) (held_below 0 o.temps c.0.temp) c.0 fs c.1 c.2 k
       (λ n m h. absurd (omega (arith, h.0, there.1))) (λ i q. refl) c.7)))
       (λ d n m e. omega arith) (λ F x. x) (λ store ws x. x))
-      record { number = refl; input = refl; consumed = refl; output = refl; activity = refl }
+      record { number = refl; input = refl; consumed = refl; output = refl; activity = refl })
 
   -- A function's value takes the place of the call; one that has set none is a fault.
   function_returns : (t : Name) → N.on.left.1.frame.routine.result ≡ Some t → local (scope G) N.on.left.1.frame.routine N.on.left.1.frame.routine.name ≡ None
-      → PartOf G (gone (result_returns (configuration s G.p) env k N.on.left.1.frame (Some t))) before (return_with returning returning f fs true NoEffect).0
-  function_returns t is none = by (s.store (result_location N.on.left.1.frame)) (word o.words o.base) refl means
+      → (effect : machine.Effect) → PartOf G (gone (result_returns (configuration s G.p) env k N.on.left.1.frame (Some t))) before (return_with returning returning f fs true effect).0
+  function_returns t is none effect = by (s.store (result_location N.on.left.1.frame)) (word o.words o.base) refl means
     where
       means : ResultMeans (s.store (result_location N.on.left.1.frame)) (word o.words o.base)
       means = (subst (λ e. IfFrame e (ActivationMeans G (activations f.base fs k) s.store o.words o.base)) here N.on.activations_mean.0).result t is none
@@ -225,45 +226,45 @@ module _ (G : Ground) (s : State) (w : Outside) (before : List ℕ) (o : Private
           (sym (with_answer_same (λ j. ActivationsMean G store ws f.base fs j) v k (λ a1 a2 a3 a4. refl) (λ a1 a2 a3 a4 a5 a6. refl) (λ a1 a2 a3 a4 a5 a6. refl))) x
 
       computed : Bool → ℤ → PrivateState
-      computed b n = (if b then fault_in (record o { frames = f ∷ fs }) fault.NoResult else (leave (set_temp (record o { frames = f ∷ fs }) (f.temp + f.into) n) f fs, NoEffect)).0
+      computed b n = (if b then fault_in (record o { frames = f ∷ fs }) fault.NoResult else (leave (set_temp (record o { frames = f ∷ fs }) (f.temp + f.into) n) f fs, effect)).0
 
       value_returns : (n : ℤ) (b : Bool) → same_integer n unset ≡ b → (n ≡ unset → ⊥)
           → PartOf G (gone (return_value (configuration s G.p) env N.on.left.1.frame.owner k t (Ordinal n))) before (computed b n)
       value_returns n true e d = absurd (d (integer_is n unset e))
       value_returns n false e d =
           let v = a.Known (base_of_type (named_type env.globals t)) n in
-          went G s before (record o { frames = f ∷ fs }) N.part (forget N.on.left.1.frame.owner s.store) (leave (set_temp (record o { frames = f ∷ fs }) (f.temp + f.into) n) f fs) (with_answer v k)
+          gate_left G s before gate _ _
+          (went G s before (record o { frames = f ∷ fs }) N.part (forget N.on.left.1.frame.owner s.store) (leave (set_temp (record o { frames = f ∷ fs }) (f.temp + f.into) n) f fs) (with_answer v k)
           (caller_on (slice_set o.temps (f.temp + f.into) n) f.place (caller.1 + 1) (with_answer v k) (length-set o.temps (f.temp + f.into) n) (answer n) A.2 (marks v) (others v))
-          record { number = refl; input = refl; consumed = refl; output = refl; activity = refl }
+          record { number = refl; input = refl; consumed = refl; output = refl; activity = refl })
 
       by : (v : Value) (n : ℤ) → s.store (result_location N.on.left.1.frame) ≡ v → ResultMeans v n
           → PartOf G (gone (return_value (configuration s G.p) env N.on.left.1.frame.owner k t v)) before (computed (same_integer n unset) n)
       by Absent n e h =
           subst (λ z. PartOf G (gone (Fault 9)) before (computed (same_integer z unset) z)) (sym h)
-          (faulted G s w before (record o { frames = f ∷ fs }) (EndCall env None) k N 9 fault.NoResult refl)
+          (faulted G s w before (record o { frames = f ∷ fs }) (EndCall env gate) k N 9 fault.NoResult refl)
       by (Ordinal q) n e h =
           subst (λ z. PartOf G (gone (return_value (configuration s G.p) env N.on.left.1.frame.owner k t (Ordinal z))) before (computed (same_integer n unset) n)) h.0
           (value_returns n (same_integer n unset) refl h.1)
       by _ n e h = absurd h
 
--- The end of a routine that was no entry of a monitor. A function's name is no parameter or variable of it.
-pub return_steps : (G : Ground) (s : State) (w : Outside) (before : List ℕ) (o : PrivateState) (env : Environment) (k : List Task) → Now G s w before o (EndCall env None) k
+-- The end of a routine. A function's name is no parameter or variable of it.
+pub return_steps : (G : Ground) (s : State) (w : Outside) (before : List ℕ) (o : PrivateState) (env : Environment) (gate : Option ℕ) (k : List Task) → Now G s w before o (EndCall env gate) k
     → ((f : Frame) (t : Name) → env.frame ≡ Some f → f.routine.result ≡ Some t → local (scope G) f.routine f.routine.name ≡ None)
     → Stepped G s w before o
-return_steps G s w before o env k N names = by o.frames N
+return_steps G s w before o env gate k N names = by o.frames N
   where
-    by : (gs : List machine.Frame) → Now G s w before (record o { frames = gs }) (EndCall env None) k → Stepped G s w before (record o { frames = gs })
+    by : (gs : List machine.Frame) → Now G s w before (record o { frames = gs }) (EndCall env gate) k → Stepped G s w before (record o { frames = gs })
     by [] N = absurd N.on.left
     by (f ∷ fs) N =
         let P = record o { frames = f ∷ fs } in
         let r = N.on.left.1 in
-        both_step G s w before P (EndCall env None) k N (Acts (EndCall env None) k) (op.Return (is_function r.frame.routine.result)) (acts_itself (EndCall env None) k refl refl) refl r.return refl
-        (subst (λ g. PartOf G (gone G s w before o f fs env k N (frame_returns (configuration s G.p) env k env.frame)) before (return_with P P f fs (is_function r.frame.routine.result) (gate_effect g machine.Leaves)).0) (sym N.on.left.2.0)
-        (subst (λ x. PartOf G (gone G s w before o f fs env k N (frame_returns (configuration s G.p) env k x)) before (return_with P P f fs (is_function r.frame.routine.result) NoEffect).0) (sym (here G s w before o f fs env k N))
-        (returned r.frame.routine.result refl)))
+        both_step G s w before P (EndCall env gate) k N (Acts (EndCall env gate) k) (op.Return (is_function r.frame.routine.result)) (acts_itself (EndCall env gate) k refl refl) refl r.return refl
+        (subst (λ x. PartOf G (gone G s w before o f fs env gate k N (frame_returns (configuration s G.p) env k x)) before (return_with P P f fs (is_function r.frame.routine.result) (gate_effect f.gate machine.Leaves)).0) (sym (here G s w before o f fs env gate k N))
+        (returned r.frame.routine.result refl))
       where
         returned : (x : Option Name) → N.on.left.1.frame.routine.result ≡ x
-            → PartOf G (gone G s w before o f fs env k N (result_returns (configuration s G.p) env k N.on.left.1.frame x)) before
-            (return_with (record o { frames = f ∷ fs }) (record o { frames = f ∷ fs }) f fs (is_function x) NoEffect).0
-        returned None e = procedure_returns G s w before o f fs env k N e
-        returned (Some t) e = function_returns G s w before o f fs env k N t e (names N.on.left.1.frame t (here G s w before o f fs env k N) e)
+            → PartOf G (gone G s w before o f fs env gate k N (result_returns (configuration s G.p) env k N.on.left.1.frame x)) before
+            (return_with (record o { frames = f ∷ fs }) (record o { frames = f ∷ fs }) f fs (is_function x) (gate_effect f.gate machine.Leaves)).0
+        returned None e = procedure_returns G s w before o f fs env gate k N e
+        returned (Some t) e = function_returns G s w before o f fs env gate k N t e (names N.on.left.1.frame t (here G s w before o f fs env gate k N) e) (gate_effect f.gate machine.Leaves)

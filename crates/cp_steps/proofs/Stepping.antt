@@ -1,12 +1,12 @@
 -- What every private step has in common, in the meaning and in the machine.
-use Rattle.std.proofs.Common.{List, Some, [], ap, arith, false, inl, inr, length, subst, sym, true, ℕ, ℤ, ◌++◌, ◌<◌, ◌∙◌, ◌∷◌, ◌≡◌, ◌≤◌, ◌⊎◌}
+use Rattle.std.proofs.Common.{Bool, List, Some, [], ap, arith, false, inl, inr, length, refl, subst, sym, true, ℕ, ℤ, ◌++◌, ◌<◌, ◌∙◌, ◌∷◌, ◌≡◌, ◌≤◌, ◌⊎◌}
 use Rattle.cp_model.specs.Actions.{Action, action, is_kernel_action}
-use Rattle.cp_model.specs.Configurations.{Faulted, Ready, own_step}
+use Rattle.cp_model.specs.Configurations.{Asking, Configuration, Delayed, Ended, Faulted, Fresh, Ready, Status, Unstarted, Waiting, own_step}
 use Rattle.cp_model.specs.Continuations.{EndBody, EndProcess, Task, marked_monitors}
 use Rattle.cp_model.specs.Operators.{Clock, realtime}
-use Rattle.cp_model.specs.Outcomes.{Fault}
-use Rattle.cp_model.specs.Parts.{private_status}
-use Rattle.cp_model.specs.States.{State, configuration, context, running_clock}
+use Rattle.cp_model.specs.Outcomes.{Fault, Gives}
+use Rattle.cp_model.specs.Parts.{HasBegun, private_status}
+use Rattle.cp_model.specs.States.{State, configuration, context, running_clock, with_at, with_configuration}
 use Rattle.cp_model.specs.StateViews.{fault_number}
 use Rattle.cp_model.specs.Step.{take_action}
 use Rattle.cp_model.specs.Stores.{Store}
@@ -22,7 +22,10 @@ use Rattle.cp_steps.specs.Steps.{act, act_on, alone}
 use Rattle.cp_steps.specs.Addresses.{Ground, activations, in_sight, whole}
 use Rattle.cp_steps.specs.PartOf.{DataMeans, PartOf, RunsOn, status_of}
 use Rattle.cp_steps.proofs.Heres.{Sees}
-use Rattle.std.proofs.lemmas.Bool.{true≢false}
+use Rattle.std.proofs.lemmas.Bool.{eqb-true, true≢false}
+use Rattle.cp_model.specs.Gates.{made_ready, pass_to}
+use Rattle.cp_model.specs.CallSteps.{leaving}
+use Rattle.std.specs.Prelude.{nat_eq, if◌then◌else◌, Option, None}
 
 -- What is said of tasks that stand in an environment.
 abbrev pub IfPlaced : Task → Type 0 → Type 0
@@ -106,6 +109,52 @@ module _ (G : Ground) (s : State) (before : List ℕ) (o : PrivateState) (part :
     data_means = λ begun. means;
     runs_on = λ goes. absurd goes;
   }
+
+-- A process that is made ready is in no other private state.
+private_ready : (x : Status) → private_status (made_ready x) ≡ private_status x
+private_ready (Asking m) = refl
+private_ready (Delayed m q) = refl
+private_ready Unstarted = refl
+private_ready Fresh = refl
+private_ready Ready = refl
+private_ready Ended = refl
+private_ready Waiting = refl
+private_ready (Faulted n) = refl
+
+-- A gate that is passed on is no matter of a private state.
+pub gate_passed : (G : Ground) (before : List ℕ) (after : PrivateState) (m : ℕ) (rs : List ℕ) (u : State) → PartOf G u before after → PartOf G (pass_to m rs u) before after
+gate_passed G before after m [] u P = record {
+  number = P.number;
+  input = P.input;
+  consumed = P.consumed;
+  transcript = P.transcript;
+  status = P.status;
+  count = P.count;
+  data_means = P.data_means;
+  runs_on = P.runs_on;
+}
+gate_passed G before after m (r ∷ rs) u P = record {
+  number = P.number;
+  input = P.input;
+  consumed = P.consumed;
+  transcript = P.transcript;
+  status = same ∙ P.status;
+  count = P.count;
+  data_means = λ begun. P.data_means (subst HasBegun same begun);
+  runs_on = P.runs_on;
+}
+  where
+    same : private_status (with_at r (made_ready (u.status r)) u.status G.p) ≡ private_status (u.status G.p)
+    same = by (nat_eq r G.p) refl
+      where
+        by : (b : Bool) → nat_eq r G.p ≡ b → private_status (if b then made_ready (u.status r) else u.status G.p) ≡ private_status (u.status G.p)
+        by true e = private_ready (u.status r) ∙ ap (λ z. private_status (u.status z)) (eqb-true r G.p e)
+        by false e = refl
+
+pub gate_left : (G : Ground) (s : State) (before : List ℕ) (gate : Option ℕ) (after : PrivateState) (config : Configuration)
+    → PartOf G (after_step s G.p (own_step config)) before after → PartOf G (after_step s G.p (Gives (config, leaving gate))) before after
+gate_left G s before None after config P = P
+gate_left G s before (Some m) after config P = gate_passed G before after m (s.gates m).askers (with_configuration s G.p config) P
 
 module _ (G : Ground) (s : State) (w : Outside) (before : List ℕ) (o : PrivateState) (i : Task) (k : List Task) (N : Now G s w before o i k) where
   -- A fault of an expression.
