@@ -39,6 +39,7 @@ pub mod Choosing
 pub mod Assigning
 pub mod Counting
 pub mod Standards
+pub mod Delaying
 pub mod Ending
 pub mod Returning
 pub mod Resulting

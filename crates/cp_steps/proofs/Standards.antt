@@ -65,7 +65,7 @@ runs_beside G store o k x output consumed R = record {
 }
 
 -- Where a state is reached that the process runs on in.
-arrived : (G : Ground) (before : List ℕ) (u : State) (after : PrivateState) → after.number ≡ G.p → after.input ≡ G.setup.inputs G.p → after.consumed ≡ u.consumed G.p
+pub arrived : (G : Ground) (before : List ℕ) (u : State) (after : PrivateState) → after.number ≡ G.p → after.input ≡ G.setup.inputs G.p → after.consumed ≡ u.consumed G.p
     → u.transcript G.p ≡ before ++ after.output → private_status (u.status G.p) ≡ status_of after.activity → RunsOn G u.store after (u.continuation G.p)
     → PartOf G u before after
 arrived G before u after number input consumed transcript status R = record {
@@ -79,7 +79,7 @@ arrived G before u after number input consumed transcript status R = record {
   runs_on = λ goes. R;
 }
 
-not_called : (env : Environment) (d : a.Designator) (es : a.Expressions) → callee env d ≡ None → procedure_call (Do (a.Perform d es) env) ≡ None
+pub not_called : (env : Environment) (d : a.Designator) (es : a.Expressions) → callee env d ≡ None → procedure_call (Do (a.Perform d es) env) ≡ None
 not_called env d es none =
     ap (λ (x : Option Callee). elim x as (λ y. Option UserCall) [
       | None ↦ None
@@ -114,7 +114,7 @@ accepts : (context : Context) (config : Configuration) (env : Environment) (k : 
     own_step (record (with_writes config ws k) { consumed = next_place context.input config.consumed })))
 accepts context config env k x e h g = where_false _ _ _ h ∙ where_true _ _ _ g
 
-delays : (context : Context) (config : Configuration) (env : Environment) (k : List Task) (x : Name) (e : a.Expression)
+pub delays : (context : Context) (config : Configuration) (env : Environment) (k : List Task) (x : Name) (e : a.Expression)
     → bytes_eq x (codes "display") ≡ false → bytes_eq x (codes "accept") ≡ false → bytes_eq x (codes "delay") ≡ true
     → standard_procedure context config env k x e
     ≡ and_then (designation context config env (designator_of e)) (λ at. delay context.process config k at.at (marked_monitors k))
@@ -141,14 +141,14 @@ nothing_continues config q (EndProcess ∷ k) h = nothing_continues config q k h
 
 module _ (G : Ground) (s : State) (w : Outside) (before : List ℕ) (o : PrivateState) (x : Name) (env : Environment) (k : List Task) where
   -- No call is left in the one argument.
-  argument_none : (here : Environment) (e : a.Expression) → in_context (a.Perform (a.Plain x)) (or_else (in_context (λ y. a.MoreExpressions y a.NoExpression) (first_call here (a.Literal 0) e)) None) ≡ None
+  pub argument_none : (here : Environment) (e : a.Expression) → in_context (a.Perform (a.Plain x)) (or_else (in_context (λ y. a.MoreExpressions y a.NoExpression) (first_call here (a.Literal 0) e)) None) ≡ None
       → first_call here (a.Literal 0) e ≡ None
   argument_none here e h =
       in_context_none (λ y. a.MoreExpressions y a.NoExpression) (first_call here (a.Literal 0) e)
       (or_else_none (in_context (λ y. a.MoreExpressions y a.NoExpression) (first_call here (a.Literal 0) e)) None
       (in_context_none (a.Perform (a.Plain x)) (or_else (in_context (λ y. a.MoreExpressions y a.NoExpression) (first_call here (a.Literal 0) e)) None) h)).0
 
-  used_none : (here : Environment) (d : a.Designator) → first_call here (a.Literal 0) (a.Use d) ≡ None → call_in_designator here (a.Literal 0) d ≡ None
+  pub used_none : (here : Environment) (d : a.Designator) → first_call here (a.Literal 0) (a.Use d) ≡ None → call_in_designator here (a.Literal 0) d ≡ None
   used_none here d h =
       in_context_none a.Use (call_in_designator here (a.Literal 0) d)
       (or_else_none (in_context a.Use (call_in_designator here (a.Literal 0) d)) (user_call here d a.NoExpression (a.Literal 0)) h).0
