@@ -21,10 +21,10 @@ use Rattle.cp_steps.specs.Steps as steps
 use Rattle.cp_steps.specs.Steps.{act_on, alone}
 use Rattle.cp_steps.specs.Addresses.{Ground, OwnWords, sees, words_seen}
 use Rattle.cp_steps.specs.Laws.{PrivateStepIsStep, ground_of}
-use Rattle.cp_steps.specs.Left.{Left, Running, innermost_gate, kept_below}
+use Rattle.cp_steps.specs.Left.{IsGate, Left, Running, innermost_gate, kept_below}
 use Rattle.cp_steps.specs.PartOf.{GoesOn, PartOf, RunsOn, status_of}
 use Rattle.cp_steps.proofs.Deciding.{AtGates, Reaches, ready_steps}
-use Rattle.cp_steps.proofs.Finding.{cons_is_not_nil}
+use Rattle.cp_steps.proofs.Finding.{cons_is_not_nil, some_is_not_none}
 use Rattle.cp_steps.proofs.Alone.{StepsAlone, steps_alone}
 use Rattle.cp_steps.proofs.Stepping.{IsFree, clock_of}
 use Rattle.cp_model.specs.Locations.{OfActivation, OfMonitor, OfProcess, Owner}
@@ -33,6 +33,11 @@ use Rattle.cp_code.specs.StandsFor.{StandsFor}
 use Rattle.cp_steps.proofs.Standards.{continue_steps, delay_steps}
 
 -- ---- gates that are held
+
+-- There is no monitor 0.
+monitor_numbered : (G : Ground) (m : ℕ) → IsGate G (Some m) → 1 ≤ m
+monitor_numbered G zero h = absurd (some_is_not_none h.0 (sym h.1))
+monitor_numbered G (suc m) h = omega arith
 
 -- What is left names no monitor 0.
 gates_numbered : (G : Ground) (temps : List ℤ) (limit : ℕ) (K : Knowns) (R : Running) (fs : List machine.Frame) (place low : ℕ) (k : List Task) (m : ℕ) (ms : List ℕ)
@@ -44,10 +49,10 @@ gates_numbered G temps limit K R fs place low (RepeatTest now s x env ∷ k) m m
 gates_numbered G temps limit K R fs place low (ForNext x down n last s env ∷ k) m ms h e = gates_numbered G temps limit nothing_known R fs h.1.0 h.1.1 k m ms h.1.4 e
 gates_numbered G temps limit K R (f ∷ fs) place low (EndCall env None ∷ k) m ms h e =
     let c = h.3 in gates_numbered G temps limit (kept_below c.2 c.3 temps c.0.temp) c.0 fs c.1 c.2 k m ms c.7 e
-gates_numbered G temps limit K R (f ∷ fs) place low (EndCall env (Some n) ∷ k) m ms h e = subst (λ z. 1 ≤ z) (ap innermost_gate e) h.2.2
+gates_numbered G temps limit K R (f ∷ fs) place low (EndCall env (Some n) ∷ k) m ms h e = subst (λ z. 1 ≤ z) (ap innermost_gate e) (monitor_numbered G n h.2.2)
 gates_numbered G temps limit K R (f ∷ fs) place low (EndBody None ∷ k) m ms h e =
     let c = h.3 in gates_numbered G temps limit nothing_known c.0 fs f.place c.1 k m ms c.4 e
-gates_numbered G temps limit K R (f ∷ fs) place low (EndBody (Some n) ∷ k) m ms h e = subst (λ z. 1 ≤ z) (ap innermost_gate e) h.2.2
+gates_numbered G temps limit K R (f ∷ fs) place low (EndBody (Some n) ∷ k) m ms h e = subst (λ z. 1 ≤ z) (ap innermost_gate e) (monitor_numbered G n h.2.2)
 gates_numbered G temps limit K R fs place low (EndProcess ∷ k) m ms h e = absurd (cons_is_not_nil m ms (sym e ∙ ap marked_monitors h.1))
 gates_numbered G temps limit K R [] place low (EndCall env gate ∷ k) m ms h e = absurd h
 gates_numbered G temps limit K R [] place low (EndBody gate ∷ k) m ms h e = absurd h
