@@ -1,5 +1,5 @@
 -- A private state with the words of all monitors behind its own: what runs on does so with them in reach.
-use Rattle.std.proofs.Common.{◌≡◌, ◌⊎◌, inl, inr, ℕ, zero, suc, ◌+◌, ◌≤◌, ◌<◌, ℤ, pos, Bool, true, false, List, [], ◌∷◌, ◌++◌, length, Option, Some, None, refl, ap, sym, subst, ◌∙◌, arith}
+use Rattle.std.proofs.Common.{◌≡◌, ◌⊎◌, inl, inr, ℕ, ◌+◌, ◌≤◌, ◌<◌, ℤ, pos, Bool, true, false, List, [], ◌∷◌, ◌++◌, length, Option, Some, None, refl, ap, sym, subst, ◌∙◌, arith}
 use Rattle.std.specs.Prelude.{if◌then◌else◌, nat_eq, ◌+ℤ◌}
 use Rattle.std.proofs.lemmas.Bool.{true≢false}
 use Rattle.std.proofs.lemmas.Int.{ints}
@@ -30,27 +30,7 @@ use Rattle.cp_steps.proofs.Stacks.{Stacked, found_inside}
 use Rattle.cp_steps.proofs.Writing.{is_cell}
 use Rattle.cp_code.specs.StandsFor.{system_of_process}
 use Rattle.cp_model.specs.CallSteps.{is_initialised}
-
--- ---- words behind others
-
-pub word_before : (ws us : List ℤ) (i : ℕ) → i < length ws → word (ws ++ us) i ≡ word ws i
-word_before [] us i h = absurd (omega (arith, h))
-word_before (n ∷ ws) us zero h = refl
-word_before (n ∷ ws) us (suc i) h = word_before ws us i (omega (arith, h))
-
-pub word_behind : (ws us : List ℤ) (i : ℕ) → word (ws ++ us) (length ws + i) ≡ word us i
-word_behind [] us i = ap (word us) (same i)
-  where
-    same : (i : ℕ) → 0 + i ≡ i
-    same i = omega arith
-word_behind (n ∷ ws) us i = ap (word (n ∷ (ws ++ us))) (same (length ws) i) ∙ word_behind ws us i
-  where
-    same : (k i : ℕ) → suc k + i ≡ suc (k + i)
-    same k i = omega arith
-
-pub both_lengths : (ws us : List ℤ) → length (ws ++ us) ≡ length ws + length us
-both_lengths [] us = omega arith
-both_lengths (n ∷ ws) us = let e = both_lengths ws us in omega (arith, e)
+use Rattle.std.proofs.lemmas.List.{get_or_append_left, get_or-append-add, length-append}
 
 -- ---- where what lies in a monitor lies behind the own words
 
@@ -144,10 +124,10 @@ module _ (G : Ground) (sight : G.sight ≡ OwnWords) (lie : MonitorsLie G.progra
   own_count = R.count ∙ ap (λ v. words_seen v G.program G.own) sight
 
   before : (i : ℕ) → i < G.own → word (o.words ++ us) i ≡ word o.words i
-  before i h = word_before o.words us i (omega (arith, h, own_count))
+  before i h = get_or_append_left o.words us (pos 0) i (omega (arith, h, own_count))
 
   behind : (i : ℕ) → word (o.words ++ us) (G.own + i) ≡ word us i
-  behind i = ap (λ z. word (o.words ++ us) (z + i)) (sym own_count) ∙ word_behind o.words us i
+  behind i = ap (λ z. word (o.words ++ us) (z + i)) (sym own_count) ∙ get_or-append-add o.words us i (pos 0)
 
   seen_own : (q : Owner) → is_shared q ≡ false → in_sight H q ≡ true → in_sight G q ≡ true
   seen_own (OfProcess r) own h = subst (λ v. sees v G.p (OfProcess r) ≡ true) (sym sight) h
@@ -220,7 +200,7 @@ module _ (G : Ground) (sight : G.sight ≡ OwnWords) (lie : MonitorsLie G.progra
     live = R.live;
     left = left_there G AllWords lie o.temps o.limit (held_below R.live o.temps R.running.temp) R.running o.frames o.place R.running.unit.temps k R.left;
     next_value = R.next_value;
-    count = omega (arith, both_lengths o.words us, own_count, room);
+    count = omega (arith, length-append o.words us, own_count, room);
     activations_mean = mean_there G AllWords lie store (o.words ++ us) o.base o.frames k
         (activations_kept G store store o.words (o.words ++ us) o.temps o.limit o.base (held_below R.live o.temps R.running.temp) R.running o.frames o.place R.running.unit.temps k R.left
         (λ rest f c owner there. activation_kept G store store o.words (o.words ++ us) rest c (length rest) f owner (kept (length rest) (record { base = c; routine = f.routine }) there)) R.activations_mean);

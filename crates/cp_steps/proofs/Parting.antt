@@ -1,5 +1,5 @@
 -- The words of a process and of the monitors, parted again.
-use Rattle.std.proofs.Common.{◌≡◌, inl, inr, ℕ, zero, suc, ◌+◌, ◌≤◌, ◌<◌, ℤ, pos, true, false, List, [], ◌∷◌, ◌++◌, length, Some, refl, ap, sym, subst, ◌∙◌, arith}
+use Rattle.std.proofs.Common.{◌≡◌, inl, inr, ℕ, ◌+◌, ◌≤◌, ◌<◌, ℤ, pos, true, false, List, [], ◌∷◌, ◌++◌, length, Some, refl, ap, sym, subst, ◌∙◌, arith}
 use Rattle.std.specs.Prelude.{drop, take, ◌+ℤ◌}
 use Rattle.std.proofs.lemmas.Bool.{true≢false}
 use Rattle.std.proofs.lemmas.Int.{ints}
@@ -20,7 +20,7 @@ use Rattle.cp_steps.specs.Left.{held_below, site}
 use Rattle.cp_steps.specs.Means.{CellMeans}
 use Rattle.cp_steps.specs.PartOf.{DataMeans, RunsOn, components}
 use Rattle.cp_steps.proofs.Apart.{IsCell, IsClass, cell_head}
-use Rattle.cp_steps.proofs.Joining.{not_first, shifted, unshifted, word_before, word_behind}
+use Rattle.cp_steps.proofs.Joining.{not_first, shifted, unshifted}
 use Rattle.cp_steps.proofs.Keeping.{KeepsActivation, activation_kept, activations_kept, right_within}
 use Rattle.cp_steps.proofs.Owned.{reference_inside, result_inside}
 use Rattle.cp_steps.proofs.RunningOn.{runs_stacked}
@@ -29,23 +29,7 @@ use Rattle.cp_steps.proofs.Sights.{component_there, left_there, mean_there, righ
 use Rattle.cp_steps.proofs.Stacks.{Stacked, found_inside}
 use Rattle.cp_steps.proofs.Writing.{is_cell}
 use Rattle.cp_steps.proofs.Heres.{lies_any}
-
--- ---- the first words and the others
-
-pub taken_and_left : (n : ℕ) (ws : List ℤ) → take n ws ++ drop n ws ≡ ws
-taken_and_left zero ws = refl
-taken_and_left (suc n) [] = refl
-taken_and_left (suc n) (w ∷ ws) = ap (λ z. w ∷ z) (taken_and_left n ws)
-
-pub taken_count : (n : ℕ) (ws : List ℤ) → n ≤ length ws → length (take n ws) ≡ n
-taken_count zero ws h = refl
-taken_count (suc n) [] h = absurd (omega (arith, h))
-taken_count (suc n) (w ∷ ws) h = ap suc (taken_count n ws (omega (arith, h)))
-
-pub left_count : (n : ℕ) (ws : List ℤ) → n ≤ length ws → n + length (drop n ws) ≡ length ws
-left_count zero ws h = omega arith
-left_count (suc n) [] h = absurd (omega (arith, h))
-left_count (suc n) (w ∷ ws) h = let e = left_count n ws (omega (arith, h)) in omega (arith, e)
+use Rattle.std.proofs.lemmas.List.{get_or_append_left, get_or-append-add, length-take-le, take-append-drop, length-drop}
 
 -- ---- what ran on with all words in reach
 
@@ -76,10 +60,10 @@ module _ (G : Ground) (sight : G.sight ≡ OwnWords) (lie : MonitorsLie G.progra
   whole_is = ap (λ v. words_seen v G.program G.own) sight
 
   before : (i : ℕ) → i < G.own → word ws i ≡ word o.words i
-  before i h = sym (word_before ws us i (omega (arith, h, taken_count G.own o.words enough))) ∙ ap (λ z. word z i) (taken_and_left G.own o.words)
+  before i h = sym (get_or_append_left ws us (pos 0) i (omega (arith, h, length-take-le G.own o.words enough))) ∙ ap (λ z. word z i) (take-append-drop G.own o.words)
 
   behind : (i : ℕ) → word us i ≡ word o.words (G.own + i)
-  behind i = sym (word_behind ws us i) ∙ (ap (λ z. word (ws ++ us) (z + i)) (taken_count G.own o.words enough) ∙ ap (λ z. word z (G.own + i)) (taken_and_left G.own o.words))
+  behind i = sym (get_or-append-add ws us i (pos 0)) ∙ (ap (λ z. word (ws ++ us) (z + i)) (length-take-le G.own o.words enough) ∙ ap (λ z. word z (G.own + i)) (take-append-drop G.own o.words))
 
   seen_all : (q : Owner) → in_sight G q ≡ true → in_sight H q ≡ true
   seen_all (OfProcess r) h = subst (λ v. sees v G.p (OfProcess r) ≡ true) sight h
@@ -138,7 +122,7 @@ module _ (G : Ground) (sight : G.sight ≡ OwnWords) (lie : MonitorsLie G.progra
     live = R.live;
     left = left_there H G.sight G.monitors_lie o.temps o.limit (held_below R.live o.temps R.running.temp) R.running o.frames o.place R.running.unit.temps k R.left;
     next_value = R.next_value;
-    count = taken_count G.own o.words enough ∙ sym whole_is;
+    count = length-take-le G.own o.words enough ∙ sym whole_is;
     activations_mean = mean_there H G.sight G.monitors_lie store ws o.base o.frames k
         (activations_kept H store store o.words ws o.temps o.limit o.base (held_below R.live o.temps R.running.temp) R.running o.frames o.place R.running.unit.temps k R.left
         (λ rest f c owner there. activation_kept H store store o.words ws rest c (length rest) f owner (kept (length rest) (record { base = c; routine = f.routine }) there)) R.activations_mean);
@@ -195,4 +179,4 @@ module _ (G : Ground) (sight : G.sight ≡ OwnWords) (lie : MonitorsLie G.progra
       farther_there at s n mine (ClassLies sort is) = ClassLies sort (shifted G lie [] at n (component_type G s) mine is)
 
   pub shared_count : length (drop G.own o.words) ≡ G.program.shared
-  shared_count = omega (arith, left_count G.own o.words enough, R.count)
+  shared_count = omega (arith, length-drop G.own o.words, R.count)

@@ -43,17 +43,7 @@ use Rattle.cp_steps.proofs.RunningOn.{left_afresh}
 use Rattle.cp_steps.proofs.Owned.{OwnRight, component_part, found_monitor}
 use Rattle.cp_steps.proofs.StartStores.{Owns, initial_owns, process_owns}
 use Rattle.cp_steps.proofs.Writing.{is_cell}
-
--- ---- words that are 0
-
-length_replicate : (n : ℕ) (z : ℤ) → length (replicate n z) ≡ n
-length_replicate zero z = refl
-length_replicate (suc n) z = ap suc (length_replicate n z)
-
-zero_words : (n i : ℕ) → word (replicate n (pos 0)) i ≡ pos 0
-zero_words zero i = refl
-zero_words (suc n) zero = refl
-zero_words (suc n) (suc i) = zero_words n i
+use Rattle.std.proofs.lemmas.List.{length-replicate, get_or-replicate}
 
 -- A right that was never set.
 absent_right : (G : Ground) (t : ResolvedType) (n : ℕ) → RightMeans G t Absent n (pos 0)
@@ -93,13 +83,13 @@ module _ (program : Program) (setup : Setup) (F : StandsFor program setup) (p : 
   O = owns setup F.typed p P.system P.is_system
 
   count : length own.words ≡ P.row.words + P.unit.words
-  count = P.starts.length_is 0 before ∙ length_replicate (P.row.words + P.unit.words) (pos 0)
+  count = P.starts.length_is 0 before ∙ length-replicate (P.row.words + P.unit.words) (pos 0)
 
   room : 0 + component_words g P.system ≤ length before
-  room = omega (arith, P.words, length_replicate (P.row.words + P.unit.words) (pos 0))
+  room = omega (arith, P.words, length-replicate (P.row.words + P.unit.words) (pos 0))
 
   zeros : AreZero g P.system 0 before
-  zeros i h = zero_words (P.row.words + P.unit.words) (0 + i)
+  zeros i h = get_or-replicate (P.row.words + P.unit.words) (0 + i) (pos 0) (pos 0) (omega (arith, h, P.words))
 
   here : (n : ℕ) → word own.words (0 + n) ≡ word own.words n
   here n = ap (word own.words) (same n)
@@ -246,7 +236,7 @@ module _ (program : Program) (setup : Setup) (F : StandsFor program setup) (p : 
       frame = tt;
       component = ProcessLies refl P.is_system refl;
       words_fit = omega (arith, count);
-      temps_fit = omega (arith, length_replicate P.unit.temps (pos 0));
+      temps_fit = omega (arith, length-replicate P.unit.temps (pos 0));
       frames_fit = omega arith;
       activation_fits = omega arith;
     };
