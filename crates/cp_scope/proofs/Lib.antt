@@ -15,3 +15,4 @@ pub mod RoutinesNumbered
 pub mod Called
 pub mod Meanings
 pub mod Parts
+pub mod TypeNames

@@ -26,6 +26,7 @@
 
 mod components;
 mod error;
+mod expressions;
 mod layout;
 mod locals;
 mod names;
@@ -37,7 +38,9 @@ mod routines;
 mod scope;
 mod systems;
 mod tables;
+mod type_names;
 mod types;
+mod units;
 mod variables;
 
 pub use components::Right;
