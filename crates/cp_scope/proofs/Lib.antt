@@ -16,3 +16,4 @@ pub mod Called
 pub mod Meanings
 pub mod Parts
 pub mod TypeNames
+pub mod ValueTypes

@@ -7,7 +7,6 @@ use Rattle.cp_model.specs.Erase as erase
 use Rattle.cp_model.specs.Names.{lookup}
 use Rattle.cp_model.specs.View as view
 use Rattle.cp_model.specs.declared.tree.Fields.{Fields}
-use Rattle.cp_model.specs.declared.tree.Identifier.{Identifier}
 use Rattle.cp_model.specs.declared.tree.TypeExpression.{TypeExpression}
 use Rattle.cp_model.specs.declared.tree.TypeExpression.TheVariants as tree
 use Rattle.cp_code.specs.Scopes.{declared_type, is_among, type_name}

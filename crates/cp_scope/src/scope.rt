@@ -60,8 +60,8 @@ fn type_of(found: Option<Numbered>) -> Option<usize>
     Some(found?.of)
 }
 
-// Every index list of a text has an index.
-fn refuse_no_index(selector: &Selector) -> Result<(), TableError>
+/// Every index list of a text has an index: one without is refused.
+pub fn refuse_no_index(selector: &Selector) -> Result<(), TableError>
     ensures { OnOk result (Selects (view.selector selector.now)) }
 {
     match selector {
@@ -82,8 +82,13 @@ impl<'s, 't> Scope<'s, 't> {
         firsts: &'s NameTable<'t, u32>,
         first: u32,
     ) -> Scope<'s, 't>
-        ensures { result ≡ record { tables = tables.entry; system = system.entry;
-            routine = routine.entry; firsts = firsts.entry; first = first } }
+        ensures { result ≡ record {
+          tables = tables.entry;
+          system = system.entry;
+          routine = routine.entry;
+          firsts = firsts.entry;
+          first = first;
+        } }
     {
         Scope {
             tables,

@@ -50,7 +50,11 @@ impl<'s, 't> Scope<'s, 't> {
         ensures { IfOk result (λ unit. (s : code.Scope) (n : components.Component)
             → IsScope self.now s → Names self.now s c.now n → unit ≡ code.body_of s n) }
     {
-        let of = self.tables.types.system(c.system).ok_or(TableError::Unaccepted)?;
+        let of = self
+            .tables
+            .types
+            .system(c.system)
+            .ok_or(TableError::Unaccepted)?;
         unit_after(self.first_of(c), of.routines.len())
     }
 

@@ -1,4 +1,4 @@
-use Rattle.std.proofs.Common.{◌∙◌, ◌≤◌, ap, length, subst, sym}
+use Rattle.std.proofs.Common.{◌∙◌, ap, sym}
 use Rattle.cp_model.specs.Erase as erase
 use Rattle.cp_model.specs.View as view
 use Rattle.cp_code.specs.Scopes.{type_name}
