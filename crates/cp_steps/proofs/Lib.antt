@@ -40,6 +40,7 @@ pub mod Assigning
 pub mod Counting
 pub mod Standards
 pub mod Delaying
+pub mod Continuing
 pub mod Ending
 pub mod Returning
 pub mod Resulting

@@ -6,8 +6,8 @@ use Rattle.cp_model.specs.Abstract as a
 use Rattle.cp_model.specs.Abstract.{Name, System}
 use Rattle.cp_model.specs.Actions.{Acts}
 use Rattle.cp_model.specs.Calls.{Found, call_in_statement, first_call, in_context}
-use Rattle.cp_model.specs.CallSteps.{leaving, result_location, return_value, with_answer}
-use Rattle.cp_model.specs.Configurations.{Configuration}
+use Rattle.cp_model.specs.CallSteps.{result_location, return_value, returns, with_answer}
+use Rattle.cp_model.specs.Configurations.{Configuration, own_step}
 use Rattle.cp_model.specs.Continuations.{Do, EndBody, EndCall, EndProcess, ForNext, RepeatTest, Task, WhileTest, marked_monitors}
 use Rattle.cp_model.specs.Environments.{Environment, Frame}
 use Rattle.cp_model.specs.Integers.{same_integer}
@@ -38,7 +38,7 @@ use Rattle.cp_steps.proofs.Keeping.{activation_kept, activations_kept, data_kept
 use Rattle.cp_steps.proofs.Layouts.{same_some}
 use Rattle.cp_steps.proofs.LeftKept.{left_kept, left_raised}
 use Rattle.cp_steps.proofs.Stacks.{Stack, Stacked, stacked}
-use Rattle.cp_steps.proofs.Stepping.{Now, Stepped, both_step, faulted, gate_left, went}
+use Rattle.cp_steps.proofs.Stepping.{Now, Stepped, both_step, faulted, gates_left, went}
 use Rattle.cp_steps.proofs.Writing.{integer_is, owner_is}
 use Rattle.cp_steps.proofs.Given.{all_kept}
 
@@ -92,13 +92,13 @@ with_answer_same f v (EndProcess ∷ k) a1 a2 a3 = refl
 
 -- ---- the meaning's return
 
-abbrev result_returns : Configuration → Environment → List Task → Frame → Option Name → Outcome Configuration
+abbrev pub result_returns : Configuration → Environment → List Task → Frame → Option Name → Outcome Configuration
 result_returns config env k f x = elim x [
   | None ↦ Gives (record config { store = forget f.owner config.store; continuation = k })
   | Some t ↦ return_value config env f.owner k t (config.store (result_location f))
 ]
 
-abbrev frame_returns : Configuration → Environment → List Task → Option Frame → Outcome Configuration
+abbrev pub frame_returns : Configuration → Environment → List Task → Option Frame → Outcome Configuration
 frame_returns config env k x = elim x [ None ↦ Gives config | Some f ↦ result_returns config env k f f.routine.result ]
 
 pub text_is : (t : UnitText) (x : Option Frame) (f : Frame) → x ≡ Some f → FrameFor t x → (s : System) × (t ≡ RoutineOf s f.routine)
@@ -111,7 +111,7 @@ module _ (G : Ground) (s : State) (w : Outside) (before : List ℕ) (o : Private
   abbrev returning : PrivateState
   returning = record o { frames = f ∷ fs }
 
-  here : env.frame ≡ Some N.on.left.1.frame
+  pub here : env.frame ≡ Some N.on.left.1.frame
   here = ap (λ (y : Environment). y.frame) N.on.left.0 ∙ N.on.left.1.runs
 
   -- The caller, at a place and with something left to do that has the same end marks.
@@ -154,8 +154,8 @@ module _ (G : Ground) (s : State) (w : Outside) (before : List ℕ) (o : Private
         given = all_kept G s.store after (keeps_given G s.store after o.words o.words xs (data_below G xs top stack s.store after o.words o.words live_same (λ i q. refl))) (f.component ∷ map (λ g. g.component) fs) N.on.given.1;
       }
 
-  abbrev gone : Outcome Configuration → State
-  gone O = after_step s G.p (and_then O (λ after. Gives (after, leaving gate)))
+  abbrev pub gone : Outcome Configuration → State
+  gone O = after_step s G.p (and_then O own_step)
 
   abbrev caller_is : (x : Option Name) → Type 0
   caller_is x = CallerAt G N.on.running.number N.on.left.3.2 N.on.left.3.3 x f N.on.left.3.1
@@ -164,22 +164,21 @@ module _ (G : Ground) (s : State) (w : Outside) (before : List ℕ) (o : Private
   caller_there x e = subst caller_is (ap result_of N.on.left.1.runs ∙ e) N.on.left.3.6
 
   -- A procedure's caller goes on after the call.
-  procedure_returns : N.on.left.1.frame.routine.result ≡ None → PartOf G (gone (result_returns (configuration s G.p) env k N.on.left.1.frame None)) before (leave o f fs)
+  pub procedure_returns : N.on.left.1.frame.routine.result ≡ None → PartOf G (gone (result_returns (configuration s G.p) env k N.on.left.1.frame None)) before (leave o f fs)
   procedure_returns none =
       let c = N.on.left.3 in
       let there = caller_there None none in
-      gate_left G s before gate _ _
-      (went G s before (record o { frames = f ∷ fs }) N.part (forget N.on.left.1.frame.owner s.store) (leave o f fs) k
+      went G s before (record o { frames = f ∷ fs }) N.part (forget N.on.left.1.frame.owner s.store) (leave o f fs) k
       (caller_on o.temps f.place 0 k refl
       (subst (λ z. Left G o.temps o.limit (held_below 0 o.temps c.0.temp) c.0 fs z c.0.unit.temps k) there.0
       (left_raised G o.temps o.limit (held_below 0 o.temps c.0.temp) c.0 fs c.1 c.2 c.0.unit.temps k c.5.kept_fit
       (left_kept G o.temps o.temps o.limit refl (kept_below c.2 c.3 o.temps c.0.temp) (held_below 0 o.temps c.0.temp) c.0 fs c.1 c.2 k
       (λ n m h. absurd (omega (arith, h.0, there.1))) (λ i q. refl) c.7)))
       (λ d n m e. omega arith) (λ F x. x) (λ store ws x. x))
-      record { number = refl; input = refl; consumed = refl; output = refl; activity = refl })
+      record { number = refl; input = refl; consumed = refl; output = refl; activity = refl }
 
   -- A function's value takes the place of the call; one that has set none is a fault.
-  function_returns : (t : Name) → N.on.left.1.frame.routine.result ≡ Some t → local (scope G) N.on.left.1.frame.routine N.on.left.1.frame.routine.name ≡ None
+  pub function_returns : (t : Name) → N.on.left.1.frame.routine.result ≡ Some t → local (scope G) N.on.left.1.frame.routine N.on.left.1.frame.routine.name ≡ None
       → (effect : machine.Effect) → PartOf G (gone (result_returns (configuration s G.p) env k N.on.left.1.frame (Some t))) before (return_with returning returning f fs true effect).0
   function_returns t is none effect = by (s.store (result_location N.on.left.1.frame)) (word o.words o.base) refl means
     where
@@ -233,10 +232,9 @@ module _ (G : Ground) (s : State) (w : Outside) (before : List ℕ) (o : Private
       value_returns n true e d = absurd (d (integer_is n unset e))
       value_returns n false e d =
           let v = a.Known (base_of_type (named_type env.globals t)) n in
-          gate_left G s before gate _ _
-          (went G s before (record o { frames = f ∷ fs }) N.part (forget N.on.left.1.frame.owner s.store) (leave (set_temp (record o { frames = f ∷ fs }) (f.temp + f.into) n) f fs) (with_answer v k)
+          went G s before (record o { frames = f ∷ fs }) N.part (forget N.on.left.1.frame.owner s.store) (leave (set_temp (record o { frames = f ∷ fs }) (f.temp + f.into) n) f fs) (with_answer v k)
           (caller_on (slice_set o.temps (f.temp + f.into) n) f.place (caller.1 + 1) (with_answer v k) (length-set o.temps (f.temp + f.into) n) (answer n) A.2 (marks v) (others v))
-          record { number = refl; input = refl; consumed = refl; output = refl; activity = refl })
+          record { number = refl; input = refl; consumed = refl; output = refl; activity = refl }
 
       by : (v : Value) (n : ℤ) → s.store (result_location N.on.left.1.frame) ≡ v → ResultMeans v n
           → PartOf G (gone (return_value (configuration s G.p) env N.on.left.1.frame.owner k t v)) before (computed (same_integer n unset) n)
@@ -260,8 +258,9 @@ return_steps G s w before o env gate k N names = by o.frames N
         let P = record o { frames = f ∷ fs } in
         let r = N.on.left.1 in
         both_step G s w before P (EndCall env gate) k N (Acts (EndCall env gate) k) (op.Return (is_function r.frame.routine.result)) (acts_itself (EndCall env gate) k refl refl) refl r.return refl
+        (gates_left G s before gate (returns (configuration s G.p) env k) _
         (subst (λ x. PartOf G (gone G s w before o f fs env gate k N (frame_returns (configuration s G.p) env k x)) before (return_with P P f fs (is_function r.frame.routine.result) (gate_effect f.gate machine.Leaves)).0) (sym (here G s w before o f fs env gate k N))
-        (returned r.frame.routine.result refl))
+        (returned r.frame.routine.result refl)))
       where
         returned : (x : Option Name) → N.on.left.1.frame.routine.result ≡ x
             → PartOf G (gone G s w before o f fs env gate k N (result_returns (configuration s G.p) env k N.on.left.1.frame x)) before

@@ -4,7 +4,7 @@ use Rattle.cp_model.specs.Actions.{Action, action, is_kernel_action}
 use Rattle.cp_model.specs.Configurations.{Asking, Configuration, Delayed, Ended, Faulted, Fresh, Ready, Status, Unstarted, Waiting, own_step}
 use Rattle.cp_model.specs.Continuations.{EndBody, EndProcess, Task, marked_monitors}
 use Rattle.cp_model.specs.Operators.{Clock, realtime}
-use Rattle.cp_model.specs.Outcomes.{Fault, Gives}
+use Rattle.cp_model.specs.Outcomes.{Fault, Gives, Outcome, and_then}
 use Rattle.cp_model.specs.Parts.{HasBegun, private_status}
 use Rattle.cp_model.specs.States.{State, configuration, context, running_clock, with_at, with_configuration}
 use Rattle.cp_model.specs.StateViews.{fault_number}
@@ -155,6 +155,11 @@ pub gate_left : (G : Ground) (s : State) (before : List ℕ) (gate : Option ℕ)
     → PartOf G (after_step s G.p (own_step config)) before after → PartOf G (after_step s G.p (Gives (config, leaving gate))) before after
 gate_left G s before None after config P = P
 gate_left G s before (Some m) after config P = gate_passed G before after m (s.gates m).askers (with_configuration s G.p config) P
+
+pub gates_left : (G : Ground) (s : State) (before : List ℕ) (gate : Option ℕ) (O : Outcome Configuration) (after : PrivateState)
+    → PartOf G (after_step s G.p (and_then O own_step)) before after → PartOf G (after_step s G.p (and_then O (λ config. Gives (config, leaving gate)))) before after
+gates_left G s before gate (Gives config) after P = gate_left G s before gate after config P
+gates_left G s before gate (Fault n) after P = P
 
 module _ (G : Ground) (s : State) (w : Outside) (before : List ℕ) (o : PrivateState) (i : Task) (k : List Task) (N : Now G s w before o i k) where
   -- A fault of an expression.
