@@ -41,6 +41,8 @@ pub mod Counting
 pub mod Standards
 pub mod Delaying
 pub mod Continuing
+pub mod GatesKept
+pub mod StagesKept
 pub mod Ending
 pub mod Returning
 pub mod Resulting
