@@ -36,6 +36,7 @@ use Rattle.cp_steps.proofs.ContinueSteps.{continue_steps}
 use Rattle.cp_steps.proofs.CopySteps.{copy_steps}
 use Rattle.cp_steps.proofs.Counting.{for_next_steps, for_steps}
 use Rattle.cp_steps.proofs.Declared.{no_local_result}
+use Rattle.cp_steps.proofs.Declares.{runs_declares}
 use Rattle.cp_steps.proofs.Delaying.{delay_in_monitor}
 use Rattle.cp_steps.proofs.Doing.{Ready, acts_itself, known}
 use Rattle.cp_steps.proofs.Ending.{body_ends, process_ends}
@@ -141,7 +142,7 @@ module _ (G : Ground) (s : State) (w : Outside) (before : List ℕ) (o : Private
   inits : (x : Name) (es : a.Expressions) (env : Environment) (k : List Task) (Y : Ready G s w before o (a.Init x es) env k) (y : Operation) → operation_at G.program o.place ≡ Some y
       → InitsBy (site G Y.now.on.running) (known G s w before o (Do (a.Init x es) env) k Y.now) Y.now.on.left.2.3.2 es y o.place Y.now.on.left.2.3.0 Y.now.on.left.2.0 Y.now.on.left.2.1
       → Stepped G s w before o
-  inits x es env k Y (op.InitClass call m) there h = init_steps G s w before o x es env k I.store units Y call m there h (no_class_rights G F.typed)
+  inits x es env k Y (op.InitClass call m) there h = init_steps G s w before o x es env k I.store units Y call m there h (no_class_rights G F.typed) (runs_declares G F texts (length o.temps) o.limit Y.now.on.running o.frames Y.now.on.runs)
   inits x es env k Y (op.InitMonitor call m) there h = inits_by_kernel x es env k Y (op.InitMonitor call m) there refl (λ e. other_sort a.Class a.Monitor (sym e ∙ h.0) tt)
   inits x es env k Y (op.InitProcess r xs count m) there h = inits_by_kernel x es env k Y (op.InitProcess r xs count m) there refl (λ e. other_sort a.Class a.Process (sym e ∙ h.0) tt)
   inits x es env k Y _ there h = absurd h
