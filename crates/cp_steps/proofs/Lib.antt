@@ -45,6 +45,7 @@ pub mod Continuing
 pub mod ContinueSteps
 pub mod GatesKept
 pub mod StagesKept
+pub mod KernelKept
 pub mod Ending
 pub mod Returning
 pub mod Resulting
