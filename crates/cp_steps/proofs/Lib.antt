@@ -61,6 +61,7 @@ pub mod LeafWords
 pub mod Copying
 pub mod CopySteps
 pub mod InitOffsets
+pub mod Placing
 pub mod Settling
 pub mod InitPassing
 pub mod ProcessRights
