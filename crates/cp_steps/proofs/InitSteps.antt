@@ -275,7 +275,7 @@ init_steps G s w before o x es env k I units Y call next there h none declares =
         (passes_init G n.system (name_location here n) c top names one (site G Y.now.on.running) (clock_of G s) s.store w known_here lying' o
         (λ ws len same. runs_here G s.store w (record o { words = ws }) (first ∷ k) (clock_of G s) Y.now.around.clock (runs_over G s.store s.store o ws (first ∷ k) Y.now.on (λ at q. refl) (λ j q. same j (beyond G s w Y.now.around top j q)) len) Y.now.sees)
         Y.now.on.runs.globals
-        (λ m t f y named ws same len j inner l room. given G s w before o first k Y.now Y.now.sees I none declares n.system c h.0 m t f y named ws (λ z q. same z (beyond G s w Y.now.around top z q)) len j inner l room)
+        (λ m t f y named ws same len j inner l room z u right type. given G s w before o first k Y.now Y.now.sees I none declares n.system c m (λ e. h.0) t f y named ws (λ z q. same z (beyond G s w Y.now.around top z q)) len j inner l room)
         there
         passed es call.arguments o.place Y.now.on.left.2.3.0 Y.now.on.left.2.1 Y.now.on.running.unit.temps o.words arguments
         (in_context_none (a.Init x) (call_in_arguments here (a.Literal 0) es) Y.none) names (λ p i. i)
