@@ -71,13 +71,13 @@ module _ (G : Ground) (s : State) (w : Outside) (before : List ℕ) (o : Private
       by a.Class false sort own (t.Class off) h =
           let there = class_lies G s w before o i l N sees I n off h in
           subst (λ q. (v : Value) × (right_writes here s.store q at a.Class n ≡ (at, v) ∷ []) × RightOf G n.system a.Class v (c + k) (right_word (record o { words = ws }) (c + k) (t.Class off)) × IsGivenTo a.Class v) (sym (may sort)) (
-        ClassRight (name_location here n),
-        (λ j. (at, ClassRight (if own j then class_or_here (name_location here n) (s.store (name_location here n)) else name_location here n)) ∷ []),
-        subst (λ z. lies G [] (name_location here n) ≡ Some (natural (pos (c + k) +ℤ z), component_type G n.system))
-            (sym (far (record o { words = ws }) (o.component + off) (c + k) (omega (arith, len, N.on.count, lies_below G s w before o i l N sees I (name_location here n) (o.component + off) _ sees.component there)) (omega (arith, len, room))))
-            (there ∙ ap (λ z. Some (z, component_type G n.system)) (sym (back_again (c + k) (o.component + off)))),
-        tt,
-      )
+            ClassRight (name_location here n),
+            (λ j. (at, ClassRight (if own j then class_or_here (name_location here n) (s.store (name_location here n)) else name_location here n)) ∷ []),
+            subst (λ z. lies G [] (name_location here n) ≡ Some (natural (pos (c + k) +ℤ z), component_type G n.system))
+                (sym (far (record o { words = ws }) (o.component + off) (c + k) (omega (arith, len, N.on.count, lies_below G s w before o i l N sees I (name_location here n) (o.component + off) _ sees.component there)) (omega (arith, len, room))))
+                (there ∙ ap (λ z. Some (z, component_type G n.system)) (sym (back_again (c + k) (o.component + off)))),
+            tt,
+          )
       by a.Class true sort own (t.ClassRight off) h =
           subst (λ q. (v : Value) × (right_writes here s.store q at a.Class n ≡ (at, v) ∷ []) × RightOf G n.system a.Class v (c + k) (right_word (record o { words = ws }) (c + k) (t.ClassRight off)) × IsGivenTo a.Class v) (sym (may sort))
           (handed (s.store (name_location here n)) (class_set none n off sort h)

@@ -76,5 +76,6 @@ pub mod Opening
 pub mod Targets
 pub mod CallSteps
 pub mod InitSteps
+pub mod InitMonitors
 pub mod Puts
 pub mod Passing
