@@ -46,6 +46,7 @@ pub mod ContinueSteps
 pub mod GatesKept
 pub mod StagesKept
 pub mod KernelKept
+pub mod KernelAround
 pub mod Ending
 pub mod Returning
 pub mod Resulting

@@ -16,12 +16,12 @@ use Rattle.cp_steps.proofs.Finding.{some_is_not_none}
 
 -- ---- the blocks of monitors
 
-there_below : (vs : List (Name × Variable)) (k : ℕ) (s : System) → component_at vs k ≡ Some s → k < length vs
+pub there_below : (vs : List (Name × Variable)) (k : ℕ) (s : System) → component_at vs k ≡ Some s → k < length vs
 there_below [] k s h = absurd (some_is_not_none s (sym h))
 there_below (v ∷ vs) zero s h = omega arith
 there_below (v ∷ vs) (suc k) s h = omega (arith, there_below vs k s h)
 
-counted : (z : Sort) (vs : List (Name × Variable)) → length (filter (λ v. is_component_of z v.1.type) vs) ≡ count_components z vs
+pub counted : (z : Sort) (vs : List (Name × Variable)) → length (filter (λ v. is_component_of z v.1.type) vs) ≡ count_components z vs
 counted z [] = refl
 counted z (v ∷ vs) = by (is_component_of z v.1.type) (counted z vs)
   where
