@@ -1,10 +1,11 @@
 //! What is known of a routine: its parameters, where its variables lie, and the type of its result.
 
-ghost use Rattle.std.specs.Prelude.{◌≡◌, IfOk};
+ghost use Rattle.std.specs.Prelude.{◌≡◌, ◌++◌, IfOk, map};
 ghost use Rattle.cp_typing.specs.Needs.{result_words};
 ghost use Rattle.cp_model.specs.Erase as erase;
 ghost use Rattle.cp_scope.specs.Layouts.{Counts};
 ghost use Rattle.cp_scope.specs.Routines.{MakesResult, MakesRoutine};
+ghost use Rattle.cp_scope.specs.Variables.{declared_entry};
 
 use crate::error::TableError;
 use crate::layout::Layouts;
@@ -13,14 +14,15 @@ use crate::names::Names;
 use crate::types::Types;
 use crate::variables::Declared;
 use cp_model::tree::{Identifier, Routine};
+use std::alloc::Global;
 
-/// A routine: its name and its parameters, where they and its variables lie in an activation, whose words are
-/// those of `locals`, and the number of
-/// the type of its result, where it is a function.
+/// A routine: its name, its parameters and variables in text order, where they lie in an activation, whose words are those of
+/// `locals`, and the number of the type of its result, where it is a function.
 #[derive(Drop)]
 pub struct RoutineTable<'t> {
     pub name: &'t [u8],
     pub parameters: Vec<Declared<'t>>,
+    pub variables: Vec<Declared<'t>>,
     pub locals: Locals<'t>,
     pub result: Option<usize>,
 }
@@ -33,6 +35,20 @@ fn words_of_result(of: &Option<Identifier>) -> u32
         None => 0,
         Some(_) => 1,
     }
+}
+
+// Parameters, and variables behind them.
+fn both<'t>(
+    alloc: Global,
+    parameters: &[Declared<'t>],
+    variables: &[Declared<'t>],
+) -> Result<Vec<Declared<'t>>, TableError>
+    ensures { IfOk result (λ all. map declared_entry all.items ≡
+        map declared_entry parameters.now ++ map declared_entry variables.now) }
+{
+    let mut all = Vec::from_slice(alloc, parameters)?;
+    all.extend_from_slice(variables)?;
+    Ok(all)
 }
 
 impl<'t> Types<'t> {
@@ -64,14 +80,16 @@ impl<'t> Layouts<'t> {
     {
         let mut parameters = Vec::new(self.alloc);
         types.declare_parameters(names, &text.parameters, &mut parameters)?;
-        let mut all = Vec::from_slice(self.alloc, parameters.as_slice())?;
-        types.declare_variables(names, &text.variables, &mut all)?;
+        let mut variables = Vec::new(self.alloc);
+        types.declare_variables(names, &text.variables, &mut variables)?;
         let result = types.result(names, &text.result_type)?;
         self.extend(names, types)?;
+        let all = both(self.alloc, &parameters, &variables)?;
         let locals = self.locals(&all, Some(words_of_result(&text.result_type)))?;
         Ok(RoutineTable {
             name: text.name.name.as_bytes(),
             parameters,
+            variables,
             locals,
             result,
         })
