@@ -71,7 +71,7 @@ module _ (G : Ground) (xs : List Activation) (top : ℕ) (stack : Stacked G top 
     (is : lies G [] at ≡ Some (c, component_type G s)) (distinct : Distinct (declarations (scope G) s.parameters))
     (one : (p : Name × Variable) → IsIn p (declarations (scope G) s.parameters) → is_component p.1.type ≡ false → (words (scope G) p.1.type ≡ 1) × IsCell p.1.type) where
   -- The words of its parameters lie below the top.
-  class_below : c + length (declarations (scope G) s.parameters) < top
+  pub class_below : c + length (declarations (scope G) s.parameters) < top
   class_below = by (length (declarations (scope G) s.parameters)) refl
     where
       inner : (k : ℕ) (p : Name × Variable) → Offset (scope G) s p k → c + k < top
@@ -96,6 +96,7 @@ module _ (G : Ground) (xs : List Activation) (top : ℕ) (stack : Stacked G top 
     rights = λ p k i component lying.
         subst (RightMeans G p.1.type (put_all ws store (stored_at at p.0)) (c + k)) (sym (moved k (offset_within (scope G) s distinct one p k i (inl (component, lying)))))
         (B.rights p k store i component lying);
+    given = λ p k i component lying. B.given p k store i component lying;
     outside = λ i below apart.
         copied_outside us us (c + 1) (from + 1) (length (declarations (scope G) s.parameters)) i apart ∙ B.outside i (λ p k j o e. omega (arith, below, e, start));
     unwritten = λ l none. B.unwritten l store none;

@@ -1,6 +1,6 @@
 -- A call, from what opens the new activation: the meaning's and the machine's.
-use Rattle.std.proofs.Common.{◌≡◌, inl, ℕ, ◌+◌, ◌≤◌, ◌<◌, ℤ, List, [], ◌∷◌, ◌++◌, length, Bool, true, false, Some, None, refl, ap, sym, subst, ◌∙◌, arith}
-use Rattle.std.specs.Prelude.{if◌then◌else◌, nat_lt}
+use Rattle.std.proofs.Common.{◌≡◌, inl, ℕ, ◌+◌, ◌≤◌, ℤ, List, [], ◌∷◌, ◌++◌, length, Bool, true, false, Some, None, refl, ap, sym, subst, ◌∙◌, arith}
+use Rattle.std.specs.Prelude.{if◌then◌else◌}
 use Rattle.std.proofs.lemmas.Bool.{true≢false}
 use Rattle.cp_model.specs.Abstract as a
 use Rattle.cp_model.specs.Abstract.{Name, System}
@@ -22,7 +22,7 @@ use Rattle.cp_model.specs.Places.{Place, TypedValue}
 use Rattle.cp_model.specs.States.{State, configuration, context}
 use Rattle.cp_model.specs.Stores.{Store, Writes, forget, put, put_all}
 use Rattle.cp_model.specs.Turns.{after_step}
-use Rattle.cp_model.specs.Types.{GlobalScope}
+use Rattle.cp_model.specs.Types.{GlobalScope, ResolvedType}
 use Rattle.cp_model.specs.declared.state.Fault.TheVariants as fault
 use Rattle.cp_model.proofs.ExpressionReach.{IfGives}
 use Rattle.cp_model.proofs.WriteReach.{WritesIn, bind_in, starting_writes_in, writes_in}
@@ -38,7 +38,7 @@ use Rattle.cp_steps.specs.PrivateStates.{Acting, Enters, Outside, PrivateState, 
 use Rattle.cp_steps.specs.Passing.{Called, Passing, component_called, pass_all, when_passed}
 use Rattle.cp_steps.specs.Calling.{Back, call_step, enter, frame_of, gate_effect, has_room, start_words}
 use Rattle.cp_steps.specs.Steps.{alone}
-use Rattle.cp_steps.specs.Addresses.{ComponentLies, Ground, activations, scope, seen}
+use Rattle.cp_steps.specs.Addresses.{ClassHasRights, ComponentLies, Ground, activations, scope, seen}
 use Rattle.cp_steps.specs.Left.{CallerAt, held_below, kept_below, site}
 use Rattle.cp_steps.specs.PartOf.{DataMeans, PartOf, RunsOn}
 use Rattle.cp_steps.proofs.Entering.{Opened, Waits, entered_on, environment_of_call, owner_of_call}
@@ -47,7 +47,9 @@ use Rattle.cp_steps.proofs.Layouts.{PartsLie, lies_under}
 use Rattle.cp_steps.proofs.Holding.{SameBelow, SameLive}
 use Rattle.cp_steps.proofs.Passing.{Bound, KeptOutside, PassingAgrees, Stays, passes}
 use Rattle.cp_steps.proofs.Returning.{forgotten}
-use Rattle.cp_steps.proofs.RunningOn.{runs_here, runs_over}
+use Rattle.cp_steps.proofs.Rooms.{room_for}
+use Rattle.cp_steps.proofs.RunningOn.{runs_here, runs_over, runs_room, runs_stacked}
+use Rattle.cp_steps.proofs.Separate.{part_below}
 use Rattle.cp_steps.proofs.Stepping.{Now, clock_of, faulted, stopped, went}
 use Rattle.cp_steps.proofs.Writing.{location_is, owner_is, same_owner_itself}
 
@@ -78,10 +80,12 @@ locals_two g (x ∷ xs) ys = let e = locals_two g xs ys in omega (arith, e)
 -- ---- targets
 
 -- The machine calls where the meaning does, and no gate is entered.
-pub record TargetIs (G : Ground) (t : calls.Target) (c : Called) (s : System) : Type 0 where
+pub record TargetIs (G : Ground) (store : Store) (t : calls.Target) (c : Called) (s : System) : Type 0 where
   pub set_is : c.is_set ≡ t.is_callable
+  pub there : c.component ≤ G.own
   pub system : t.system ≡ s
   pub lies_there : t.is_callable ≡ true → ComponentLies G t.component s c.component
+  pub given : t.is_callable ≡ true → ClassHasRights G (is_own G.p) store c.component
   pub gate : c.gate ≡ 0
   pub no_gate : t.gate ≡ None
 
@@ -116,7 +120,7 @@ module _ (G : Ground) (s : State) (before : List ℕ) (o : PrivateState) (i : Ta
     pub made : call_in_arguments N.on.running.env (a.Literal 0) v.arguments ≡ None
     pub where_is : v.environment ≡ N.on.running.env
     pub distinct : Distinct (parameters (site G N.on.running) v.callee)
-    pub target_is : TargetIs G (target (context G.setup s G.p) s.store N.on.running.env v.callee.of) (component_called G.program (alone (realtime (clock_of G s)) o) o call.target) callee_system
+    pub target_is : TargetIs G s.store (target (context G.setup s G.p) s.store N.on.running.env v.callee.of) (component_called G.program (alone (realtime (clock_of G s)) o) o call.target) callee_system
     pub caller : CallerAt G call.routine kept live v.callee.routine.result (frame_of o (component_called G.program (alone (realtime (clock_of G s)) o) o call.target) back) place
     pub opens : Opens runs.unit
 
@@ -151,21 +155,17 @@ module _ (G : Ground) (s : State) (before : List ℕ) (o : PrivateState) (i : Ta
       passing : Acting
       passing = when_passed (pass_all w (o.base + call.words) (o.base + call.words) call.arguments o) (entering_by I.runs.unit)
 
-      room : nat_lt (length o.frames) o.limit ≡ true
-      room = inner (nat_lt (length o.frames) o.limit) refl
-        where
-          less : length o.frames < o.limit
-          less = omega (arith, N.on.runs.frames_fit, I.runs.fits.frames)
-
-          inner : (b : Bool) → nat_lt (length o.frames) o.limit ≡ b → b ≡ true
-          inner true e = refl
-          inner false e = absurd (Prim.grind (arith, e, less))
+      room : has_room w o call I.runs.unit c.component ≡ true
+      room =
+          room_for w o call I.runs.unit c.component (omega (arith, N.on.runs.frames_fit, I.runs.fits.frames))
+          (omega (arith, N.on.base, N.on.count, N.on.runs.words_fit, I.runs.fits.words, I.runs.words)) (omega (arith, N.on.temp, N.on.runs.temps_fit, I.runs.fits.temps, I.runs.temps))
+          (omega (arith, I.target_is.there, N.on.count))
 
       computed : (call_step G.program w o call back).0 ≡ (provided c.is_set o fault.NotInitialised passing).0
       computed =
           (λ z. (elim (I.runs.there z) as (λ x. Acting) [
             | None ↦ private_outcome o
-            | Some u ↦ if has_room o then provided c.is_set o fault.NotInitialised (when_passed (pass_all w (o.base + call.words) (o.base + call.words) call.arguments o) (entering_by u)) else private_outcome o
+            | Some u ↦ if has_room w o call u c.component then provided c.is_set o fault.NotInitialised (when_passed (pass_all w (o.base + call.words) (o.base + call.words) call.arguments o) (entering_by u)) else private_outcome o
           ]).0)
           ∙ ap (λ b. (if b then provided c.is_set o fault.NotInitialised passing else private_outcome o).0) room
 
@@ -203,11 +203,16 @@ module _ (G : Ground) (s : State) (before : List ℕ) (o : PrivateState) (i : Ta
           seen_is (is_own G.p) G (activations o.base o.frames (i ∷ l)) (under at path) (n + m, u) z.0
           (lies_under G (activations o.base o.frames (i ∷ l)) at path n m t u z.1 (ap (λ g. part g t path) (sym N.on.runs.globals) ∙ there))
 
+      lying_there : (j : Location) (m : ℕ) (u : ResolvedType) → seen (is_own G.p) G (activations o.base o.frames (i ∷ l)) j ≡ Some (m, u) → m ≤ length o.words
+      lying_there j m u is =
+          let z = seen_mine (is_own G.p) G (activations o.base o.frames (i ∷ l)) j (m, u) is in
+          omega (arith, part_below G (activations o.base o.frames (i ∷ l)) top (runs_stacked G s.store o (i ∷ l) N.on) j m u z.0 z.1, runs_room G s.store o (i ∷ l) N.on)
+
       passed_ok : PassingAgrees Bounds (KeptOutside top (length o.words) o.words) o
           (bind (argument_writes (clock_of G s) N.on.running.env s.store) (root owner) (parameters (site G N.on.running) v.callee) v.arguments)
           (pass_all w top top call.arguments o)
       passed_ok =
-          passes (site G N.on.running) (clock_of G s) s.store w (held_below N.on.live o.temps N.on.running.temp) (seen (is_own G.p) G (activations o.base o.frames (i ∷ l))) owner top o stays parts_lie
+          passes (site G N.on.running) (clock_of G s) s.store w (held_below N.on.live o.temps N.on.running.temp) (seen (is_own G.p) G (activations o.base o.frames (i ∷ l))) owner top o stays parts_lie lying_there
           (parameters (site G N.on.running) v.callee) v.arguments call.arguments (first_parameter v.callee) from last low high o.words I.arguments I.made I.distinct sized (omega arith) refl (λ z q. refl)
 
       env : Environment
@@ -225,7 +230,7 @@ module _ (G : Ground) (s : State) (before : List ℕ) (o : PrivateState) (i : Ta
           (went G s before o N.part (opened_store ws) after (push v.callee.routine.body env (EndCall env None ∷ k))
           (entered_on G s.store (opened_store ws) o new_words (i ∷ l) k N.on call back callee_system v.callee.routine t.component c place kept live I.waits
           (record { runs = I.runs; stands = I.stands; lies_there = I.target_is.lies_there callable; gate = I.target_is.gate })
-          I.caller (live_same ws inside) below (I.stands.0.length_is (o.base + call.words) new ∙ B.length_is) (I.opens ws new B.length_is B))
+          I.caller (I.target_is.given callable) (live_same ws inside) below (I.stands.0.length_is (o.base + call.words) new ∙ B.length_is) (I.opens ws new B.length_is B))
           record { number = refl; input = refl; consumed = refl; output = refl; activity = refl }))
         where
           here : Environment

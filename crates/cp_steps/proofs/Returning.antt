@@ -1,6 +1,6 @@
 -- Whole private steps at the end of a routine: the caller goes on, with a function's value in the place of the call.
 use Rattle.std.proofs.Common.{◌≡◌, ℕ, ◌+◌, ◌≤◌, ℤ, List, [], ◌∷◌, length, Bool, true, false, Option, Some, None, refl, ap, sym, subst, ◌∙◌, arith}
-use Rattle.std.specs.Prelude.{if◌then◌else◌, slice_get, slice_set}
+use Rattle.std.specs.Prelude.{if◌then◌else◌, map, slice_get, slice_set}
 use Rattle.std.proofs.lemmas.List.{length-set}
 use Rattle.cp_model.specs.Abstract as a
 use Rattle.cp_model.specs.Abstract.{Name, System}
@@ -35,12 +35,13 @@ use Rattle.cp_steps.proofs.Doing.{acts_itself}
 use Rattle.cp_steps.proofs.Finding.{cons_is_not_nil, some_is_not_none}
 use Rattle.cp_steps.proofs.Heres.{depth_is, lies_behind}
 use Rattle.cp_steps.proofs.Holding.{SameLive, activation_below, data_below}
-use Rattle.cp_steps.proofs.Keeping.{activation_kept, activations_kept, data_kept}
+use Rattle.cp_steps.proofs.Keeping.{activation_kept, activations_kept, data_kept, keeps_given}
 use Rattle.cp_steps.proofs.Layouts.{same_some}
 use Rattle.cp_steps.proofs.LeftKept.{left_kept, left_raised}
 use Rattle.cp_steps.proofs.Stacks.{Stacked, stacked}
 use Rattle.cp_steps.proofs.Stepping.{Now, Stepped, both_step, faulted, went}
 use Rattle.cp_steps.proofs.Writing.{integer_is, owner_is}
+use Rattle.cp_steps.proofs.Given.{all_kept}
 
 -- ---- an activation less
 
@@ -48,6 +49,7 @@ pub data_behind : (G : Ground) (z : Activation) (xs : List Activation) (store : 
 data_behind G z xs store words D = record {
   cells = λ l n t mine h. D.cells l n t mine (lies_behind G z xs l (n, t) h);
   rights = D.rights;
+  given = D.given;
 }
 
 -- The store without an activation that isn't live.
@@ -147,6 +149,7 @@ module _ (G : Ground) (s : State) (before : List ℕ) (o : PrivateState) (f : ma
         data_means = marks (λ ys gs. DataMeans G ys (is_own G.p) after o.words)
             (data_kept G s.store after o.words o.words xs (data_below G xs top stack s.store after o.words o.words live_same (λ i q. refl))
             (data_behind G (record { base = o.base; routine = N.on.left.1.frame.routine }) xs s.store o.words (subst (λ e. DataMeans G (activation_of o.base e xs) (is_own G.p) s.store o.words) here N.on.data_means)));
+        given = all_kept G s.store after (keeps_given G s.store after o.words o.words xs (data_below G xs top stack s.store after o.words o.words live_same (λ i q. refl))) (f.component ∷ map (λ g. g.component) fs) N.on.given.1;
       }
 
   abbrev gone : Outcome Configuration → State
@@ -192,7 +195,7 @@ module _ (G : Ground) (s : State) (before : List ℕ) (o : PrivateState) (f : ma
       globals : N.on.left.3.0.env.globals ≡ env.globals
       globals = N.on.left.3.4.globals ∙ (sym N.on.runs.globals ∙ ap (λ (y : Environment). y.globals) (sym N.on.left.0))
 
-      into_is : N.on.left.3.0.temp + caller.1 ≡ f.into
+      into_is : N.on.left.3.0.temp + caller.1 ≡ f.temp + f.into
       into_is = omega (arith, caller.6, N.on.left.3.5.temp)
 
       A : LeftAnswered G o.temps o.limit N.on.left.3.0 fs N.on.left.3.3 N.on.left.3.1 caller.0 caller.1 f.place caller.5 room caller.4 k
@@ -201,11 +204,11 @@ module _ (G : Ground) (s : State) (before : List ℕ) (o : PrivateState) (f : ma
           (left_raised G o.temps o.limit (kept_below caller.0.temps N.on.left.3.3 o.temps N.on.left.3.0.temp) N.on.left.3.0 fs N.on.left.3.1 N.on.left.3.2 N.on.left.3.0.unit.temps k N.on.left.3.5.kept_fit
           (subst (λ z. Left G o.temps o.limit (kept_below z N.on.left.3.3 o.temps N.on.left.3.0.temp) N.on.left.3.0 fs N.on.left.3.1 N.on.left.3.2 k) (sym caller.3) N.on.left.3.7))
 
-      answer : (n : ℤ) → Left G (slice_set o.temps f.into n) o.limit (held_below (caller.1 + 1) (slice_set o.temps f.into n) N.on.left.3.0.temp) N.on.left.3.0 fs f.place N.on.left.3.0.unit.temps
+      answer : (n : ℤ) → Left G (slice_set o.temps (f.temp + f.into) n) o.limit (held_below (caller.1 + 1) (slice_set o.temps (f.temp + f.into) n) N.on.left.3.0.temp) N.on.left.3.0 fs f.place N.on.left.3.0.unit.temps
           (with_answer (a.Known (base_of_type (named_type env.globals t)) n) k)
       answer n =
           let base_is = A.1 _ N.on.left.1.frame.routine t text is ∙ ap (λ g. base_of_type (named_type g t)) globals in
-          subst (λ b. Left G (slice_set o.temps f.into n) o.limit (held_below (caller.1 + 1) (slice_set o.temps f.into n) N.on.left.3.0.temp) N.on.left.3.0 fs f.place N.on.left.3.0.unit.temps (with_answer (a.Known b n) k)) base_is
+          subst (λ b. Left G (slice_set o.temps (f.temp + f.into) n) o.limit (held_below (caller.1 + 1) (slice_set o.temps (f.temp + f.into) n) N.on.left.3.0.temp) N.on.left.3.0 fs f.place N.on.left.3.0.unit.temps (with_answer (a.Known b n) k)) base_is
           (subst (λ i. Left G (slice_set o.temps i n) o.limit (held_below (caller.1 + 1) (slice_set o.temps i n) N.on.left.3.0.temp) N.on.left.3.0 fs f.place N.on.left.3.0.unit.temps (with_answer (a.Known A.0 n) k)) into_is
           (A.3 n))
 
@@ -220,15 +223,15 @@ module _ (G : Ground) (s : State) (before : List ℕ) (o : PrivateState) (f : ma
           (sym (with_answer_same (λ j. ActivationsMean G store ws f.base fs j) v k (λ a1 a2 a3 a4. refl) (λ a1 a2 a3 a4 a5 a6. refl) (λ a1 a2 a3 a4 a5 a6. refl))) x
 
       computed : Bool → ℤ → PrivateState
-      computed b n = (if b then fault_in (record o { frames = f ∷ fs }) fault.NoResult else (leave (set_temp (record o { frames = f ∷ fs }) f.into n) f fs, NoEffect)).0
+      computed b n = (if b then fault_in (record o { frames = f ∷ fs }) fault.NoResult else (leave (set_temp (record o { frames = f ∷ fs }) (f.temp + f.into) n) f fs, NoEffect)).0
 
       value_returns : (n : ℤ) (b : Bool) → same_integer n unset ≡ b → (n ≡ unset → ⊥)
           → PartOf G (gone (return_value (configuration s G.p) env N.on.left.1.frame.owner k t (Ordinal n))) before (computed b n)
       value_returns n true e d = absurd (d (integer_is n unset e))
       value_returns n false e d =
           let v = a.Known (base_of_type (named_type env.globals t)) n in
-          went G s before (record o { frames = f ∷ fs }) N.part (forget N.on.left.1.frame.owner s.store) (leave (set_temp (record o { frames = f ∷ fs }) f.into n) f fs) (with_answer v k)
-          (caller_on (slice_set o.temps f.into n) f.place (caller.1 + 1) (with_answer v k) (length-set o.temps f.into n) (answer n) A.2 (marks v) (others v))
+          went G s before (record o { frames = f ∷ fs }) N.part (forget N.on.left.1.frame.owner s.store) (leave (set_temp (record o { frames = f ∷ fs }) (f.temp + f.into) n) f fs) (with_answer v k)
+          (caller_on (slice_set o.temps (f.temp + f.into) n) f.place (caller.1 + 1) (with_answer v k) (length-set o.temps (f.temp + f.into) n) (answer n) A.2 (marks v) (others v))
           record { number = refl; input = refl; consumed = refl; output = refl; activity = refl }
 
       by : (v : Value) (n : ℤ) → s.store (result_location N.on.left.1.frame) ≡ v → ResultMeans v n
