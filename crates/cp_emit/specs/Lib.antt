@@ -1,3 +1,4 @@
+pub mod Errors
 pub mod PlainNeeds
 pub mod Emission
 pub mod Arms

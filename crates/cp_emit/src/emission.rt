@@ -52,8 +52,8 @@ fn complete_repeat_at(operations: &mut Vec<Operation>, place: u32, body: u32)
 }
 
 impl Emitter {
-    // The place of the next operation, if it is a number of 32 bits.
-    fn place(&self) -> Result<u32, CompileError>
+    /// The place of the next operation, if it is a number of 32 bits.
+    pub fn place(&self) -> Result<u32, CompileError>
         ensures { IfOk result (λ place. place ≡ place_of self.now) }
     {
         let place = self.operations.len();

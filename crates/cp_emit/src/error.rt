@@ -1,8 +1,10 @@
 //! Why a text isn't compiled.
 
 ghost use Rattle.std.specs.Prelude.{◌≡◌};
+ghost use Rattle.cp_emit.specs.Errors.{of_table};
 ghost use Rattle.cp_emit.specs.declared.error.CompileError.TheVariants as error;
 
+use cp_scope::TableError;
 use std::alloc::{AllocError, AllocFailed};
 
 /// Why a text isn't compiled.
@@ -27,5 +29,16 @@ impl<T: Drop> From<AllocFailed<T>> for CompileError {
 
     fn from(_error: AllocFailed<T>) -> CompileError {
         CompileError::Memory
+    }
+}
+
+impl From<TableError> for CompileError {
+    ghost from_gives = { λ t e. e ≡ of_table t };
+
+    fn from(error: TableError) -> CompileError {
+        match error {
+            TableError::Memory => CompileError::Memory,
+            TableError::Unaccepted => CompileError::Unaccepted,
+        }
     }
 }

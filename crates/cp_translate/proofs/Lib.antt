@@ -1,0 +1,4 @@
+pub mod Views
+pub mod Beginning
+pub mod PartsMade
+pub mod TermsMade

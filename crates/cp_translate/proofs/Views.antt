@@ -1,0 +1,41 @@
+-- Expressions, as the definitions see them.
+use Rattle.std.proofs.Common.{◌≡◌, ℕ, map, Box, Vec, Global, sym, ap, ◌∙◌}
+use Rattle.cp_model.specs.Syntax as s
+use Rattle.cp_model.specs.Syntax.{chain_of}
+use Rattle.cp_model.specs.View.{PlacedIndex, expression, designator, operation, index, expressions_of, expression_layer, selector_layer, designator_layer, index_layer, operation_layer}
+use Rattle.cp_model.specs.declared.tree.Expression.{Expression}
+use Rattle.cp_model.specs.declared.tree.Expression.TheVariants as tree
+use Rattle.cp_model.specs.declared.tree.Expression.TheVariants.{rolls-Call, rolls-Chain, rolls-Character, rolls-Not, rolls-Number, rolls-Signed}
+use Rattle.cp_model.specs.declared.tree.Designator.{Designator}
+use Rattle.cp_model.specs.declared.tree.Expression.TheFolds.{fold-roll-Expression, fold_out-Operation, fold_out-Index}
+use Rattle.cp_model.specs.declared.tree.Index.{Index}
+use Rattle.cp_model.specs.declared.tree.Operation.{Operation}
+use Rattle.cp_model.specs.declared.tree.Sign.{Sign}
+
+pub view_call : (d : Designator) (list : Vec Expression Global) → expression (tree.Call d list) ≡ s.Call (designator d) (expressions_of (map expression list.items))
+view_call d list =
+    ap expression (sym (rolls-Call d list))
+    ∙ fold-roll-Expression s.Expression s.Selector s.Designator PlacedIndex s.Operation expression_layer selector_layer designator_layer index_layer operation_layer _
+
+pub view_chain : (first : Box Expression Global) (rest : Vec Operation Global) → expression (tree.Chain first rest) ≡ chain_of (expression first.value) (map operation rest.items)
+view_chain first rest =
+    ap expression (sym (rolls-Chain first rest))
+    ∙ fold-roll-Expression s.Expression s.Selector s.Designator PlacedIndex s.Operation expression_layer selector_layer designator_layer index_layer operation_layer _
+
+pub view_operation : (o : Operation) → operation o ≡ record { operator = o.operator; at = o.at; operand = expression o.operand }
+view_operation = fold_out-Operation s.Expression s.Selector s.Designator PlacedIndex s.Operation expression_layer selector_layer designator_layer index_layer operation_layer
+
+pub view_index : (i : Index) → index i ≡ record { at = i.at; value = expression i.value }
+view_index = fold_out-Index s.Expression s.Selector s.Designator PlacedIndex s.Operation expression_layer selector_layer designator_layer index_layer operation_layer
+
+pub view_number : (at n : ℕ) → expression (tree.Number at n) ≡ s.Number at n
+view_number at n = ap expression (sym (rolls-Number at n)) ∙ fold-roll-Expression s.Expression s.Selector s.Designator PlacedIndex s.Operation expression_layer selector_layer designator_layer index_layer operation_layer _
+
+pub view_character : (at n : ℕ) → expression (tree.Character at n) ≡ s.Character at n
+view_character at n = ap expression (sym (rolls-Character at n)) ∙ fold-roll-Expression s.Expression s.Selector s.Designator PlacedIndex s.Operation expression_layer selector_layer designator_layer index_layer operation_layer _
+
+pub view_not : (at : ℕ) (e : Box Expression Global) → expression (tree.Not at e) ≡ s.Not at (expression e.value)
+view_not at e = ap expression (sym (rolls-Not at e)) ∙ fold-roll-Expression s.Expression s.Selector s.Designator PlacedIndex s.Operation expression_layer selector_layer designator_layer index_layer operation_layer _
+
+pub view_signed : (sign : Sign) (at : ℕ) (e : Box Expression Global) → expression (tree.Signed sign at e) ≡ s.Signed sign at (expression e.value)
+view_signed sign at e = ap expression (sym (rolls-Signed sign at e)) ∙ fold-roll-Expression s.Expression s.Selector s.Designator PlacedIndex s.Operation expression_layer selector_layer designator_layer index_layer operation_layer _

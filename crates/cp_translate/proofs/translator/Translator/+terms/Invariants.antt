@@ -1,0 +1,38 @@
+use Rattle.std.proofs.Common.{◌≡◌, ℕ, List, drop, map}
+use Rattle.cp_model.specs.Abstract as a
+use Rattle.cp_model.specs.Erase as erase
+use Rattle.cp_model.specs.Syntax as syntax
+use Rattle.cp_model.specs.Syntax.{chain_of}
+use Rattle.cp_model.specs.View as tree
+use Rattle.cp_code.specs.CodedTerms as coded
+use Rattle.cp_code.specs.CodedTerms.{coded_term}
+use Rattle.cp_code.specs.Scopes as code
+use Rattle.cp_emit.specs.Emission.{coded_call}
+use Rattle.cp_scope.specs.Scopes.{IsScope}
+use Rattle.cp_translate.specs.Translated.{IsPlace, IsTerm}
+use Rattle.cp_translate.proofs.translator.Translator.+terms.Given as goal
+
+-- What was made so far is made of the operands so far.
+abbrev pub invariant-chain-loop-o : goal.invariant-chain-loop-o
+invariant-chain-loop-o l =
+    (s : code.Scope) (low : ℕ) (before : List coded.CodedCall) (e : syntax.Expression) → IsScope l.self.scope s
+    → IsTerm before l.fn.calls.items l.fn.first (coded_term s (erase.expression e) low)
+    → (f : syntax.Expression) × IsTerm before l.calls.items l.left (coded_term s (erase.expression f) low)
+    × (chain_of f (map tree.operation (drop l.o-index l.rest)) ≡ chain_of e (map tree.operation l.fn.rest))
+
+-- What was made so far is made of the selectors so far.
+abbrev pub invariant-spot-loop-selector : goal.invariant-spot-loop-selector
+invariant-spot-loop-selector l =
+    (s : code.Scope) → IsScope l.self.scope s
+    → (d : a.Designator) × IsPlace l.self.scope s l.fn.low (map coded_call l.fn.calls.items) l.calls.items d l.made
+    × (erase.selected d (tree.selectors_of (map tree.selector (drop l.selector-index l.selector-items)))
+    ≡ erase.designator (tree.designator l.fn.d))
+
+-- What was made so far is made of the indices so far.
+abbrev pub invariant-indexed-loop-i : goal.invariant-indexed-loop-i
+invariant-indexed-loop-i l =
+    (s : code.Scope) (low : ℕ) (before : List coded.CodedCall) (d : a.Designator) → IsScope l.self.scope s
+    → IsPlace l.self.scope s low before l.fn.calls.items d l.fn.of
+    → (p : a.Designator) × IsPlace l.self.scope s low before l.calls.items p l.made
+    × (erase.indexed p (tree.indices_of (map tree.index (drop l.i-index l.indices)))
+    ≡ erase.indexed d (tree.indices_of (map tree.index l.fn.indices)))
