@@ -62,6 +62,13 @@ impl<'a, 't> Planner<'a, 't> {
         })
     }
 
+    /// What it takes memory from.
+    pub fn alloc(&self) -> Global
+        ensures { result ≡ self.now.alloc }
+    {
+        self.alloc
+    }
+
     // How many words a variable of this type takes.
     fn words(&self, of: usize) -> Result<u32, CompileError>
         ensures { IfOk result (λ n. (g : GlobalScope) (t : ResolvedType) → Knows self.now g

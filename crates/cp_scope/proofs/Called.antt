@@ -221,7 +221,7 @@ sought x n (r ∷ rs) = go (bytes_eq x r.name) refl (sought x (suc n) rs)
     }
     go false is h = sought_later x n r rs (routine_number x (suc n) rs) is h
 
-routine_stands : (g : GlobalScope) (types : Types) (ts : List RoutineTable) (rs : List Routine) (k : ℕ) (t : RoutineTable) (r : Routine)
+pub routine_stands : (g : GlobalScope) (types : Types) (ts : List RoutineTable) (rs : List Routine) (k : ℕ) (t : RoutineTable) (r : Routine)
     → AreRoutines g types ts rs → slice_get ts k ≡ Some t → slice_get rs k ≡ Some r → RoutineStands g types t r
 routine_stands g types [] [] k t r all here there = absurd (cc)
 routine_stands g types (u ∷ ts) [] k t r all here there = absurd all

@@ -49,7 +49,7 @@ pub use error::TableError;
 pub use expressions::base_type;
 pub use layout::{Layout, Layouts, Part};
 pub use locals::{Local, Locals};
-pub use names::{Names, Value};
+pub use names::{Names, Value, add_name};
 pub use numbering::Numbered;
 pub use outer::Outer;
 pub use places::Elements;

@@ -1,0 +1,3 @@
+pub mod UnitsCompiled
+pub mod SystemsCompiled
+pub mod TextsCompiled

@@ -1,0 +1,23 @@
+-- When an emitter holds what the definition has compiled.
+use Rattle.std.specs.Prelude.{◌≡◌, ℕ, List, map}
+use Rattle.cp_model.specs.Abstract as a
+use Rattle.cp_model.specs.Erase as erase
+use Rattle.cp_model.specs.View as tree
+use Rattle.cp_model.specs.declared.tree.Statement.{Statement}
+use Rattle.cp_code.specs.CodedStatements.{Emitted}
+use Rattle.cp_code.specs.Compile.{Compiled}
+use Rattle.cp_emit.specs.declared.emitter.Emitter.{Emitter}
+use Rattle.cp_emit.specs.Emission.{Emits, operations_of, units_of}
+
+-- These operations were emitted, which are entered there.
+pub record IsEmitted (old new : Emitter) (entry : ℕ) (e : Emitted) : Type 0 where
+  pub entry_is : entry ≡ e.entry
+  pub emits : Emits old new e.operations
+
+-- Its operations and units are these.
+pub record IsCompiled (emitter : Emitter) (c : Compiled) : Type 0 where
+  pub operations : operations_of emitter ≡ c.operations
+  pub units : units_of emitter ≡ c.units
+
+abbrev pub body_of : List Statement → a.Statement
+body_of list = erase.statements (tree.statements_of (map tree.statement list))

@@ -1,0 +1,3 @@
+pub mod Compiles
+pub mod CompiledSystems
+pub mod CompiledTexts
