@@ -1,3 +1,4 @@
 pub mod UnitsCompiled
 pub mod SystemsCompiled
 pub mod TextsCompiled
+pub mod ComponentsCompiled

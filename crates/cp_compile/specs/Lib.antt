@@ -1,3 +1,4 @@
 pub mod Compiles
 pub mod CompiledSystems
 pub mod CompiledTexts
+pub mod CompiledComponents

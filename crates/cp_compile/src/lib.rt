@@ -10,6 +10,7 @@
 //! (`cp_code::law::accepted_tree_has_program`).
 #![tactic(auto)]
 
+mod components;
 mod definitions;
 mod system;
 mod unit;

@@ -1,9 +1,10 @@
 //! What is known of a system type: its parameters and variables, its routines, and where the
 //! members and rights of its components lie.
 
-ghost use Rattle.std.specs.Prelude.{◌≡◌, IfOk, option_map, slice_get};
+ghost use Rattle.std.specs.Prelude.{◌≡◌, [], IfOk, option_map, slice_get};
 ghost use Rattle.cp_model.specs.Abstract.{Name};
 ghost use Rattle.cp_model.specs.Names.{lookup};
+ghost use Rattle.cp_scope.specs.TypeNames.{name_or};
 ghost use Rattle.cp_scope.specs.Systems.{ComponentFound, MakesRoutines, MakesSystem, RoutineFound, component_of_name, routine_number, routines_of};
 
 use crate::components::Right;
@@ -165,6 +166,13 @@ impl<'t> SystemTable<'t> {
                 Some(table) => Ok(Some(IndexedRoutine { index, table })),
             },
         }
+    }
+
+    /// The name of the type with which a variable is declared, empty where the type isn't a name alone.
+    pub fn variable_type(&self, name: &[u8]) -> &'t [u8]
+        ensures { result.now ≡ name_or (lookup name.now self.now.variable_types) [] }
+    {
+        self.variable_types.find(name).unwrap_or(&[])
     }
 
     /// The component that a name means in a component of this system type.
