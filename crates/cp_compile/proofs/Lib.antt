@@ -2,3 +2,4 @@ pub mod UnitsCompiled
 pub mod SystemsCompiled
 pub mod TextsCompiled
 pub mod ComponentsCompiled
+pub mod LaidOut

@@ -2,3 +2,4 @@ pub mod Compiles
 pub mod CompiledSystems
 pub mod CompiledTexts
 pub mod CompiledComponents
+pub mod LaidComponents

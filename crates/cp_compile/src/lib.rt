@@ -12,6 +12,7 @@
 
 mod components;
 mod definitions;
+mod layout;
 mod system;
 mod unit;
 mod walk;
