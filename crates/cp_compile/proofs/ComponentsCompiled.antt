@@ -1,11 +1,11 @@
 -- Components that are made one after another.
-use Rattle.std.proofs.Common.{◌≡◌, ◌∷◌, ◌++◌, ◌+◌, ◌∙◌, suc, Bool, true, false, ℕ, List, [], Option, None, Some, Bor, ap, append_assoc, arith, drop, filter, if◌then◌else◌, length, map, refl, slice_get, subst, sym}
+use Rattle.std.proofs.Common.{◌≡◌, ◌∷◌, ◌++◌, ◌+◌, ◌∙◌, suc, Bool, true, false, ℕ, List, [], Some, Bor, ap, append_assoc, arith, if◌then◌else◌, length, map, refl, slice_get, subst, sym}
 use Rattle.std.proofs.lemmas.Option.{same_Some}
 use Rattle.std.proofs.lemmas.List.{append-nil}
 use Rattle.cp_model.specs.Abstract as a
 use Rattle.cp_model.specs.Abstract.{Group, Name, Sort}
 use Rattle.cp_model.specs.Components.{is_component_of}
-use Rattle.cp_model.specs.Declarations.{Variable, declarations}
+use Rattle.cp_model.specs.Declarations.{Variable}
 use Rattle.cp_model.specs.Erase as erase
 use Rattle.cp_model.specs.Names.{lookup}
 use Rattle.cp_model.specs.Types.{ArrayOf, ComponentOf, GlobalScope, Members, NoType, Queue, RecordOf, ResolvedType, Simple}
@@ -26,7 +26,7 @@ use Rattle.cp_scope.specs.Numbering.{system_of}
 use Rattle.cp_scope.specs.Standing.{Stands, row_at, system_at}
 use Rattle.cp_scope.specs.declared.variables.Declared.{Declared}
 use Rattle.cp_scope.specs.Components.{own_members}
-use Rattle.cp_scope.specs.Layouts.{Counts, rights_of}
+use Rattle.cp_scope.specs.Layouts.{rights_of}
 use Rattle.cp_scope.specs.Scopes.{IsWritten}
 use Rattle.cp_scope.specs.Variables.{AreDeclared, Entry, declared_entry, parameters_of}
 use Rattle.cp_threaded.specs.declared.program.Plan.{Plan}
@@ -100,7 +100,7 @@ pub component_counted : (g : GlobalScope) (s : a.System) (ps : List Parameters) 
     → suc (rights_of g ps) + words_of_members g (own_members g ps vs) ≡ component_words g s
 component_counted g s ps vs rs is = rw (is.parameters, is.variables) refl
 
-mapped_length : {A B : Type 0} (f : A → B) (xs : List A) → length (map f xs) ≡ length xs
+pub mapped_length : {A B : Type 0} (f : A → B) (xs : List A) → length (map f xs) ≡ length xs
 mapped_length f [] = refl
 mapped_length f (x ∷ xs) = ap suc (mapped_length f xs)
 

@@ -1,5 +1,5 @@
 -- Components that are laid out one after another.
-use Rattle.std.proofs.Common.{◌≡◌, ◌∷◌, ◌++◌, ◌+◌, ◌∙◌, ℕ, List, [], ap, append_assoc, arith, map, refl, subst, sym}
+use Rattle.std.proofs.Common.{◌≡◌, ◌∷◌, ◌++◌, ◌+◌, ◌∙◌, ℕ, List, [], ap, append_assoc, arith, map, subst, sym}
 use Rattle.std.proofs.lemmas.List.{append-nil, map-append}
 use Rattle.cp_model.specs.Abstract.{System}
 use Rattle.cp_model.specs.Types.{GlobalScope}

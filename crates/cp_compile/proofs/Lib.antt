@@ -3,3 +3,4 @@ pub mod SystemsCompiled
 pub mod TextsCompiled
 pub mod ComponentsCompiled
 pub mod LaidOut
+pub mod ProgramsCompiled

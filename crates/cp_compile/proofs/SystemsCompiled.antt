@@ -1,5 +1,5 @@
 -- The scopes with which the units of a system type are compiled, and its routines one after another.
-use Rattle.std.proofs.Common.{◌≡◌, ◌∷◌, ◌∙◌, Bool, ℕ, zero, suc, List, [], Option, None, Some, ap, drop, is_some, map, refl, slice_get, subst, sym}
+use Rattle.std.proofs.Common.{◌≡◌, ◌∷◌, ◌∙◌, ℕ, zero, suc, List, [], Option, None, Some, ap, drop, is_some, refl, slice_get, subst, sym}
 use Rattle.std.specs.Borrow.{Bor}
 use Rattle.cp_model.specs.Abstract.{Name, Routine, Statement, System}
 use Rattle.cp_model.specs.Declarations.{Variable}
@@ -82,7 +82,7 @@ body_compiled of g s firsts starts last body c new none ends body_is is =
 -- The types of a system type are those of its planner.
 pub planner_knows : (of : SystemCompiler) (g : GlobalScope) (s : System) (firsts : List (Name × ℕ)) → IsSystem of g s firsts → (ds : List Entry)
     (vs : List (Name × Variable)) → AreDeclared of.tables.now.types ds vs → AreDeclared (types_of of.planner.now) ds vs
-planner_knows of g s firsts i ds vs h = subst (λ (z : Types). AreDeclared z ds vs) (sym (ap (λ t. t.now.types) i.planned)) h
+planner_knows of g s firsts i ds vs h = subst (λ (z : Types). AreDeclared z ds vs) (sym (ap (λ t. t.types) i.planned)) h
 
 -- ---- Routines one after another
 

@@ -1,5 +1,5 @@
 -- Definitions that are compiled one after another.
-use Rattle.std.proofs.Common.{◌≡◌, ◌∷◌, ◌++◌, ◌∙◌, Bool, true, false, ℕ, List, [], Option, None, Some, Box, Global, Vec, ◌≤◌, ap, arith, if◌then◌else◌, length, map, refl, subst, sym}
+use Rattle.std.proofs.Common.{◌≡◌, ◌∷◌, ◌++◌, ◌∙◌, ℕ, List, [], Option, None, Some, Box, Global, Vec, ◌≤◌, ap, arith, if◌then◌else◌, length, map, refl, subst, sym}
 use Rattle.std.proofs.lemmas.Option.{same_Some}
 use Rattle.std.specs.Borrow.{Bor}
 use Rattle.std.specs.Str.{bytes_eq}
@@ -17,10 +17,9 @@ use Rattle.cp_model.specs.declared.tree.TypeExpression.TheVariants as written
 use Rattle.cp_code.specs.Compile.{CompiledTypes, first_of_type, with_definition, with_definitions, with_system}
 use Rattle.cp_code.specs.Scopes.{or_zero}
 use Rattle.cp_emit.specs.declared.emitter.Emitter.{Emitter}
-use Rattle.cp_scope.specs.declared.types.TypeRow.{TypeRow}
 use Rattle.cp_scope.specs.declared.types.Types.{Types}
 use Rattle.cp_scope.specs.Numbering.{system_of}
-use Rattle.cp_scope.specs.Standing.{Stands, TypeMeans, row_at, system_at}
+use Rattle.cp_scope.specs.Standing.{TypeMeans, row_at, system_at}
 use Rattle.cp_scope.specs.Tables.{InFront}
 use Rattle.cp_scope.proofs.Written.{view_array, view_record}
 use Rattle.cp_compile.specs.Compiles.{IsCompiled}

@@ -1,5 +1,5 @@
 -- A unit that is compiled behind others.
-use Rattle.std.proofs.Common.{◌≡◌, ◌∷◌, ◌++◌, ◌∙◌, ℕ, suc, List, [], ap, append_assoc, drop, length, length-append, arith, refl, subst, sym}
+use Rattle.std.proofs.Common.{◌≡◌, ◌∷◌, ◌++◌, ◌∙◌, ℕ, suc, List, [], ap, append_assoc, drop, length, length-append, arith}
 use Rattle.std.proofs.Math.Seq.{drop-append_seam}
 use Rattle.cp_model.specs.Abstract as a
 use Rattle.cp_code.specs.CodeNeeds.{need_of_all}

@@ -24,6 +24,6 @@ pub record IsSystem (of : SystemCompiler) (g : GlobalScope) (s : System) (firsts
   pub laid : AreLaid g of.tables.now.types of.tables.now.layouts.rows.items
   pub systems : AreSystems g of.tables.now.types of.tables.now.systems.items
   pub system : SystemStands g of.tables.now.types of.system.now parameters variables routines
-  pub planned : of.planner.now.tables ≡ of.tables
+  pub planned : of.planner.now.tables.now ≡ of.tables.now
   pub knows : Knows of.planner.now g
   pub firsts_are : (x : Name) → lookup x of.firsts.now ≡ lookup x firsts

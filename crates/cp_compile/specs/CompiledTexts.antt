@@ -1,5 +1,5 @@
 -- When the definitions of a text are compiled with the right tables, and what was compiled so far.
-use Rattle.std.specs.Prelude.{◌≡◌, ℕ, List, [], ◌∷◌, Option, None, Some, slice_get}
+use Rattle.std.specs.Prelude.{◌≡◌, ℕ, List, [], ◌∷◌, Option, None, Some}
 use Rattle.cp_model.specs.Abstract as a
 use Rattle.cp_model.specs.Abstract.{Definition, Name, System}
 use Rattle.cp_model.specs.Erase as erase
@@ -24,7 +24,7 @@ pub record IsText (of : TextCompiler) (g : GlobalScope) : Type 0 where
   pub names : ScopeStands of.tables.now.names of.tables.now.types g
   pub laid : AreLaid g of.tables.now.types of.tables.now.layouts.rows.items
   pub systems : AreSystems g of.tables.now.types of.tables.now.systems.items
-  pub planned : of.planner.now.tables ≡ of.tables
+  pub planned : of.planner.now.tables.now ≡ of.tables.now
   pub knows : Knows of.planner.now g
 
 -- The emitter and the first units are those of what was compiled so far.

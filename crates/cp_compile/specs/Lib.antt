@@ -3,3 +3,4 @@ pub mod CompiledSystems
 pub mod CompiledTexts
 pub mod CompiledComponents
 pub mod LaidComponents
+pub mod CompiledPrograms

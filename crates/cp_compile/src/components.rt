@@ -33,8 +33,8 @@ pub struct InitialCompiler<'s, 't> {
     pub firsts: &'s NameTable<'t, u32>,
 }
 
-// A number of 32 bits.
-fn small(n: usize) -> Result<u32, CompileError>
+/// A number of 32 bits.
+pub fn small(n: usize) -> Result<u32, CompileError>
     ensures { IfOk result (λ m. m ≡ n) }
 {
     u32::try_from(n).map_err(|_| CompileError::Unaccepted)

@@ -10,9 +10,12 @@
 //! (`cp_code::law::accepted_tree_has_program`).
 #![tactic(auto)]
 
+mod compiler;
 mod components;
 mod definitions;
 mod layout;
 mod system;
 mod unit;
 mod walk;
+
+pub use compiler::compile;

@@ -1,4 +1,4 @@
-use Rattle.std.proofs.Common.{rules, ◌≡◌, ◌+◌, ◌∷◌, ◌++◌, ◌∙◌, List, [], ap, arith, drop, get_or, refl, subst, sym}
+use Rattle.std.proofs.Common.{rules, ◌≡◌, ◌+◌, ◌∷◌, List, arith, drop, get_or, refl, subst, sym}
 use Rattle.std.proofs.lemmas.List.{at_drop_more, drop_all}
 use Rattle.cp_code.specs.Compile.{monitors_at}
 use Rattle.cp_code.specs.Layout.{component_words}

@@ -1,4 +1,4 @@
-use Rattle.std.proofs.Common.{rules, ◌≡◌, ◌+◌, ◌∷◌, ◌++◌, ◌∙◌, List, [], ap, drop, get_or, refl, subst, sym}
+use Rattle.std.proofs.Common.{rules, ◌≡◌, ◌+◌, ◌∷◌, List, drop, get_or, refl, subst, sym}
 use Rattle.std.proofs.lemmas.List.{at_drop_more, drop_all}
 use Rattle.cp_code.specs.Compile.{processes_at, waiting_words}
 use Rattle.cp_threaded.specs.View as view

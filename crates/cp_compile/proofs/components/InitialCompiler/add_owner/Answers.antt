@@ -1,5 +1,4 @@
-use Rattle.std.proofs.Common.{rules, ◌≡◌, ◌∷◌, ◌++◌, ◌∙◌, [], List, Some, ap, false, subst, sym, true}
-use Rattle.std.proofs.lemmas.List.{append-nil}
+use Rattle.std.proofs.Common.{rules, ◌≡◌, ◌∷◌, ◌++◌, ◌∙◌, [], List, Some, false, subst, sym, true}
 use Rattle.cp_model.specs.Components.{is_component_of}
 use Rattle.cp_model.specs.Erase as erase
 use Rattle.cp_code.specs.Compile.{of_sort, owners_of}

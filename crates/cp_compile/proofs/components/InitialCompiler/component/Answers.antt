@@ -1,15 +1,10 @@
-use Rattle.std.proofs.Common.{rules, ◌≡◌, ◌+◌, ◌∙◌, Bor, Option, Some, ap, length, refl, slice_get, subst, sym}
-use Rattle.std.proofs.lemmas.Option.{same_Some}
-use Rattle.cp_model.specs.Abstract as a
-use Rattle.cp_model.specs.Erase as erase
+use Rattle.std.proofs.Common.{rules, ◌≡◌, ◌+◌, ◌∙◌, Some, ap, length, slice_get, subst}
 use Rattle.cp_model.specs.Names.{lookup}
-use Rattle.cp_model.specs.View as tree
-use Rattle.cp_model.specs.declared.tree.System.{System}
 use Rattle.cp_code.specs.Scopes.{declared_type, or_zero}
 use Rattle.cp_scope.specs.Standing.{system_at}
 use Rattle.cp_scope.proofs.Unrefused.{if_ok}
 use Rattle.cp_compile.specs.CompiledComponents.{IsOwner}
-use Rattle.cp_compile.proofs.ComponentsCompiled.{component_put, component_there}
+use Rattle.cp_compile.proofs.ComponentsCompiled.{component_put}
 use Rattle.cp_compile.proofs.components.InitialCompiler.component.Goals as goal
 
 pub returns : goal.returns

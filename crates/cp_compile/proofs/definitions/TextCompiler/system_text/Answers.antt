@@ -1,8 +1,7 @@
-use Rattle.std.proofs.Common.{rules, ◌≡◌, ◌∙◌, Bor, Some, ap, slice_get, subst, sym}
+use Rattle.std.proofs.Common.{rules, ◌≡◌, ◌∙◌, Bor, Some, slice_get, subst, sym}
 use Rattle.std.proofs.lemmas.Option.{same_Some}
 use Rattle.cp_model.specs.Erase as erase
 use Rattle.cp_model.specs.Names.{lookup}
-use Rattle.cp_model.specs.Types.{ComponentOf}
 use Rattle.cp_model.specs.View as tree
 use Rattle.cp_model.specs.declared.tree.System.{System}
 use Rattle.cp_scope.specs.Standing.{system_at}

@@ -1,4 +1,4 @@
-use Rattle.std.proofs.Common.{◌∙◌, None, ap, map, subst, sym}
+use Rattle.std.proofs.Common.{◌∙◌, None, ap, map, sym}
 use Rattle.cp_code.specs.StandsFor.{end_of}
 use Rattle.cp_scope.proofs.Unrefused.{on_ok}
 use Rattle.cp_threaded.specs.View as view
