@@ -5,3 +5,7 @@ pub mod PartsMade
 pub mod TermsMade
 pub mod ArgumentsMade
 pub mod CallsMade
+pub mod Emitting
+pub mod Storing
+pub mod Labelling
+pub mod Performing

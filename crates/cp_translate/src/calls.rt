@@ -101,8 +101,8 @@ impl<'s, 't> Translator<'s, 't> {
         }
     }
 
-    // A call of a routine with these arguments.
-    fn call(
+    /// A call of a routine with these arguments.
+    pub fn call(
         &self,
         callee: &Callee,
         arguments: Vec<Argument>,

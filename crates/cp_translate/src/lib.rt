@@ -2,12 +2,15 @@
 #![tactic(auto)]
 
 mod arguments;
+mod assignments;
 mod calls;
 mod expressions;
 mod made;
 mod names;
+mod operations;
 mod operators;
 mod parts;
+mod procedures;
 mod standard;
 mod translator;
 mod types;

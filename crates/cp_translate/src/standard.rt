@@ -75,8 +75,8 @@ fn shift(by: i32, base: Base) -> Result<Function, CompileError>
 }
 
 impl<'s, 't> Translator<'s, 't> {
-    // The base type of the value of an expression.
-    fn base(&self, e: &Expression) -> Result<Base<'t>, CompileError>
+    /// The base type of the value of an expression.
+    pub fn base(&self, e: &Expression) -> Result<Base<'t>, CompileError>
         ensures { IfOk result (λ b. (s : code.Scope) → IsScope self.now.scope s → base_of b
             ≡ base_of_type (expression_type (environment s)
             (erase.expression (tree.expression e.now)))) }
