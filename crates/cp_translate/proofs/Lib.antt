@@ -1,4 +1,5 @@
 pub mod Views
+pub mod StatementViews
 pub mod Answered
 pub mod Beginning
 pub mod PartsMade
@@ -9,3 +10,6 @@ pub mod Emitting
 pub mod Storing
 pub mod Labelling
 pub mod Performing
+pub mod Sequencing
+pub mod Counting
+pub mod Cases

@@ -5,6 +5,7 @@ mod arguments;
 mod assignments;
 mod calls;
 mod expressions;
+mod initialisation;
 mod made;
 mod names;
 mod operations;
@@ -12,6 +13,7 @@ mod operators;
 mod parts;
 mod procedures;
 mod standard;
+mod statements;
 mod translator;
 mod types;
 
