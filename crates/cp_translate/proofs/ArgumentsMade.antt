@@ -72,6 +72,7 @@ got xs i r x h is = let there = rw is at h in slice_get-get_or xs i x.now there.
 pub record DeclaredAt (types : Types) (d : Declared) (vs : List (Name × Variable)) (k : ℕ) : Type 0 where
   pub declared : Name × Variable
   pub split : drop k vs ≡ declared ∷ drop (suc k) vs
+  pub name : d.name.now ≡ declared.0
   pub reference : d.by_reference ≡ declared.1.by_reference
   pub type : Stands types d.of declared.1.type
 
@@ -83,12 +84,13 @@ declared_at types (e ∷ ds) (v ∷ vs) zero d are there =
     let same : e ≡ d = same_Some e d there in record {
       declared = v;
       split = refl;
+      name = ap (λ (f : Declared). f.name.now) (sym same) ∙ are.0;
       reference = ap (λ (f : Declared). f.by_reference) (sym same) ∙ are.1;
       type = subst (λ (f : Declared). Stands types f.of v.1.type) same are.2;
     }
 declared_at types (e ∷ ds) (v ∷ vs) (suc k) d are there =
     let more = declared_at types ds vs k d are.3 there in
-    record { declared = more.declared; split = more.split; reference = more.reference; type = more.type }
+    record { declared = more.declared; split = more.split; name = more.name; reference = more.reference; type = more.type }
 
 -- A call of which the value goes to the next temp.
 pub call_made : (before : List coded.CodedCall) (middle after : List CodedCall) (xs : MadeArguments) (ys : coded.CodedArguments) (made : MadeTerm)

@@ -13,3 +13,4 @@ pub mod Performing
 pub mod Sequencing
 pub mod Counting
 pub mod Cases
+pub mod Initialising

@@ -27,8 +27,8 @@ use cp_model::tree::Sort;
 use cp_scope::{Callee, Component, RoutineTable};
 use cp_threaded::operation::{Argument, Call, Target};
 
-// A number of 32 bits.
-fn counted(n: usize) -> Result<u32, CompileError>
+/// A number of 32 bits.
+pub fn counted(n: usize) -> Result<u32, CompileError>
     ensures { IfOk result (λ m. m ≡ n) }
 {
     if n <= 0xffff_ffff {

@@ -4,6 +4,7 @@
 mod arguments;
 mod assignments;
 mod calls;
+mod components;
 mod expressions;
 mod initialisation;
 mod made;
