@@ -2,23 +2,36 @@
 //!
 //! An expression, its designators and its arguments lead to one another; what doesn't stands in modules of its own.
 
-ghost use Rattle.std.specs.Prelude.{◌≡◌, IfOk, List, map};
+ghost use Rattle.std.specs.Prelude.{◌≡◌, None, IfOk, List, map};
 ghost use Rattle.cp_model.specs.Abstract as a;
+ghost use Rattle.cp_model.specs.Abstract.{Name};
+ghost use Rattle.cp_model.specs.Calls as model;
+ghost use Rattle.cp_model.specs.Calls.{callee};
+ghost use Rattle.cp_model.specs.Declarations.{Variable};
 ghost use Rattle.cp_model.specs.Erase as erase;
+ghost use Rattle.cp_model.specs.Expressions.{name_of};
 ghost use Rattle.cp_model.specs.View as tree;
-ghost use Rattle.cp_code.specs.CodedTerms.{coded_spot, name_or_item};
+ghost use Rattle.cp_code.specs.CodedTerms.{argument_of, coded_arguments, coded_spot, coded_term, coded_variable, function_call, name_or_item, parameters_of};
 ghost use Rattle.cp_code.specs.Scopes as code;
+ghost use Rattle.cp_code.specs.Scopes.{environment};
+ghost use Rattle.cp_code.specs.Sites.{first_parameter};
 ghost use Rattle.cp_emit.specs.Emission.{coded_call};
 ghost use Rattle.cp_emit.specs.declared.emitter.CodedCall.{CodedCall};
-ghost use Rattle.cp_scope.specs.Scopes.{IsScope};
-ghost use Rattle.cp_translate.specs.Translated.{ChainOf, IsPlace, IsTerm, PartOf, SpotOf, TermOf, VariableOf};
+ghost use Rattle.cp_scope.specs.Scopes.{IsCallee, IsScope};
+ghost use Rattle.cp_scope.specs.Standing.{Stands};
+ghost use Rattle.cp_scope.specs.Variables.{AreDeclared, declared_entry};
+ghost use Rattle.cp_translate.specs.Translated.{AreArguments, ChainOf, IsArgument, IsTerm, PartOf, SpotOf, TermOf, VariableOf};
 
-use crate::made::MadeSpot;
+use crate::arguments::{reference, simple_value};
+use crate::calls::words_before;
+use crate::made::{MadeArgument, MadeArguments, MadeSpot, no_arguments};
 use crate::parts::refuse_no_index;
+use crate::standard::{is_empty_test, lone_name};
 use crate::translator::Translator;
 use cp_emit::call::MadeTerm;
 use cp_emit::{CodedCall, CompileError};
 use cp_model::tree::{Designator, Expression, Index, Operation, Selector};
+use cp_scope::{Callee, Declared};
 
 impl<'s, 't> Translator<'s, 't> {
     /// The term of an expression, whose calls are made before. The values of calls go to the temps from `low` on.
@@ -36,7 +49,10 @@ impl<'s, 't> Translator<'s, 't> {
             Expression::Number { value, .. } => Ok(self.number(i32::from(*value), low)),
             Expression::Character { ordinal, .. } => Ok(self.number(i32::from(*ordinal), low)),
             Expression::Designated(d) => self.used(d, low, calls),
-            Expression::Call(_, _) => Err(CompileError::Unaccepted),
+            Expression::Call(d, es) => match self.scope.callee(d)? {
+                Some(callee) => self.called(&callee, es, low, calls),
+                None => self.standard(lone_name(d)?, es, low, calls),
+            },
             Expression::Parenthesized { inner, .. } => self.term(inner, low, calls),
             Expression::Not { operand, .. } => {
                 let made = self.term(operand, low, calls)?;
@@ -84,7 +100,10 @@ impl<'s, 't> Translator<'s, 't> {
             (a.Use (erase.designator (tree.designator d.now))) low) }
     {
         match self.scope.callee(d)? {
-            Some(_) => Err(CompileError::Unaccepted),
+            Some(callee) => {
+                let none = no_arguments(self.alloc, low);
+                self.function_call(&callee, none, low, calls)
+            }
             None => self.held(d, low, calls),
         }
     }
@@ -165,6 +184,7 @@ impl<'s, 't> Translator<'s, 't> {
     }
 
     /// The spot of an argument that is a variable. What is no designator is refused.
+    #[cycle(terms)]
     pub fn argument_spot(
         &self,
         e: &Expression,
@@ -178,6 +198,117 @@ impl<'s, 't> Translator<'s, 't> {
             Expression::Designated(d) => self.spot(d, low, calls),
             Expression::Parenthesized { inner, .. } => self.argument_spot(inner, low, calls),
             _ => Err(CompileError::Unaccepted),
+        }
+    }
+
+    // A call of a user's function.
+    #[cycle(terms)]
+    fn called(
+        &self,
+        callee: &Callee,
+        es: &[Expression],
+        low: u32,
+        calls: &mut Vec<CodedCall>,
+    ) -> Result<MadeTerm, CompileError>
+        ensures { IfOk result (λ made. (s : code.Scope) (c : model.Callee) → IsScope self.now.scope s
+            → IsCallee self.now.scope s callee.now c
+            → IsTerm (map coded_call calls.old.items) calls.new.items made (function_call s c
+            (coded_arguments s
+            (erase.expressions (tree.expressions_of (map tree.expression es.now)))
+            (parameters_of s c) (first_parameter c) low) low)) }
+    {
+        let table = callee.routine.table;
+        let xs = self.arguments(&table.parameters, es, words_before(table), low, calls)?;
+        self.function_call(callee, xs, low, calls)
+    }
+
+    // A standard function of the first argument.
+    #[cycle(terms)]
+    fn standard(
+        &self,
+        name: &[u8],
+        es: &[Expression],
+        low: u32,
+        calls: &mut Vec<CodedCall>,
+    ) -> Result<MadeTerm, CompileError>
+        ensures { IfOk result (λ made. (s : code.Scope) (d : a.Designator) → IsScope self.now.scope s
+            → callee (environment s) d ≡ None → name.now ≡ name_of d
+            → IsTerm (map coded_call calls.old.items) calls.new.items made (coded_term s
+            (erase.called d
+            (erase.expressions (tree.expressions_of (map tree.expression es.now)))) low)) }
+    {
+        let [e, ..] = es else {
+            return Err(CompileError::Unaccepted);
+        };
+        if is_empty_test(name) {
+            let made = self.argument_spot(e, low, calls)?;
+            return self.empty(made);
+        }
+        let made = self.term(e, low, calls)?;
+        self.apply(self.function(name, e)?, made)
+    }
+
+    /// The arguments for parameters of which the first lies so many words from the first of the new activation.
+    #[cycle(terms)]
+    pub fn arguments(
+        &self,
+        parameters: &[Declared],
+        es: &[Expression],
+        at: u32,
+        low: u32,
+        calls: &mut Vec<CodedCall>,
+    ) -> Result<MadeArguments, CompileError>
+        ensures { IfOk result (λ made. (s : code.Scope) (ps : List (Name × Variable))
+            → IsScope self.now.scope s → AreDeclared self.now.scope.tables.now.types
+            (map declared_entry parameters.now) ps
+            → AreArguments (map coded_call calls.old.items) calls.new.items made
+            (coded_arguments s
+            (erase.expressions (tree.expressions_of (map tree.expression es.now))) ps at low)) }
+    {
+        let mut made = no_arguments(self.alloc, low);
+        let mut at = at;
+        for e in es {
+            let parameter = parameters
+                .get(made.arguments.len())
+                .ok_or(CompileError::Unaccepted)?;
+            let next = self.argument(parameter, at, e, made.temps, calls)?;
+            at = self.behind(at, parameter)?;
+            made.arguments.push(next.argument)?;
+            made.temps = next.temps;
+        }
+        Ok(made)
+    }
+
+    // The argument for a parameter: a reference, a simple value or a copy.
+    #[cycle(terms)]
+    fn argument(
+        &self,
+        parameter: &Declared,
+        at: u32,
+        e: &Expression,
+        low: u32,
+        calls: &mut Vec<CodedCall>,
+    ) -> Result<MadeArgument, CompileError>
+        ensures { IfOk result (λ made. (s : code.Scope) (v : Variable) → IsScope self.now.scope s
+            → parameter.now.by_reference ≡ v.by_reference
+            → Stands self.now.scope.tables.now.types parameter.now.of v.type
+            → IsArgument (map coded_call calls.old.items) calls.new.items made
+            (argument_of s.globals v at (coded_term s (erase.expression (tree.expression e.now)) low)
+            (coded_variable s (erase.expression (tree.expression e.now)) low))) }
+    {
+        if parameter.by_reference {
+            let made = self.argument_spot(e, low, calls)?;
+            return Ok(reference(at, made));
+        }
+        match self.scope.tables().types.simple(Some(parameter.of)) {
+            Some(simple) => {
+                let made = self.term(e, low, calls)?;
+                Ok(simple_value(at, simple, made))
+            }
+            None => {
+                let made = self.argument_spot(e, low, calls)?;
+                self.copied(at, parameter.of, made)
+            }
         }
     }
 }

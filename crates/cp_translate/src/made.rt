@@ -1,7 +1,10 @@
 //! What is made of designators and arguments. The calls before it are kept apart, behind those that were made before.
 
+ghost use Rattle.std.specs.Prelude.{◌≡◌, []};
+
 use cp_threaded::operation::Argument;
 use cp_threaded::term::Spot;
+use std::alloc::Global;
 
 /// The spot of a designator, the first temp after the values of its calls, and the number of the type of its place.
 #[derive(Debug, Drop)]
@@ -23,4 +26,15 @@ pub struct MadeArgument {
 pub struct MadeArguments {
     pub arguments: Vec<Argument>,
     pub temps: u32,
+}
+
+/// Nothing is passed, and no call is made before.
+pub fn no_arguments(alloc: Global, low: u32) -> MadeArguments
+    ensures arguments { result.arguments.items ≡ [] }
+    ensures temps { result.temps ≡ low }
+{
+    MadeArguments {
+        arguments: Vec::new(alloc),
+        temps: low,
+    }
 }

@@ -88,7 +88,7 @@ impl<'s, 't> Translator<'s, 't> {
         ensures { IfOk result (λ t. (s : code.Scope) → IsScope self.now.scope s
             → view.term t ≡ plain.Number (ordinal_or_zero (lookup name.now s.globals.constants))) }
     {
-        match self.scope.tables.names.constants.find(name) {
+        match self.scope.tables().names.constants.find(name) {
             Some(value) => Ok(Term::number(self.alloc, value.ordinal)),
             None => Err(CompileError::Unaccepted),
         }

@@ -63,7 +63,7 @@ impl<'s, 't> Translator<'s, 't> {
         ensures { IfOk result (λ made. (calls : List CodedCall)
             → PartOf self.now.scope calls calls of (λ d. a.Part d name.now) made) }
     {
-        let tables = self.scope.tables;
+        let tables = self.scope.tables();
         let number = of.of.ok_or(CompileError::Unaccepted)?;
         let part = tables.layouts.part(number, name)?;
         let at = part
@@ -86,7 +86,7 @@ impl<'s, 't> Translator<'s, 't> {
             → IsTerm (map coded_call old) new index (coded_term s e of.temps)
             → IsPlace self.now.scope s low before new (a.At d e) made) }
     {
-        let tables = self.scope.tables;
+        let tables = self.scope.tables();
         let number = of.of.ok_or(CompileError::Unaccepted)?;
         let elements = tables
             .types

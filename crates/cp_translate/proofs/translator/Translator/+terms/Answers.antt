@@ -1,22 +1,34 @@
-use Rattle.std.proofs.Common.{rules, ◌≡◌, ◌∷◌, ◌+◌, ◌∙◌, [], pos, ℕ, List, IfOk, ap, drop, map, refl, subst, sym}
+use Rattle.std.proofs.Common.{rules, ◌≡◌, ◌∷◌, ◌++◌, ◌+◌, ◌∙◌, [], Some, pos, ℕ, List, IfOk, add-one, ap, arith, codes, drop, length, length-append, map, refl, slice_get, subst, sym}
+use Rattle.std.specs.Str.{bytes_eq}
 use Rattle.std.specs.Int.{w32}
 use Rattle.std.proofs.lemmas.Int.{to_z-of_z}
 use Rattle.std.proofs.lemmas.List.{at_drop_more, drop_all}
 use Rattle.cp_model.specs.Abstract as a
+use Rattle.cp_model.specs.Abstract.{NoExpression}
+use Rattle.cp_model.specs.Calls.{callee}
 use Rattle.cp_model.specs.Erase as erase
+use Rattle.cp_model.specs.Expressions.{name_of}
+use Rattle.cp_model.specs.Types.{base_of_type}
+use Rattle.cp_typing.specs.StaticTypes.{expression_type}
+use Rattle.cp_code.specs.Scopes.{environment}
+use Rattle.cp_code.specs.Sites.{first_parameter}
+use Rattle.cp_scope.specs.Standing.{simple_of}
 use Rattle.cp_model.specs.Syntax as syntax
 use Rattle.cp_model.specs.Syntax.{chain_of}
 use Rattle.cp_model.specs.View as tree
-use Rattle.cp_code.specs.CodedTerms.{coded_spot, coded_term, lone_term, name_or_item, term_of_name}
-use Rattle.cp_code.specs.Terms.{Number}
+use Rattle.cp_model.specs.declared.tree.Expression.{Expression}
+use Rattle.cp_code.specs.CodedTerms.{CodedArguments, argument_of, coded_arguments, coded_spot, coded_term, coded_variable, function_named, lone_term, name_or_item, no_arguments, parameters_of, term_of_name, with_argument}
+use Rattle.cp_code.specs.Terms.{Function, Number, Standard}
 use Rattle.cp_emit.specs.Emission.{coded_call}
 use Rattle.cp_scope.proofs.Called.{view_designator, view_field}
 use Rattle.cp_scope.proofs.Unrefused.{if_ok}
 use Rattle.cp_emit.specs.declared.call.MadeTerm.{MadeTerm}
 use Rattle.cp_threaded.proofs.Wide.{narrow}
-use Rattle.cp_translate.specs.Translated.{IsPlace, IsTerm}
+use Rattle.cp_translate.specs.Translated.{AreArguments, IsPlace, IsTerm}
+use Rattle.cp_translate.proofs.ArgumentsMade.{Finishes, all_made, declared_at, got, none_made, one_made}
+use Rattle.cp_translate.proofs.CallsMade.{called_as, called_by, first_at, nothing_passed, standard_as, standard_empty, standard_other, valued}
 use Rattle.cp_translate.proofs.TermsMade.{first_of, lone_made, name_designated, part_designated, part_held, seen_as}
-use Rattle.cp_translate.proofs.Views.{view_chain, view_character, view_index, view_not, view_number, view_operation, view_signed}
+use Rattle.cp_translate.proofs.Views.{view_call, view_chain, view_character, view_index, view_not, view_number, view_operation, view_signed}
 use Rattle.cp_translate.proofs.translator.Translator.+terms.Goals as goal
 
 pub chain-loop-o-preserved : goal.chain-loop-o-preserved
@@ -189,3 +201,175 @@ term-returns-in_ok-made-in-Chain t c =
     seen_as before after made s c.args.low (tree.expression c.args.e.now) (chain_of e os) v
     ((rw c.deref-in-Chain-2.ensures.value at h) s c.args.low before e scope (rw c.deref-in-Chain.ensures at (c.in_ok-made-in-Chain.ensures s scope))))
     c.chain.ensures
+
+pub arguments-loop-e-init : goal.arguments-loop-e-init
+arguments-loop-e-init t c =
+    let made = c.no_arguments-made.result in
+    let calls = c.args.calls.now.items in
+    let es = erase.expressions (tree.expressions_of (map tree.expression c.args.es.now)) in record {
+      count = ap length c.no_arguments-made.ensures.arguments;
+      so_far = λ s ps scope declared.
+          subst (λ n. Finishes (map coded_call calls) calls made (coded_arguments s es ps c.args.at n) (coded_arguments s es ps c.args.at c.args.low))
+          (sym c.no_arguments-made.ensures.temps)
+          (none_made calls made (coded_arguments s es ps c.args.at c.args.low) c.no_arguments-made.ensures.arguments);
+    }
+
+pub arguments-loop-e-preserved : goal.arguments-loop-e-preserved
+arguments-loop-e-preserved t c =
+    let types = c.args.self.now.scope.tables.now.types in
+    let k = c.loop-e.e-index in
+    let all = c.args.es.now in
+    let o = c.e-item.result in
+    let e = erase.expression (tree.expression o) in
+    let made = c.loop-e.made in
+    let next = c.in_ok-next.next in
+    let after = c.argument.new.calls.items in
+    let longer : length c.push.new.self.items ≡ length (made.arguments.items ++ next.argument ∷ []) = ap length c.in_ok-push.ensures.items in
+    let read = got c.args.parameters.now c.len.result c.get.result c.in_ok-parameter.parameter c.get.ensures.lookup.3 c.in_ok-parameter.ensures.ok_part in
+    let same : k ≡ c.len.result = omega (arith, c.len.ensures, c.loop-e.invariant.count, made.arguments.ok.0) in
+    let there : slice_get c.args.parameters.now k ≡ Some c.in_ok-parameter.parameter.now = ap (slice_get c.args.parameters.now) same ∙ read in record {
+      count = omega (arith, longer, length-append made.arguments.items (next.argument ∷ []), c.loop-e.invariant.count);
+      so_far = λ s ps scope declared.
+          let p = declared_at types c.args.parameters.now ps k c.in_ok-parameter.parameter.now declared there in
+          let v = p.declared in
+          let split : drop k ps ≡ v ∷ drop (k + 1) ps = p.split ∙ ap (λ n. v ∷ drop n ps) (sym (add-one k)) in
+          let one = c.in_ok-next.ensures s v.1 scope p.reference p.type in
+          let behind = c.in_ok-at.ensures s v.1 scope p.reference p.type in
+          let x = argument_of s.globals v.1 c.loop-e.at (coded_term s e made.temps) (coded_variable s e made.temps) in
+          let rest : ℕ → ℕ → CodedArguments = λ at low. coded_arguments s (erase.expressions (tree.expressions_of (map tree.expression (drop (k + 1) all)))) (drop (k + 1) ps) at low in
+          let left : List Expression → CodedArguments = λ es. coded_arguments s (erase.expressions (tree.expressions_of (map tree.expression es))) (drop k ps) c.loop-e.at made.temps in
+          let step : left (drop k all) ≡ with_argument x (rest c.in_ok-at.at next.temps) =
+          at_drop_more left all k o c.loop-e-test.true
+          ∙ (ap (λ q. left (q ∷ drop (k + 1) all)) (sym c.e-item.is)
+          ∙ (ap (λ qs. coded_arguments s (erase.expressions (tree.expressions_of (map tree.expression (o ∷ drop (k + 1) all)))) qs c.loop-e.at made.temps) split
+          ∙ (λ i. with_argument x (rest (sym behind i) (sym one.temps i))))) in
+          one_made (map coded_call c.args.calls.now.items) c.loop-e.calls.items after made (record { arguments = c.push.new.self; temps = next.temps }) next x
+          (rest c.in_ok-at.at next.temps)
+          (coded_arguments s (erase.expressions (tree.expressions_of (map tree.expression all))) ps c.args.at c.args.low)
+          (subst (λ r. Finishes (map coded_call c.args.calls.now.items) c.loop-e.calls.items made r
+          (coded_arguments s (erase.expressions (tree.expressions_of (map tree.expression all))) ps c.args.at c.args.low)) step
+          (c.loop-e.invariant.so_far s ps scope declared)) one c.in_ok-push.ensures.items;
+    }
+
+pub arguments-returns : goal.arguments-returns
+arguments-returns t c = λ s ps scope declared.
+    let k = c.loop-e.e-index in
+    let all = c.args.es.now in
+    let made = c.loop-e.made in
+    let before = map coded_call c.args.calls.now.items in
+    let whole = coded_arguments s (erase.expressions (tree.expressions_of (map tree.expression all))) ps c.args.at c.args.low in
+    let left : List Expression → CodedArguments = λ es. coded_arguments s (erase.expressions (tree.expressions_of (map tree.expression es))) (drop k ps) c.loop-e.at made.temps in
+    all_made before c.loop-e.calls.items made whole
+    (subst (λ es. Finishes before c.loop-e.calls.items made (left es) whole) (drop_all k all c.loop-e-test.false)
+    (c.loop-e.invariant.so_far s ps scope declared))
+
+pub called-returns : goal.called-returns
+called-returns t c =
+    let before = map coded_call c.args.calls.now.items in
+    let es = erase.expressions (tree.expressions_of (map tree.expression c.args.es.now)) in
+    let routine = c.args.callee.now.routine.table.now in
+    let types = c.args.self.now.scope.tables.now.types in
+    if_ok c.function_call.result
+    (λ made h s d scope is.
+    let declared = is.routine.table.parameters in
+    let at : c.words_before.result ≡ first_parameter d = c.words_before.ensures s.globals types d.routine is.routine.table in
+    let xs = (rw c.deref.ensures.value at c.in_ok-xs.ensures) s (parameters_of s d) scope declared in
+    h s d before (coded_arguments s es (parameters_of s d) (first_parameter d) c.args.low) scope is
+    (subst (λ n. AreArguments before c.arguments.new.calls.items c.in_ok-xs.xs (coded_arguments s es (parameters_of s d) n c.args.low)) at xs))
+    c.function_call.ensures
+
+pub standard-returns-then-is_empty_test : goal.standard-returns-then-is_empty_test
+standard-returns-then-is_empty_test t c =
+    let before = map coded_call c.args.calls.now.items in
+    let after = c.argument_spot.new.calls.items in
+    let all = c.args.es.now in
+    let low = c.args.low in
+    let o = c.e-item.result in
+    let e = erase.expression (tree.expression o) in
+    let es = erase.expressions (tree.expressions_of (map tree.expression (drop 1 all))) in
+    let split : all ≡ o ∷ drop 1 all = first_at all o c.in-len1-up.len_at_least c.e-item.is in
+    if_ok c.empty.result
+    (λ made h s d scope none named.
+    let known = ap (λ x. bytes_eq x (codes "empty")) (sym named) ∙ (sym c.is_empty_test.ensures ∙ c.if-is_empty_test.true) in
+    let b = base_of_type (expression_type (environment s) e) in
+    subst (λ xs. IsTerm before after made (coded_term s (erase.called d (erase.expressions (tree.expressions_of (map tree.expression xs)))) low)) (sym split)
+    (subst (IsTerm before after made)
+    (sym (standard_as s d e es low none ∙ standard_empty (name_of d) b (coded_term s e low) (coded_variable s e low) known))
+    (h before after (coded_variable s e low) (c.in_ok-made.ensures s scope))))
+    c.empty.ensures
+
+pub standard-returns : goal.standard-returns
+standard-returns t c =
+    let before = map coded_call c.args.calls.now.items in
+    let after = c.term.new.calls.items in
+    let all = c.args.es.now in
+    let low = c.args.low in
+    let o = c.e-item.result in
+    let e = erase.expression (tree.expression o) in
+    let es = erase.expressions (tree.expressions_of (map tree.expression (drop 1 all))) in
+    let split : all ≡ o ∷ drop 1 all = first_at all o c.in-len1-up.len_at_least c.e-item.is in
+    if_ok c.apply.result
+    (λ made h s d scope none named.
+    let known = ap (λ x. bytes_eq x (codes "empty")) (sym named) ∙ (sym c.is_empty_test.ensures ∙ c.if-is_empty_test.false) in
+    let b = base_of_type (expression_type (environment s) e) in
+    let f = c.in_ok-function.ensures s scope ∙ ap (λ x. function_named x b) named in
+    subst (λ xs. IsTerm before after made (coded_term s (erase.called d (erase.expressions (tree.expressions_of (map tree.expression xs)))) low)) (sym split)
+    (subst (IsTerm before after made)
+    (sym (standard_as s d e es low none ∙ standard_other (name_of d) b (coded_term s e low) (coded_variable s e low) known))
+    (subst (λ (g : Function). IsTerm before after made (record (coded_term s e low) { term = Standard g (coded_term s e low).term })) f
+    (h before after (coded_term s e low) (c.in_ok-made-2.ensures s scope)))))
+    c.apply.ensures
+
+pub used-returns-in-Some : goal.used-returns-in-Some
+used-returns-in-Some t c =
+    let calls = c.args.calls.now.items in
+    let d = erase.designator (tree.designator c.args.d.now) in
+    let after = c.function_call.new.calls.items in
+    let low = c.args.low in
+    if_ok c.function_call.result
+    (λ made h s scope.
+    let found = called_by c.args.self.now.scope s c.in-Some.callee (callee (environment s) d) (rw c.in-Some.is at (c.in_ok-callee.ensures s scope)) in
+    subst (IsTerm (map coded_call calls) after made) (sym (called_as s d NoExpression low found.callee found.is))
+    (h s found.callee (map coded_call calls) (no_arguments low) scope found.stands
+    (nothing_passed calls c.no_arguments-none.result low c.no_arguments-none.ensures.arguments c.no_arguments-none.ensures.temps)))
+    c.function_call.ensures
+
+pub argument-returns-in_ok-made-in-Some : goal.argument-returns-in_ok-made-in-Some
+argument-returns-in_ok-made-in-Some t c = λ s v scope reference stands.
+    let before = map coded_call c.args.calls.now.items in
+    let after = c.term.new.calls.items in
+    let e = erase.expression (tree.expression c.args.e.now) in
+    let simple = (rw (c.tables.ensures, c.in-Some.is) at c.simple.ensures) v.type stands in
+    valued before after c.simple_value.result s.globals v c.args.at (coded_term s e c.args.low) (coded_variable s e c.args.low) (simple_of c.in-Some.simple)
+    (sym reference ∙ c.if-parameter.false) simple
+    (c.simple_value.ensures before after s.globals (coded_term s e c.args.low) (coded_variable s e c.args.low) (c.in_ok-made-in-Some.ensures s scope))
+
+pub argument-returns-in_ok-made-in-None : goal.argument-returns-in_ok-made-in-None
+argument-returns-in_ok-made-in-None t c =
+    let before = map coded_call c.args.calls.now.items in
+    let after = c.argument_spot-in-None.new.calls.items in
+    let e = erase.expression (tree.expression c.args.e.now) in
+    if_ok c.copied.result
+    (λ made h s v scope reference stands.
+    let other = (rw (c.tables.ensures, c.in-None.is) at c.simple.ensures) v.type stands in
+    valued before after made s.globals v c.args.at (coded_term s e c.args.low) (coded_variable s e c.args.low) v.type
+    (sym reference ∙ c.if-parameter.false) refl
+    (h before after s v.type (coded_term s e c.args.low) (coded_variable s e c.args.low) scope stands other (c.in_ok-made-in-None.ensures s scope)))
+    c.copied.ensures
+
+pub term-returns-in-Some : goal.term-returns-in-Some
+term-returns-in-Some t c =
+    let before = map coded_call c.args.calls.now.items in
+    let after = c.called.new.calls.items in
+    let low = c.args.low in
+    let d = tree.designator c.in-Call.d in
+    let es = tree.expressions_of (map tree.expression c.in-Call.es.items) in
+    let v : tree.expression c.args.e.now ≡ syntax.Call d es = rw c.in-Call.is (view_call c.in-Call.d c.in-Call.es) in
+    if_ok c.called.result
+    (λ made h s scope.
+    let found = called_by c.args.self.now.scope s c.in-Some.callee (callee (environment s) (erase.designator d))
+    (rw c.in-Some.is at (c.in_ok-callee-in-Call.ensures s scope)) in
+    seen_as before after made s low (tree.expression c.args.e.now) (syntax.Call d es) v
+    (subst (IsTerm before after made) (sym (called_as s (erase.designator d) (erase.expressions es) low found.callee found.is))
+    ((rw c.deref.ensures.value at h) s found.callee scope found.stands)))
+    c.called.ensures

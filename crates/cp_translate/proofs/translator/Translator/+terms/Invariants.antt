@@ -1,14 +1,18 @@
-use Rattle.std.proofs.Common.{◌≡◌, ℕ, List, drop, map}
+use Rattle.std.proofs.Common.{◌≡◌, ℕ, List, drop, length, map}
 use Rattle.cp_model.specs.Abstract as a
+use Rattle.cp_model.specs.Abstract.{Name}
+use Rattle.cp_model.specs.Declarations.{Variable}
 use Rattle.cp_model.specs.Erase as erase
 use Rattle.cp_model.specs.Syntax as syntax
 use Rattle.cp_model.specs.Syntax.{chain_of}
 use Rattle.cp_model.specs.View as tree
 use Rattle.cp_code.specs.CodedTerms as coded
-use Rattle.cp_code.specs.CodedTerms.{coded_term}
+use Rattle.cp_code.specs.CodedTerms.{coded_arguments, coded_term}
 use Rattle.cp_code.specs.Scopes as code
 use Rattle.cp_emit.specs.Emission.{coded_call}
 use Rattle.cp_scope.specs.Scopes.{IsScope}
+use Rattle.cp_scope.specs.Variables.{AreDeclared, declared_entry}
+use Rattle.cp_translate.proofs.ArgumentsMade.{Finishes}
 use Rattle.cp_translate.specs.Translated.{IsPlace, IsTerm}
 use Rattle.cp_translate.proofs.translator.Translator.+terms.Given as goal
 
@@ -36,3 +40,14 @@ invariant-indexed-loop-i l =
     → (p : a.Designator) × IsPlace l.self.scope s low before l.calls.items p l.made
     × (erase.indexed p (tree.indices_of (map tree.index (drop l.i-index l.indices)))
     ≡ erase.indexed d (tree.indices_of (map tree.index l.fn.indices)))
+
+-- The arguments that were made and those that are left are all.
+abbrev pub invariant-arguments-loop-e : goal.invariant-arguments-loop-e
+invariant-arguments-loop-e l = record {
+  count : length l.made.arguments.items ≡ l.e-index;
+  so_far : (s : code.Scope) (ps : List (Name × Variable)) → IsScope l.self.scope s
+      → AreDeclared l.self.scope.tables.now.types (map declared_entry l.parameters) ps
+      → Finishes (map coded_call l.fn.calls.items) l.calls.items l.made
+      (coded_arguments s (erase.expressions (tree.expressions_of (map tree.expression (drop l.e-index l.es)))) (drop l.e-index ps) l.at l.made.temps)
+      (coded_arguments s (erase.expressions (tree.expressions_of (map tree.expression l.es))) ps l.fn.at l.fn.low);
+}

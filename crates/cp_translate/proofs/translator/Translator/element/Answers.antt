@@ -25,7 +25,7 @@ returns c = λ s low before old new d e scope place term.
     let array = array_of types c.in_ok-number.number c.in_ok-elements.elements t stands there in
     let sized : c.words-words.result ≡ Some c.in_ok-size.size = search rules in
     let long : c.in_ok-size.size ≡ words s.globals array.element =
-    subst (λ (o : Option ℕ). Counts o (words s.globals array.element)) sized (c.words-words.ensures s.globals types array.element scope.laid array.stands) in
+    subst (λ (o : Option ℕ). Counts o (words s.globals array.element)) sized ((rw c.tables-tables.ensures at c.words-words.ensures) s.globals types array.element scope.laid array.stands) in
     let fits : FitsSigned w32 c.in_ok-elements.elements.low = search rules in
     let high_fits : FitsSigned w32 c.in_ok-elements.elements.high = search rules in
     let made = c.in_ok-spot.ensures in
