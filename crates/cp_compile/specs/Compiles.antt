@@ -1,18 +1,12 @@
 -- When an emitter holds what the definition has compiled.
-use Rattle.std.specs.Prelude.{◌≡◌, ℕ, List, map}
+use Rattle.std.specs.Prelude.{◌≡◌, List, map}
 use Rattle.cp_model.specs.Abstract as a
 use Rattle.cp_model.specs.Erase as erase
 use Rattle.cp_model.specs.View as tree
 use Rattle.cp_model.specs.declared.tree.Statement.{Statement}
-use Rattle.cp_code.specs.CodedStatements.{Emitted}
 use Rattle.cp_code.specs.Compile.{Compiled}
 use Rattle.cp_emit.specs.declared.emitter.Emitter.{Emitter}
-use Rattle.cp_emit.specs.Emission.{Emits, operations_of, units_of}
-
--- These operations were emitted, which are entered there.
-pub record IsEmitted (old new : Emitter) (entry : ℕ) (e : Emitted) : Type 0 where
-  pub entry_is : entry ≡ e.entry
-  pub emits : Emits old new e.operations
+use Rattle.cp_emit.specs.Emission.{operations_of, units_of}
 
 -- Its operations and units are these.
 pub record IsCompiled (emitter : Emitter) (c : Compiled) : Type 0 where

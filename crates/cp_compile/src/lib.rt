@@ -16,6 +16,5 @@ mod definitions;
 mod layout;
 mod system;
 mod unit;
-mod walk;
 
 pub use compiler::compile;

@@ -69,7 +69,14 @@ impl<'s, 't> SystemCompiler<'s, 't> {
         let last = Operation::Return {
             function: is_function,
         };
-        compile_unit(&scope, starts, last, &text.body.statements, emitter)
+        compile_unit(
+            self.planner.alloc(),
+            &scope,
+            starts,
+            last,
+            &text.body.statements,
+            emitter,
+        )
     }
 
     // Compiles routines.
@@ -99,7 +106,8 @@ impl<'s, 't> SystemCompiler<'s, 't> {
             (with_body g s firsts self.now.first c)) }
     {
         let scope = Scope::new(self.tables, self.system, None, self.firsts, self.first);
-        compile_unit(&scope, Vec::new(self.planner.alloc()), end_of(sort), body, emitter)
+        let alloc = self.planner.alloc();
+        compile_unit(alloc, &scope, Vec::new(alloc), end_of(sort), body, emitter)
     }
 
     /// Compiles the routines and the body of the system type.

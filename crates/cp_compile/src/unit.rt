@@ -9,15 +9,17 @@ ghost use Rattle.cp_scope.specs.Scopes.{IsScope};
 ghost use Rattle.cp_threaded.specs.View as view;
 ghost use Rattle.cp_compile.specs.Compiles.{IsCompiled, body_of};
 
-use crate::walk::emit_statements;
 use cp_emit::{CompileError, Emitter};
 use cp_model::tree::Statement;
 use cp_scope::Scope;
 use cp_threaded::operation::Operation;
 use cp_threaded::program::Start;
+use cp_translate::Translator;
+use std::alloc::Global;
 
 /// Compiles a unit of these statements, which ends with an operation and whose words start by this plan.
 pub fn compile_unit(
+    alloc: Global,
     scope: &Scope,
     starts: Vec<Start>,
     last: Operation,
@@ -30,7 +32,11 @@ pub fn compile_unit(
 {
     emitter.begin(scope.words()?);
     let at = emitter.push(last)?;
-    let entry = emit_statements(scope, body, 0, at, emitter)?;
+    let translator = Translator {
+        scope: *scope,
+        alloc,
+    };
+    let entry = translator.statements(body, 0, at, emitter)?;
     emitter.end(entry, starts)?;
     Ok(())
 }

@@ -13,7 +13,7 @@ returns c = λ s d i is.
     let e0 = c.args.emitter.now in
     let e1 = c.begin.new.self in
     let e2 = c.push.new.self in
-    let e3 = c.emit_statements.new.emitter in
+    let e3 = c.statements.new.emitter in
     let e4 = c.end.new.self in
     let last = view.operation c.args.last in
     let starts = map view.start c.args.starts.items in
@@ -28,7 +28,7 @@ returns c = λ s d i is.
     (ap length pushed)
     (emitted.emits.first_is ∙ c.in_ok-at.ensures.emits.first_is ∙ c.begin.ensures.first)
     (emitted.emits.words_are ∙ c.in_ok-at.ensures.emits.words_are ∙ c.begin.ensures.words ∙ c.in_ok-words.ensures s i)
-    emitted.entry_is
+    emitted.entry
     (c.in_ok-end.ensures.operations ∙ emitted.emits.operations_are ∙ ap (λ xs. xs ++ (statements.emitted s (body_of c.args.body.now) 0 (place_of e2) c.in_ok-at.at).operations) pushed)
     (c.in_ok-end.ensures.unit
     ∙ ap (λ us. us ++ code_unit entry starts (need_of_all us e3.words (drop e3.first (operations_of e3))) ∷ []) units
