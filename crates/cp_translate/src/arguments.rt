@@ -52,7 +52,12 @@ pub fn simple_value(at: u32, simple: Simple, made: MadeTerm) -> MadeArgument
 
 impl<'s, 't> Translator<'s, 't> {
     /// The words of a variable of a type that isn't simple.
-    pub fn copied(&self, at: u32, of: usize, made: MadeSpot) -> Result<MadeArgument, CompileError>
+    pub fn copy_argument(
+        &self,
+        at: u32,
+        of: usize,
+        made: MadeSpot,
+    ) -> Result<MadeArgument, CompileError>
         ensures { IfOk result (λ r. (before : List coded.CodedCall) (after : List CodedCall)
             (s : code.Scope) (type : ResolvedType) (t : coded.CodedTerm) (c : coded.CodedSpot)
             → IsScope self.now.scope s → Stands self.now.scope.tables.now.types of type
@@ -84,7 +89,7 @@ impl<'s, 't> Translator<'s, 't> {
     }
 
     /// Where the parameter after this one lies.
-    pub fn behind(&self, at: u32, parameter: &Declared) -> Result<u32, CompileError>
+    pub fn next_parameter(&self, at: u32, parameter: &Declared) -> Result<u32, CompileError>
         ensures { IfOk result (λ n. (s : code.Scope) (v : Variable) → IsScope self.now.scope s
             → parameter.now.by_reference ≡ v.by_reference
             → Stands self.now.scope.tables.now.types parameter.now.of v.type

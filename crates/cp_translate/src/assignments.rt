@@ -85,7 +85,7 @@ impl<'s, 't> Translator<'s, 't> {
     }
 
     // Sets a variable of a simple type, after the calls of its place.
-    fn set(
+    fn set_simple(
         &self,
         to: MadeSpot,
         simple: Simple,
@@ -113,7 +113,7 @@ impl<'s, 't> Translator<'s, 't> {
     }
 
     // Copies a variable of a type that isn't simple, after the calls of its place.
-    fn copy(
+    fn copy_words(
         &self,
         to: MadeSpot,
         e: &Expression,
@@ -161,8 +161,8 @@ impl<'s, 't> Translator<'s, 't> {
         let mut calls = Vec::new(self.alloc);
         let to = self.spot(d, low, &mut calls)?;
         match self.scope.tables().types.simple(to.of) {
-            Some(simple) => self.set(to, simple, e, calls, next, emitter),
-            None => self.copy(to, e, calls, next, emitter),
+            Some(simple) => self.set_simple(to, simple, e, calls, next, emitter),
+            None => self.copy_words(to, e, calls, next, emitter),
         }
     }
 

@@ -48,10 +48,10 @@ impl<'s, 't> Translator<'s, 't> {
         match e {
             Expression::Number { value, .. } => Ok(self.number(i32::from(*value), low)),
             Expression::Character { ordinal, .. } => Ok(self.number(i32::from(*ordinal), low)),
-            Expression::Designated(d) => self.used(d, low, calls),
+            Expression::Designated(d) => self.use_term(d, low, calls),
             Expression::Call(d, es) => match self.scope.callee(d)? {
-                Some(callee) => self.called(&callee, es, low, calls),
-                None => self.standard(lone_name(d)?, es, low, calls),
+                Some(callee) => self.user_call(&callee, es, low, calls),
+                None => self.standard_call(lone_name(d)?, es, low, calls),
             },
             Expression::Parenthesized { inner, .. } => self.term(inner, low, calls),
             Expression::Not { operand, .. } => {
@@ -60,7 +60,7 @@ impl<'s, 't> Translator<'s, 't> {
             }
             Expression::Signed { sign, operand, .. } => {
                 let made = self.term(operand, low, calls)?;
-                self.signed(*sign, made)
+                self.with_sign(*sign, made)
             }
             Expression::Chain { first, rest } => {
                 let made = self.term(first, low, calls)?;
@@ -83,14 +83,14 @@ impl<'s, 't> Translator<'s, 't> {
         let mut left = first;
         for o in rest {
             let right = self.term(&o.operand, left.temps, calls)?;
-            left = self.operated(left, o.operator, right)?;
+            left = self.binary(left, o.operator, right)?;
         }
         Ok(left)
     }
 
     // A designator that is used as a value: a call without arguments, or what a name or a place holds.
     #[cycle(terms)]
-    fn used(
+    fn use_term(
         &self,
         d: &Designator,
         low: u32,
@@ -104,13 +104,13 @@ impl<'s, 't> Translator<'s, 't> {
                 let none = no_arguments(self.alloc, low);
                 self.function_call(&callee, none, low, calls)
             }
-            None => self.held(d, low, calls),
+            None => self.place_term(d, low, calls),
         }
     }
 
     // What a name or a place holds.
     #[cycle(terms)]
-    fn held(
+    fn place_term(
         &self,
         d: &Designator,
         low: u32,
@@ -161,12 +161,12 @@ impl<'s, 't> Translator<'s, 't> {
     {
         match selector {
             Selector::Field { name, .. } => self.field(of, name.name.as_bytes()),
-            Selector::Indexed(indices) => self.indexed(of, indices, calls),
+            Selector::Indexed(indices) => self.select_elements(of, indices, calls),
         }
     }
 
     #[cycle(terms)]
-    fn indexed(
+    fn select_elements(
         &self,
         of: MadeSpot,
         indices: &[Index],
@@ -203,7 +203,7 @@ impl<'s, 't> Translator<'s, 't> {
 
     // A call of a user's function.
     #[cycle(terms)]
-    fn called(
+    fn user_call(
         &self,
         callee: &Callee,
         es: &[Expression],
@@ -224,7 +224,7 @@ impl<'s, 't> Translator<'s, 't> {
 
     // A standard function of the first argument.
     #[cycle(terms)]
-    fn standard(
+    fn standard_call(
         &self,
         name: &[u8],
         es: &[Expression],
@@ -272,7 +272,7 @@ impl<'s, 't> Translator<'s, 't> {
                 .get(made.arguments.len())
                 .ok_or(CompileError::Unaccepted)?;
             let next = self.argument(parameter, at, e, made.temps, calls)?;
-            at = self.behind(at, parameter)?;
+            at = self.next_parameter(at, parameter)?;
             made.arguments.push(next.argument)?;
             made.temps = next.temps;
         }
@@ -307,7 +307,7 @@ impl<'s, 't> Translator<'s, 't> {
             }
             None => {
                 let made = self.argument_spot(e, low, calls)?;
-                self.copied(at, parameter.of, made)
+                self.copy_argument(at, parameter.of, made)
             }
         }
     }

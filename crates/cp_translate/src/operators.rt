@@ -42,7 +42,7 @@ impl<'s, 't> Translator<'s, 't> {
     }
 
     /// With a sign before it.
-    pub fn signed(&self, sign: Sign, made: MadeTerm) -> Result<MadeTerm, CompileError>
+    pub fn with_sign(&self, sign: Sign, made: MadeTerm) -> Result<MadeTerm, CompileError>
         ensures { IfOk result (λ n. (before : List coded.CodedCall) (after : List CodedCall)
             (s : code.Scope) (e : a.Expression) (low : ℕ)
             → IsTerm before after made (coded_term s e low)
@@ -58,7 +58,7 @@ impl<'s, 't> Translator<'s, 't> {
     }
 
     /// An operator between two operands, the calls of the second behind those of the first.
-    pub fn operated(
+    pub fn binary(
         &self,
         left: MadeTerm,
         operator: Operator,

@@ -119,7 +119,7 @@ impl<'s, 't> Translator<'s, 't> {
     }
 
     // Lets the first one in a queue go on.
-    fn go_on(&self, e: &Expression, low: u32, emitter: &mut Emitter) -> Result<u32, CompileError>
+    fn resume(&self, e: &Expression, low: u32, emitter: &mut Emitter) -> Result<u32, CompileError>
         ensures { IfOk result (λ entry. (s : code.Scope) → IsScope self.now.scope s
             → let c = coded_variable s (erase.expression (tree.expression e.now)) low in
             Enters emitter.old emitter.new entry (with_calls c.calls
@@ -156,7 +156,7 @@ impl<'s, 't> Translator<'s, 't> {
         } else if name == b"delay".as_slice() {
             self.delay(e, low, next, emitter)
         } else {
-            self.go_on(e, low, emitter)
+            self.resume(e, low, emitter)
         }
     }
 

@@ -60,8 +60,8 @@ chain-returns t c = λ s low before e scope first.
     sym (ap (λ os. chain_of so_far.0 (map tree.operation os)) (drop_all c.loop-o.o-index all c.loop-o-test.false)) ∙ so_far.2 in
     subst (λ x. IsTerm before c.loop-o.calls.items c.loop-o.left (coded_term s (erase.expression x) low)) end so_far.1
 
-pub indexed-loop-i-preserved : goal.indexed-loop-i-preserved
-indexed-loop-i-preserved t c = λ s low before d scope place.
+pub select_elements-loop-i-preserved : goal.select_elements-loop-i-preserved
+select_elements-loop-i-preserved t c = λ s low before d scope place.
     let so_far = c.loop-i.invariant s low before d scope place in
     let p = so_far.0 in
     let o = c.i-item.result in
@@ -77,8 +77,8 @@ indexed-loop-i-preserved t c = λ s low before d scope place.
       sym (step ∙ view) ∙ so_far.2,
     )
 
-pub indexed-returns : goal.indexed-returns
-indexed-returns t c = λ s low before d scope place.
+pub select_elements-returns : goal.select_elements-returns
+select_elements-returns t c = λ s low before d scope place.
     let so_far = c.loop-i.invariant s low before d scope place in
     let all = c.args.indices.now in
     let end : so_far.0 ≡ erase.indexed d (tree.indices_of (map tree.index all)) =
@@ -126,8 +126,8 @@ spot-returns t c = λ s scope.
     subst (λ x. IsPlace c.args.self.now.scope s c.args.low (map coded_call c.args.calls.now.items) c.loop-selector.calls.items x c.loop-selector.made) end
     so_far.1
 
-pub held-returns-in_default : goal.held-returns-in_default
-held-returns-in_default t c = λ s scope.
+pub place_term-returns-in_default : goal.place_term-returns-in_default
+place_term-returns-in_default t c = λ s scope.
     let d = c.args.d.now in
     let calls = c.args.calls.now.items in
     let none : d.selectors.items ≡ [] =
@@ -137,8 +137,8 @@ held-returns-in_default t c = λ s scope.
     subst (λ x. IsTerm (map coded_call calls) calls made (name_or_item s x (coded_spot s x c.args.low) c.args.low)) (sym named)
     (lone_made calls made (term_of_name s d.root.name) c.args.low (rw c.as_bytes.ensures at (c.in_ok-term.ensures s scope)) refl)
 
-pub held-returns : goal.held-returns
-held-returns t c =
+pub place_term-returns : goal.place_term-returns
+place_term-returns t c =
     let d = c.args.d.now in
     let x = erase.designator (tree.designator d) in
     let before = map coded_call c.args.calls.now.items in
@@ -186,9 +186,9 @@ term-returns-in_ok-made-in-Signed t c =
     let sign = c.in-Signed.sign in
     let e = tree.expression c.in-Signed.operand.value in
     let v : tree.expression c.args.e.now ≡ syntax.Signed sign c.in-Signed.at e = rw c.in-Signed.is (view_signed sign c.in-Signed.at c.in-Signed.operand) in
-    if_ok c.signed.result (λ made h s scope.
+    if_ok c.with_sign.result (λ made h s scope.
     seen_as before after made s c.args.low (tree.expression c.args.e.now) (syntax.Signed sign c.in-Signed.at e) v
-    (h before after s (erase.expression e) c.args.low (rw c.deref-in-Signed.ensures at (c.in_ok-made-in-Signed.ensures s scope)))) c.signed.ensures
+    (h before after s (erase.expression e) c.args.low (rw c.deref-in-Signed.ensures at (c.in_ok-made-in-Signed.ensures s scope)))) c.with_sign.ensures
 
 pub term-returns-in_ok-made-in-Chain : goal.term-returns-in_ok-made-in-Chain
 term-returns-in_ok-made-in-Chain t c =
@@ -263,8 +263,8 @@ arguments-returns t c = λ s ps scope declared.
     (subst (λ es. Finishes before c.loop-e.calls.items made (left es) whole) (drop_all k all c.loop-e-test.false)
     (c.loop-e.invariant.so_far s ps scope declared))
 
-pub called-returns : goal.called-returns
-called-returns t c =
+pub user_call-returns : goal.user_call-returns
+user_call-returns t c =
     let before = map coded_call c.args.calls.now.items in
     let es = erase.expressions (tree.expressions_of (map tree.expression c.args.es.now)) in
     let routine = c.args.callee.now.routine.table.now in
@@ -278,8 +278,8 @@ called-returns t c =
     (subst (λ n. AreArguments before c.arguments.new.calls.items c.in_ok-xs.xs (coded_arguments s es (parameters_of s d) n c.args.low)) at xs))
     c.function_call.ensures
 
-pub standard-returns-then-is_empty_test : goal.standard-returns-then-is_empty_test
-standard-returns-then-is_empty_test t c =
+pub standard_call-returns-then-is_empty_test : goal.standard_call-returns-then-is_empty_test
+standard_call-returns-then-is_empty_test t c =
     let before = map coded_call c.args.calls.now.items in
     let after = c.argument_spot.new.calls.items in
     let all = c.args.es.now in
@@ -298,8 +298,8 @@ standard-returns-then-is_empty_test t c =
     (h before after (coded_variable s e low) (c.in_ok-made.ensures s scope))))
     c.empty.ensures
 
-pub standard-returns : goal.standard-returns
-standard-returns t c =
+pub standard_call-returns : goal.standard_call-returns
+standard_call-returns t c =
     let before = map coded_call c.args.calls.now.items in
     let after = c.term.new.calls.items in
     let all = c.args.es.now in
@@ -320,8 +320,8 @@ standard-returns t c =
     (h before after (coded_term s e low) (c.in_ok-made-2.ensures s scope)))))
     c.apply.ensures
 
-pub used-returns-in-Some : goal.used-returns-in-Some
-used-returns-in-Some t c =
+pub use_term-returns-in-Some : goal.use_term-returns-in-Some
+use_term-returns-in-Some t c =
     let calls = c.args.calls.now.items in
     let d = erase.designator (tree.designator c.args.d.now) in
     let after = c.function_call.new.calls.items in
@@ -349,27 +349,27 @@ argument-returns-in_ok-made-in-None t c =
     let before = map coded_call c.args.calls.now.items in
     let after = c.argument_spot-in-None.new.calls.items in
     let e = erase.expression (tree.expression c.args.e.now) in
-    if_ok c.copied.result
+    if_ok c.copy_argument.result
     (λ made h s v scope reference stands.
     let other = (rw (c.tables.ensures, c.in-None.is) at c.simple.ensures) v.type stands in
     valued before after made s.globals v c.args.at (coded_term s e c.args.low) (coded_variable s e c.args.low) v.type
     (sym reference ∙ c.if-parameter.false) refl
     (h before after s v.type (coded_term s e c.args.low) (coded_variable s e c.args.low) scope stands other (c.in_ok-made-in-None.ensures s scope)))
-    c.copied.ensures
+    c.copy_argument.ensures
 
 pub term-returns-in-Some : goal.term-returns-in-Some
 term-returns-in-Some t c =
     let before = map coded_call c.args.calls.now.items in
-    let after = c.called.new.calls.items in
+    let after = c.user_call.new.calls.items in
     let low = c.args.low in
     let d = tree.designator c.in-Call.d in
     let es = tree.expressions_of (map tree.expression c.in-Call.es.items) in
     let v : tree.expression c.args.e.now ≡ syntax.Call d es = rw c.in-Call.is (view_call c.in-Call.d c.in-Call.es) in
-    if_ok c.called.result
+    if_ok c.user_call.result
     (λ made h s scope.
     let found = called_by c.args.self.now.scope s c.in-Some.callee (callee (environment s) (erase.designator d))
     (rw c.in-Some.is at (c.in_ok-callee-in-Call.ensures s scope)) in
     seen_as before after made s low (tree.expression c.args.e.now) (syntax.Call d es) v
     (subst (IsTerm before after made) (sym (called_as s (erase.designator d) (erase.expressions es) low found.callee found.is))
     ((rw c.deref.ensures.value at h) s found.callee scope found.stands)))
-    c.called.ensures
+    c.user_call.ensures

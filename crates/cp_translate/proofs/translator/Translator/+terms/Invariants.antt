@@ -33,8 +33,8 @@ invariant-spot-loop-selector l =
     ≡ erase.designator (tree.designator l.fn.d))
 
 -- What was made so far is made of the indices so far.
-abbrev pub invariant-indexed-loop-i : goal.invariant-indexed-loop-i
-invariant-indexed-loop-i l =
+abbrev pub invariant-select_elements-loop-i : goal.invariant-select_elements-loop-i
+invariant-select_elements-loop-i l =
     (s : code.Scope) (low : ℕ) (before : List coded.CodedCall) (d : a.Designator) → IsScope l.self.scope s
     → IsPlace l.self.scope s low before l.fn.calls.items d l.fn.of
     → (p : a.Designator) × IsPlace l.self.scope s low before l.calls.items p l.made

@@ -57,9 +57,9 @@ returns-else-eq-3 c =
     let delay_known : bytes_eq c.args.name.now (codes "delay") ≡ false = search rules in
     let e = erase.expression (tree.expression c.args.e.now) in
     let old = c.args.emitter.now in
-    if_ok c.go_on.result
+    if_ok c.resume.result
     (λ entry h s scope.
-    subst (Enters old c.go_on.new.emitter entry)
+    subst (Enters old c.resume.new.emitter entry)
     (sym (continues s c.args.name.now (expression_type (environment s) e) (coded_term s e c.args.low) (coded_variable s e c.args.low) (place_of old) c.args.next display_known accept_known delay_known))
     (h s scope))
-    c.go_on.ensures
+    c.resume.ensures

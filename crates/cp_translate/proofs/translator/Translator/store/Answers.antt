@@ -12,7 +12,7 @@ use Rattle.cp_translate.proofs.translator.Translator.store.Goals as goal
 
 pub returns-in-Some : goal.returns-in-Some
 returns-in-Some c =
-    if_ok c.set.result
+    if_ok c.set_simple.result
     (λ entry h s scope.
     let d = erase.designator (tree.designator c.args.d.now) in
     let e = erase.expression (tree.expression c.args.e.now) in
@@ -20,13 +20,13 @@ returns-in-Some c =
     let t = place_type (environment s) d in
     let place = rw c.new-calls.ensures.items at (c.in_ok-to.ensures s scope) in
     let same = (rw (c.tables.ensures, c.in-Some.is) at c.simple.ensures) t place.typed in
-    stored c.args.emitter.now c.set.new.emitter entry s.globals (place_of c.args.emitter.now) c.args.next to (coded_term s e) (coded_variable s e)
+    stored c.args.emitter.now c.set_simple.new.emitter entry s.globals (place_of c.args.emitter.now) c.args.next to (coded_term s e) (coded_variable s e)
     c.in_ok-to.to.temps t (simple_of c.in-Some.simple) place.spot.temps same (h s to (coded_variable s e c.in_ok-to.to.temps) scope place.spot))
-    c.set.ensures
+    c.set_simple.ensures
 
 pub returns-in-None : goal.returns-in-None
 returns-in-None c =
-    if_ok c.copy.result
+    if_ok c.copy_words.result
     (λ entry h s scope.
     let d = erase.designator (tree.designator c.args.d.now) in
     let e = erase.expression (tree.expression c.args.e.now) in
@@ -34,6 +34,6 @@ returns-in-None c =
     let t = place_type (environment s) d in
     let place = rw c.new-calls.ensures.items at (c.in_ok-to.ensures s scope) in
     let other = (rw (c.tables.ensures, c.in-None.is) at c.simple.ensures) t place.typed in
-    stored c.args.emitter.now c.copy.new.emitter entry s.globals (place_of c.args.emitter.now) c.args.next to (coded_term s e) (coded_variable s e)
+    stored c.args.emitter.now c.copy_words.new.emitter entry s.globals (place_of c.args.emitter.now) c.args.next to (coded_term s e) (coded_variable s e)
     c.in_ok-to.to.temps t t place.spot.temps refl (h s to t (coded_term s e c.in_ok-to.to.temps) scope place.typed other place.spot))
-    c.copy.ensures
+    c.copy_words.ensures

@@ -8,7 +8,7 @@ use Rattle.cp_threaded.specs.declared.operation.Operation.TheVariants as operati
 use Rattle.cp_translate.proofs.Answered.{both_ok}
 use Rattle.cp_translate.proofs.Emitting.{entered}
 use Rattle.cp_code.specs.CodedStatements.{runs_function}
-use Rattle.cp_translate.proofs.translator.Translator.go_on.Goals as goal
+use Rattle.cp_translate.proofs.translator.Translator.resume.Goals as goal
 
 pub returns : goal.returns
 returns c =

@@ -11,7 +11,7 @@ use Rattle.cp_threaded.specs.View as view
 use Rattle.cp_threaded.specs.declared.operation.Operation.TheVariants as operation
 use Rattle.cp_translate.proofs.Answered.{both_ok}
 use Rattle.cp_translate.proofs.Emitting.{entered}
-use Rattle.cp_translate.proofs.translator.Translator.set.Goals as goal
+use Rattle.cp_translate.proofs.translator.Translator.set_simple.Goals as goal
 
 pub returns : goal.returns
 returns c =

@@ -13,7 +13,7 @@ use Rattle.cp_emit.specs.Emission.{place_of}
 use Rattle.cp_scope.specs.Places.{TypeIs}
 use Rattle.cp_translate.specs.Statements.{Enters}
 use Rattle.cp_translate.proofs.Storing.{copies}
-use Rattle.cp_translate.proofs.translator.Translator.copy.Goals as goal
+use Rattle.cp_translate.proofs.translator.Translator.copy_words.Goals as goal
 
 pub returns : goal.returns
 returns c =
