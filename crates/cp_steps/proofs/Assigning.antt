@@ -10,7 +10,6 @@ use Rattle.cp_model.specs.Environments.{Environment}
 use Rattle.cp_model.specs.Locations.{Location}
 use Rattle.cp_model.specs.Outcomes as outcomes
 use Rattle.cp_model.specs.Outcomes.{Fault, Gives, Outcome, and_then}
-use Rattle.cp_model.specs.Parts.{is_own}
 use Rattle.cp_model.specs.Places.{Place, TypedValue, within}
 use Rattle.cp_model.specs.States.{State, configuration}
 use Rattle.cp_model.specs.Stores.{Ordinal, Writes, put}
@@ -23,9 +22,9 @@ use Rattle.cp_code.specs.Programs as op
 use Rattle.cp_code.specs.Sites.{operation_at}
 use Rattle.cp_code.specs.TermsFor.{Agrees}
 use Rattle.cp_code.specs.StatementsFor.{AssignsBy}
-use Rattle.cp_steps.specs.PrivateStates.{PrivateState, go_to, private_outcome, provided, set_word, with_result}
+use Rattle.cp_steps.specs.PrivateStates.{Outside, PrivateState, go_to, private_outcome, provided, set_word, with_result}
 use Rattle.cp_steps.specs.Means.{PlaceAgrees}
-use Rattle.cp_steps.specs.Addresses.{Ground, activations, lies, seen}
+use Rattle.cp_steps.specs.Addresses.{Ground, activations, in_sight, lies, seen}
 use Rattle.cp_steps.specs.Left.{site}
 use Rattle.cp_steps.specs.PartOf.{PartOf, RunsOn}
 use Rattle.cp_steps.proofs.Doing.{Ready, known, place_here, statement_steps, value_here}
@@ -35,16 +34,16 @@ use Rattle.cp_steps.proofs.Heres.{seen_mine}
 use Rattle.cp_steps.proofs.RunningOn.{runs_moved, runs_written}
 use Rattle.cp_steps.proofs.Stepping.{Now, Stepped, faulted, went}
 
-module _ (G : Ground) (s : State) (before : List ℕ) (o : PrivateState) (i : Task) (k : List Task) (N : Now G s before o i k) where
+module _ (G : Ground) (s : State) (w : Outside) (before : List ℕ) (o : PrivateState) (i : Task) (k : List Task) (N : Now G s w before o i k) where
   -- What is to come of a value that is stored in a variable.
   abbrev pub Stores : PrivateState → (Writes → StepResult) → ℕ → BaseType → ℤ → ℤ → ℤ → ℤ → Type 0
   Stores after go n b lower upper start v =
-      (l : Location) → is_own G.p l.owner ≡ true → lies G (activations o.base o.frames (i ∷ k)) l ≡ Some (n, Simple b lower upper start)
+      (l : Location) → in_sight G l.owner ≡ true → lies G (activations o.base o.frames (i ∷ k)) l ≡ Some (n, Simple b lower upper start)
       → PartOf G (after_step s G.p (go ((l, Ordinal v) ∷ []))) before after
 
   -- The meaning and the machine store one value at one place.
   pub stores : (after : PrivateState) (go : Writes → StepResult) (b of : BaseType) (lower upper start : ℤ) (n : ℕ) (m : ℤ)
-      → (P : Outcome Place) → PlaceAgrees (seen (is_own G.p) G (activations o.base o.frames (i ∷ k))) (Simple b lower upper start) P (Ok n)
+      → (P : Outcome Place) → PlaceAgrees (seen (in_sight G) G (activations o.base o.frames (i ∷ k))) (Simple b lower upper start) P (Ok n)
       → (v : TypedValue) → Agrees of (Gives v) (Ok m)
       → Stores after go n b lower upper start m
       → PartOf G (after_step s G.p (and_then P (λ at. and_then (writes_of at.at at.type v) go))) before
@@ -55,43 +54,43 @@ module _ (G : Ground) (s : State) (before : List ℕ) (o : PrivateState) (i : Ta
       (subst (λ z. PartOf G (after_step s G.p (and_then (outcomes.provided (within lower upper z) 1 ((p.at, Ordinal z) ∷ [])) go)) before (provided (within lower upper m) o fault.Range (private_outcome after)).0) (sym (ordinal_is v m g.1))
       (by (within lower upper m)))
     where
-      there : (is_own G.p p.at.owner ≡ true) × (lies G (activations o.base o.frames (i ∷ k)) p.at ≡ Some (n, Simple b lower upper start))
-      there = seen_mine (is_own G.p) G (activations o.base o.frames (i ∷ k)) p.at (n, Simple b lower upper start) h.0
+      there : (in_sight G p.at.owner ≡ true) × (lies G (activations o.base o.frames (i ∷ k)) p.at ≡ Some (n, Simple b lower upper start))
+      there = seen_mine (in_sight G) G (activations o.base o.frames (i ∷ k)) p.at (n, Simple b lower upper start) h.0
 
       by : (t : Bool) → PartOf G (after_step s G.p (and_then (outcomes.provided t 1 ((p.at, Ordinal m) ∷ [])) go)) before (provided t o fault.Range (private_outcome after)).0
-      by false = faulted G s before o i k N 1 fault.Range refl
+      by false = faulted G s w before o i k N 1 fault.Range refl
       by true = stored p.at there.0 there.1
 
 -- An assignment of a simple value to a variable.
-pub set_steps : (G : Ground) (s : State) (before : List ℕ) (o : PrivateState) (d : a.Designator) (e : a.Expression) (env : Environment) (k : List Task)
-    → (Y : Ready G s before o (a.Assign d e) env k) (to : Spot) (lower upper : ℤ) (c : Term) (n : ℕ)
+pub set_steps : (G : Ground) (s : State) (w : Outside) (before : List ℕ) (o : PrivateState) (d : a.Designator) (e : a.Expression) (env : Environment) (k : List Task)
+    → (Y : Ready G s w before o (a.Assign d e) env k) (to : Spot) (lower upper : ℤ) (c : Term) (n : ℕ)
     → operation_at G.program o.place ≡ Some (op.Set to lower upper c n)
-    → AssignsBy (site G Y.now.on.running) (known G s before o (Do (a.Assign d e) env) k Y.now) d e (op.Set to lower upper c n) o.place Y.now.on.left.2.3.0 Y.now.on.left.2.0 Y.now.on.left.2.1
-    → Stepped G s before o
-set_steps G s before o d e env k Y to lower upper c n there h =
+    → AssignsBy (site G Y.now.on.running) (known G s w before o (Do (a.Assign d e) env) k Y.now) d e (op.Set to lower upper c n) o.place Y.now.on.left.2.3.0 Y.now.on.left.2.0 Y.now.on.left.2.1
+    → Stepped G s w before o
+set_steps G s w before o d e env k Y to lower upper c n there h =
     let N = Y.now in
     let here = N.on.running.env in
     let none = or_else_none (in_context (λ y. a.Assign y e) (call_in_designator here (a.Literal 0) d)) (in_context (a.Assign d) (first_call here (a.Literal 0) e)) Y.none in
-    statement_steps G s before o (a.Assign d e) env k Y (op.Set to lower upper c n) refl refl there refl
+    statement_steps G s w before o (a.Assign d e) env k Y (op.Set to lower upper c n) refl refl there refl
     (by _ _ _ _
-    (place_here G s before o (Do (a.Assign d e) env) k N N.sees d to (Simple h.0 lower upper h.2) o.place h.3 N.on.left.2.1 h.4 h.8 (in_context_none (λ y. a.Assign y e) (call_in_designator here (a.Literal 0) d) none.0))
-    (value_here G s before o (Do (a.Assign d e) env) k N N.sees e c h.1 h.3 N.on.left.2.3.0 h.4 N.on.running.unit.temps h.9 (in_context_none (a.Assign d) (first_call here (a.Literal 0) e) none.1)))
+    (place_here G s w before o (Do (a.Assign d e) env) k N N.sees d to (Simple h.0 lower upper h.2) o.place h.3 N.on.left.2.1 h.4 h.8 (in_context_none (λ y. a.Assign y e) (call_in_designator here (a.Literal 0) d) none.0))
+    (value_here G s w before o (Do (a.Assign d e) env) k N N.sees e c h.1 h.3 N.on.left.2.3.0 h.4 N.on.running.unit.temps h.9 (in_context_none (a.Assign d) (first_call here (a.Literal 0) e) none.1)))
   where
     goes : Writes → StepResult
     goes ws = own_step (with_writes (configuration s G.p) ws k)
 
     by : (P : Outcome Place) (r : Result ℕ machine.Fault) (O : Outcome TypedValue) (q : Result ℤ machine.Fault)
-        → PlaceAgrees (seen (is_own G.p) G (activations o.base o.frames (Do (a.Assign d e) env ∷ k))) (Simple h.0 lower upper h.2) P r → Agrees h.1 O q
+        → PlaceAgrees (seen (in_sight G) G (activations o.base o.frames (Do (a.Assign d e) env ∷ k))) (Simple h.0 lower upper h.2) P r → Agrees h.1 O q
         → PartOf G (after_step s G.p (and_then P (λ at. and_then O (λ v. and_then (writes_of at.at at.type v) goes)))) before
         (with_result o r (λ at. with_result o q (λ v. provided (within lower upper v) o fault.Range (private_outcome (go_to n (set_word o at v)))))).0
-    by (Fault i) (Err f) O q g w = faulted G s before o (Do (a.Assign d e) env) k Y.now i f g
-    by (Fault i) (Ok at) O q g w = absurd g
-    by (Gives p) (Err f) O q g w = absurd g
-    by (Gives p) (Ok at) (Fault i) (Err f) g w = faulted G s before o (Do (a.Assign d e) env) k Y.now i f w
-    by (Gives p) (Ok at) (Gives v) (Err f) g w = absurd w
-    by (Gives p) (Ok at) (Fault i) (Ok v) g w = absurd w
-    by (Gives p) (Ok at) (Gives x) (Ok v) g w =
-        stores G s before o (Do (a.Assign d e) env) k Y.now (go_to n (set_word o at v)) goes h.0 h.1 lower upper h.2 at v (Gives p) g x w
+    by (Fault i) (Err f) O q g r2 = faulted G s w before o (Do (a.Assign d e) env) k Y.now i f g
+    by (Fault i) (Ok at) O q g r2 = absurd g
+    by (Gives p) (Err f) O q g r2 = absurd g
+    by (Gives p) (Ok at) (Fault i) (Err f) g r2 = faulted G s w before o (Do (a.Assign d e) env) k Y.now i f r2
+    by (Gives p) (Ok at) (Gives v) (Err f) g r2 = absurd r2
+    by (Gives p) (Ok at) (Fault i) (Ok v) g r2 = absurd r2
+    by (Gives p) (Ok at) (Gives x) (Ok v) g r2 =
+        stores G s w before o (Do (a.Assign d e) env) k Y.now (go_to n (set_word o at v)) goes h.0 h.1 lower upper h.2 at v (Gives p) g x r2
         (λ l own is. went G s before o Y.now.part (put l (Ordinal v) s.store) (go_to n (set_word o at v)) k
         (subst (λ z. RunsOn G (put l (Ordinal v) s.store) (go_to z (set_word o at v)) k) (sym h.5)
         (runs_moved G (put l (Ordinal v) s.store) (set_word o at v) (Do (a.Assign d e) env ∷ k) k Y.now.on.left.2.0 Y.now.on.left.2.1

@@ -17,8 +17,6 @@ use Rattle.cp_model.specs.Environments.{Environment, local_variables, permanent_
 use Rattle.cp_model.specs.Invariant.{StoreInvariant}
 use Rattle.cp_model.specs.Locations.{OfActivation, root}
 use Rattle.cp_model.specs.Names.{lookup}
-use Rattle.cp_model.specs.Operators.{realtime}
-use Rattle.cp_model.specs.Parts.{is_own}
 use Rattle.cp_model.specs.States.{State}
 use Rattle.cp_model.specs.Stores.{Store, forget, put_all}
 use Rattle.cp_model.specs.Types.{GlobalScope}
@@ -35,11 +33,11 @@ use Rattle.cp_code.specs.StandsFor.{UnitStands}
 use Rattle.cp_code.specs.Starts.{started, word}
 use Rattle.cp_code.specs.StatementsFor.{PerformsBy}
 use Rattle.cp_code.specs.TermsFor.{ArgumentsFor, Knowns, nothing_known}
-use Rattle.cp_steps.specs.PrivateStates.{PrivateState}
+use Rattle.cp_steps.specs.PrivateStates.{Outside, PrivateState}
 use Rattle.cp_steps.specs.Passing.{component_called}
 use Rattle.cp_steps.specs.Calling.{Back, frame_of}
-use Rattle.cp_steps.specs.Steps.{alone, is_monitor}
-use Rattle.cp_steps.specs.Addresses.{Ground, activations, lies, scope, seen}
+use Rattle.cp_steps.specs.Steps.{is_monitor}
+use Rattle.cp_steps.specs.Addresses.{Ground, activations, in_sight, lies, scope, seen}
 use Rattle.cp_steps.specs.Left.{CallerAt, Left, held_below, kept_below, site}
 use Rattle.cp_steps.proofs.Declared.{distinct_first}
 use Rattle.cp_steps.proofs.Doing.{Ready, known}
@@ -53,8 +51,9 @@ use Rattle.cp_steps.proofs.NextCalls.{CallReady}
 use Rattle.cp_steps.proofs.Opening.{HoldsValues, opened}
 use Rattle.cp_steps.proofs.Passing.{Has, ParameterHas, parameter_at}
 use Rattle.cp_steps.proofs.StartLeaves.{IsSimple}
-use Rattle.cp_steps.proofs.Stepping.{Now, Stepped, both_step, clock_of, kernel_rests}
+use Rattle.cp_steps.proofs.Stepping.{Now, Stepped, both_step, kernel_rests}
 use Rattle.cp_steps.proofs.Targets.{target_is}
+use Rattle.cp_steps.proofs.Stacks.{own_in_whole}
 
 -- ---- parameters
 
@@ -102,7 +101,7 @@ kinds_agree env c x h = by c.of x h
 
 -- ---- what opens the activation
 
-module _ (G : Ground) (s : State) (before : List ℕ) (o : PrivateState) (i : Task) (l : List Task) (N : Now G s before o i l) (sees : Sees G (is_own G.p) s.store N.on.running.env)
+module _ (G : Ground) (s : State) (w : Outside) (before : List ℕ) (o : PrivateState) (i : Task) (l : List Task) (N : Now G s w before o i l) (sees : Sees G (in_sight G) s.store N.on.running.env)
     (k : List Task) (v : UserCall) (call : Call) (back : Back) (place kept live : ℕ) (W : Waits G o (i ∷ l) k N.on.running place kept live)
     (C : sites.Runs (site G N.on.running) (RoutineOf (system_of_callee N.on.running.env v.callee.of) v.callee.routine) kept call)
     (stands : UnitStands G.program G.texts (scope G) C.unit (RoutineOf (system_of_callee N.on.running.env v.callee.of) v.callee.routine))
@@ -110,14 +109,14 @@ module _ (G : Ground) (s : State) (before : List ℕ) (o : PrivateState) (i : Ta
   deep : depth k ≡ length (activations o.base o.frames k)
   deep = sym (depth_is G o.temps o.limit o.base (kept_below kept live o.temps N.on.running.temp) N.on.running o.frames place kept k W.left)
 
-  pub opens : Opens G s before o i l N sees k v call back place kept live C.unit
+  pub opens : Opens G s w before o i l N sees k v call back place kept live C.unit
   opens ws new len B =
       subst (λ g. Opened G (activations o.base o.frames k)
       (put_all (starting_writes (root (owner_of_call G k)) (declarations g v.callee.routine.variables)) (put_all ws (forget (owner_of_call G k) s.store))) (started (o.base + call.words) C.unit.starts new) (o.base + call.words) (record { owner = owner_of_call G k; routine = v.callee.routine })) (sym N.on.runs.globals)
       (subst (λ d. Opened G (activations o.base o.frames k)
       (put_all (starting_writes (root (OfActivation G.p d)) (declarations (scope G) v.callee.routine.variables)) (put_all ws (forget (OfActivation G.p d) s.store))) (started (o.base + call.words) C.unit.starts new) (o.base + call.words) (record { owner = OfActivation G.p d; routine = v.callee.routine })) (sym deep)
       (opened G (activations o.base o.frames k) (system_of_callee N.on.running.env v.callee.of) v.callee.routine C.unit stands (o.base + call.words) s.store ws new
-      (omega (arith, stands.1, C.fits.words, C.words, N.on.runs.words_fit, N.on.count, N.on.base, len))
+      (omega (arith, stands.1, C.fits.words, C.words, N.on.runs.words_fit, N.on.count, N.on.base, len, own_in_whole G))
       (λ x n d e. subst (λ z. ParameterHas (scope G) (lies G (activations o.base o.frames k)) d (parameter_at (OfActivation G.p z) x) (put_all ws (forget (OfActivation G.p z) s.store)) new (o.base + call.words + n)) deep (holds x n d e))
       (λ x e. subst (λ z. put_all ws (forget (OfActivation G.p z) s.store) (parameter_at (OfActivation G.p z) x) ≡ forget (OfActivation G.p z) s.store (parameter_at (OfActivation G.p z) x)) deep
       (B.names x [] (forget (owner_of_call G k) s.store) (ap (λ g. lookup x (declarations g v.callee.routine.parameters)) N.on.runs.globals ∙ e)))
@@ -129,10 +128,10 @@ module _ (G : Ground) (s : State) (before : List ℕ) (o : PrivateState) (i : Ta
 
       -- What a parameter refers to lies where the caller sees it.
       converted : (d : declared.Variable) (x : Name) (at : ℕ) (b : Bool)
-          → Has b (scope G) (seen (is_own G.p) G (activations o.base o.frames (i ∷ l))) d.type (parameter_at (owner_of_call G k) x) bound new at
+          → Has b (scope G) (seen (in_sight G) G (activations o.base o.frames (i ∷ l))) d.type (parameter_at (owner_of_call G k) x) bound new at
           → Has b (scope G) (lies G (activations o.base o.frames k)) d.type (parameter_at (owner_of_call G k) x) bound new at
       converted d x at true h =
-          (h.0, h.1, ap (λ xs. lies G xs h.0) W.same ∙ (seen_mine (is_own G.p) G (activations o.base o.frames (i ∷ l)) h.0 (natural (word new at), d.type) h.2).1)
+          (h.0, h.1, ap (λ xs. lies G xs h.0) W.same ∙ (seen_mine (in_sight G) G (activations o.base o.frames (i ∷ l)) h.0 (natural (word new at), d.type) h.2).1)
       converted d x at false h = h
 
       holds : (x : Name) (n : ℕ) (d : declared.Variable) → local_at (scope G) (result_words v.callee.routine.result) (declarations (scope G) v.callee.routine.parameters) x ≡ Some (n, d)
@@ -140,7 +139,7 @@ module _ (G : Ground) (s : State) (before : List ℕ) (o : PrivateState) (i : Ta
       holds x n d e =
           subst (λ z. ParameterHas (scope G) (lies G (activations o.base o.frames k)) d (parameter_at (owner_of_call G k) x) bound new (o.base + z + n)) (sym C.words)
           (converted d x (o.base + (site G N.on.running).words + n) d.by_reference
-          (subst (λ g. ParameterHas g (seen (is_own G.p) G (activations o.base o.frames (i ∷ l))) d (parameter_at (owner_of_call G k) x) bound new (o.base + (site G N.on.running).words + n)) N.on.runs.globals
+          (subst (λ g. ParameterHas g (seen (in_sight G) G (activations o.base o.frames (i ∷ l))) d (parameter_at (owner_of_call G k) x) bound new (o.base + (site G N.on.running).words + n)) N.on.runs.globals
           (B.parameters x n d (forget (owner_of_call G k) s.store) (ap (λ g. local_at g (result_words v.callee.routine.result) (declarations g v.callee.routine.parameters) x) N.on.runs.globals ∙ e))))
 
 -- ---- steps
@@ -157,11 +156,11 @@ parameters_distinct G g c y same h =
     (distinct_first (local_variables (scope G) c.routine) (permanent_variables (scope G) y) h))
 
 -- A function that a task calls.
-pub function_steps : (G : Ground) (s : State) (before : List ℕ) (o : PrivateState) (i : Task) (l : List Task) (N : Now G s before o i l) → Sees G (is_own G.p) s.store N.on.running.env → StoreInvariant s.store → UnitsStand G
+pub function_steps : (G : Ground) (s : State) (w : Outside) (before : List ℕ) (o : PrivateState) (i : Task) (l : List Task) (N : Now G s w before o i l) → Sees G (in_sight G) s.store N.on.running.env → StoreInvariant s.store → UnitsStand G
     → (v : UserCall) (temp after : ℕ) (base : BaseType) (C : CallReady (site G N.on.running) (held_below N.on.live o.temps N.on.running.temp) v o.place temp after base) (j : Task) → call_in_task (a.Literal 0) i ≡ Some (v, j)
     → Left G o.temps o.limit (kept_below C.low N.on.live o.temps N.on.running.temp) N.on.running o.frames o.place C.low (i ∷ l)
-    → Stepped G s before o
-function_steps G s before o i l N sees I units v temp after base C j found left = by (is_monitor C.call.target) refl
+    → Stepped G s w before o
+function_steps G s w before o i l N sees I units v temp after base C j found left = by (is_monitor C.call.target) refl
   where
     acts : action (i ∷ l) ≡ actions.Calls v (i ∷ l)
     acts = λ z. elim (found z) as (λ x. Action) [
@@ -172,14 +171,14 @@ function_steps G s before o i l N sees I units v temp after base C j found left 
     kinds : is_monitor_call v.callee ≡ is_monitor C.call.target
     kinds = kinds_agree N.on.running.env v.callee C.call.target C.calls.target
 
-    by : (b : Bool) → is_monitor C.call.target ≡ b → Stepped G s before o
-    by true e = kernel_rests G s before o i l N (actions.Calls v (i ∷ l)) (op.Function C.call temp after) acts (kinds ∙ e) C.op e
+    by : (b : Bool) → is_monitor C.call.target ≡ b → Stepped G s w before o
+    by true e = kernel_rests G s w before o i l N (actions.Calls v (i ∷ l)) (op.Function C.call temp after) acts (kinds ∙ e) C.op e
     by false e =
         let back : Back = record { place = after; into = temp } in
         let W : Waits G o (i ∷ l) (i ∷ l) N.on.running o.place C.low N.on.live = record { same = refl; means = λ store words. refl; marks = refl; left = left; kept_fit = omega (arith, C.calls.runs.fits.temps) } in
         let stands = units C.call.routine C.calls.runs.unit (RoutineOf (system_of_callee N.on.running.env v.callee.of) v.callee.routine) C.calls.runs.there C.calls.runs.text in
-        both_step G s before o i l N (actions.Calls v (i ∷ l)) (op.Function C.call temp after) acts (kinds ∙ e) C.op e
-        (invoked G s before o i l N sees (i ∷ l) v C.call back o.place C.low N.on.live C.from o.place C.low C.high
+        both_step G s w before o i l N (actions.Calls v (i ∷ l)) (op.Function C.call temp after) acts (kinds ∙ e) C.op e
+        (invoked G s w before o i l N sees (i ∷ l) v C.call back o.place C.low N.on.live C.from o.place C.low C.high
         record {
           waits = W;
           runs = C.calls.runs;
@@ -188,18 +187,18 @@ function_steps G s before o i l N sees I units v temp after base C j found left 
           made = C.made;
           where_is = C.where_is;
           distinct = parameters_distinct G N.on.running.env.globals v.callee (system_of_callee N.on.running.env v.callee.of) N.on.runs.globals stands.2;
-          target_is = target_is G s before o i l N sees I v.callee.of C.call.target C.calls.target e;
-          caller = subst (λ z. CallerAt G C.call.routine C.low N.on.live z (frame_of o (component_called G.program (alone (realtime (clock_of G s)) o) o C.call.target) back) o.place) (sym C.answers.1)
+          target_is = target_is G s w before o i l N sees I v.callee.of C.call.target C.calls.target e;
+          caller = subst (λ z. CallerAt G C.call.routine C.low N.on.live z (frame_of o (component_called G.program w o C.call.target) back) o.place) (sym C.answers.1)
               (C.call, temp, refl, C.calls.runs.temps, N.on.next_value C.call temp after C.op, C.op, refl);
-          opens = opens G s before o i l N sees (i ∷ l) v C.call back o.place C.low N.on.live W C.calls.runs stands C.from o.place C.low C.high C.arguments;
+          opens = opens G s w before o i l N sees (i ∷ l) v C.call back o.place C.low N.on.live W C.calls.runs stands C.from o.place C.low C.high C.arguments;
         })
 
 -- A procedure statement, of which no call is left in the arguments.
-pub procedure_steps : (G : Ground) (s : State) (before : List ℕ) (o : PrivateState) (d : a.Designator) (es : a.Expressions) (env : Environment) (k : List Task) → StoreInvariant s.store → UnitsStand G
-    → (Y : Ready G s before o (a.Perform d es) env k) (call : Call) (n : ℕ) → operation_at G.program o.place ≡ Some (op.Procedure call n)
-    → PerformsBy (site G Y.now.on.running) (known G s before o (Do (a.Perform d es) env) k Y.now) d es (op.Procedure call n) o.place Y.now.on.left.2.3.0 Y.now.on.left.2.0 Y.now.on.left.2.1
-    → Stepped G s before o
-procedure_steps G s before o d es env k I units Y call n there h = by (is_monitor call.target) refl
+pub procedure_steps : (G : Ground) (s : State) (w : Outside) (before : List ℕ) (o : PrivateState) (d : a.Designator) (es : a.Expressions) (env : Environment) (k : List Task) → StoreInvariant s.store → UnitsStand G
+    → (Y : Ready G s w before o (a.Perform d es) env k) (call : Call) (n : ℕ) → operation_at G.program o.place ≡ Some (op.Procedure call n)
+    → PerformsBy (site G Y.now.on.running) (known G s w before o (Do (a.Perform d es) env) k Y.now) d es (op.Procedure call n) o.place Y.now.on.left.2.3.0 Y.now.on.left.2.0 Y.now.on.left.2.1
+    → Stepped G s w before o
+procedure_steps G s w before o d es env k I units Y call n there h = by (is_monitor call.target) refl
   where
     here : Environment
     here = Y.now.on.running.env
@@ -222,8 +221,8 @@ procedure_steps G s before o d es env k I units Y call n there h = by (is_monito
     kinds : is_monitor_call h.0 ≡ is_monitor call.target
     kinds = kinds_agree Y.now.on.running.env h.0 call.target h.2.target
 
-    by : (b : Bool) → is_monitor call.target ≡ b → Stepped G s before o
-    by true e = kernel_rests G s before o (Do (a.Perform d es) env) k Y.now (actions.Calls v k) (op.Procedure call n) acts (kinds ∙ e) there e
+    by : (b : Bool) → is_monitor call.target ≡ b → Stepped G s w before o
+    by true e = kernel_rests G s w before o (Do (a.Perform d es) env) k Y.now (actions.Calls v k) (op.Procedure call n) acts (kinds ∙ e) there e
     by false e =
         let N = Y.now in
         let i = Do (a.Perform d es) env in
@@ -232,8 +231,8 @@ procedure_steps G s before o d es env k I units Y call n there h = by (is_monito
         let rest = left_kept G o.temps o.temps o.limit refl nothing_known (kept_below left.1 0 o.temps N.on.running.temp) N.on.running o.frames left.0 left.1 k (λ m q z. absurd z) (λ m q. refl) left.4 in
         let W : Waits G o (i ∷ k) k N.on.running left.0 left.1 0 = record { same = refl; means = λ store words. refl; marks = refl; left = rest; kept_fit = left.2 } in
         let stands = units call.routine h.2.runs.unit (RoutineOf (system_of_callee N.on.running.env h.0.of) h.0.routine) h.2.runs.there h.2.runs.text in
-        both_step G s before o i k N (actions.Calls v k) (op.Procedure call n) acts (kinds ∙ e) there e
-        (invoked G s before o i k N N.sees k v call back left.0 left.1 0 o.place left.3.0 left.1 h.1
+        both_step G s w before o i k N (actions.Calls v k) (op.Procedure call n) acts (kinds ∙ e) there e
+        (invoked G s w before o i k N N.sees k v call back left.0 left.1 0 o.place left.3.0 left.1 h.1
         record {
           waits = W;
           runs = h.2.runs;
@@ -242,8 +241,8 @@ procedure_steps G s before o d es env k I units Y call n there h = by (is_monito
           made = in_context_none (a.Perform d) (call_in_arguments here (a.Literal 0) es) Y.none;
           where_is = refl;
           distinct = parameters_distinct G N.on.running.env.globals h.0 (system_of_callee N.on.running.env h.0.of) N.on.runs.globals stands.2;
-          target_is = target_is G s before o i k N N.sees I h.0.of call.target h.2.target e;
-          caller = subst (λ z. CallerAt G call.routine left.1 0 z (frame_of o (component_called G.program (alone (realtime (clock_of G s)) o) o call.target) back) left.0) (sym h.3)
+          target_is = target_is G s w before o i k N N.sees I h.0.of call.target h.2.target e;
+          caller = subst (λ z. CallerAt G call.routine left.1 0 z (frame_of o (component_called G.program w o call.target) back) left.0) (sym h.3)
               (sym h.4, refl);
-          opens = opens G s before o i k N N.sees k v call back left.0 left.1 0 W h.2.runs stands o.place left.3.0 left.1 h.1 h.6;
+          opens = opens G s w before o i k N N.sees k v call back left.0 left.1 0 W h.2.runs stands o.place left.3.0 left.1 h.1 h.6;
         })

@@ -18,7 +18,7 @@ use Rattle.cp_code.specs.Sites.{Site, operation_at}
 use Rattle.cp_code.specs.Tables.{place_in}
 use Rattle.cp_code.specs.TermsFor.{Agrees, nothing_known}
 use Rattle.cp_code.specs.StatementsFor.{ArmFor, CodeFor, either}
-use Rattle.cp_steps.specs.PrivateStates.{PrivateState, go_to, with_result}
+use Rattle.cp_steps.specs.PrivateStates.{Outside, PrivateState, go_to, with_result}
 use Rattle.cp_steps.specs.Steps.{go_to_arm}
 use Rattle.cp_steps.specs.Addresses.{Ground}
 use Rattle.cp_steps.specs.Left.{site}
@@ -44,13 +44,13 @@ chosen site (a.MoreArms labels s rest) n found next low h = by (has_label site.e
     by true h go = h
     by false h go = go h
 
-pub case_steps : (G : Ground) (s : State) (before : List ℕ) (o : PrivateState) (e : a.Expression) (arms : a.Arms) (env : Environment) (k : List Task)
-    → Ready G s before o (a.Case e arms) env k → Stepped G s before o
-case_steps G s before o e arms env k Y =
+pub case_steps : (G : Ground) (s : State) (w : Outside) (before : List ℕ) (o : PrivateState) (e : a.Expression) (arms : a.Arms) (env : Environment) (k : List Task)
+    → Ready G s w before o (a.Case e arms) env k → Stepped G s w before o
+case_steps G s w before o e arms env k Y =
     let N = Y.now in
     let h = N.on.left.2.3 in
-    statement_steps G s before o (a.Case e arms) env k Y (op.Case h.1 h.3) refl refl (ap (operation_at G.program) Y.place ∙ h.4) refl
-    (by _ _ (value_here G s before o (Do (a.Case e arms) env) k N N.sees e h.1 h.2 o.place h.0 N.on.left.2.1 N.on.running.unit.temps h.5
+    statement_steps G s w before o (a.Case e arms) env k Y (op.Case h.1 h.3) refl refl (ap (operation_at G.program) Y.place ∙ h.4) refl
+    (by _ _ (value_here G s w before o (Do (a.Case e arms) env) k N N.sees e h.1 h.2 o.place h.0 N.on.left.2.1 N.on.running.unit.temps h.5
     (in_context_none (λ y. a.Case y arms) (first_call N.on.running.env (a.Literal 0) e) Y.none)))
   where
     here : Environment
@@ -63,7 +63,7 @@ case_steps G s before o e arms env k Y =
         → PartOf G (after_step s G.p (picked x)) before (go_to_arm o found).0
     arm None found h =
         subst (λ z. PartOf G (after_step s G.p (picked None)) before (go_to_arm o z).0) (sym h)
-        (faulted G s before o (Do (a.Case e arms) env) k Y.now 8 fault.NoLabel refl)
+        (faulted G s w before o (Do (a.Case e arms) env) k Y.now 8 fault.NoLabel refl)
     arm (Some st) found h =
         subst (λ z. PartOf G (after_step s G.p (picked (Some st))) before (go_to_arm o z).0) (sym h.1)
         (went G s before o Y.now.part s.store (go_to h.0 o) (push st here k)
@@ -77,6 +77,6 @@ case_steps G s before o e arms env k Y =
         subst (λ z. PartOf G (after_step s G.p (picked (chosen_arm here.globals z arms))) before (go_to_arm o (place_in Y.now.on.left.2.3.3 n)).0) (sym (ordinal_is v n h.1))
         (arm (chosen_arm here.globals n arms) (place_in Y.now.on.left.2.3.3 n)
         (chosen (site G Y.now.on.running) arms n (place_in Y.now.on.left.2.3.3 n) Y.now.on.left.2.0 Y.now.on.left.2.1 (Y.now.on.left.2.3.6 n)))
-    by (Fault n) (Err f) h = faulted G s before o (Do (a.Case e arms) env) k Y.now n f h
+    by (Fault n) (Err f) h = faulted G s w before o (Do (a.Case e arms) env) k Y.now n f h
     by (Gives v) (Err f) h = absurd h
     by (Fault n) (Ok m) h = absurd h

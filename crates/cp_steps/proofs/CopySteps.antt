@@ -10,7 +10,6 @@ use Rattle.cp_model.specs.Expressions.{place}
 use Rattle.cp_model.specs.Leaves.{leaves}
 use Rattle.cp_model.specs.Locations.{Location, Path, under}
 use Rattle.cp_model.specs.Outcomes.{Fault, Gives, Outcome, and_then}
-use Rattle.cp_model.specs.Parts.{is_own}
 use Rattle.cp_model.specs.Places.{Place, ordinal_in, read}
 use Rattle.cp_model.specs.States.{State, configuration}
 use Rattle.cp_model.specs.Stores.{Store, Writes, put_all}
@@ -26,11 +25,11 @@ use Rattle.cp_code.specs.Layout.{part}
 use Rattle.cp_code.specs.Sites.{operation_at}
 use Rattle.cp_code.specs.Starts.{block, paste, word}
 use Rattle.cp_code.specs.StatementsFor.{AssignsBy}
-use Rattle.cp_steps.specs.PrivateStates.{PrivateState, with_result}
+use Rattle.cp_steps.specs.PrivateStates.{Outside, PrivateState, with_result}
 use Rattle.cp_steps.specs.Steps.{copy_words}
 use Rattle.cp_steps.specs.Values.{place_of}
 use Rattle.cp_steps.specs.Means.{PlaceAgrees}
-use Rattle.cp_steps.specs.Addresses.{Ground, activations, lies, scope, seen}
+use Rattle.cp_steps.specs.Addresses.{Ground, activations, in_sight, lies, scope, seen}
 use Rattle.cp_steps.specs.Left.{held_below, site}
 use Rattle.cp_steps.specs.PartOf.{PartOf, RunsOn, components}
 use Rattle.cp_steps.proofs.Apart.{cell_has_word, cell_head}
@@ -43,28 +42,28 @@ use Rattle.cp_steps.proofs.Heres.{seen_mine}
 use Rattle.cp_steps.proofs.Keeping.{activation_kept, activations_kept}
 use Rattle.cp_steps.proofs.Layouts.{lies_under}
 use Rattle.cp_steps.proofs.LeafWords.{word_is_part}
-use Rattle.cp_steps.proofs.RunningOn.{runs_here, runs_moved, runs_room, runs_stacked}
-use Rattle.cp_steps.proofs.Separate.{cell_below}
+use Rattle.cp_steps.proofs.RunningOn.{runs_here, runs_moved, runs_stacked}
+use Rattle.cp_steps.proofs.Separate.{cell_inside}
 use Rattle.cp_steps.proofs.StartLeaves.{IsSimple}
 use Rattle.cp_steps.proofs.Stepping.{Stepped, clock_of, faulted, went}
 use Rattle.cp_steps.proofs.Given.{all_kept}
 
--- A plain variable lies below the top, if it has words.
-pub plain_below : (G : Ground) (store : Store) (o : PrivateState) (k : List Task) (R : RunsOn G store o k) (l : Location) (n : ℕ) (t : ResolvedType) → SoundType t → has_queues t ≡ false → is_own G.p l.owner ≡ true
+-- A plain variable lies among the words in reach, if it has words.
+pub plain_below : (G : Ground) (store : Store) (o : PrivateState) (k : List Task) (R : RunsOn G store o k) (l : Location) (n : ℕ) (t : ResolvedType) → SoundType t → has_queues t ≡ false → in_sight G l.owner ≡ true
     → lies G (activations o.base o.frames k) l ≡ Some (n, t) → 1 ≤ words (scope G) t → n + words (scope G) t ≤ length o.words
 plain_below G store o k R l n t sound free own is some =
     let p = word_is_part (scope G) t (words (scope G) t - 1) sound free (omega (arith, some)) in
     omega (
       arith,
       some,
-      runs_room G store o k R,
-      cell_below G (activations o.base o.frames k) _ (runs_stacked G store o k R) (under l p.0) (n + (words (scope G) t - 1)) p.1 0 own (cell_head (scope G) p.1 (simple_cell p.1 p.2))
+      R.count,
+      cell_inside G (activations o.base o.frames k) _ (runs_stacked G store o k R) (under l p.0) (n + (words (scope G) t - 1)) p.1 0 own (cell_head (scope G) p.1 (simple_cell p.1 p.2))
           (lies_under G (activations o.base o.frames k) l p.0 n (words (scope G) t - 1) t p.1 is p.3),
     )
 
 -- A plain variable is copied to another of its type.
 abbrev pub runs_copied : (G : Ground) (store : Store) (o : PrivateState) (k : List Task) (R : RunsOn G store o k) (to from : Location) (n b : ℕ) (t : ResolvedType)
-    → SoundType t → has_queues t ≡ false → is_own G.p to.owner ≡ true → is_own G.p from.owner ≡ true
+    → SoundType t → has_queues t ≡ false → in_sight G to.owner ≡ true → in_sight G from.owner ≡ true
     → lies G (activations o.base o.frames k) to ≡ Some (n, t) → lies G (activations o.base o.frames k) from ≡ Some (b, t)
     → RunsOn G (put_all (leaf_writes to (read_below store from) (leaves t)) store) (record o { words = paste n (block o.words b (words (scope G) t)) o.words }) k
 runs_copied G store o k R to from n b t sound free own_to own_from to_is from_is = record {
@@ -103,25 +102,25 @@ runs_copied G store o k R to from n b t sound free own_to own_from to_is from_is
         (R.data_means.cells (under from path) (b + j) u own_from (lies_under G (activations o.base o.frames k) from path b j t u from_is there))))
 
 -- An assignment of an array or a record.
-pub copy_steps : (G : Ground) (s : State) (before : List ℕ) (o : PrivateState) (d e : a.Designator) (env : Environment) (k : List Task)
-    → (Y : Ready G s before o (a.Assign d (a.Use e)) env k) (to from : Spot) (size n : ℕ)
+pub copy_steps : (G : Ground) (s : State) (w : Outside) (before : List ℕ) (o : PrivateState) (d e : a.Designator) (env : Environment) (k : List Task)
+    → (Y : Ready G s w before o (a.Assign d (a.Use e)) env k) (to from : Spot) (size n : ℕ)
     → operation_at G.program o.place ≡ Some (op.CopyWords to from size n)
-    → AssignsBy (site G Y.now.on.running) (known G s before o (Do (a.Assign d (a.Use e)) env) k Y.now) d (a.Use e) (op.CopyWords to from size n) o.place Y.now.on.left.2.3.0 Y.now.on.left.2.0 Y.now.on.left.2.1
-    → Stepped G s before o
-copy_steps G s before o d e env k Y to from size n there h =
+    → AssignsBy (site G Y.now.on.running) (known G s w before o (Do (a.Assign d (a.Use e)) env) k Y.now) d (a.Use e) (op.CopyWords to from size n) o.place Y.now.on.left.2.3.0 Y.now.on.left.2.0 Y.now.on.left.2.1
+    → Stepped G s w before o
+copy_steps G s w before o d e env k Y to from size n there h =
     let N = Y.now in
     let here = N.on.running.env in
     let none = or_else_none (in_context (λ y. a.Assign y (a.Use e)) (call_in_designator here (a.Literal 0) d)) (in_context (a.Assign d) (first_call here (a.Literal 0) (a.Use e))) Y.none in
     let used = in_context_none (a.Assign d) (first_call here (a.Literal 0) (a.Use e)) none.1 in
     let found = or_else_none (in_context a.Use (call_in_designator here (a.Literal 0) e)) (user_call here e a.NoExpression (a.Literal 0)) used in
     let first = Do (a.Assign d (a.Use e)) env in
-    statement_steps G s before o (a.Assign d (a.Use e)) env k Y (op.CopyWords to from size n) refl refl there refl
+    statement_steps G s w before o (a.Assign d (a.Use e)) env k Y (op.CopyWords to from size n) refl refl there refl
     (subst (λ O. PartOf G (after_step s G.p (and_then (place (clock_of G s) here s.store d) (λ at. and_then O (λ v. and_then (writes_of at.at at.type v) goes)))) before
-    (with_result o (place_of (view G s before o first k N) to) (λ at. with_result o (place_of (view G s before o first k N) from) (λ b. copy_words o at b size n))).0)
-    (sym (value_reads (site G N.on.running) (clock_of G s) s.store (view G s before o first k N) _ _ (runs_here G s.store o (first ∷ k) (clock_of G s) N.on N.sees) e from h.0 h.1 N.on.left.2.3.0 h.2 N.on.running.unit.temps h.9 h.11))
+    (with_result o (place_of (view G s w before o first k N) to) (λ at. with_result o (place_of (view G s w before o first k N) from) (λ b. copy_words o at b size n))).0)
+    (sym (value_reads (site G N.on.running) (clock_of G s) s.store (view G s w before o first k N) _ _ (runs_here G s.store w o (first ∷ k) (clock_of G s) N.around.clock N.on N.sees) e from h.0 h.1 N.on.left.2.3.0 h.2 N.on.running.unit.temps h.9 h.11))
     (by _ _ _ _
-    (place_here G s before o first k N N.sees d to h.0 o.place h.1 N.on.left.2.1 h.2 h.10 (in_context_none (λ y. a.Assign y (a.Use e)) (call_in_designator here (a.Literal 0) d) none.0))
-    (place_here G s before o first k N N.sees e from h.0 h.1 N.on.left.2.3.0 h.2 N.on.running.unit.temps h.11 (in_context_none a.Use (call_in_designator here (a.Literal 0) e) found.0))))
+    (place_here G s w before o first k N N.sees d to h.0 o.place h.1 N.on.left.2.1 h.2 h.10 (in_context_none (λ y. a.Assign y (a.Use e)) (call_in_designator here (a.Literal 0) d) none.0))
+    (place_here G s w before o first k N N.sees e from h.0 h.1 N.on.left.2.3.0 h.2 N.on.running.unit.temps h.11 (in_context_none a.Use (call_in_designator here (a.Literal 0) e) found.0))))
   where
     i : Task
     i = Do (a.Assign d (a.Use e)) env
@@ -130,12 +129,12 @@ copy_steps G s before o d e env k Y to from size n there h =
     goes ws = own_step (with_writes (configuration s G.p) ws k)
 
     -- The words are copied, and what comes after is left to do.
-    stored : (p q : Place) (to' from' : ℕ) → PlaceAgrees (seen (is_own G.p) G (activations o.base o.frames (i ∷ k))) h.0 (Gives p) (Ok to')
-        → PlaceAgrees (seen (is_own G.p) G (activations o.base o.frames (i ∷ k))) h.0 (Gives q) (Ok from')
+    stored : (p q : Place) (to' from' : ℕ) → PlaceAgrees (seen (in_sight G) G (activations o.base o.frames (i ∷ k))) h.0 (Gives p) (Ok to')
+        → PlaceAgrees (seen (in_sight G) G (activations o.base o.frames (i ∷ k))) h.0 (Gives q) (Ok from')
         → PartOf G (after_step s G.p (goes (leaf_writes p.at (read_below s.store q.at) (leaves h.0)))) before (copy_words o to' from' size n).0
     stored p q to' from' f g =
-        let x = seen_mine (is_own G.p) G (activations o.base o.frames (i ∷ k)) p.at (to', h.0) f.0 in
-        let y = seen_mine (is_own G.p) G (activations o.base o.frames (i ∷ k)) q.at (from', h.0) g.0 in
+        let x = seen_mine (in_sight G) G (activations o.base o.frames (i ∷ k)) p.at (to', h.0) f.0 in
+        let y = seen_mine (in_sight G) G (activations o.base o.frames (i ∷ k)) q.at (from', h.0) g.0 in
         let sized : size ≡ words (scope G) h.0 = h.7 ∙ ap (λ z. words z h.0) Y.now.on.runs.globals in
         subst (λ z. PartOf G (after_step s G.p (goes (leaf_writes p.at (read_below s.store q.at) (leaves h.0)))) before (copy_words o to' from' z n).0) (sym sized)
         (went G s before o Y.now.part (put_all (leaf_writes p.at (read_below s.store q.at) (leaves h.0)) s.store) (copy_words o to' from' (words (scope G) h.0) n).0 k
@@ -145,16 +144,16 @@ copy_steps G s before o d e env k Y to from size n there h =
         record { number = refl; input = refl; consumed = refl; output = refl; activity = refl })
 
     by : (P : Outcome Place) (r : Result ℕ machine.Fault) (Q : Outcome Place) (c : Result ℕ machine.Fault)
-        → PlaceAgrees (seen (is_own G.p) G (activations o.base o.frames (i ∷ k))) h.0 P r → PlaceAgrees (seen (is_own G.p) G (activations o.base o.frames (i ∷ k))) h.0 Q c
+        → PlaceAgrees (seen (in_sight G) G (activations o.base o.frames (i ∷ k))) h.0 P r → PlaceAgrees (seen (in_sight G) G (activations o.base o.frames (i ∷ k))) h.0 Q c
         → PartOf G (after_step s G.p (and_then P (λ at. and_then (and_then Q (λ p. Gives (read s.store p))) (λ v. and_then (writes_of at.at at.type v) goes)))) before
         (with_result o r (λ at. with_result o c (λ b. copy_words o at b size n))).0
-    by (Fault j) (Err f) Q c g w = faulted G s before o i k Y.now j f g
-    by (Fault j) (Ok at) Q c g w = absurd g
-    by (Gives p) (Err f) Q c g w = absurd g
-    by (Gives p) (Ok at) (Fault j) (Err f) g w = faulted G s before o i k Y.now j f w
-    by (Gives p) (Ok at) (Gives q) (Err f) g w = absurd w
-    by (Gives p) (Ok at) (Fault j) (Ok v) g w = absurd w
-    by (Gives p) (Ok at) (Gives q) (Ok v) g w =
+    by (Fault j) (Err f) Q c g r2 = faulted G s w before o i k Y.now j f g
+    by (Fault j) (Ok at) Q c g r2 = absurd g
+    by (Gives p) (Err f) Q c g r2 = absurd g
+    by (Gives p) (Ok at) (Fault j) (Err f) g r2 = faulted G s w before o i k Y.now j f r2
+    by (Gives p) (Ok at) (Gives q) (Err f) g r2 = absurd r2
+    by (Gives p) (Ok at) (Fault j) (Ok v) g r2 = absurd r2
+    by (Gives p) (Ok at) (Gives q) (Ok v) g r2 =
         subst (λ t. PartOf G (after_step s G.p (and_then (writes_of p.at t (read s.store q)) goes)) before (copy_words o at v size n).0) (sym g.1)
-        (subst (λ t. PartOf G (after_step s G.p (and_then (writes_of p.at h.0 (read s.store (record q { type = t }))) goes)) before (copy_words o at v size n).0) (sym w.1)
-        (subst (λ O. PartOf G (after_step s G.p (and_then O goes)) before (copy_words o at v size n).0) (sym (structure_writes p.at q.at h.0 h.0 s.store h.6.2)) (stored p q at v g w)))
+        (subst (λ t. PartOf G (after_step s G.p (and_then (writes_of p.at h.0 (read s.store (record q { type = t }))) goes)) before (copy_words o at v size n).0) (sym r2.1)
+        (subst (λ O. PartOf G (after_step s G.p (and_then O goes)) before (copy_words o at v size n).0) (sym (structure_writes p.at q.at h.0 h.0 s.store h.6.2)) (stored p q at v g r2)))

@@ -7,7 +7,6 @@ use Rattle.cp_model.specs.Declarations.{reported_members}
 use Rattle.cp_model.specs.Leaves.{Leaf, leaves}
 use Rattle.cp_model.specs.Locations.{ByName, Location, Path, under}
 use Rattle.cp_model.specs.Outcomes.{Gives}
-use Rattle.cp_model.specs.Parts.{is_own}
 use Rattle.cp_model.specs.Places.{ordinal_in}
 use Rattle.cp_model.specs.Stores.{Ordinal, Store, Value, Writes, put_all}
 use Rattle.cp_model.specs.Types.{ArrayOf, ComponentOf, GlobalScope, NoType, Queue, RecordOf, ResolvedType, Simple}
@@ -22,7 +21,7 @@ use Rattle.cp_code.specs.Starts.{block, paste, word}
 use Rattle.cp_code.proofs.Pasting.{paste_inside, paste_length, paste_outside}
 use Rattle.std.proofs.lemmas.Bool.{true≢false}
 use Rattle.cp_steps.specs.Means.{CellMeans}
-use Rattle.cp_steps.specs.Addresses.{Activation, ClassLies, Ground, activation_at, component_type, lies, scope}
+use Rattle.cp_steps.specs.Addresses.{Activation, ClassLies, Ground, activation_at, component_type, in_sight, lies, scope}
 use Rattle.cp_steps.specs.PartOf.{DataMeans}
 use Rattle.cp_steps.proofs.Apart.{InHead, IsCell, cell_has_word, cell_head}
 use Rattle.cp_steps.proofs.Bounds.{part_fits}
@@ -31,7 +30,8 @@ use Rattle.cp_steps.proofs.Holding.{reference_no_variable, result_no_variable}
 use Rattle.cp_steps.proofs.Keeping.{KeepsActivation, local_named, right_kept, right_no_variable, right_place}
 use Rattle.cp_steps.proofs.Layouts.{lies_under, same_some}
 use Rattle.cp_steps.proofs.LeafWords.{leaf_is_part, word_is_part}
-use Rattle.cp_steps.proofs.Separate.{OwnRight, cell_no_own_right, cell_no_reference, cell_no_result, separate}
+use Rattle.cp_steps.proofs.Owned.{OwnRight}
+use Rattle.cp_steps.proofs.Separate.{cell_no_own_right, cell_no_reference, cell_no_result, separate}
 use Rattle.cp_steps.proofs.Stacks.{Stacked}
 use Rattle.cp_steps.proofs.StartLeaves.{IsSimple, not_written, part_is_leaf}
 use Rattle.cp_steps.proofs.Writing.{is_cell}
@@ -168,7 +168,7 @@ inside_or_not n size i = by (nat_le n i) (nat_lt i (n + size)) refl refl
 
 -- A structured variable at `to` is changed: numbers are stored at its leaves and in its words.
 module _ (G : Ground) (xs : List Activation) (top : ℕ) (stack : Stacked G top xs) (store : Store) (old new : List ℤ) (to : Location) (n : ℕ) (t : ResolvedType) (f : Path → ℤ)
-    (sound : SoundType t) (free : has_queues t ≡ false) (own : is_own G.p to.owner ≡ true) (is : lies G xs to ≡ Some (n, t))
+    (sound : SoundType t) (free : has_queues t ≡ false) (own : in_sight G to.owner ≡ true) (is : lies G xs to ≡ Some (n, t))
     (inside : (path : Path) (k : ℕ) (u : ResolvedType) → IsSimple u → part (scope G) t path ≡ Some (k, u) → word new (n + k) ≡ f path)
     (outside : (i : ℕ) → (i < n) ⊎ (n + words (scope G) t ≤ i) → word new i ≡ word old i) where
   abbrev pub changed : Store
@@ -196,7 +196,7 @@ module _ (G : Ground) (xs : List Activation) (top : ℕ) (stack : Stacked G top 
   leaf_at : (k : ℕ) → k < words (scope G) t → (path : Path) × (u : ResolvedType) × IsSimple u × (part (scope G) t path ≡ Some (k, u)) × (lies G xs (under to path) ≡ Some (n + k, u))
   leaf_at k h = let p = word_is_part (scope G) t k sound free h in (p.0, p.1, p.2, p.3, lies_under G xs to p.0 n k t p.1 is p.3)
 
-  cell_changed : (l : Location) (i : ℕ) (w : ResolvedType) → is_own G.p l.owner ≡ true → IsCell w → lies G xs l ≡ Some (i, w) → CellMeans w (store l) (word old i) → CellMeans w (changed l) (word new i)
+  cell_changed : (l : Location) (i : ℕ) (w : ResolvedType) → in_sight G l.owner ≡ true → IsCell w → lies G xs l ≡ Some (i, w) → CellMeans w (store l) (word old i) → CellMeans w (changed l) (word new i)
   cell_changed l i w mine c there means = by (inside_or_not n (words (scope G) t) i)
     where
       by : Inside n (words (scope G) t) i ⊎ ((i < n) ⊎ (n + words (scope G) t ≤ i)) → CellMeans w (changed l) (word new i)
@@ -220,8 +220,8 @@ module _ (G : Ground) (xs : List Activation) (top : ℕ) (stack : Stacked G top 
       by (inl h) = let p = leaf_at h.0 h.1 in absurd (none p.0 h.0 p.1 p.2 p.4 (sym h.2))
 
   pub changed_keeps : KeepsGiven G store changed
-  changed_keeps at s k mine sort there =
-      rights_kept G store changed at s (λ i x v r none. not_there (under at (ByName x ∷ [])) (right_no_variable G xs at s k x mine (ClassLies sort there) none))
+  changed_keeps at s k sort there =
+      rights_kept G store changed at s (λ i x v r none. not_there (under at (ByName x ∷ [])) (right_no_variable G xs at s k x (ClassLies sort there) none))
 
   -- No mark is changed.
   mark_unwritten : (at : Location) (s : System) (k : ℕ) → lies G [] at ≡ Some (k, component_type G s) → changed at ≡ store at
@@ -232,21 +232,21 @@ module _ (G : Ground) (xs : List Activation) (top : ℕ) (stack : Stacked G top 
       = same_some (k, component_type G s) (n + p.0, p.1) (sym (lies_any G xs at _ there) ∙ (ap (lies G xs) e ∙ lies_under G xs to path n p.0 t p.1 is p.3)) in
       subst IsSimple (sym (ap (λ z. z.1) found)) p.2)
 
-  pub data_changed : DataMeans G xs (is_own G.p) store old → DataMeans G xs (is_own G.p) changed new
+  pub data_changed : DataMeans G xs (in_sight G) store old → DataMeans G xs (in_sight G) changed new
   data_changed D = record {
     cells = λ l i w mine there. cells l i w mine there (is_cell w);
     rights = λ at s k i x v mine cl r none.
         right_kept G store changed old new xs at s k i x v
-        (not_there (under at (ByName x ∷ [])) (right_no_variable G xs at s k x mine cl none), apart_word (k + i) (λ path j u simple there e. by at s k i mine path j u simple there e (right_place G xs at s k i x v mine cl r)))
+        (not_there (under at (ByName x ∷ [])) (right_no_variable G xs at s k x cl none), apart_word (k + i) (λ path j u simple there e. by at s k i mine path j u simple there e (right_place G xs at s k i x v mine cl r)))
         (D.rights at s k i x v mine cl r none);
-    given = λ at s k mine sort there set. changed_keeps at s k mine sort there (D.given at s k mine sort there (ap is_initialised (sym (mark_unwritten at s k there)) ∙ set));
+    given = λ at s k mine sort there set. changed_keeps at s k sort there (D.given at s k mine sort there (ap is_initialised (sym (mark_unwritten at s k there)) ∙ set));
   }
     where
-      cells : (l : Location) (i : ℕ) (w : ResolvedType) → is_own G.p l.owner ≡ true → lies G xs l ≡ Some (i, w) → IsCell w ⊎ ((v : Value) (z : ℤ) → CellMeans w v z) → CellMeans w (changed l) (word new i)
+      cells : (l : Location) (i : ℕ) (w : ResolvedType) → in_sight G l.owner ≡ true → lies G xs l ≡ Some (i, w) → IsCell w ⊎ ((v : Value) (z : ℤ) → CellMeans w v z) → CellMeans w (changed l) (word new i)
       cells l i w mine there (inl c) = cell_changed l i w mine c there (D.cells l i w mine there)
       cells l i w mine there (inr g) = g (changed l) (word new i)
 
-      by : (at : Location) (s : System) (k i : ℕ) → is_own G.p at.owner ≡ true → (path : Path) (j : ℕ) (u : ResolvedType) → IsSimple u → lies G xs (under to path) ≡ Some (n + j, u) → n + j ≡ k + i
+      by : (at : Location) (s : System) (k i : ℕ) → in_sight G at.owner ≡ true → (path : Path) (j : ℕ) (u : ResolvedType) → IsSimple u → lies G xs (under to path) ≡ Some (n + j, u) → n + j ≡ k + i
           → OwnRight G (k + i) ⊎ ((lies G xs at ≡ Some (k, ComponentOf s (reported_members (scope G) s))) × InHead (scope G) (ComponentOf s (reported_members (scope G) s)) i × (1 ≤ i)) → ⊥
       by at s k i mine path j u simple there e (inl r) =
           cell_no_own_right G xs top stack (under to path) (n + j) (k + i) u 0 own (cell_head (scope G) u (simple_cell u simple)) there r (omega (arith, e))

@@ -1,7 +1,7 @@
 -- Which private step comes next, and that it is the meaning's: each kind of task and of operation.
-use Rattle.std.proofs.Common.{Bool, ◌≡◌, ℕ, ℤ, List, [], ◌∷◌, true, Option, Some, None, refl, ap, sym, subst, ◌∙◌}
+use Rattle.std.proofs.Common.{Bool, List, None, Option, Some, [], ap, refl, subst, sym, true, ℕ, ℤ, ◌∙◌, ◌∷◌, ◌≡◌}
 use Rattle.std.specs.Prelude.{not, slice_get}
-use Rattle.std.proofs.lemmas.Bool.{eq-eqb, true≢false}
+use Rattle.std.proofs.lemmas.Bool.{eq-eqb}
 use Rattle.cp_model.specs.Abstract as a
 use Rattle.cp_model.specs.Abstract.{Name}
 use Rattle.cp_model.specs.Actions.{Acts, action}
@@ -11,8 +11,7 @@ use Rattle.cp_model.specs.Configurations as stage
 use Rattle.cp_model.specs.Continuations.{Do, EndBody, EndCall, EndProcess, ForNext, RepeatTest, Task, WhileTest, marked_monitors}
 use Rattle.cp_model.specs.Environments.{Environment, Frame}
 use Rattle.cp_model.specs.Invariant.{EnvironmentIn, Invariant, TaskIn, TasksInReach}
-use Rattle.cp_model.specs.Locations.{OfActivation, OfMonitor, OfProcess, Owner}
-use Rattle.cp_model.specs.Parts.{is_own}
+use Rattle.cp_model.specs.Locations.{OfActivation, Owner}
 use Rattle.cp_model.specs.Reach.{in_reach}
 use Rattle.cp_model.specs.States.{State}
 use Rattle.cp_model.proofs.StoreInvariants.{references_in_reach}
@@ -24,10 +23,10 @@ use Rattle.cp_code.specs.StandsFor.{StandsFor, UnitStands}
 use Rattle.cp_code.specs.TermsFor.{Knowns}
 use Rattle.cp_code.specs.StatementsFor.{AssignsBy, InitsBy, PerformsBy}
 use Rattle.cp_steps.specs.PrivateStates as machine
-use Rattle.cp_steps.specs.PrivateStates.{PrivateState}
+use Rattle.cp_steps.specs.PrivateStates.{Outside, PrivateState}
 use Rattle.cp_steps.specs.Steps.{is_kernel_operation}
-use Rattle.cp_steps.specs.Addresses.{Ground, scope}
-use Rattle.cp_steps.specs.Left.{Left, Running, held_below, innermost_gate, kept_below, site}
+use Rattle.cp_steps.specs.Addresses.{Ground, in_sight, scope}
+use Rattle.cp_steps.specs.Left.{Left, Running, held_below, kept_below, site}
 use Rattle.cp_steps.specs.PartOf.{PartOf, RunsOn}
 use Rattle.cp_steps.proofs.AssignCalls.{StatementAdvances}
 use Rattle.cp_steps.proofs.Assigning.{set_steps}
@@ -46,16 +45,11 @@ use Rattle.cp_steps.proofs.NextCalls.{AllMade, Calling}
 use Rattle.cp_steps.proofs.ProcessRights.{no_class_rights}
 use Rattle.cp_steps.proofs.ResultSteps.{result_steps}
 use Rattle.cp_steps.proofs.Returning.{return_steps, text_is}
-use Rattle.cp_steps.proofs.Standards.{accept_steps, continue_steps, delay_steps, display_steps, wait_steps}
+use Rattle.cp_steps.proofs.Standards.{By, accept_steps, display_steps, one, wait_steps}
 use Rattle.cp_steps.proofs.StatementCalls.{own_place, statement_next}
-use Rattle.cp_steps.proofs.Stepping.{IfPlaced, Now, Stepped, kernel_rests}
+use Rattle.cp_steps.proofs.Stepping.{Around, IfPlaced, Now, Stepped, kernel_rests}
 use Rattle.cp_steps.proofs.Testing.{cycle_steps, if_steps, repeat_steps, while_steps}
-
--- Where no monitor is entered, only what a process owns is in its reach.
-reach_own : (p : ℕ) (o : Owner) → in_reach p [] o ≡ true → is_own p o ≡ true
-reach_own p (OfProcess q) h = h
-reach_own p (OfActivation q d) h = h
-reach_own p (OfMonitor m) h = absurd (true≢false (sym h))
+use Rattle.cp_code.specs.Terms.{Spot}
 
 -- The end mark of a routine stands in the environment that runs.
 end_environment : (G : Ground) (temps : List ℤ) (limit : ℕ) (K : Knowns) (R : Running) (fs : List machine.Frame) (place low : ℕ) (env : Environment) (gate : Option ℕ) (k : List Task)
@@ -72,50 +66,53 @@ SameSort _ _ = ⊥
 other_sort : (z y : a.Sort) → z ≡ y → SameSort z z → SameSort z y
 other_sort z y e h = subst (SameSort z) e h
 
-module _ (G : Ground) (s : State) (before : List ℕ) (o : PrivateState) (F : StandsFor G.program G.setup) (texts : F.texts ≡ G.texts) (part : PartOf G s before o) (I : Invariant s) where
+-- What is in the reach of the process, as the meaning has it, is among the words in reach.
+abbrev pub Reaches : Ground → State → Type 0
+Reaches G s = (o : Owner) → in_reach G.p (marked_monitors (s.continuation G.p)) o ≡ true → in_sight G o ≡ true
+
+-- The steps that a process takes where `delay` and `continue` stand.
+pub record AtGates (G : Ground) (s : State) (w : Outside) (before : List ℕ) (o : PrivateState) : Type 0 where
+  pub delays : (x : Name) (env : Environment) (k : List Task) (d : a.Designator) (Y : Ready G s w before o (a.Perform (a.Plain x) (one (a.Use d))) env k) (queue : Spot) (n : ℕ)
+      → By G s w before o x env k (one (a.Use d)) Y (op.Delay queue n) → Stepped G s w before o
+  pub continues : (x : Name) (env : Environment) (k : List Task) (d : a.Designator) (Y : Ready G s w before o (a.Perform (a.Plain x) (one (a.Use d))) env k) (queue : Spot) (function : Bool)
+      → By G s w before o x env k (one (a.Use d)) Y (op.Continue queue function) → Stepped G s w before o
+
+module _ (G : Ground) (s : State) (w : Outside) (before : List ℕ) (o : PrivateState) (F : StandsFor G.program G.setup) (texts : F.texts ≡ G.texts) (part : PartOf G s before o) (I : Invariant s)
+    (around : Around G s w) (reaches : Reaches G s) (gates : AtGates G s w before o) where
   units : UnitsStand G
   units n u t unit text =
       subst (λ ts. UnitStands G.program ts (scope G) u t) texts (F.units n u t unit (ap (λ ts. slice_get ts n) texts ∙ text))
 
-  now_of : (i : Task) (k : List Task) (R : RunsOn G s.store o (i ∷ k)) → s.continuation G.p ≡ i ∷ k → s.status G.p ≡ stage.Ready → marked_monitors (i ∷ k) ≡ [] → o.activity ≡ machine.Running
-      → IfPlaced i (Sees G (is_own G.p) s.store R.running.env) → Now G s before o i k
-  now_of i k R left ready marks running sees = record {
-    part = part;
-    on = R;
-    left = left;
-    ready = ready;
-    marks = marks;
-    running = running;
-    gate = R.gate ∙ ap innermost_gate marks;
-    sees = sees;
-  }
+  now_of : (i : Task) (k : List Task) (R : RunsOn G s.store o (i ∷ k)) → s.continuation G.p ≡ i ∷ k → s.status G.p ≡ stage.Ready
+      → IfPlaced i (Sees G (in_sight G) s.store R.running.env) → Now G s w before o i k
+  now_of i k R left ready sees = record { part = part; on = R; left = left; ready = ready; around = around; sees = sees }
 
   -- ---- statements
 
-  assigns : (d : a.Designator) (e : a.Expression) (env : Environment) (k : List Task) (Y : Ready G s before o (a.Assign d e) env k) (x : Operation) → operation_at G.program o.place ≡ Some x
-      → AssignsBy (site G Y.now.on.running) (known G s before o (Do (a.Assign d e) env) k Y.now) d e x o.place Y.now.on.left.2.3.0 Y.now.on.left.2.0 Y.now.on.left.2.1
-      → Stepped G s before o
-  assigns d e env k Y (op.Set to lower upper c n) there h = set_steps G s before o d e env k Y to lower upper c n there h
-  assigns (a.Plain x) e env k Y (op.SetResult lower upper c n) there h = result_steps G s before o x e env k F Y lower upper c n there h
-  assigns d (a.Use e) env k Y (op.CopyWords to from size n) there h = copy_steps G s before o d e env k Y to from size n there h
+  assigns : (d : a.Designator) (e : a.Expression) (env : Environment) (k : List Task) (Y : Ready G s w before o (a.Assign d e) env k) (x : Operation) → operation_at G.program o.place ≡ Some x
+      → AssignsBy (site G Y.now.on.running) (known G s w before o (Do (a.Assign d e) env) k Y.now) d e x o.place Y.now.on.left.2.3.0 Y.now.on.left.2.0 Y.now.on.left.2.1
+      → Stepped G s w before o
+  assigns d e env k Y (op.Set to lower upper c n) there h = set_steps G s w before o d e env k Y to lower upper c n there h
+  assigns (a.Plain x) e env k Y (op.SetResult lower upper c n) there h = result_steps G s w before o x e env k F Y lower upper c n there h
+  assigns d (a.Use e) env k Y (op.CopyWords to from size n) there h = copy_steps G s w before o d e env k Y to from size n there h
   assigns d e env k Y _ there h = absurd h
 
-  performs : (d : a.Designator) (es : a.Expressions) (env : Environment) (k : List Task) (Y : Ready G s before o (a.Perform d es) env k) (x : Operation) → operation_at G.program o.place ≡ Some x
-      → PerformsBy (site G Y.now.on.running) (known G s before o (Do (a.Perform d es) env) k Y.now) d es x o.place Y.now.on.left.2.3.0 Y.now.on.left.2.0 Y.now.on.left.2.1
-      → Stepped G s before o
-  performs d es env k Y (op.Procedure call n) there h = procedure_steps G s before o d es env k I.store units Y call n there h
-  performs (a.Plain x) (a.MoreExpressions e a.NoExpression) env k Y (op.Display c as_byte n) there h = display_steps G s before o x env k e Y c as_byte n (there, h)
-  performs (a.Plain x) (a.MoreExpressions (a.Use d) a.NoExpression) env k Y (op.Accept to lower upper n) there h = accept_steps G s before o x env k d Y to lower upper n (there, h)
-  performs (a.Plain x) (a.MoreExpressions (a.Use d) a.NoExpression) env k Y (op.Delay queue n) there h = delay_steps G s before o x env k d Y queue n (there, h)
-  performs (a.Plain x) (a.MoreExpressions (a.Use d) a.NoExpression) env k Y (op.Continue queue function) there h = continue_steps G s before o x env k d Y queue function (there, h)
-  performs (a.Plain x) a.NoExpression env k Y (op.Wait n) there h = wait_steps G s before o x env k Y n (there, h)
+  performs : (d : a.Designator) (es : a.Expressions) (env : Environment) (k : List Task) (Y : Ready G s w before o (a.Perform d es) env k) (x : Operation) → operation_at G.program o.place ≡ Some x
+      → PerformsBy (site G Y.now.on.running) (known G s w before o (Do (a.Perform d es) env) k Y.now) d es x o.place Y.now.on.left.2.3.0 Y.now.on.left.2.0 Y.now.on.left.2.1
+      → Stepped G s w before o
+  performs d es env k Y (op.Procedure call n) there h = procedure_steps G s w before o d es env k I.store units Y call n there h
+  performs (a.Plain x) (a.MoreExpressions e a.NoExpression) env k Y (op.Display c as_byte n) there h = display_steps G s w before o x env k e Y c as_byte n (there, h)
+  performs (a.Plain x) (a.MoreExpressions (a.Use d) a.NoExpression) env k Y (op.Accept to lower upper n) there h = accept_steps G s w before o x env k d Y to lower upper n (there, h)
+  performs (a.Plain x) (a.MoreExpressions (a.Use d) a.NoExpression) env k Y (op.Delay queue n) there h = gates.delays x env k d Y queue n (there, h)
+  performs (a.Plain x) (a.MoreExpressions (a.Use d) a.NoExpression) env k Y (op.Continue queue function) there h = gates.continues x env k d Y queue function (there, h)
+  performs (a.Plain x) a.NoExpression env k Y (op.Wait n) there h = wait_steps G s w before o x env k Y n (there, h)
   performs d es env k Y _ there h = absurd h
 
   -- The `init` of a monitor or a process is the kernel's.
-  inits_by_kernel : (x : Name) (es : a.Expressions) (env : Environment) (k : List Task) (Y : Ready G s before o (a.Init x es) env k) (y : Operation) → operation_at G.program o.place ≡ Some y
-      → is_kernel_operation y ≡ true → (Y.now.on.left.2.3.2.system.sort ≡ a.Class → ⊥) → Stepped G s before o
+  inits_by_kernel : (x : Name) (es : a.Expressions) (env : Environment) (k : List Task) (Y : Ready G s w before o (a.Init x es) env k) (y : Operation) → operation_at G.program o.place ≡ Some y
+      → is_kernel_operation y ≡ true → (Y.now.on.left.2.3.2.system.sort ≡ a.Class → ⊥) → Stepped G s w before o
   inits_by_kernel x es env k Y y there own no_class =
-      kernel_rests G s before o (Do (a.Init x es) env) k Y.now (Acts (Do (a.Init x es) here) k) y
+      kernel_rests G s w before o (Do (a.Init x es) env) k Y.now (Acts (Do (a.Init x es) here) k) y
       (ap (λ e. action (Do (a.Init x es) e ∷ k)) Y.now.on.left.0 ∙ acts_itself (Do (a.Init x es) here) k (ap (in_context (λ z. Do z here)) Y.none) refl)
       (ap (λ (z : Option Component). not (elim z as (λ y. Bool) [ None ↦ true | Some c ↦ same_sort a.Class c.system.sort ])) Y.now.on.left.2.3.4 ∙ by Y.now.on.left.2.3.2.system.sort no_class)
       there own
@@ -128,23 +125,23 @@ module _ (G : Ground) (s : State) (before : List ℕ) (o : PrivateState) (F : St
       by a.Monitor h = refl
       by a.Process h = refl
 
-  inits : (x : Name) (es : a.Expressions) (env : Environment) (k : List Task) (Y : Ready G s before o (a.Init x es) env k) (y : Operation) → operation_at G.program o.place ≡ Some y
-      → InitsBy (site G Y.now.on.running) (known G s before o (Do (a.Init x es) env) k Y.now) Y.now.on.left.2.3.2 es y o.place Y.now.on.left.2.3.0 Y.now.on.left.2.0 Y.now.on.left.2.1
-      → Stepped G s before o
-  inits x es env k Y (op.InitClass call m) there h = init_steps G s before o x es env k I.store units Y call m there h (no_class_rights G.setup F.typed G.p)
+  inits : (x : Name) (es : a.Expressions) (env : Environment) (k : List Task) (Y : Ready G s w before o (a.Init x es) env k) (y : Operation) → operation_at G.program o.place ≡ Some y
+      → InitsBy (site G Y.now.on.running) (known G s w before o (Do (a.Init x es) env) k Y.now) Y.now.on.left.2.3.2 es y o.place Y.now.on.left.2.3.0 Y.now.on.left.2.0 Y.now.on.left.2.1
+      → Stepped G s w before o
+  inits x es env k Y (op.InitClass call m) there h = init_steps G s w before o x es env k I.store units Y call m there h (no_class_rights G F.typed)
   inits x es env k Y (op.InitMonitor call m) there h = inits_by_kernel x es env k Y (op.InitMonitor call m) there refl (λ e. other_sort a.Class a.Monitor (sym e ∙ h.0) tt)
   inits x es env k Y (op.InitProcess r xs count m) there h = inits_by_kernel x es env k Y (op.InitProcess r xs count m) there refl (λ e. other_sort a.Class a.Process (sym e ∙ h.0) tt)
   inits x es env k Y _ there h = absurd h
 
-  statement_steps : (st : a.Statement) (env : Environment) (k : List Task) → Ready G s before o st env k → Stepped G s before o
+  statement_steps : (st : a.Statement) (env : Environment) (k : List Task) → Ready G s w before o st env k → Stepped G s w before o
   statement_steps (a.Assign d e) env k Y =
       assigns d e env k Y Y.now.on.left.2.3.1 (ap (operation_at G.program) Y.place ∙ Y.now.on.left.2.3.2) Y.now.on.left.2.3.3
   statement_steps (a.Perform d es) env k Y =
       performs d es env k Y Y.now.on.left.2.3.1 (ap (operation_at G.program) Y.place ∙ Y.now.on.left.2.3.2) Y.now.on.left.2.3.3
-  statement_steps (a.If e t u) env k Y = if_steps G s before o e t u env k Y
-  statement_steps (a.Case e arms) env k Y = case_steps G s before o e arms env k Y
-  statement_steps (a.For x down e f st) env k Y = for_steps G s before o x down e f st env k Y
-  statement_steps (a.Cycle st) env k Y = cycle_steps G s before o st env k Y
+  statement_steps (a.If e t u) env k Y = if_steps G s w before o e t u env k Y
+  statement_steps (a.Case e arms) env k Y = case_steps G s w before o e arms env k Y
+  statement_steps (a.For x down e f st) env k Y = for_steps G s w before o x down e f st env k Y
+  statement_steps (a.Cycle st) env k Y = cycle_steps G s w before o st env k Y
   statement_steps (a.Init x es) env k Y =
       inits x es env k Y Y.now.on.left.2.3.1 (ap (operation_at G.program) Y.place ∙ Y.now.on.left.2.3.3) Y.now.on.left.2.3.5
   statement_steps a.Nothing env k Y = absurd Y.now.on.left.1
@@ -152,54 +149,54 @@ module _ (G : Ground) (s : State) (before : List ℕ) (o : PrivateState) (F : St
   statement_steps (a.While e st) env k Y = absurd Y.now.on.left.1
   statement_steps (a.Repeat st e) env k Y = absurd Y.now.on.left.1
 
-  do_steps : (st : a.Statement) (env : Environment) (k : List Task) → Now G s before o (Do st env) k → Stepped G s before o
+  do_steps : (st : a.Statement) (env : Environment) (k : List Task) → Now G s w before o (Do st env) k → Stepped G s w before o
   do_steps st env k N =
-      by (statement_next (site G N.on.running) (known G s before o (Do st env) k N) st o.place N.on.left.2.0 N.on.left.2.1 N.on.left.1 N.on.left.2.3)
+      by (statement_next (site G N.on.running) (known G s w before o (Do st env) k N) st o.place N.on.left.2.0 N.on.left.2.1 N.on.left.1 N.on.left.2.3)
     where
-      by : StatementAdvances (site G N.on.running) (known G s before o (Do st env) k N) st o.place
-          (own_place (site G N.on.running) (known G s before o (Do st env) k N) st o.place N.on.left.2.0 N.on.left.2.1 N.on.left.2.3) N.on.left.2.0 N.on.left.2.1
-          → Stepped G s before o
+      by : StatementAdvances (site G N.on.running) (known G s w before o (Do st env) k N) st o.place
+          (own_place (site G N.on.running) (known G s w before o (Do st env) k N) st o.place N.on.left.2.0 N.on.left.2.1 N.on.left.2.3) N.on.left.2.0 N.on.left.2.1
+          → Stepped G s w before o
       by (AllMade p q r) = statement_steps st env k (record { now = N; place = p; none = q (a.Literal 0) })
       by (Calling C) =
-          function_steps G s before o (Do st env) k N N.sees I.store units C.user C.temp C.after C.base C.ready (Do (C.fill (a.Literal 0)) env)
+          function_steps G s w before o (Do st env) k N N.sees I.store units C.user C.temp C.after C.base C.ready (Do (C.fill (a.Literal 0)) env)
           (ap (λ e. in_context (λ y. Do y env) (call_in_statement e (a.Literal 0) st)) N.on.left.0 ∙ ap (in_context (λ y. Do y env)) (C.found (a.Literal 0)))
           (let h = N.on.left in
-          left_kept G o.temps o.temps o.limit refl (known G s before o (Do st env) k N) (kept_below C.ready.low N.on.live o.temps N.on.running.temp) N.on.running o.frames o.place C.ready.low (Do st env ∷ k)
+          left_kept G o.temps o.temps o.limit refl (known G s w before o (Do st env) k N) (kept_below C.ready.low N.on.live o.temps N.on.running.temp) N.on.running o.frames o.place C.ready.low (Do st env ∷ k)
           (held_within o.temps N.on.running.temp C.ready.low N.on.live) (λ n q. refl) (h.0, h.1, (h.2.0, h.2.1, C.keeps, h.2.3, h.2.4)))
 
-  while_does : (now e : a.Expression) (st : a.Statement) (env : Environment) (k : List Task) → Now G s before o (WhileTest now e st env) k → Stepped G s before o
+  while_does : (now e : a.Expression) (st : a.Statement) (env : Environment) (k : List Task) → Now G s w before o (WhileTest now e st env) k → Stepped G s w before o
   while_does now e st env k N =
-      by (term_next (site G N.on.running) (known G s before o (WhileTest now e st env) k N) now N.on.left.1.3.term N.on.left.1.3.base o.place N.on.left.1.3.last N.on.left.1.1 N.on.running.unit.temps N.on.left.1.3.rest)
+      by (term_next (site G N.on.running) (known G s w before o (WhileTest now e st env) k N) now N.on.left.1.3.term N.on.left.1.3.base o.place N.on.left.1.3.last N.on.left.1.1 N.on.running.unit.temps N.on.left.1.3.rest)
     where
-      by : TermAdvances (site G N.on.running) (known G s before o (WhileTest now e st env) k N) now N.on.left.1.3.term N.on.left.1.3.base o.place N.on.left.1.3.last N.on.left.1.1 N.on.running.unit.temps
-          → Stepped G s before o
-      by (AllMade p q r) = while_steps G s before o now e st env k N p (q (a.Literal 0))
+      by : TermAdvances (site G N.on.running) (known G s w before o (WhileTest now e st env) k N) now N.on.left.1.3.term N.on.left.1.3.base o.place N.on.left.1.3.last N.on.left.1.1 N.on.running.unit.temps
+          → Stepped G s w before o
+      by (AllMade p q r) = while_steps G s w before o now e st env k N p (q (a.Literal 0))
       by (Calling C) =
-          function_steps G s before o (WhileTest now e st env) k N N.sees I.store units C.user C.temp C.after C.base C.ready (WhileTest (C.fill (a.Literal 0)) e st env)
+          function_steps G s w before o (WhileTest now e st env) k N N.sees I.store units C.user C.temp C.after C.base C.ready (WhileTest (C.fill (a.Literal 0)) e st env)
           (ap (λ z. in_context (λ y. WhileTest y e st env) (first_call z (a.Literal 0) now)) N.on.left.0 ∙ ap (in_context (λ y. WhileTest y e st env)) (C.found (a.Literal 0)))
           (let h = N.on.left in
-          left_kept G o.temps o.temps o.limit refl (known G s before o (WhileTest now e st env) k N) (kept_below C.ready.low N.on.live o.temps N.on.running.temp) N.on.running o.frames o.place C.ready.low (WhileTest now e st env ∷ k)
+          left_kept G o.temps o.temps o.limit refl (known G s w before o (WhileTest now e st env) k N) (kept_below C.ready.low N.on.live o.temps N.on.running.temp) N.on.running o.frames o.place C.ready.low (WhileTest now e st env ∷ k)
           (held_within o.temps N.on.running.temp C.ready.low N.on.live) (λ n q. refl) (h.0, (h.1.0, h.1.1, C.keeps, h.1.3, h.1.4)))
 
-  repeat_does : (now : a.Expression) (st : a.Statement) (e : a.Expression) (env : Environment) (k : List Task) → Now G s before o (RepeatTest now st e env) k → Stepped G s before o
+  repeat_does : (now : a.Expression) (st : a.Statement) (e : a.Expression) (env : Environment) (k : List Task) → Now G s w before o (RepeatTest now st e env) k → Stepped G s w before o
   repeat_does now st e env k N =
-      by (term_next (site G N.on.running) (known G s before o (RepeatTest now st e env) k N) now N.on.left.1.3.term N.on.left.1.3.base o.place N.on.left.1.3.last N.on.left.1.1 N.on.running.unit.temps N.on.left.1.3.rest)
+      by (term_next (site G N.on.running) (known G s w before o (RepeatTest now st e env) k N) now N.on.left.1.3.term N.on.left.1.3.base o.place N.on.left.1.3.last N.on.left.1.1 N.on.running.unit.temps N.on.left.1.3.rest)
     where
-      by : TermAdvances (site G N.on.running) (known G s before o (RepeatTest now st e env) k N) now N.on.left.1.3.term N.on.left.1.3.base o.place N.on.left.1.3.last N.on.left.1.1 N.on.running.unit.temps
-          → Stepped G s before o
-      by (AllMade p q r) = repeat_steps G s before o now st e env k N p (q (a.Literal 0))
+      by : TermAdvances (site G N.on.running) (known G s w before o (RepeatTest now st e env) k N) now N.on.left.1.3.term N.on.left.1.3.base o.place N.on.left.1.3.last N.on.left.1.1 N.on.running.unit.temps
+          → Stepped G s w before o
+      by (AllMade p q r) = repeat_steps G s w before o now st e env k N p (q (a.Literal 0))
       by (Calling C) =
-          function_steps G s before o (RepeatTest now st e env) k N N.sees I.store units C.user C.temp C.after C.base C.ready (RepeatTest (C.fill (a.Literal 0)) st e env)
+          function_steps G s w before o (RepeatTest now st e env) k N N.sees I.store units C.user C.temp C.after C.base C.ready (RepeatTest (C.fill (a.Literal 0)) st e env)
           (ap (λ z. in_context (λ y. RepeatTest y st e env) (first_call z (a.Literal 0) now)) N.on.left.0 ∙ ap (in_context (λ y. RepeatTest y st e env)) (C.found (a.Literal 0)))
           (let h = N.on.left in
-          left_kept G o.temps o.temps o.limit refl (known G s before o (RepeatTest now st e env) k N) (kept_below C.ready.low N.on.live o.temps N.on.running.temp) N.on.running o.frames o.place C.ready.low (RepeatTest now st e env ∷ k)
+          left_kept G o.temps o.temps o.limit refl (known G s w before o (RepeatTest now st e env) k N) (kept_below C.ready.low N.on.live o.temps N.on.running.temp) N.on.running o.frames o.place C.ready.low (RepeatTest now st e env ∷ k)
           (held_within o.temps N.on.running.temp C.ready.low N.on.live) (λ n q. refl) (h.0, (h.1.0, h.1.1, C.keeps, h.1.3, h.1.4)))
 
   -- ---- tasks
 
-  return_does : (env : Environment) (gate : Option ℕ) (k : List Task) → Now G s before o (EndCall env gate) k → Stepped G s before o
+  return_does : (env : Environment) (gate : Option ℕ) (k : List Task) → Now G s w before o (EndCall env gate) k → Stepped G s w before o
   return_does env gate k N =
-      return_steps G s before o env gate k N
+      return_steps G s w before o env gate k N
       (λ f t is result. names f t (text_is N.on.running.text N.on.running.env.frame f (ap (λ (y : Environment). y.frame) (sym here) ∙ is) N.on.runs.frame) result)
     where
       here : env ≡ N.on.running.env
@@ -211,38 +208,30 @@ module _ (G : Ground) (s : State) (before : List ℕ) (o : PrivateState) (F : St
           no_local_result (scope G) y.0 f.routine t stands.2 result
 
   -- What the process may see, where the task stands.
-  sees_in : (R : Running) (env : Environment) (ms : List ℕ) → env ≡ R.env → marked_monitors (s.continuation G.p) ≡ [] → ms ≡ [] → EnvironmentIn (in_reach G.p ms) env → Sees G (is_own G.p) s.store R.env
-  sees_in R env ms is marks none there = record {
+  sees_in : (R : Running) (env : Environment) (k : List Task) → env ≡ R.env → s.continuation G.p ≡ k → EnvironmentIn (in_reach G.p (marked_monitors k)) env → Sees G (in_sight G) s.store R.env
+  sees_in R env k is left there = record {
     component =
-        reach_own G.p R.env.component.owner
-        (ap (λ (y : Environment). in_reach G.p [] y.component.owner) (sym is) ∙ (ap (λ z. in_reach G.p z env.component.owner) (sym none) ∙ there.component));
-    activations = λ d. eq-eqb G.p G.p refl;
-    references = λ l j d owner holds.
-        reach_own G.p j.owner (ap (λ z. in_reach G.p z j.owner) (sym marks) ∙ references_in_reach s G.p d l j I owner holds);
+        reaches R.env.component.owner
+        (ap (λ z. in_reach G.p (marked_monitors z) R.env.component.owner) left
+        ∙ (ap (λ (y : Environment). in_reach G.p (marked_monitors k) y.component.owner) (sym is) ∙ there.component));
+    activations = λ d. reaches (OfActivation G.p d) (eq-eqb G.p G.p refl);
+    references = λ l j d owner holds. reaches j.owner (references_in_reach s G.p d l j I owner holds);
   }
 
-  -- Each kind of task of a ready process that holds no gate.
-  pub ready_steps : (k : List Task) → s.continuation G.p ≡ k → s.status G.p ≡ stage.Ready → marked_monitors k ≡ [] → o.activity ≡ machine.Running → RunsOn G s.store o k → Stepped G s before o
-  ready_steps [] left ready marks running R = absurd R.left
-  ready_steps (i ∷ k) left ready marks running R = by i R left marks ((subst (TasksInReach G.p) left (I.continuations G.p).tasks).0)
+  -- Each kind of task of a ready process.
+  pub ready_steps : (k : List Task) → s.continuation G.p ≡ k → s.status G.p ≡ stage.Ready → RunsOn G s.store o k → Stepped G s w before o
+  ready_steps [] left ready R = absurd R.left
+  ready_steps (i ∷ k) left ready R = by i R left ((subst (TasksInReach G.p) left (I.continuations G.p).tasks).0)
     where
-      none : (i : Task) → s.continuation G.p ≡ i ∷ k → marked_monitors (i ∷ k) ≡ [] → marked_monitors (s.continuation G.p) ≡ []
-      none i left marks = ap marked_monitors left ∙ marks
-
-      by : (i : Task) (R : RunsOn G s.store o (i ∷ k)) → s.continuation G.p ≡ i ∷ k → marked_monitors (i ∷ k) ≡ []
-          → TaskIn (in_reach G.p (marked_monitors (i ∷ k))) i → Stepped G s before o
-      by (Do st env) R left marks there =
-          do_steps st env k (now_of (Do st env) k R left ready marks running (sees_in R.running env (marked_monitors (Do st env ∷ k)) R.left.0 (none (Do st env) left marks) marks there))
-      by (WhileTest now e st env) R left marks there =
-          while_does now e st env k (now_of (WhileTest now e st env) k R left ready marks running (sees_in R.running env (marked_monitors (WhileTest now e st env ∷ k)) R.left.0 (none (WhileTest now e st env) left marks) marks there))
-      by (RepeatTest now st e env) R left marks there =
-          repeat_does now st e env k (now_of (RepeatTest now st e env) k R left ready marks running (sees_in R.running env (marked_monitors (RepeatTest now st e env ∷ k)) R.left.0 (none (RepeatTest now st e env) left marks) marks there))
-      by (ForNext x down n last st env) R left marks there =
-          for_next_steps G s before o x down n last st env k
-          (now_of (ForNext x down n last st env) k R left ready marks running (sees_in R.running env (marked_monitors (ForNext x down n last st env ∷ k)) R.left.0 (none (ForNext x down n last st env) left marks) marks there))
-      by (EndCall env gate) R left marks there =
+      by : (i : Task) (R : RunsOn G s.store o (i ∷ k)) → s.continuation G.p ≡ i ∷ k → TaskIn (in_reach G.p (marked_monitors (i ∷ k))) i → Stepped G s w before o
+      by (Do st env) R left there = do_steps st env k (now_of (Do st env) k R left ready (sees_in R.running env (Do st env ∷ k) R.left.0 left there))
+      by (WhileTest now e st env) R left there = while_does now e st env k (now_of (WhileTest now e st env) k R left ready (sees_in R.running env (WhileTest now e st env ∷ k) R.left.0 left there))
+      by (RepeatTest now st e env) R left there = repeat_does now st e env k (now_of (RepeatTest now st e env) k R left ready (sees_in R.running env (RepeatTest now st e env ∷ k) R.left.0 left there))
+      by (ForNext x down n last st env) R left there =
+          for_next_steps G s w before o x down n last st env k (now_of (ForNext x down n last st env) k R left ready (sees_in R.running env (ForNext x down n last st env ∷ k) R.left.0 left there))
+      by (EndCall env gate) R left there =
           return_does env gate k
-          (now_of (EndCall env gate) k R left ready marks running
-          (sees_in R.running env (marked_monitors (EndCall env gate ∷ k)) (end_environment G o.temps o.limit (held_below R.live o.temps R.running.temp) R.running o.frames o.place R.running.unit.temps env gate k R.left) (none (EndCall env gate) left marks) marks there))
-      by (EndBody gate) R left marks there = body_ends G s before o gate k (now_of (EndBody gate) k R left ready marks running tt)
-      by EndProcess R left marks there = process_ends G s before o k (now_of EndProcess k R left ready marks running tt)
+          (now_of (EndCall env gate) k R left ready
+          (sees_in R.running env (EndCall env gate ∷ k) (end_environment G o.temps o.limit (held_below R.live o.temps R.running.temp) R.running o.frames o.place R.running.unit.temps env gate k R.left) left there))
+      by (EndBody gate) R left there = body_ends G s w before o gate k (now_of (EndBody gate) k R left ready tt)
+      by EndProcess R left there = process_ends G s w before o k (now_of EndProcess k R left ready tt)

@@ -7,8 +7,6 @@ use Rattle.cp_model.specs.Calls.{call_in_designator, call_in_statement, call_in_
 use Rattle.cp_model.specs.Continuations.{Do, Task}
 use Rattle.cp_model.specs.Environments.{Environment}
 use Rattle.cp_model.specs.Expressions.{place, value}
-use Rattle.cp_model.specs.Operators.{realtime}
-use Rattle.cp_model.specs.Parts.{is_own}
 use Rattle.cp_model.specs.States.{State, configuration, context}
 use Rattle.cp_model.specs.StatementSteps.{execute}
 use Rattle.cp_model.specs.Turns.{after_step}
@@ -17,12 +15,12 @@ use Rattle.cp_code.specs.Terms.{Spot, Term}
 use Rattle.cp_code.specs.Programs.{Operation}
 use Rattle.cp_code.specs.Sites.{operation_at}
 use Rattle.cp_code.specs.TermsFor.{Agrees, Knowns, SpotFor, TermFor}
-use Rattle.cp_steps.specs.PrivateStates.{PrivateState, go_to, view_of}
+use Rattle.cp_steps.specs.PrivateStates.{Outside, PrivateState, go_to, view_of}
 use Rattle.cp_steps.specs.Steps as steps
 use Rattle.cp_steps.specs.Steps.{act, alone}
 use Rattle.cp_steps.specs.Values.{View, place_of, value_of}
 use Rattle.cp_steps.specs.Means.{PlaceAgrees}
-use Rattle.cp_steps.specs.Addresses.{Ground, activations, seen}
+use Rattle.cp_steps.specs.Addresses.{Ground, activations, in_sight, seen}
 use Rattle.cp_steps.specs.Left.{held_below, site}
 use Rattle.cp_steps.specs.PartOf.{PartOf, RunsOn}
 use Rattle.cp_steps.proofs.Evaluates.{place_agrees, value_agrees}
@@ -40,40 +38,40 @@ acts_itself i k none procedure =
     ])
     ∙ λ j. elim (procedure j) as (λ x. Action) [ Some u ↦ Calls u k | None ↦ Acts i k ]
 
-module _ (G : Ground) (s : State) (before : List ℕ) (o : PrivateState) (i : Task) (k : List Task) (N : Now G s before o i k) where
+module _ (G : Ground) (s : State) (w : Outside) (before : List ℕ) (o : PrivateState) (i : Task) (k : List Task) (N : Now G s w before o i k) where
   abbrev pub known : Knowns
   known = held_below N.on.live o.temps N.on.running.temp
 
   abbrev pub view : View
-  view = view_of (alone (realtime (clock_of G s)) o) o
+  view = view_of w o
 
-  pub value_here : Sees G (is_own G.p) s.store N.on.running.env → (e : a.Expression) (c : Term) (b : BaseType) (at next low high : ℕ) → TermFor (site G N.on.running) known e c b at next low high
+  pub value_here : Sees G (in_sight G) s.store N.on.running.env → (e : a.Expression) (c : Term) (b : BaseType) (at next low high : ℕ) → TermFor (site G N.on.running) known e c b at next low high
       → first_call N.on.running.env (a.Literal 0) e ≡ None → Agrees b (value (clock_of G s) N.on.running.env s.store e) (value_of view c)
   value_here sees e c b at next low high h n =
-      value_agrees (site G N.on.running) (clock_of G s) s.store view _ _ (runs_here G s.store o (i ∷ k) (clock_of G s) N.on sees) e c b at next low high h n
+      value_agrees (site G N.on.running) (clock_of G s) s.store view _ _ (runs_here G s.store w o (i ∷ k) (clock_of G s) N.around.clock N.on sees) e c b at next low high h n
 
-  pub place_here : Sees G (is_own G.p) s.store N.on.running.env → (d : a.Designator) (c : Spot) (t : ResolvedType) (at next low high : ℕ) → SpotFor (site G N.on.running) known d c t at next low high
+  pub place_here : Sees G (in_sight G) s.store N.on.running.env → (d : a.Designator) (c : Spot) (t : ResolvedType) (at next low high : ℕ) → SpotFor (site G N.on.running) known d c t at next low high
       → call_in_designator N.on.running.env (a.Literal 0) d ≡ None
-      → PlaceAgrees (seen (is_own G.p) G (activations o.base o.frames (i ∷ k))) t (place (clock_of G s) N.on.running.env s.store d) (place_of view c)
+      → PlaceAgrees (seen (in_sight G) G (activations o.base o.frames (i ∷ k))) t (place (clock_of G s) N.on.running.env s.store d) (place_of view c)
   place_here sees d c t at next low high h n =
-      place_agrees (site G N.on.running) (clock_of G s) s.store view _ _ (runs_here G s.store o (i ∷ k) (clock_of G s) N.on sees) d c t at next low high h n
+      place_agrees (site G N.on.running) (clock_of G s) s.store view _ _ (runs_here G s.store w o (i ∷ k) (clock_of G s) N.around.clock N.on sees) d c t at next low high h n
 
 -- A statement of which no call is left to be made.
-pub record Ready (G : Ground) (s : State) (before : List ℕ) (o : PrivateState) (st : a.Statement) (env : Environment) (k : List Task) : Type 0 where
-  pub now : Now G s before o (Do st env) k
+pub record Ready (G : Ground) (s : State) (w : Outside) (before : List ℕ) (o : PrivateState) (st : a.Statement) (env : Environment) (k : List Task) : Type 0 where
+  pub now : Now G s w before o (Do st env) k
   pub place : o.place ≡ own_place (site G now.on.running) (held_below now.on.live o.temps now.on.running.temp) st o.place now.on.left.2.0 now.on.left.2.1 now.on.left.2.3
   pub none : call_in_statement now.on.running.env (a.Literal 0) st ≡ None
 
-module _ (G : Ground) (s : State) (before : List ℕ) (o : PrivateState) (st : a.Statement) (env : Environment) (k : List Task) (Y : Ready G s before o st env k) where
+module _ (G : Ground) (s : State) (w : Outside) (before : List ℕ) (o : PrivateState) (st : a.Statement) (env : Environment) (k : List Task) (Y : Ready G s w before o st env k) where
   abbrev pub here : Environment
   here = Y.now.on.running.env
 
   pub statement_steps : (y : Operation) → procedure_call (Do st here) ≡ None → is_kernel_action (Acts (Do st here) k) ≡ false
       → operation_at G.program o.place ≡ Some y → steps.is_kernel_operation y ≡ false
-      → PartOf G (after_step s G.p (execute (context G.setup s G.p) (configuration s G.p) here k st)) before (act G.program (alone (realtime (clock_of G s)) o) o y).0
-      → Stepped G s before o
+      → PartOf G (after_step s G.p (execute (context G.setup s G.p) (configuration s G.p) here k st)) before (act G.program w o y).0
+      → Stepped G s w before o
   statement_steps y procedure private there own P =
-      both_step G s before o (Do st env) k Y.now (Acts (Do st here) k) y
+      both_step G s w before o (Do st env) k Y.now (Acts (Do st here) k) y
       (ap (λ e. action (Do st e ∷ k)) Y.now.on.left.0 ∙ acts_itself (Do st here) k (ap (in_context (λ z. Do z here)) Y.none) procedure)
       private there own P
 

@@ -1,27 +1,26 @@
 -- Whole private steps at the ends of bodies: of a class, behind its `init`, and of the process.
-use Rattle.std.proofs.Common.{ℕ, List, [], ◌∷◌, Option, Some, None, refl, ap, sym, subst, ◌∙◌, arith}
+use Rattle.std.proofs.Common.{List, Option, [], ap, arith, refl, subst, sym, ℕ, ◌∙◌, ◌∷◌}
 use Rattle.cp_model.specs.Actions.{Acts}
 use Rattle.cp_model.specs.Configurations as stage
 use Rattle.cp_model.specs.Configurations.{Ends, with_continuation}
-use Rattle.cp_model.specs.Continuations.{EndBody, EndProcess, Task, marked_monitors}
-use Rattle.cp_model.specs.Parts.{is_own, private_status}
+use Rattle.cp_model.specs.Continuations.{EndBody, EndProcess, Task}
+use Rattle.cp_model.specs.Parts.{private_status}
 use Rattle.cp_model.specs.States.{State}
 use Rattle.cp_model.proofs.StateMaps.{with_at_here}
 use Rattle.cp_code.specs.Programs as op
 use Rattle.cp_steps.specs.PrivateStates as private
-use Rattle.cp_steps.specs.PrivateStates.{PrivateState}
+use Rattle.cp_steps.specs.PrivateStates.{Outside, PrivateState}
 use Rattle.cp_steps.specs.Calling.{leave}
-use Rattle.cp_steps.specs.Addresses.{Ground, activations}
+use Rattle.cp_steps.specs.Addresses.{Ground, activations, in_sight}
 use Rattle.cp_steps.specs.PartOf.{DataMeans}
 use Rattle.cp_steps.proofs.Doing.{acts_itself}
-use Rattle.cp_steps.proofs.Finding.{cons_is_not_nil}
 use Rattle.cp_steps.proofs.RunningOn.{left_afresh}
-use Rattle.cp_steps.proofs.Stepping.{Now, Stepped, both_step, went}
+use Rattle.cp_steps.proofs.Stepping.{Now, Stepped, both_step, gate_left, went}
 
 -- The end of a process.
-pub process_ends : (G : Ground) (s : State) (before : List ℕ) (o : PrivateState) (k : List Task) → Now G s before o EndProcess k → Stepped G s before o
-process_ends G s before o k N =
-    both_step G s before o EndProcess k N (Acts EndProcess k) op.End (acts_itself EndProcess k refl refl) refl N.on.left.3 refl
+pub process_ends : (G : Ground) (s : State) (w : Outside) (before : List ℕ) (o : PrivateState) (k : List Task) → Now G s w before o EndProcess k → Stepped G s w before o
+process_ends G s w before o k N =
+    both_step G s w before o EndProcess k N (Acts EndProcess k) op.End (acts_itself EndProcess k refl refl) refl N.on.left.3 refl
     record {
       number = N.part.number;
       input = N.part.input;
@@ -29,21 +28,21 @@ process_ends G s before o k N =
       transcript = with_at_here G.p (s.transcript G.p) s.transcript ∙ N.part.transcript;
       status = ap private_status (with_at_here G.p stage.Ended s.status);
       count = N.on.count;
-      data_means = λ begun. subst (λ x. DataMeans G (activations o.base o.frames x) (is_own G.p) s.store o.words) (sym (with_at_here G.p k s.continuation)) N.on.data_means;
+      data_means = λ begun. subst (λ x. DataMeans G (activations o.base o.frames x) (in_sight G) s.store o.words) (sym (with_at_here G.p k s.continuation)) N.on.data_means;
       runs_on = λ goes. absurd goes;
     }
 
--- The end of a class's body: its `init` is done.
-pub body_ends : (G : Ground) (s : State) (before : List ℕ) (o : PrivateState) (gate : Option ℕ) (k : List Task) → Now G s before o (EndBody gate) k → Stepped G s before o
-body_ends G s before o (Some m) k N = absurd (cons_is_not_nil m (marked_monitors k) N.marks)
-body_ends G s before o None k N = by o.frames N
+-- The end of the body of a class or a monitor: its `init` is done.
+pub body_ends : (G : Ground) (s : State) (w : Outside) (before : List ℕ) (o : PrivateState) (gate : Option ℕ) (k : List Task) → Now G s w before o (EndBody gate) k → Stepped G s w before o
+body_ends G s w before o gate k N = by o.frames N
   where
-    by : (gs : List private.Frame) → Now G s before (record o { frames = gs }) (EndBody None) k → Stepped G s before (record o { frames = gs })
+    by : (gs : List private.Frame) → Now G s w before (record o { frames = gs }) (EndBody gate) k → Stepped G s w before (record o { frames = gs })
     by [] N = absurd N.on.left
     by (f ∷ fs) N =
         let P = record o { frames = f ∷ fs } in
         let c = N.on.left.3 in
-        both_step G s before P (EndBody None) k N (Acts (EndBody None) k) op.EndBody (acts_itself (EndBody None) k refl refl) refl N.on.left.1 refl
+        both_step G s w before P (EndBody gate) k N (Acts (EndBody gate) k) op.EndBody (acts_itself (EndBody gate) k refl refl) refl N.on.left.1 refl
+        (gate_left G s before gate _ _
         (went G s before P N.part s.store (leave P f fs) k
         record {
           running = c.0;
@@ -60,4 +59,4 @@ body_ends G s before o None k N = by o.frames N
           data_means = N.on.data_means;
           given = N.on.given.1;
         }
-        record { number = refl; input = refl; consumed = refl; output = refl; activity = refl })
+        record { number = refl; input = refl; consumed = refl; output = refl; activity = refl }))

@@ -6,7 +6,6 @@ use Rattle.cp_model.specs.Abstract.{Name, Routine, System}
 use Rattle.cp_model.specs.Continuations.{EndCall, Task, depth, marked_monitors, push}
 use Rattle.cp_model.specs.Environments.{Environment, Frame}
 use Rattle.cp_model.specs.Locations.{ByIndex, ByName, Location, OfActivation, OfMonitor, OfProcess, Owner, Path}
-use Rattle.cp_model.specs.Parts.{is_own}
 use Rattle.cp_model.specs.Stores.{Store, Value}
 use Rattle.cp_model.specs.Types.{ResolvedType}
 use Rattle.cp_code.specs.Programs.{Call}
@@ -20,7 +19,7 @@ use Rattle.cp_steps.specs.PrivateStates as machine
 use Rattle.cp_steps.specs.Passing.{Called}
 use Rattle.cp_steps.specs.Calling.{Back, enter, frame_of, innermost}
 use Rattle.cp_steps.specs.Means.{CellMeans}
-use Rattle.cp_steps.specs.Addresses.{Activation, ClassHasRights, ComponentLies, Ground, activation_at, activations, lies, part_at, part_of_activation, scope}
+use Rattle.cp_steps.specs.Addresses.{Activation, ClassHasRights, ComponentLies, Ground, activation_at, activations, in_sight, lies, part_at, part_of_activation, scope}
 use Rattle.cp_steps.specs.Left.{CallerAt, Left, Running, Runs, innermost_gate, kept_below, site}
 use Rattle.cp_steps.specs.PartOf.{ActivationMeans, ActivationsMean, DataMeans, RunsOn, components}
 use Rattle.cp_steps.proofs.Apart.{IsCell}
@@ -59,19 +58,19 @@ pub record Opened (G : Ground) (xs : List Activation) (store : Store) (words : L
       → lies G (record { base = base; routine = f.routine } ∷ xs) l ≡ Some (n, t) → CellMeans t (store l) (word words n)
 
 data_opened : (G : Ground) (xs : List Activation) (store : Store) (words : List ℤ) (base : ℕ) (f : Frame) → Opened G xs store words base f
-    → DataMeans G xs (is_own G.p) store words → DataMeans G (record { base = base; routine = f.routine } ∷ xs) (is_own G.p) store words
+    → DataMeans G xs (in_sight G) store words → DataMeans G (record { base = base; routine = f.routine } ∷ xs) (in_sight G) store words
 data_opened G xs store words base f O D = record {
   cells = λ l n t mine h. by l n t mine h (is_cell t);
   rights = D.rights;
   given = D.given;
 }
   where
-    inner : (l : Location) (n : ℕ) (t : ResolvedType) → is_own G.p l.owner ≡ true → lies G (record { base = base; routine = f.routine } ∷ xs) l ≡ Some (n, t) → IsCell t
+    inner : (l : Location) (n : ℕ) (t : ResolvedType) → in_sight G l.owner ≡ true → lies G (record { base = base; routine = f.routine } ∷ xs) l ≡ Some (n, t) → IsCell t
         → (l.owner ≡ OfActivation G.p (length xs)) ⊎ (lies G xs l ≡ Some (n, t)) → CellMeans t (store l) (word words n)
     inner l n t mine h c (inl e) = O.cells l n t e c h
     inner l n t mine h c (inr g) = D.cells l n t mine g
 
-    by : (l : Location) (n : ℕ) (t : ResolvedType) → is_own G.p l.owner ≡ true → lies G (record { base = base; routine = f.routine } ∷ xs) l ≡ Some (n, t)
+    by : (l : Location) (n : ℕ) (t : ResolvedType) → in_sight G l.owner ≡ true → lies G (record { base = base; routine = f.routine } ∷ xs) l ≡ Some (n, t)
         → IsCell t ⊎ ((v : Value) (z : ℤ) → CellMeans t v z) → CellMeans t (store l) (word words n)
     by l n t mine h (inr f) = f (store l) (word words n)
     by l n t mine h (inl c) = inner l n t mine h c (lies_with G (record { base = base; routine = f.routine }) xs l (n, t) h)
@@ -102,8 +101,8 @@ environment_of_call G k s r at = routine_environment (scope G) s r at (owner_of_
 -- The process runs on in the routine, where the store and the words are as they were at what is live, and the new activation is opened.
 pub entered_on : (G : Ground) (store after : Store) (o : PrivateState) (ws : List ℤ) (i k : List Task) (R : RunsOn G store o i) (call : Call) (back : Back) (s : System) (r : Routine) (at : Location) (c : Called)
     (place kept live : ℕ) → Waits G o i k R.running place kept live → (E : Entered G R.running call kept s r at c)
-    → CallerAt G call.routine kept live r.result (frame_of o c back) place → ClassHasRights G (is_own G.p) store c.component
-    → SameLive G (activations o.base o.frames i) store after → SameBelow (o.base + (site G R.running).words) o.words ws → length ws ≡ length o.words
+    → CallerAt G call.routine kept live r.result (frame_of o c back) place → ClassHasRights G store c.component
+    → SameLive G (activations o.base o.frames i) store after → SameBelow G (o.base + (site G R.running).words) o.words ws → length ws ≡ length o.words
     → Opened G (activations o.base o.frames k) after ws (o.base + call.words) (record { owner = owner_of_call G k; routine = r })
     → RunsOn G after (enter (record o { words = ws }) c E.runs.unit call back)
     (push r.body (environment_of_call G k s r at) (EndCall (environment_of_call G k s r at) None ∷ k))
@@ -142,8 +141,8 @@ entered_on G store after o ws i k R call back s r at c place kept live W E calle
   count = len ∙ R.count;
   activations_mean = subst (λ (T : Type 0). T) (sym (mean_push G after ws (o.base + call.words) (f ∷ o.frames) r.body env (EndCall env None ∷ k)))
       (opened.frame, subst (λ (T : Type 0). T) (sym (W.means after ws)) over.activations_mean);
-  data_means = subst (λ ys. DataMeans G ys (is_own G.p) after ws) (sym (activations_push (o.base + call.words) (f ∷ o.frames) r.body env (EndCall env None ∷ k)))
-      (data_opened G ys after ws (o.base + call.words) (record { owner = owner_of_call G k; routine = r }) opened (subst (λ ys. DataMeans G ys (is_own G.p) after ws) (sym W.same) over.data_means));
+  data_means = subst (λ ys. DataMeans G ys (in_sight G) after ws) (sym (activations_push (o.base + call.words) (f ∷ o.frames) r.body env (EndCall env None ∷ k)))
+      (data_opened G ys after ws (o.base + call.words) (record { owner = owner_of_call G k; routine = r }) opened (subst (λ ys. DataMeans G ys (in_sight G) after ws) (sym W.same) over.data_means));
   given = all_kept G store after
       (keeps_given G store after o.words ws (activations o.base o.frames i) (data_below G (activations o.base o.frames i) (o.base + (site G R.running).words) (runs_stacked G store o i R) store after o.words ws same_live below))
       (c.component ∷ components o) (has, R.given);

@@ -7,13 +7,12 @@ use Rattle.cp_model.specs.CallSteps.{is_initialised}
 use Rattle.cp_model.specs.Declarations as declared
 use Rattle.cp_model.specs.Declarations.{reported_members}
 use Rattle.cp_model.specs.Locations.{ByIndex, ByName, Location, OfActivation, OfMonitor, OfProcess, Owner, Path, same_location, under}
-use Rattle.cp_model.specs.Parts.{is_own}
 use Rattle.cp_model.specs.Stores.{Store, Value, put}
 use Rattle.cp_model.specs.Types.{ComponentOf, ResolvedType}
 use Rattle.cp_code.specs.Layout.{Part, activation_words, component_words, farther, local, part}
 use Rattle.cp_code.specs.Starts.{word}
 use Rattle.cp_steps.specs.Means.{CellMeans}
-use Rattle.cp_steps.specs.Addresses.{Activation, ClassLies, ComponentLies, Ground, HasRights, MonitorLies, ProcessLies, activation_at, component_type, lies, part_at, part_of_activation, part_of_local, scope}
+use Rattle.cp_steps.specs.Addresses.{Activation, ClassLies, ComponentLies, Ground, HasRights, MonitorLies, ProcessLies, activation_at, component_type, in_sight, lies, part_at, part_of_activation, part_of_local, scope}
 use Rattle.cp_steps.specs.PartOf.{DataMeans}
 use Rattle.cp_code.specs.StandsFor.{system_of_process}
 use Rattle.cp_steps.proofs.Apart.{InHead, IsCell, cell_head}
@@ -23,7 +22,8 @@ use Rattle.cp_steps.proofs.Heres.{found_below, lies_any}
 use Rattle.cp_steps.proofs.Keeping.{KeepsActivation, KeepsData, depth_of, local_named, right_kept, right_no_variable, right_place}
 use Rattle.cp_steps.proofs.Layouts.{same_some}
 use Rattle.cp_steps.proofs.Stacks.{Stacked, found_inside}
-use Rattle.cp_steps.proofs.Separate.{OwnRight, bottom_below, cell_below, cell_no_own_right, cell_no_reference, cell_no_result, reference_inside, result_inside, separate}
+use Rattle.cp_steps.proofs.Owned.{OwnRight, reference_inside, result_inside}
+use Rattle.cp_steps.proofs.Separate.{cell_below, cell_no_own_right, cell_no_reference, cell_no_result, own_right_below, separate}
 use Rattle.cp_steps.proofs.Writing.{cell_written, changed_other, location_is}
 
 -- What lies in an activation lies in one that there is.
@@ -50,42 +50,48 @@ live_owner G xs l v d h e = by l.owner l.path h e
 abbrev pub SameLive : Ground → List Activation → Store → Store → Type 0
 SameLive G xs store after = (l : Location) → ((d : ℕ) → l.owner ≡ OfActivation G.p d → d < length xs) → after l ≡ store l
 
-abbrev pub SameBelow : ℕ → List ℤ → List ℤ → Type 0
-SameBelow top old new = (i : ℕ) → i < top → word new i ≡ word old i
+-- Words that are the same but for the process's own ones beyond the top.
+abbrev pub SameBelow : Ground → ℕ → List ℤ → List ℤ → Type 0
+SameBelow G top old new = (i : ℕ) → (i < top) ⊎ (G.own ≤ i) → word new i ≡ word old i
+
+pub without_zero : (G : Ground) (top n : ℕ) → (n + 0 < top) ⊎ (G.own ≤ n + 0) → (n < top) ⊎ (G.own ≤ n)
+without_zero G top n (inl h) = inl (omega (arith, h))
+without_zero G top n (inr h) = inr (omega (arith, h))
 
 module _ (G : Ground) (xs : List Activation) (top : ℕ) (stack : Stacked G top xs) (store after : Store) (old new : List ℤ)
-    (live : SameLive G xs store after) (same : SameBelow top old new) where
-  right_owner : (at : Location) (s : System) (n : ℕ) → is_own G.p at.owner ≡ true → ComponentLies G at s n → (d : ℕ) → at.owner ≡ OfActivation G.p d → d < length xs
-  right_owner at s n mine (ProcessLies where' is zero') d e = absurd (omega (arith, ap (depth_of (suc d)) (sym (ap (λ (l : Location). l.owner) where') ∙ e)))
-  right_owner at s n mine (MonitorLies k where' is from) d e = absurd (omega (arith, ap (depth_of (suc d)) (sym (ap (λ (l : Location). l.owner) where') ∙ e)))
-  right_owner at s n mine (ClassLies sort is) d e = live_owner G xs at _ d (lies_any G xs at _ is) e
+    (live : SameLive G xs store after) (same : SameBelow G top old new) where
+  right_owner : (at : Location) (s : System) (n : ℕ) → ComponentLies G at s n → (d : ℕ) → at.owner ≡ OfActivation G.p d → d < length xs
+  right_owner at s n (ProcessLies where' is zero') d e = absurd (omega (arith, ap (depth_of (suc d)) (sym (ap (λ (l : Location). l.owner) where') ∙ e)))
+  right_owner at s n (MonitorLies k where' is from) d e = absurd (omega (arith, ap (depth_of (suc d)) (sym (ap (λ (l : Location). l.owner) where') ∙ e)))
+  right_owner at s n (ClassLies sort is) d e = live_owner G xs at _ d (lies_any G xs at _ is) e
 
   pub data_below : KeepsData G store after old new xs
   data_below = record {
     cells = λ l n t mine c h m.
         let low = cell_below G xs top stack l n t 0 mine (cell_head (scope G) t c) h in
         subst (λ z. CellMeans t z (word new n)) (sym (live l (λ d e. live_owner G xs l (n, t) d h e)))
-        (subst (λ z. CellMeans t (store l) z) (sym (same n (omega (arith, low)))) m);
+        (subst (λ z. CellMeans t (store l) z) (sym (same n (without_zero G top n low))) m);
     rights = λ at s n m x v mine cl r none.
-        (live (under at (ByName x ∷ [])) (right_owner at s n mine cl), same (n + m) (by at s n m mine (right_place G xs at s n m x v mine cl r)));
+        (live (under at (ByName x ∷ [])) (right_owner at s n cl), same (n + m) (by at s n m mine (right_place G xs at s n m x v mine cl r)));
+    stored = λ at s n x sort is none. live (under at (ByName x ∷ [])) (right_owner at s n (ClassLies sort is));
     marks = λ at s n mine sort is. live at (λ d e. live_owner G xs at _ d (lies_any G xs at _ is) e);
   }
     where
-      by : (at : Location) (s : System) (n m : ℕ) → is_own G.p at.owner ≡ true
+      by : (at : Location) (s : System) (n m : ℕ) → in_sight G at.owner ≡ true
           → OwnRight G (n + m) ⊎ ((lies G xs at ≡ Some (n, ComponentOf s (reported_members (scope G) s))) × InHead (scope G) (ComponentOf s (reported_members (scope G) s)) m × (1 ≤ m))
-          → n + m < top
-      by at s n m mine (inl r) = omega (arith, r.2, bottom_below G xs top stack top xs stack r.0 r.1)
+          → (n + m < top) ⊎ (G.own ≤ n + m)
+      by at s n m mine (inl r) = own_right_below G xs top stack (n + m) r
       by at s n m mine (inr r) = cell_below G xs top stack at n _ m mine r.1 r.0
 
   pub activation_below : (d : ℕ) (z : Activation) → activation_at d xs ≡ Some z → KeepsActivation G store after old new d z
   activation_below d z there = (
     λ x at v is by_reference.
-        (live (local_named G d x) there_live, same (z.base + at) (omega (arith, inside.0, (reference_inside (scope G) z.routine x at v is by_reference).1))),
-    λ t is none. (live (local_named G d z.routine.name) there_live, same z.base (omega (arith, inside.0, result_inside (scope G) z.routine t is))),
+        (live (local_named G d x) there_live, same (z.base + at) (inl (omega (arith, inside.0, (reference_inside (scope G) z.routine x at v is by_reference).1)))),
+    λ t is none. (live (local_named G d z.routine.name) there_live, same z.base (inl (omega (arith, inside.0, result_inside (scope G) z.routine t is)))),
   )
     where
       inside : (z.base + activation_words (scope G) z.routine ≤ top) × ((s : System) → system_of_process G.setup G.p ≡ Some s → component_words (scope G) s ≤ z.base)
-      inside = found_inside G top d xs z stack there
+      inside = found_inside G top d xs z stack.stack there
 
       there_live : (f : ℕ) → OfActivation G.p d ≡ OfActivation G.p f → f < length xs
       there_live f e = let s : d ≡ f = ap (depth_of 0) e in omega (arith, s, found_below d xs z there)
@@ -115,31 +121,31 @@ result_no_variable G xs d z x there is =
     ∙ ap (λ o. farther z.base (part_of_local (scope G) o [])) is)
 
 module _ (G : Ground) (xs : List Activation) (top : ℕ) (stack : Stacked G top xs) (store : Store) (words : List ℤ) (l : Location) (n : ℕ) (u : ResolvedType) (w : Value) (m : ℤ)
-    (cell : IsCell u) (means : CellMeans u w m) (own : is_own G.p l.owner ≡ true) (is : lies G xs l ≡ Some (n, u)) where
+    (cell : IsCell u) (means : CellMeans u w m) (own : in_sight G l.owner ≡ true) (is : lies G xs l ≡ Some (n, u)) where
   not_there : (k : Location) → lies G xs k ≡ None → l ≡ k → ⊥
   not_there k none e = absurd (some_is_not_none _ (sym (ap (lies G xs) (sym e) ∙ is) ∙ none))
 
   pub written_keeps : KeepsGiven G store (put l w store)
-  written_keeps at s k mine sort there =
-      rights_kept G store (put l w store) at s (λ i x v r none. put_apart l (under at (ByName x ∷ [])) w store (not_there (under at (ByName x ∷ [])) (right_no_variable G xs at s k x mine (ClassLies sort there) none)))
+  written_keeps at s k sort there =
+      rights_kept G store (put l w store) at s (λ i x v r none. put_apart l (under at (ByName x ∷ [])) w store (not_there (under at (ByName x ∷ [])) (right_no_variable G xs at s k x (ClassLies sort there) none)))
 
   -- Where it is a mark that is set, the class has its rights.
   abbrev pub MarksGiven : Type 0
   MarksGiven = (s : System) → s.sort ≡ Class → u ≡ component_type G s → is_initialised w ≡ true → HasRights G store l s
 
-  pub data_written : n < length words → MarksGiven → DataMeans G xs (is_own G.p) store words → DataMeans G xs (is_own G.p) (put l w store) (slice_set words n m)
+  pub data_written : n < length words → MarksGiven → DataMeans G xs (in_sight G) store words → DataMeans G xs (in_sight G) (put l w store) (slice_set words n m)
   data_written room fresh D = record {
     cells = cell_written G xs top store words l n u w m cell means stack D.cells own is room;
     rights = λ at s k i x v mine cl r none.
         right_kept G store (put l w store) words (slice_set words n m) xs at s k i x v (
-          put_apart l (under at (ByName x ∷ [])) w store (not_there (under at (ByName x ∷ [])) (right_no_variable G xs at s k x mine cl none)),
+          put_apart l (under at (ByName x ∷ [])) w store (not_there (under at (ByName x ∷ [])) (right_no_variable G xs at s k x cl none)),
           changed_other words (k + i) n m (by at s k i mine (right_place G xs at s k i x v mine cl r)),
         )
         (D.rights at s k i x v mine cl r none);
-    given = λ at s k mine sort there set. written_keeps at s k mine sort there (marked at s k mine sort there (same_location l at) refl set);
+    given = λ at s k mine sort there set. written_keeps at s k sort there (marked at s k mine sort there (same_location l at) refl set);
   }
     where
-      marked : (at : Location) (s : System) (k : ℕ) → is_own G.p at.owner ≡ true → s.sort ≡ Class → lies G [] at ≡ Some (k, component_type G s) → (b : Bool) → same_location l at ≡ b
+      marked : (at : Location) (s : System) (k : ℕ) → in_sight G at.owner ≡ true → s.sort ≡ Class → lies G [] at ≡ Some (k, component_type G s) → (b : Bool) → same_location l at ≡ b
           → is_initialised (if b then w else store at) ≡ true → HasRights G store at s
       marked at s k mine sort there false e set = D.given at s k mine sort there set
       marked at s k mine sort there true e set =
@@ -147,7 +153,7 @@ module _ (G : Ground) (xs : List Activation) (top : ℕ) (stack : Stacked G top 
           let type : u ≡ component_type G s = ap (λ z. z.1) (same_some {A = Part} (n, u) (k, component_type G s) (sym is ∙ (ap (lies G xs) same ∙ lies_any G xs at _ there))) in
           subst (λ z. HasRights G store z s) same (fresh s sort type set)
 
-      by : (at : Location) (s : System) (k i : ℕ) → is_own G.p at.owner ≡ true
+      by : (at : Location) (s : System) (k i : ℕ) → in_sight G at.owner ≡ true
           → OwnRight G (k + i) ⊎ ((lies G xs at ≡ Some (k, ComponentOf s (reported_members (scope G) s))) × InHead (scope G) (ComponentOf s (reported_members (scope G) s)) i × (1 ≤ i))
           → k + i ≢ n
       by at s k i mine (inl r) e = cell_no_own_right G xs top stack l n (k + i) u 0 own (cell_head (scope G) u cell) is r (omega (arith, e))

@@ -75,7 +75,7 @@ both_lengths f (w ∷ vs) = by (f w) (both_lengths f vs)
     by false e = omega (arith, e)
 
 -- A name that is found later isn't the first one.
-other_name : (w v : Name × Variable) (vs : List (Name × Variable)) → Distinct (w ∷ vs) → IsIn v vs → bytes_eq v.0 w.0 ≡ false
+pub other_name : (w v : Name × Variable) (vs : List (Name × Variable)) → Distinct (w ∷ vs) → IsIn v vs → bytes_eq v.0 w.0 ≡ false
 other_name w v vs d i = by (bytes_eq v.0 w.0) refl
   where
     by : (b : Bool) → bytes_eq v.0 w.0 ≡ b → b ≡ false

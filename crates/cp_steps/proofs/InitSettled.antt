@@ -1,11 +1,10 @@
 -- Passed arguments that are moved into their class are its parameters.
-use Rattle.std.proofs.Common.{◌≡◌, inl, inr, ℕ, zero, suc, ◌+◌, ◌-◌, ◌≤◌, ◌<◌, ℤ, List, [], ◌∷◌, length, true, false, Some, refl, ap, sym, subst, ◌∙◌, arith}
+use Rattle.std.proofs.Common.{List, Some, [], ap, arith, false, inl, inr, length, refl, subst, suc, sym, true, zero, ℕ, ℤ, ◌+◌, ◌-◌, ◌<◌, ◌∙◌, ◌∷◌, ◌≡◌, ◌≤◌, ◌⊎◌}
 use Rattle.std.proofs.lemmas.Bool.{true≢false}
 use Rattle.cp_model.specs.Abstract as a
 use Rattle.cp_model.specs.Abstract.{Class, Name, System}
 use Rattle.cp_model.specs.Declarations.{Variable, declarations, is_component}
 use Rattle.cp_model.specs.Locations.{Location}
-use Rattle.cp_model.specs.Parts.{is_own}
 use Rattle.cp_model.specs.Stores.{Store, Writes, put_all}
 use Rattle.cp_model.specs.Types.{GlobalScope, ResolvedType}
 use Rattle.cp_typing.specs.Declared.{Distinct}
@@ -18,13 +17,13 @@ use Rattle.cp_code.specs.Starts.{block, paste, word}
 use Rattle.cp_code.specs.StatementsFor.{InitArgumentsFor}
 use Rattle.cp_code.specs.TermsFor.{Knowns}
 use Rattle.cp_steps.specs.Means.{CellMeans}
-use Rattle.cp_steps.specs.Addresses.{Activation, ClassLies, Ground, RightMeans, component_type, lies, scope}
+use Rattle.cp_steps.specs.Addresses.{Activation, ClassLies, Ground, RightMeans, component_type, in_sight, lies, scope, whole}
 use Rattle.cp_steps.proofs.Apart.{IsCell, IsClass, cell_head}
 use Rattle.cp_steps.proofs.Copying.{copied_outside, copied_word}
 use Rattle.cp_steps.proofs.Heres.{lies_any, member_lies}
 use Rattle.cp_steps.proofs.InitOffsets.{Offset, offset_at, offset_within, right_is, right_of}
 use Rattle.cp_steps.proofs.InitPassing.{InitBound}
-use Rattle.cp_steps.proofs.Separate.{cell_below}
+use Rattle.cp_steps.proofs.Separate.{cell_inside}
 use Rattle.cp_steps.proofs.Settling.{Settled, stored_at}
 use Rattle.cp_steps.proofs.Stacks.{Stacked}
 
@@ -67,29 +66,30 @@ init_offsets g site K s same distinct one _ _ _ place next low high h all p i = 
 
 -- ---- moved into the class
 
-module _ (G : Ground) (xs : List Activation) (top : ℕ) (stack : Stacked G top xs) (at : Location) (c from : ℕ) (s : System) (own : is_own G.p at.owner ≡ true) (sort : s.sort ≡ Class)
+module _ (G : Ground) (xs : List Activation) (top : ℕ) (stack : Stacked G top xs) (at : Location) (c from : ℕ) (s : System) (own : in_sight G at.owner ≡ true) (sort : s.sort ≡ Class)
     (is : lies G [] at ≡ Some (c, component_type G s)) (distinct : Distinct (declarations (scope G) s.parameters))
     (one : (p : Name × Variable) → IsIn p (declarations (scope G) s.parameters) → is_component p.1.type ≡ false → (words (scope G) p.1.type ≡ 1) × IsCell p.1.type) where
-  -- The words of its parameters lie below the top.
-  pub class_below : c + length (declarations (scope G) s.parameters) < top
+  -- The words of its parameters are among those in reach.
+  pub class_below : c + length (declarations (scope G) s.parameters) < whole G
   class_below = by (length (declarations (scope G) s.parameters)) refl
     where
-      inner : (k : ℕ) (p : Name × Variable) → Offset (scope G) s p k → c + k < top
+      inner : (k : ℕ) (p : Name × Variable) → Offset (scope G) s p k → c + k < whole G
       inner k p (inl h) =
-          cell_below G xs top stack at c (component_type G s) k own (subst IsClass (sym sort) tt, omega (arith, (right_is 1 (rights (scope G) s) p.0 k p.1 h.1).1)) (lies_any G xs at _ is)
+          cell_inside G xs top stack at c (component_type G s) k own (subst IsClass (sym sort) tt, omega (arith, (right_is 1 (rights (scope G) s) p.0 k p.1 h.1).1)) (lies_any G xs at _ is)
       inner k p (inr h) =
-          let below : c + k + 0 < top = cell_below G xs top stack (stored_at at p.0) (c + k) p.1.type 0 own (cell_head (scope G) p.1.type h.2) (member_lies G xs at s c p.0 k p.1.type (ClassLies sort is) h.1) in
+          let below : c + k + 0 < whole G = cell_inside G xs top stack (stored_at at p.0) (c + k) p.1.type 0 own (cell_head (scope G) p.1.type h.2) (member_lies G xs at s c p.0 k p.1.type (ClassLies sort is) h.1) in
           omega (arith, below)
 
-      by : (k : ℕ) → length (declarations (scope G) s.parameters) ≡ k → c + k < top
+      by : (k : ℕ) → length (declarations (scope G) s.parameters) ≡ k → c + k < whole G
       by zero e =
-          let below : c + 0 < top = cell_below G xs top stack at c (component_type G s) 0 own (cell_head (scope G) (component_type G s) (subst IsClass (sym sort) tt)) (lies_any G xs at _ is) in
+          let below : c + 0 < whole G = cell_inside G xs top stack at c (component_type G s) 0 own (cell_head (scope G) (component_type G s) (subst IsClass (sym sort) tt)) (lies_any G xs at _ is) in
           omega (arith, below)
       by (suc k) e = let o = offset_at (scope G) s distinct one (suc k) (omega arith) (omega (arith, e)) in inner (suc k) o.0 o.2
 
-  pub init_settled : (store : Store) (old us : List ℤ) (ws : Writes) → InitBound G s at c from distinct one (declarations (scope G) s.parameters) ws old us → from ≡ top → top ≤ length us
+  pub init_settled : (store : Store) (old us : List ℤ) (ws : Writes) → InitBound G s at c from distinct one (declarations (scope G) s.parameters) ws old us → from ≡ top
+      → from + (1 + length (declarations (scope G) s.parameters)) ≤ G.own → length us ≡ whole G
       → Settled G top store (put_all ws store) old (paste (c + 1) (block us (from + 1) (length (declarations (scope G) s.parameters))) us) at c s
-  init_settled store old us ws B start room = record {
+  init_settled store old us ws B start passes count = record {
     values = λ p k i component lying.
         subst (CellMeans p.1.type (put_all ws store (stored_at at p.0))) (sym (moved k (offset_within (scope G) s distinct one p k i (inr (component, lying, (one p i component).1)))))
         (B.values p k store i component lying);
@@ -98,14 +98,19 @@ module _ (G : Ground) (xs : List Activation) (top : ℕ) (stack : Stacked G top 
         (B.rights p k store i component lying);
     given = λ p k i component lying. B.given p k store i component lying;
     outside = λ i below apart.
-        copied_outside us us (c + 1) (from + 1) (length (declarations (scope G) s.parameters)) i apart ∙ B.outside i (λ p k j o e. omega (arith, below, e, start));
+        copied_outside us us (c + 1) (from + 1) (length (declarations (scope G) s.parameters)) i apart
+        ∙ B.outside i (λ p k j o e. elsewhere i k below e (offset_within (scope G) s distinct one p k j o));
     unwritten = λ l none. B.unwritten l store none;
   }
     where
+      elsewhere : (i k : ℕ) → (i < top) ⊎ (G.own ≤ i) → i ≡ from + k → (1 ≤ k) × (k ≤ length (declarations (scope G) s.parameters)) → ⊥
+      elsewhere i k (inl q) e inside = omega (arith, q, e, start)
+      elsewhere i k (inr q) e inside = omega (arith, q, e, passes, inside.1)
+
       moved : (k : ℕ) → (1 ≤ k) × (k ≤ length (declarations (scope G) s.parameters)) → word (paste (c + 1) (block us (from + 1) (length (declarations (scope G) s.parameters))) us) (c + k) ≡ word us (from + k)
       moved k h =
           ap (word (paste (c + 1) (block us (from + 1) (length (declarations (scope G) s.parameters))) us)) (there k h.0)
-          ∙ (copied_word us us (c + 1) (from + 1) (length (declarations (scope G) s.parameters)) (k - 1) (omega (arith, h)) (omega (arith, class_below, room))
+          ∙ (copied_word us us (c + 1) (from + 1) (length (declarations (scope G) s.parameters)) (k - 1) (omega (arith, h)) (omega (arith, class_below, count))
           ∙ ap (word us) (back k h.0))
         where
           there : (k : ℕ) → 1 ≤ k → c + k ≡ c + 1 + (k - 1)

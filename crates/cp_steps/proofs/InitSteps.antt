@@ -1,5 +1,5 @@
 -- Whole private steps of the `init` of a class.
-use Rattle.std.proofs.Common.{◌≡◌, inl, ℕ, ℤ, ◌+◌, ◌≤◌, pos, List, [], ◌∷◌, length, Bool, true, false, Option, Some, None, refl, ap, sym, subst, ◌∙◌, arith}
+use Rattle.std.proofs.Common.{Bool, List, None, Option, Some, [], ap, arith, false, inl, inr, length, pos, refl, subst, sym, true, ℕ, ℤ, ◌+◌, ◌<◌, ◌∙◌, ◌∷◌, ◌≡◌, ◌≤◌, ◌⊎◌}
 use Rattle.std.specs.Prelude.{if◌then◌else◌, not}
 use Rattle.cp_model.specs.Abstract as a
 use Rattle.cp_model.specs.Abstract.{Class, Name, Sort, System}
@@ -15,9 +15,7 @@ use Rattle.cp_model.specs.Initialisation.{body_environment, init_component}
 use Rattle.cp_model.specs.Integers.{same_integer}
 use Rattle.cp_model.specs.Invariant.{StoreInvariant}
 use Rattle.cp_model.specs.Locations.{Location}
-use Rattle.cp_model.specs.Operators.{realtime}
 use Rattle.cp_model.specs.Outcomes.{Fault, Gives, Outcome, and_then}
-use Rattle.cp_model.specs.Parts.{is_own}
 use Rattle.cp_model.specs.States.{State, configuration, context}
 use Rattle.cp_model.specs.Stores.{Initialised, Store, Writes, put, put_all}
 use Rattle.cp_model.specs.Turns.{after_step}
@@ -41,8 +39,7 @@ use Rattle.cp_steps.specs.PrivateStates as machine
 use Rattle.cp_steps.specs.PrivateStates.{Acting, Outside, PrivateState, fault_in, private_outcome, provided, set_word}
 use Rattle.cp_steps.specs.Passing.{Passing, component_called, pass_all, when_passed}
 use Rattle.cp_steps.specs.Calling.{Back, class_at, enter, frame_of, has_room, init_class, settle}
-use Rattle.cp_steps.specs.Steps.{alone}
-use Rattle.cp_steps.specs.Addresses.{Activation, ClassLies, Ground, HasRights, activations, component_type, lies, scope, seen}
+use Rattle.cp_steps.specs.Addresses.{Activation, ClassLies, Ground, HasRights, activations, component_type, in_sight, lies, scope, seen, whole}
 use Rattle.cp_steps.specs.Left.{Left, Running, Runs, innermost_gate, site}
 use Rattle.cp_steps.specs.PartOf.{ActivationsMean, DataMeans, PartOf, RunsOn}
 use Rattle.cp_steps.proofs.Apart.{IsCell, IsClass}
@@ -61,10 +58,10 @@ use Rattle.cp_steps.proofs.InitRights.{given}
 use Rattle.cp_steps.proofs.InitSettled.{class_below, init_count, init_offsets, init_settled, init_values}
 use Rattle.cp_steps.proofs.ProcessRights.{NoClassRights}
 use Rattle.cp_steps.proofs.Rooms.{room_for}
-use Rattle.cp_steps.proofs.RunningOn.{left_afresh, runs_here, runs_over, runs_room, runs_stacked, runs_stored}
+use Rattle.cp_steps.proofs.RunningOn.{left_afresh, runs_here, runs_over, runs_stacked, runs_stored}
 use Rattle.cp_steps.proofs.Settling.{Settled, has_settled, runs_settled}
-use Rattle.cp_steps.proofs.Stacks.{Stacked}
-use Rattle.cp_steps.proofs.Stepping.{Stepped, clock_of, faulted, stopped, went}
+use Rattle.cp_steps.proofs.Stacks.{Stacked, own_in_whole}
+use Rattle.cp_steps.proofs.Stepping.{Stepped, beyond, clock_of, faulted, stopped, went}
 use Rattle.cp_steps.proofs.Targets.{class_lies, lies_below, mark_is}
 use Rattle.cp_steps.specs.Means.{MarkMeans}
 
@@ -74,7 +71,7 @@ body_of_class G s at = record { globals = scope G; system = s; component = at; f
 
 -- The process runs on in the body, where the mark is set.
 body_entered : (G : Ground) (store : Store) (o : PrivateState) (i : Task) (k : List Task) (R : RunsOn G store o (i ∷ k)) (call : Call) (back : Back) (s : System) (at : Location) (n kept : ℕ)
-    → (C : sites.Runs (site G R.running) (BodyOf s) kept call) → UnitStands G.program G.texts (scope G) C.unit (BodyOf s) → s.sort ≡ Class → is_own G.p at.owner ≡ true → lies G [] at ≡ Some (n, component_type G s) → HasRights G store at s
+    → (C : sites.Runs (site G R.running) (BodyOf s) kept call) → UnitStands G.program G.texts (scope G) C.unit (BodyOf s) → s.sort ≡ Class → in_sight G at.owner ≡ true → lies G [] at ≡ Some (n, component_type G s) → HasRights G store at s
     → activations o.base o.frames (i ∷ k) ≡ activations o.base o.frames k → ActivationsMean G (put at (Initialised true) store) (set_word o n (pos 1)).words o.base o.frames (i ∷ k) ≡ ActivationsMean G (put at (Initialised true) store) (set_word o n (pos 1)).words o.base o.frames k
     → marked_monitors (i ∷ k) ≡ marked_monitors k
     → Left G o.temps o.limit nothing_known R.running o.frames back.place kept k → kept ≤ R.running.unit.temps
@@ -111,9 +108,9 @@ body_entered G store o i k R call back s at n kept C stands sort own there has s
   count = S.count;
   activations_mean = subst (λ (T : Type 0). T) (sym (mean_push G (put at (Initialised true) store) (set_word o n (pos 1)).words (o.base + call.words) (f ∷ o.frames) s.body env (EndBody None ∷ k)))
       (subst (λ (T : Type 0). T) means S.activations_mean);
-  data_means = subst (λ ys. DataMeans G ys (is_own G.p) (put at (Initialised true) store) (set_word o n (pos 1)).words) (sym (activations_push (o.base + call.words) (f ∷ o.frames) s.body env (EndBody None ∷ k)))
-      (subst (λ ys. DataMeans G ys (is_own G.p) (put at (Initialised true) store) (set_word o n (pos 1)).words) same S.data_means);
-  given = (class_has_rights G ys top stack at s n own sort there (put at (Initialised true) store) (written at s n own sort there has), S.given);
+  data_means = subst (λ ys. DataMeans G ys (in_sight G) (put at (Initialised true) store) (set_word o n (pos 1)).words) (sym (activations_push (o.base + call.words) (f ∷ o.frames) s.body env (EndBody None ∷ k)))
+      (subst (λ ys. DataMeans G ys (in_sight G) (put at (Initialised true) store) (set_word o n (pos 1)).words) same S.data_means);
+  given = (class_has_rights G ys top stack at s n own sort there (put at (Initialised true) store) (written at s n sort there has), S.given);
 }
   where
     N : Running
@@ -171,12 +168,12 @@ body_entered G store o i k R call back s at n kept C stands sort own there has s
       activation_fits = omega arith;
     }
 
-pub init_steps : (G : Ground) (s : State) (before : List ℕ) (o : PrivateState) (x : Name) (es : a.Expressions) (env : Environment) (k : List Task) → StoreInvariant s.store → UnitsStand G
-    → (Y : Ready G s before o (a.Init x es) env k) (call : Call) (next : ℕ) → operation_at G.program o.place ≡ Some (op.InitClass call next)
-    → InitsBy (site G Y.now.on.running) (known G s before o (Do (a.Init x es) env) k Y.now) Y.now.on.left.2.3.2 es (op.InitClass call next) o.place Y.now.on.left.2.3.0 Y.now.on.left.2.0 Y.now.on.left.2.1
-    → NoClassRights G → Stepped G s before o
-init_steps G s before o x es env k I units Y call next there h none =
-    statement_steps G s before o (a.Init x es) env k Y (op.InitClass call next) refl private there refl
+pub init_steps : (G : Ground) (s : State) (w : Outside) (before : List ℕ) (o : PrivateState) (x : Name) (es : a.Expressions) (env : Environment) (k : List Task) → StoreInvariant s.store → UnitsStand G
+    → (Y : Ready G s w before o (a.Init x es) env k) (call : Call) (next : ℕ) → operation_at G.program o.place ≡ Some (op.InitClass call next)
+    → InitsBy (site G Y.now.on.running) (known G s w before o (Do (a.Init x es) env) k Y.now) Y.now.on.left.2.3.2 es (op.InitClass call next) o.place Y.now.on.left.2.3.0 Y.now.on.left.2.0 Y.now.on.left.2.1
+    → NoClassRights G → Stepped G s w before o
+init_steps G s w before o x es env k I units Y call next there h none =
+    statement_steps G s w before o (a.Init x es) env k Y (op.InitClass call next) refl private there refl
     (subst (λ (z : Option Component). PartOf G (after_step s G.p (elim z as (λ y. StepResult) [ None ↦ own_step (with_continuation (configuration s G.p) k) | Some m ↦ init_component m.system.sort (context G.setup s G.p) (configuration s G.p) here k es m ])) before computed)
     (sym Y.now.on.left.2.3.4)
     (subst (λ z. PartOf G (after_step s G.p (init_component z (context G.setup s G.p) (configuration s G.p) here k es n)) before computed) (sym h.0)
@@ -188,9 +185,6 @@ init_steps G s before o x es env k I units Y call next there h none =
 
     n : Component
     n = Y.now.on.left.2.3.2
-
-    w : Outside
-    w = alone (realtime (clock_of G s)) o
 
     computed : PrivateState
     computed = (init_class G.program w o call (component_called G.program w o call.target).component next).0
@@ -218,7 +212,7 @@ init_steps G s before o x es env k I units Y call next there h none =
         (when_passed (pass_all w (o.base + call.words) at xs o) (λ p.
         private_outcome (enter (set_word (settle p (o.base + call.words) at (length xs)) at (pos 1)) (class_at at) u call (record { place = next; into = 0 }))))
 
-    has_unit : (at : ℕ) → at ≤ G.own → (init_class G.program w o call at next).0 ≡ (started at call.arguments h.2.runs.unit).0
+    has_unit : (at : ℕ) → at ≤ whole G → (init_class G.program w o call at next).0 ≡ (started at call.arguments h.2.runs.unit).0
     has_unit at there =
         (λ z. (elim (h.2.runs.there z) as (λ x. Acting) [ None ↦ private_outcome o | Some u ↦ if has_room w o call u at then started at call.arguments u else private_outcome o ]).0)
         ∙ ap (λ b. (if b then started at call.arguments h.2.runs.unit else private_outcome o).0) room
@@ -226,7 +220,7 @@ init_steps G s before o x es env k I units Y call next there h none =
         room : has_room w o call h.2.runs.unit at ≡ true
         room =
             room_for w o call h.2.runs.unit at (omega (arith, Y.now.on.runs.frames_fit, h.2.runs.fits.frames))
-            (omega (arith, Y.now.on.base, Y.now.on.count, Y.now.on.runs.words_fit, h.2.runs.fits.words, h.2.runs.words))
+            (omega (arith, Y.now.on.base, Y.now.around.own, Y.now.on.runs.words_fit, h.2.runs.fits.words, h.2.runs.words))
             (omega (arith, Y.now.on.temp, Y.now.on.runs.temps_fit, h.2.runs.fits.temps, h.2.runs.temps)) (omega (arith, there, Y.now.on.count))
 
     first : Task
@@ -239,10 +233,10 @@ init_steps G s before o x es env k I units Y call next there h none =
     passed = declarations (scope G) n.system.parameters
 
     known_here : Knowns
-    known_here = known G s before o first k Y.now
+    known_here = known G s w before o first k Y.now
 
     lying' : Location → Option Part
-    lying' = seen (is_own G.p) G (activations o.base o.frames (first ∷ k))
+    lying' = seen (in_sight G) G (activations o.base o.frames (first ∷ k))
 
     back : Back
     back = record { place = next; into = 0 }
@@ -277,13 +271,13 @@ init_steps G s before o x es env k I units Y call next there h none =
         subst (λ z. InitAgrees G n.system (name_location here n) c (o.base + z) names one passed w.own (record o { words = o.words }) o.words
         (bind (λ l v e. init_argument_writes n.system.sort (clock_of G s) here s.store l v.type e) (name_location here n) passed es) (pass_all w (o.base + z) c call.arguments o)) (sym h.2.runs.words)
         (passes_init G n.system (name_location here n) c top names one (site G Y.now.on.running) (clock_of G s) s.store w known_here lying' o
-        (λ ws len same. runs_here G s.store (record o { words = ws }) (first ∷ k) (clock_of G s) (runs_over G s.store s.store o ws (first ∷ k) Y.now.on (λ at q. refl) (λ j q. same j (inl q)) len) Y.now.sees)
+        (λ ws len same. runs_here G s.store w (record o { words = ws }) (first ∷ k) (clock_of G s) Y.now.around.clock (runs_over G s.store s.store o ws (first ∷ k) Y.now.on (λ at q. refl) (λ j q. same j (beyond G s w Y.now.around top j q)) len) Y.now.sees)
         Y.now.on.runs.globals
-        (λ m t f ws same len j inner l room. given G s before o first k Y.now Y.now.sees I none n.system c h.0 m t f ws (λ z q. same z (inl q)) len j inner l room)
+        (λ m t f ws same len j inner l room. given G s w before o first k Y.now Y.now.sees I none n.system c h.0 m t f ws (λ z q. same z (beyond G s w Y.now.around top z q)) len j inner l room)
         there
         passed es call.arguments o.place Y.now.on.left.2.3.0 Y.now.on.left.2.1 Y.now.on.running.unit.temps o.words arguments
         (in_context_none (a.Init x) (call_in_arguments here (a.Literal 0) es) Y.none) names (λ p i. i)
-        (omega (arith, h.2.room, count, Y.now.on.runs.words_fit, Y.now.on.count, Y.now.on.base)) (omega arith) refl (λ z q. refl))
+        (omega (arith, h.2.room, count, Y.now.on.runs.words_fit, Y.now.around.own, Y.now.on.base)) (omega (arith, Y.now.around.own, Y.now.on.count, own_in_whole G)) refl (λ z q. refl))
 
     -- The mark is tested, the arguments become the parameters, the mark is set, and the body is entered.
     begins : (off : ℕ) → member here.globals here.system n.name ≡ Some (off, ComponentOf n.system (reported_members here.globals n.system))
@@ -300,7 +294,7 @@ init_steps G s before o x es env k I units Y call next there h none =
         at = name_location here n
 
         lying : lies G [] (name_location here n) ≡ Some (o.component + off, component_type G n.system)
-        lying = class_lies G s before o first k Y.now Y.now.sees I n off f
+        lying = class_lies G s w before o first k Y.now Y.now.sees I n off f
 
         mark : not (same_integer (word o.words (o.component + off)) (pos 0)) ≡ is_initialised (s.store (name_location here n))
         mark = mark_is G (activations o.base o.frames (first ∷ k)) s.store o.words Y.now.on.data_means (name_location here n) (o.component + off) n.system Y.now.sees.component h.0 lying
@@ -346,7 +340,7 @@ init_steps G s before o x es env k I units Y call next there h none =
             settled : Settled G top s.store (put_all ws s.store) o.words (moved us) (name_location here n) (o.component + off) n.system
             settled =
                 init_settled G (activations o.base o.frames (first ∷ k)) top (runs_stacked G s.store o (first ∷ k) Y.now.on) (name_location here n) (o.component + off) (o.base + call.words) n.system Y.now.sees.component h.0 lying names one
-                s.store o.words us ws B (ap (λ z. o.base + z) h.2.runs.words) (omega (arith, B.length_is, runs_room G s.store o (first ∷ k) Y.now.on))
+                s.store o.words us ws B (ap (λ z. o.base + z) h.2.runs.words) (omega (arith, h.2.room, h.2.runs.words, count, Y.now.on.runs.words_fit, Y.now.on.base)) (B.length_is ∙ Y.now.on.count)
 
             result : PrivateState
             result = enter (set_word (record o { words = moved us }) (o.component + off) (pos 1)) (class_at (o.component + off)) h.2.runs.unit call back
@@ -358,25 +352,29 @@ init_steps G s before o x es env k I units Y call next there h none =
             subst (λ y. PartOf G (after_step s G.p (Fault j)) before (elim y as (λ z. Acting) [ None ↦ begun P.own | Some e ↦ fault_in P.own e ]).0) (sym g.1)
             (subst (λ p. PartOf G (after_step s G.p (Fault j)) before (fault_in p g.0).0) (sym g.3)
             (stopped G s before o Y.now.part P.own.words j g.0 g.2 over.count
-            (subst (λ y. DataMeans G (activations o.base o.frames y) (is_own G.p) s.store P.own.words) (sym Y.now.left) over.data_means)))
+            (subst (λ y. DataMeans G (activations o.base o.frames y) (in_sight G) s.store P.own.words) (sym Y.now.left) over.data_means)))
           where
+            behind : (z : ℕ) → (z < top) ⊎ (w.own ≤ z) → (z < o.base + call.words) ⊎ (w.own ≤ z)
+            behind z (inl q) = inl (omega (arith, q, h.2.runs.words))
+            behind z (inr q) = inr q
+
             over : RunsOn G s.store (record o { words = P.own.words }) (first ∷ k)
-            over = runs_over G s.store s.store o P.own.words (first ∷ k) Y.now.on (λ l q. refl) (λ z q. g.4.1 z (inl (omega (arith, q, h.2.runs.words)))) g.4.0
+            over = runs_over G s.store s.store o P.own.words (first ∷ k) Y.now.on (λ l q. refl) (λ z q. g.4.1 z (behind z (beyond G s w Y.now.around top z q))) g.4.0
         inner (Gives ws) P g =
             subst (λ y. PartOf G (after_step s G.p (after_writes ws)) before (elim y as (λ z. Acting) [ None ↦ begun P.own | Some e ↦ fault_in P.own e ]).0) (sym g.0)
             (subst (λ p. PartOf G (after_step s G.p (after_writes ws)) before (begun p).0) (sym g.1) (entered ws P.own.words g.2))
 
         by : (b : Bool) → PartOf G (after_step s G.p (if not b then Fault 7 else meant)) before
             (provided b o fault.InitialisedTwice (when_passed (pass_all w (o.base + call.words) (o.component + off) call.arguments o) begun)).0
-        by false = faulted G s before o first k Y.now 7 fault.InitialisedTwice refl
+        by false = faulted G s w before o first k Y.now 7 fault.InitialisedTwice refl
         by true = inner (bind (λ l v e. init_argument_writes n.system.sort (clock_of G s) here s.store l v.type e) (name_location here n) passed es) (pass_all w (o.base + call.words) (o.component + off) call.arguments o)
             (passed_ok (o.component + off)
-            (omega (arith, class_below G (activations o.base o.frames (first ∷ k)) top (runs_stacked G s.store o (first ∷ k) Y.now.on) (name_location here n) (o.component + off) top n.system Y.now.sees.component h.0 lying names one, runs_room G s.store o (first ∷ k) Y.now.on)))
+            (omega (arith, class_below G (activations o.base o.frames (first ∷ k)) top (runs_stacked G s.store o (first ∷ k) Y.now.on) (name_location here n) (o.component + off) top n.system Y.now.sees.component h.0 lying names one, Y.now.on.count)))
 
     by_target : (t : target.Target) → TargetOf here n Class false t → call.target ≡ t
         → PartOf G (after_step s G.p (inits (name_location here n) (declarations here.globals n.system.parameters) es)) before computed
     by_target (target.Class off) f e =
         subst (λ z. PartOf G (after_step s G.p (inits (name_location here n) (declarations here.globals n.system.parameters) es)) before (init_class G.program w o call (component_called G.program w o z).component next).0) (sym e)
-        (subst (PartOf G (after_step s G.p (inits (name_location here n) (declarations here.globals n.system.parameters) es)) before) (sym (has_unit (o.component + off) (lies_below G s before o first k Y.now Y.now.sees I (name_location here n) (o.component + off) _ Y.now.sees.component (class_lies G s before o first k Y.now Y.now.sees I n off f))))
+        (subst (PartOf G (after_step s G.p (inits (name_location here n) (declarations here.globals n.system.parameters) es)) before) (sym (has_unit (o.component + off) (lies_below G s w before o first k Y.now Y.now.sees I (name_location here n) (o.component + off) _ Y.now.sees.component (class_lies G s w before o first k Y.now Y.now.sees I n off f))))
         (begins off f))
     by_target _ f e = absurd f

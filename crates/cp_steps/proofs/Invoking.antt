@@ -1,5 +1,5 @@
 -- A call, from what opens the new activation: the meaning's and the machine's.
-use Rattle.std.proofs.Common.{◌≡◌, inl, ℕ, ◌+◌, ◌≤◌, ℤ, List, [], ◌∷◌, ◌++◌, length, Bool, true, false, Some, None, refl, ap, sym, subst, ◌∙◌, arith}
+use Rattle.std.proofs.Common.{Bool, List, None, Some, [], ap, arith, false, inl, inr, length, refl, subst, sym, true, ℕ, ℤ, ◌++◌, ◌+◌, ◌∙◌, ◌∷◌, ◌≡◌, ◌≤◌}
 use Rattle.std.specs.Prelude.{if◌then◌else◌}
 use Rattle.std.proofs.lemmas.Bool.{true≢false}
 use Rattle.cp_model.specs.Abstract as a
@@ -15,9 +15,8 @@ use Rattle.cp_model.specs.Declarations.{declarations}
 use Rattle.cp_model.specs.Environments.{Environment}
 use Rattle.cp_model.specs.Expressions.{place, value}
 use Rattle.cp_model.specs.Locations.{Location, OfActivation, Owner, root, same_location, same_owner, under}
-use Rattle.cp_model.specs.Operators.{Clock, realtime}
+use Rattle.cp_model.specs.Operators.{Clock}
 use Rattle.cp_model.specs.Outcomes.{Fault, Gives, Outcome, and_then}
-use Rattle.cp_model.specs.Parts.{is_own}
 use Rattle.cp_model.specs.Places.{Place, TypedValue}
 use Rattle.cp_model.specs.States.{State, configuration, context}
 use Rattle.cp_model.specs.Stores.{Store, Writes, forget, put, put_all}
@@ -28,7 +27,7 @@ use Rattle.cp_model.proofs.ExpressionReach.{IfGives}
 use Rattle.cp_model.proofs.WriteReach.{WritesIn, bind_in, starting_writes_in, writes_in}
 use Rattle.cp_typing.specs.Declared.{Distinct}
 use Rattle.cp_code.specs.Programs.{Call, CodeUnit}
-use Rattle.cp_code.specs.Layout.{locals_words, part}
+use Rattle.cp_code.specs.Layout.{activation_words, locals_words, part}
 use Rattle.cp_code.specs.Sites as sites
 use Rattle.cp_code.specs.Sites.{RoutineOf, first_parameter, parameters, system_of_callee}
 use Rattle.cp_code.specs.StandsFor.{UnitStands}
@@ -37,8 +36,7 @@ use Rattle.cp_code.specs.TermsFor.{ArgumentsFor}
 use Rattle.cp_steps.specs.PrivateStates.{Acting, Enters, Outside, PrivateState, fault_in, private_outcome, provided}
 use Rattle.cp_steps.specs.Passing.{Called, Passing, component_called, pass_all, when_passed}
 use Rattle.cp_steps.specs.Calling.{Back, call_step, enter, frame_of, gate_effect, has_room, start_words}
-use Rattle.cp_steps.specs.Steps.{alone}
-use Rattle.cp_steps.specs.Addresses.{ClassHasRights, ComponentLies, Ground, activations, scope, seen}
+use Rattle.cp_steps.specs.Addresses.{ClassHasRights, ComponentLies, Ground, activations, in_sight, scope, seen, whole}
 use Rattle.cp_steps.specs.Left.{CallerAt, held_below, kept_below, site}
 use Rattle.cp_steps.specs.PartOf.{DataMeans, PartOf, RunsOn}
 use Rattle.cp_steps.proofs.Entering.{Opened, Waits, entered_on, environment_of_call, owner_of_call}
@@ -48,10 +46,12 @@ use Rattle.cp_steps.proofs.Holding.{SameBelow, SameLive}
 use Rattle.cp_steps.proofs.Passing.{Bound, KeptOutside, PassingAgrees, Stays, passes}
 use Rattle.cp_steps.proofs.Returning.{forgotten}
 use Rattle.cp_steps.proofs.Rooms.{room_for}
-use Rattle.cp_steps.proofs.RunningOn.{runs_here, runs_over, runs_room, runs_stacked}
+use Rattle.cp_steps.proofs.RunningOn.{runs_here, runs_over, runs_stacked}
+use Rattle.cp_steps.proofs.Owned.{result_inside}
 use Rattle.cp_steps.proofs.Separate.{part_below}
-use Rattle.cp_steps.proofs.Stepping.{Now, clock_of, faulted, stopped, went}
+use Rattle.cp_steps.proofs.Stepping.{Now, beyond, clock_of, faulted, stopped, went}
 use Rattle.cp_steps.proofs.Writing.{location_is, owner_is, same_owner_itself}
+use Rattle.cp_steps.proofs.Stacks.{own_in_whole}
 
 -- ---- writes of one owner
 
@@ -82,16 +82,16 @@ locals_two g (x ∷ xs) ys = let e = locals_two g xs ys in omega (arith, e)
 -- The machine calls where the meaning does, and no gate is entered.
 pub record TargetIs (G : Ground) (store : Store) (t : calls.Target) (c : Called) (s : System) : Type 0 where
   pub set_is : c.is_set ≡ t.is_callable
-  pub there : c.component ≤ G.own
+  pub there : c.component ≤ whole G
   pub system : t.system ≡ s
   pub lies_there : t.is_callable ≡ true → ComponentLies G t.component s c.component
-  pub given : t.is_callable ≡ true → ClassHasRights G (is_own G.p) store c.component
+  pub given : t.is_callable ≡ true → ClassHasRights G store c.component
   pub gate : c.gate ≡ 0
   pub no_gate : t.gate ≡ None
 
 -- ---- calls
 
-module _ (G : Ground) (s : State) (before : List ℕ) (o : PrivateState) (i : Task) (l : List Task) (N : Now G s before o i l) (sees : Sees G (is_own G.p) s.store N.on.running.env)
+module _ (G : Ground) (s : State) (w : Outside) (before : List ℕ) (o : PrivateState) (i : Task) (l : List Task) (N : Now G s w before o i l) (sees : Sees G (in_sight G) s.store N.on.running.env)
     (k : List Task) (v : UserCall) (call : Call) (back : Back) (place kept live : ℕ) where
   abbrev pub callee_system : System
   callee_system = system_of_callee N.on.running.env v.callee.of
@@ -102,7 +102,7 @@ module _ (G : Ground) (s : State) (before : List ℕ) (o : PrivateState) (i : Ta
 
   abbrev pub Bounds : Writes → List ℤ → Type 0
   Bounds ws new =
-      Bound (site G N.on.running) (seen (is_own G.p) G (activations o.base o.frames (i ∷ l))) (owner_of_call G k) (o.base + (site G N.on.running).words) (first_parameter v.callee)
+      Bound (site G N.on.running) (seen (in_sight G) G (activations o.base o.frames (i ∷ l))) (owner_of_call G k) (o.base + (site G N.on.running).words) (first_parameter v.callee)
       (parameters (site G N.on.running) v.callee) ws o.words new
 
   -- What is left to show of a routine: its new activation holds its parameters, its start values and no result.
@@ -120,20 +120,17 @@ module _ (G : Ground) (s : State) (before : List ℕ) (o : PrivateState) (i : Ta
     pub made : call_in_arguments N.on.running.env (a.Literal 0) v.arguments ≡ None
     pub where_is : v.environment ≡ N.on.running.env
     pub distinct : Distinct (parameters (site G N.on.running) v.callee)
-    pub target_is : TargetIs G s.store (target (context G.setup s G.p) s.store N.on.running.env v.callee.of) (component_called G.program (alone (realtime (clock_of G s)) o) o call.target) callee_system
-    pub caller : CallerAt G call.routine kept live v.callee.routine.result (frame_of o (component_called G.program (alone (realtime (clock_of G s)) o) o call.target) back) place
+    pub target_is : TargetIs G s.store (target (context G.setup s G.p) s.store N.on.running.env v.callee.of) (component_called G.program w o call.target) callee_system
+    pub caller : CallerAt G call.routine kept live v.callee.routine.result (frame_of o (component_called G.program w o call.target) back) place
     pub opens : Opens runs.unit
 
   pub invoked : (from last low high : ℕ) → Invocation from last low high
-      → PartOf G (after_step s G.p (calls.call (context G.setup s G.p) (configuration s G.p) v k)) before (call_step G.program (alone (realtime (clock_of G s)) o) o call back).0
+      → PartOf G (after_step s G.p (calls.call (context G.setup s G.p) (configuration s G.p) v k)) before (call_step G.program w o call back).0
   invoked from last low high I =
       subst (λ e. PartOf G (defined e) before (call_step G.program w o call back).0) (sym I.where_is)
       (subst (PartOf G (defined N.on.running.env) before) (sym computed)
       (subst (λ b. PartOf G (defined N.on.running.env) before (provided b o fault.NotInitialised passing).0) (sym I.target_is.set_is) (by t.is_callable refl)))
     where
-      w : Outside
-      w = alone (realtime (clock_of G s)) o
-
       t : calls.Target
       t = target (context G.setup s G.p) s.store N.on.running.env v.callee.of
 
@@ -158,7 +155,7 @@ module _ (G : Ground) (s : State) (before : List ℕ) (o : PrivateState) (i : Ta
       room : has_room w o call I.runs.unit c.component ≡ true
       room =
           room_for w o call I.runs.unit c.component (omega (arith, N.on.runs.frames_fit, I.runs.fits.frames))
-          (omega (arith, N.on.base, N.on.count, N.on.runs.words_fit, I.runs.fits.words, I.runs.words)) (omega (arith, N.on.temp, N.on.runs.temps_fit, I.runs.fits.temps, I.runs.temps))
+          (omega (arith, N.on.base, N.around.own, N.on.runs.words_fit, I.runs.fits.words, I.runs.words)) (omega (arith, N.on.temp, N.on.runs.temps_fit, I.runs.fits.temps, I.runs.temps))
           (omega (arith, I.target_is.there, N.on.count))
 
       computed : (call_step G.program w o call back).0 ≡ (provided c.is_set o fault.NotInitialised passing).0
@@ -188,32 +185,32 @@ module _ (G : Ground) (s : State) (before : List ℕ) (o : PrivateState) (i : Ta
               inner false e = refl
               inner true e = absurd (omega (arith, h (depth k) (sym (owner_is owner at.owner e)), deep))
 
-      stays : Stays N.on.running.env (clock_of G s) s.store w (held_below N.on.live o.temps N.on.running.temp) (seen (is_own G.p) G (activations o.base o.frames (i ∷ l))) top o
+      stays : Stays N.on.running.env (clock_of G s) s.store w (held_below N.on.live o.temps N.on.running.temp) (seen (in_sight G) G (activations o.base o.frames (i ∷ l))) top o
       stays ws len same =
-          runs_here G s.store (record o { words = ws }) (i ∷ l) (clock_of G s) (runs_over G s.store s.store o ws (i ∷ l) N.on (λ at h. refl) (λ n q. same n (inl q)) len) sees
+          runs_here G s.store w (record o { words = ws }) (i ∷ l) (clock_of G s) N.around.clock (runs_over G s.store s.store o ws (i ∷ l) N.on (λ at h. refl) (λ n q. same n (beyond G s w N.around top n q)) len) sees
 
-      sized : top + (first_parameter v.callee + locals_words N.on.running.env.globals (parameters (site G N.on.running) v.callee)) ≤ length o.words
+      sized : top + (first_parameter v.callee + locals_words N.on.running.env.globals (parameters (site G N.on.running) v.callee)) ≤ w.own
       sized =
           let g = ap (λ z. locals_words z (declarations z v.callee.routine.parameters)) N.on.runs.globals in
-          omega (arith, g, locals_two (scope G) (declarations (scope G) v.callee.routine.parameters) (declarations (scope G) v.callee.routine.variables), I.stands.1, I.runs.fits.words, N.on.runs.words_fit, N.on.count, N.on.base)
+          omega (arith, g, locals_two (scope G) (declarations (scope G) v.callee.routine.parameters) (declarations (scope G) v.callee.routine.variables), I.stands.1, I.runs.fits.words, N.on.runs.words_fit, N.around.own, N.on.base)
 
-      parts_lie : PartsLie N.on.running.env.globals (seen (is_own G.p) G (activations o.base o.frames (i ∷ l)))
+      parts_lie : PartsLie N.on.running.env.globals (seen (in_sight G) G (activations o.base o.frames (i ∷ l)))
       parts_lie at path n m t u is there =
-          let z = seen_mine (is_own G.p) G (activations o.base o.frames (i ∷ l)) at (n, t) is in
-          seen_is (is_own G.p) G (activations o.base o.frames (i ∷ l)) (under at path) (n + m, u) z.0
+          let z = seen_mine (in_sight G) G (activations o.base o.frames (i ∷ l)) at (n, t) is in
+          seen_is (in_sight G) G (activations o.base o.frames (i ∷ l)) (under at path) (n + m, u) z.0
           (lies_under G (activations o.base o.frames (i ∷ l)) at path n m t u z.1 (ap (λ g. part g t path) (sym N.on.runs.globals) ∙ there))
 
-      lying_there : (j : Location) (m : ℕ) (u : ResolvedType) → seen (is_own G.p) G (activations o.base o.frames (i ∷ l)) j ≡ Some (m, u) → m ≤ length o.words
+      lying_there : (j : Location) (m : ℕ) (u : ResolvedType) → seen (in_sight G) G (activations o.base o.frames (i ∷ l)) j ≡ Some (m, u) → m ≤ length o.words
       lying_there j m u is =
-          let z = seen_mine (is_own G.p) G (activations o.base o.frames (i ∷ l)) j (m, u) is in
-          omega (arith, part_below G (activations o.base o.frames (i ∷ l)) top (runs_stacked G s.store o (i ∷ l) N.on) j m u z.0 z.1, runs_room G s.store o (i ∷ l) N.on)
+          let z = seen_mine (in_sight G) G (activations o.base o.frames (i ∷ l)) j (m, u) is in
+          omega (arith, part_below G (activations o.base o.frames (i ∷ l)) top (runs_stacked G s.store o (i ∷ l) N.on) j m u z.0 z.1, N.on.count)
 
-      passed_ok : PassingAgrees Bounds (KeptOutside top (length o.words) o.words) o
+      passed_ok : PassingAgrees Bounds (KeptOutside top w.own o.words) o
           (bind (argument_writes (clock_of G s) N.on.running.env s.store) (root owner) (parameters (site G N.on.running) v.callee) v.arguments)
           (pass_all w top top call.arguments o)
       passed_ok =
-          passes (site G N.on.running) (clock_of G s) s.store w (held_below N.on.live o.temps N.on.running.temp) (seen (is_own G.p) G (activations o.base o.frames (i ∷ l))) owner top o stays parts_lie lying_there
-          (parameters (site G N.on.running) v.callee) v.arguments call.arguments (first_parameter v.callee) from last low high o.words I.arguments I.made I.distinct sized (omega arith) refl (λ z q. refl)
+          passes (site G N.on.running) (clock_of G s) s.store w (held_below N.on.live o.temps N.on.running.temp) (seen (in_sight G) G (activations o.base o.frames (i ∷ l))) owner top o stays parts_lie lying_there
+          (parameters (site G N.on.running) v.callee) v.arguments call.arguments (first_parameter v.callee) from last low high o.words I.arguments I.made I.distinct sized (omega (arith, N.around.own, N.on.count, own_in_whole G)) refl (λ z q. refl)
 
       env : Environment
       env = environment_of_call G k callee_system v.callee.routine t.component
@@ -242,37 +239,44 @@ module _ (G : Ground) (s : State) (before : List ℕ) (o : PrivateState) (i : Ta
           after : PrivateState
           after = enter (record o { words = started (o.base + call.words) I.runs.unit.starts new }) c I.runs.unit call back
 
-          below : SameBelow (o.base + (site G N.on.running).words) o.words (started (o.base + call.words) I.runs.unit.starts new)
-          below z q =
-              I.stands.0.outside (o.base + call.words) new z
-              (omega (arith, I.stands.1, I.runs.fits.words, N.on.runs.words_fit, N.on.count, N.on.base, I.runs.words, B.length_is))
+          start_room : o.base + call.words + activation_words (scope G) v.callee.routine ≤ length new
+          start_room = omega (arith, I.stands.1, I.runs.fits.words, N.on.runs.words_fit, N.on.count, N.on.base, I.runs.words, B.length_is, own_in_whole G)
+
+          below : SameBelow G (o.base + (site G N.on.running).words) o.words (started (o.base + call.words) I.runs.unit.starts new)
+          below z (inl q) =
+              I.stands.0.outside (o.base + call.words) new z start_room
               (inl (omega (arith, q, I.runs.words))) (λ n e f. absurd (omega (arith, q, f, I.runs.words)))
               ∙ B.outside z (inl (omega (arith, q)))
+          below z (inr q) =
+              I.stands.0.outside (o.base + call.words) new z start_room
+              (inr (omega (arith, q, I.stands.1, I.runs.fits.words, N.on.runs.words_fit, N.on.base, I.runs.words)))
+              (λ n e f. absurd (omega (arith, q, f, result_inside (scope G) v.callee.routine n e, I.stands.1, I.runs.fits.words, N.on.runs.words_fit, N.on.base, I.runs.words)))
+              ∙ B.outside z (inr (omega (arith, q, sized, N.around.own)))
 
       by : (b : Bool) → t.is_callable ≡ b
           → PartOf G (after_step s G.p (if b then and_then (bind (argument_writes (clock_of G s) N.on.running.env s.store) (root owner) (parameters (site G N.on.running) v.callee) v.arguments)
           (λ ws. Gives (called_configuration (configuration s G.p) (record v { environment = N.on.running.env }) k t owner ws)) else Fault 6)) before
           (provided b o fault.NotInitialised passing).0
-      by false e = faulted G s before o i l N 6 fault.NotInitialised refl
+      by false e = faulted G s w before o i l N 6 fault.NotInitialised refl
       by true e =
           inner (bind (argument_writes (clock_of G s) N.on.running.env s.store) (root owner) (parameters (site G N.on.running) v.callee) v.arguments)
           (pass_all w (o.base + call.words) (o.base + call.words) call.arguments o)
           (bind_in (same_owner owner) (argument_writes (clock_of G s) N.on.running.env s.store) (λ at d x h. argument_in (same_owner owner) (clock_of G s) N.on.running.env s.store at d x h) (root owner)
           (parameters (site G N.on.running) v.callee) v.arguments (same_owner_itself owner))
-          (subst (λ z. PassingAgrees Bounds (KeptOutside top (length o.words) o.words) o
+          (subst (λ z. PassingAgrees Bounds (KeptOutside top w.own o.words) o
           (bind (argument_writes (clock_of G s) N.on.running.env s.store) (root owner) (parameters (site G N.on.running) v.callee) v.arguments)
           (pass_all w z z call.arguments o)) (ap (λ z. o.base + z) (sym I.runs.words)) passed_ok)
         where
-          inner : (O : Outcome Writes) (P : Passing) → IfGives (WritesIn (same_owner owner)) O → PassingAgrees Bounds (KeptOutside top (length o.words) o.words) o O P
+          inner : (O : Outcome Writes) (P : Passing) → IfGives (WritesIn (same_owner owner)) O → PassingAgrees Bounds (KeptOutside top w.own o.words) o O P
               → PartOf G (after_step s G.p (and_then O (λ ws. Gives (called_configuration (configuration s G.p) (record v { environment = N.on.running.env }) k t owner ws)))) before (when_passed P (entering_by I.runs.unit)).0
           inner (Fault j) P inside h =
               subst (λ x. PartOf G (after_step s G.p (Fault j)) before (elim x as (λ y. Acting) [ None ↦ entering_by I.runs.unit P.own | Some f ↦ fault_in P.own f ]).0) (sym h.1)
               (subst (λ p. PartOf G (after_step s G.p (Fault j)) before (fault_in p h.0).0) (sym h.3)
               (stopped G s before o N.part P.own.words j h.0 h.2 over.count
-              (subst (λ x. DataMeans G (activations o.base o.frames x) (is_own G.p) s.store P.own.words) (sym N.left) over.data_means)))
+              (subst (λ x. DataMeans G (activations o.base o.frames x) (in_sight G) s.store P.own.words) (sym N.left) over.data_means)))
             where
               over : RunsOn G s.store (record o { words = P.own.words }) (i ∷ l)
-              over = runs_over G s.store s.store o P.own.words (i ∷ l) N.on (λ at q. refl) (λ n q. h.4.1 n (inl q)) h.4.0
+              over = runs_over G s.store s.store o P.own.words (i ∷ l) N.on (λ at q. refl) (λ n q. h.4.1 n (beyond G s w N.around top n q)) h.4.0
           inner (Gives ws) P inside h =
               subst (λ x. PartOf G (after_step s G.p (Gives (called_configuration (configuration s G.p) (record v { environment = N.on.running.env }) k t owner ws))) before (elim x as (λ y. Acting) [ None ↦ entering_by I.runs.unit P.own | Some f ↦ fault_in P.own f ]).0) (sym h.0)
               (subst (λ p. PartOf G (after_step s G.p (Gives (called_configuration (configuration s G.p) (record v { environment = N.on.running.env }) k t owner ws))) before (entering_by I.runs.unit p).0) (sym h.1)

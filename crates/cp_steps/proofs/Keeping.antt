@@ -1,7 +1,7 @@
 -- What the words mean stays where a store and words change nothing that is live.
 use Rattle.std.proofs.Common.{◌≡◌, ◌⊎◌, inl, inr, ℕ, suc, ◌+◌, ◌≤◌, ◌<◌, ℤ, List, [], ◌∷◌, length, Bool, true, false, Some, None, refl, ap, sym, subst, ◌∙◌, arith}
 use Rattle.std.specs.Prelude.{if◌then◌else◌}
-use Rattle.std.proofs.lemmas.Bool.{eq-eqb, true≢false}
+use Rattle.std.proofs.lemmas.Bool.{eq-eqb}
 use Rattle.cp_model.specs.Abstract.{Class, Name, System}
 use Rattle.cp_model.specs.CallSteps.{is_initialised, result_location}
 use Rattle.cp_model.specs.Continuations.{Do, EndBody, EndCall, EndProcess, ForNext, RepeatTest, Task, WhileTest}
@@ -10,7 +10,6 @@ use Rattle.cp_model.specs.Declarations.{reported_members}
 use Rattle.cp_model.specs.Environments.{Environment, Frame}
 use Rattle.cp_model.specs.Locations.{ByName, Location, OfActivation, Owner, under}
 use Rattle.std.specs.Str.{bytes_eq}
-use Rattle.cp_model.specs.Parts.{is_own}
 use Rattle.cp_model.specs.Stores.{Store}
 use Rattle.cp_model.specs.Types.{ComponentOf, ResolvedType}
 use Rattle.cp_code.specs.Layout.{farther, head_words, local, member, member_part, natural, of_class, right, right_at, rights}
@@ -18,7 +17,7 @@ use Rattle.cp_code.specs.Starts.{word}
 use Rattle.cp_code.specs.TermsFor.{Knowns, nothing_known}
 use Rattle.cp_steps.specs.Means.{CellMeans}
 use Rattle.cp_steps.specs.PrivateStates as machine
-use Rattle.cp_steps.specs.Addresses.{Activation, ClassLies, ComponentLies, Ground, MonitorLies, ProcessLies, RightMeans, activation_at, activation_of, activations, component_type, lies, part_of_component, scope}
+use Rattle.cp_steps.specs.Addresses.{Activation, ClassLies, ComponentLies, Ground, MonitorLies, ProcessLies, RightMeans, activation_at, activation_of, activations, component_type, in_sight, lies, part_of_component, scope}
 use Rattle.cp_steps.specs.Left.{Left, Running, kept_below}
 use Rattle.cp_steps.specs.PartOf.{ActivationMeans, ActivationsMean, DataMeans, IfFrame, ResultMeans}
 use Rattle.cp_code.specs.StandsFor.{system_of_process}
@@ -28,12 +27,13 @@ use Rattle.cp_steps.proofs.Given.{KeepsGiven, rights_kept}
 use Rattle.cp_steps.proofs.Heres.{depth_is, found_behind, found_here, lies_any}
 use Rattle.cp_steps.proofs.Layouts.{same_some}
 use Rattle.cp_steps.proofs.Leads.{lies_on}
-use Rattle.cp_steps.proofs.Separate.{OwnRight}
+use Rattle.cp_steps.proofs.Owned.{OwnRight}
 use Rattle.cp_steps.proofs.Writing.{is_cell}
+use Rattle.cp_steps.specs.Passing.{monitor_start}
 
 -- ---- where rights lie
 
-right_within : (k : ℕ) (vs : List (Name × declared.Variable)) (x : Name) (m : ℕ) (v : declared.Variable) → right_at k vs x ≡ Some (m, v) → (k ≤ m) × (m < k + length vs)
+pub right_within : (k : ℕ) (vs : List (Name × declared.Variable)) (x : Name) (m : ℕ) (v : declared.Variable) → right_at k vs x ≡ Some (m, v) → (k ≤ m) × (m < k + length vs)
 right_within k [] x m v h = absurd (some_is_not_none (m, v) (sym h))
 right_within k (y ∷ vs) x m v h = by (bytes_eq x y.0) h (right_within (suc k) vs x m v)
   where
@@ -46,26 +46,31 @@ right_within k (y ∷ vs) x m v h = by (bytes_eq x y.0) h (right_within (suc k) 
 
 -- A right of the process's own component, or one of a class.
 pub right_place : (G : Ground) (xs : List Activation) (at : Location) (s : System) (n m : ℕ) (x : Name) (v : declared.Variable)
-    → is_own G.p at.owner ≡ true → ComponentLies G at s n → right (scope G) s x ≡ Some (m, v)
+    → in_sight G at.owner ≡ true → ComponentLies G at s n → right (scope G) s x ≡ Some (m, v)
     → OwnRight G (n + m) ⊎ ((lies G xs at ≡ Some (n, ComponentOf s (reported_members (scope G) s))) × InHead (scope G) (ComponentOf s (reported_members (scope G) s)) m × (1 ≤ m))
 right_place G xs at s n m x v mine (ProcessLies where' is zero') r =
     let w = right_within 1 (rights (scope G) s) x m v r in
-    inl (s, is, omega (arith, w.1, zero'))
-right_place G xs at s n m x v mine (MonitorLies k where' is from) r = absurd (true≢false (sym mine ∙ ap (λ l. is_own G.p l.owner) where'))
+    inl (inl (s, is, omega (arith, w.1, zero')))
+right_place G xs at s n m x v mine (MonitorLies k where' is from) r =
+    let w = right_within 1 (rights (scope G) s) x m v r in
+    inl (inr (k, s, m, sym (ap (λ (l : Location). in_sight G l.owner) where') ∙ mine, is, omega (arith, w.1), omega (arith, from)))
 right_place G xs at s n m x v mine (ClassLies sort is) r =
     let w = right_within 1 (rights (scope G) s) x m v r in
     inr (lies_any G xs at _ is, (subst IsClass (sym sort) tt, omega (arith, w.1)), w.0)
 
 -- No variable lies at the name of a right that no member has.
 pub right_no_variable : (G : Ground) (xs : List Activation) (at : Location) (s : System) (n : ℕ) (x : Name)
-    → is_own G.p at.owner ≡ true → ComponentLies G at s n → member (scope G) s x ≡ None
+    → ComponentLies G at s n → member (scope G) s x ≡ None
     → lies G xs (under at (ByName x ∷ [])) ≡ None
-right_no_variable G xs at s n x mine (ProcessLies where' is zero') none =
+right_no_variable G xs at s n x (ProcessLies where' is zero') none =
     ap (λ l. lies G xs (under l (ByName x ∷ []))) where'
     ∙ (ap (λ b. if b then part_of_component (scope G) (system_of_process G.setup G.p) x [] else None) (eq-eqb G.p G.p refl)
     ∙ (ap (λ z. part_of_component (scope G) z x []) is ∙ none))
-right_no_variable G xs at s n x mine (MonitorLies k where' is from) none = absurd (true≢false (sym mine ∙ ap (λ l. is_own G.p l.owner) where'))
-right_no_variable G xs at s n x mine (ClassLies sort is) none =
+right_no_variable G xs at s n x (MonitorLies k where' is from) none =
+    ap (λ l. lies G xs (under l (ByName x ∷ []))) where'
+    ∙ (ap (λ z. farther (G.own + monitor_start G.program k) (part_of_component (scope G) z x [])) is
+    ∙ ap (farther (G.own + monitor_start G.program k)) none)
+right_no_variable G xs at s n x (ClassLies sort is) none =
     lies_on G xs at (ByName x ∷ []) n (ComponentOf s (reported_members (scope G) s)) (lies_any G xs at _ is)
     ∙ ap (farther n) (ap (λ z. of_class z (member_part (scope G) (head_words (scope G) s) (reported_members (scope G) s) x [])) sort ∙ none)
 
@@ -151,14 +156,16 @@ module _ (G : Ground) (store after : Store) (old new : List ℤ) where
 
   -- The variables and rights of a process.
   pub record KeepsData (xs : List Activation) : Type 0 where
-    pub cells : (l : Location) (n : ℕ) (t : ResolvedType) → is_own G.p l.owner ≡ true → IsCell t → lies G xs l ≡ Some (n, t) → CellMeans t (store l) (word old n) → CellMeans t (after l) (word new n)
-    pub rights : (at : Location) (s : System) (n m : ℕ) (x : Name) (v : declared.Variable) → is_own G.p at.owner ≡ true → ComponentLies G at s n
+    pub cells : (l : Location) (n : ℕ) (t : ResolvedType) → in_sight G l.owner ≡ true → IsCell t → lies G xs l ≡ Some (n, t) → CellMeans t (store l) (word old n) → CellMeans t (after l) (word new n)
+    pub rights : (at : Location) (s : System) (n m : ℕ) (x : Name) (v : declared.Variable) → in_sight G at.owner ≡ true → ComponentLies G at s n
         → right (scope G) s x ≡ Some (m, v) → member (scope G) s x ≡ None
         → (after (under at (ByName x ∷ [])) ≡ store (under at (ByName x ∷ []))) × (word new (n + m) ≡ word old (n + m))
-    pub marks : (at : Location) (s : System) (n : ℕ) → is_own G.p at.owner ≡ true → s.sort ≡ Class → lies G [] at ≡ Some (n, component_type G s) → after at ≡ store at
+    pub stored : (at : Location) (s : System) (n : ℕ) (x : Name) → s.sort ≡ Class → lies G [] at ≡ Some (n, component_type G s) → member (scope G) s x ≡ None
+        → after (under at (ByName x ∷ [])) ≡ store (under at (ByName x ∷ []))
+    pub marks : (at : Location) (s : System) (n : ℕ) → in_sight G at.owner ≡ true → s.sort ≡ Class → lies G [] at ≡ Some (n, component_type G s) → after at ≡ store at
 
   pub keeps_given : (xs : List Activation) → KeepsData xs → KeepsGiven G store after
-  keeps_given xs K at s n mine sort is = rights_kept G store after at s (λ m x v r none. (K.rights at s n m x v mine (ClassLies sort is) r none).0)
+  keeps_given xs K at s n sort is = rights_kept G store after at s (λ m x v r none. K.stored at s n x sort is none)
 
   pub right_kept : (xs : List Activation) (at : Location) (s : System) (n m : ℕ) (x : Name) (v : declared.Variable)
       → (after (under at (ByName x ∷ [])) ≡ store (under at (ByName x ∷ []))) × (word new (n + m) ≡ word old (n + m))
@@ -167,15 +174,15 @@ module _ (G : Ground) (store after : Store) (old new : List ℤ) where
       subst (λ z. RightMeans G v.type z (n + m) (word new (n + m))) (sym k.0)
       (subst (λ z. RightMeans G v.type (store (under at (ByName x ∷ []))) (n + m) z) (sym k.1) D)
 
-  pub data_kept : (xs : List Activation) → KeepsData xs → DataMeans G xs (is_own G.p) store old → DataMeans G xs (is_own G.p) after new
+  pub data_kept : (xs : List Activation) → KeepsData xs → DataMeans G xs (in_sight G) store old → DataMeans G xs (in_sight G) after new
   data_kept xs K D = record {
     cells = λ l n t mine h. by l n t mine h (is_cell t);
     rights = λ at s n m x v mine cl r none.
         right_kept xs at s n m x v (K.rights at s n m x v mine cl r none) (D.rights at s n m x v mine cl r none);
-    given = λ at s n mine sort is set. keeps_given xs K at s n mine sort is (D.given at s n mine sort is (ap is_initialised (sym (K.marks at s n mine sort is)) ∙ set));
+    given = λ at s n mine sort is set. keeps_given xs K at s n sort is (D.given at s n mine sort is (ap is_initialised (sym (K.marks at s n mine sort is)) ∙ set));
   }
     where
-      by : (l : Location) (n : ℕ) (t : ResolvedType) → is_own G.p l.owner ≡ true → lies G xs l ≡ Some (n, t)
+      by : (l : Location) (n : ℕ) (t : ResolvedType) → in_sight G l.owner ≡ true → lies G xs l ≡ Some (n, t)
           → IsCell t ⊎ ((v : Rattle.cp_model.specs.Stores.Value) (z : ℤ) → CellMeans t v z) → CellMeans t (after l) (word new n)
       by l n t mine h (inl c) = K.cells l n t mine c h (D.cells l n t mine h)
       by l n t mine h (inr f) = f (after l) (word new n)

@@ -74,7 +74,7 @@ counted_low (negsuc (suc a)) i (suc n) (inr h) = by i (counted_low (negsuc a) i 
     by (pos c) k = (Prim.grind (arith, ints), Prim.grind (arith, ints, k.0, k.1))
     by (negsuc c) k = (Prim.grind (arith, ints, k.0), Prim.grind (arith, ints, k.0, k.1))
 
-counted_within : (low high i : ℤ) → IsIn i (integers_from low (count_between low high)) → within low high i ≡ true
+pub counted_within : (low high i : ℤ) → IsIn i (integers_from low (count_between low high)) → within low high i ≡ true
 counted_within low high i h = by low high i (counted_low low i (count_between low high) h)
   where
     by : (low high i : ℤ) → (int_le low i ≡ true) × (distance low i < count_between low high) → within low high i ≡ true

@@ -25,14 +25,14 @@ use Rattle.cp_code.specs.Compile.{unit_texts}
 use Rattle.cp_code.specs.Example.{b, c, d, m, p, get, go, run, add, program, setup, tree}
 use Rattle.cp_steps.specs.PrivateStates as machine
 use Rattle.cp_steps.specs.Machines.{unit_at}
-use Rattle.cp_steps.specs.Addresses.{ClassLies, Ground, ProcessLies}
+use Rattle.cp_steps.specs.Addresses.{ClassLies, Ground, OwnWords, ProcessLies}
 use Rattle.cp_steps.specs.Left.{Left, Running, Runs, held_below, kept_below, site}
 
 abbrev g : GlobalScope
 g = globals tree
 
 abbrev ground : Ground
-ground = record { program = program; texts = unit_texts tree; setup = setup; p = 2; own = 9 + (unit_at program 8).words }
+ground = record { program = program; texts = unit_texts tree; setup = setup; p = 2; own = 9 + (unit_at program 8).words; sight = OwnWords; monitors_lie = tt }
 
 abbrev temps_count : ℕ
 temps_count = (unit_at program 8).temps

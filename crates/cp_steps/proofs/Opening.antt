@@ -34,7 +34,7 @@ use Rattle.cp_steps.proofs.Finding.{some_is_not_none}
 use Rattle.cp_steps.proofs.Heres.{found_here}
 use Rattle.cp_steps.proofs.Layouts.{same_some}
 use Rattle.cp_steps.proofs.Passing.{Has, ParameterHas, parameter_at}
-use Rattle.cp_steps.proofs.Separate.{local_inside}
+use Rattle.cp_steps.proofs.Owned.{local_inside}
 use Rattle.cp_steps.proofs.Apart.{cell_has_word}
 use Rattle.cp_steps.proofs.Bounds.{part_fits}
 use Rattle.cp_steps.proofs.Copying.{holds_simple}

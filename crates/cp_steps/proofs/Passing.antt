@@ -45,6 +45,7 @@ use Rattle.cp_steps.proofs.Evaluates.{ordinal_is, place_agrees, value_agrees, va
 use Rattle.cp_steps.proofs.Layouts.{PartsLie, same_some}
 use Rattle.cp_steps.proofs.Rooms.{refers}
 use Rattle.cp_steps.proofs.StartLeaves.{IsSimple, first_name, simple_part}
+use Rattle.cp_steps.proofs.Puts.{bytes_eq_turned, put_all_two}
 use Rattle.cp_steps.proofs.Writing.{changed_other, same_owner_itself}
 
 -- Words outside the parameters are as they were.
@@ -82,17 +83,6 @@ PassingAgrees Well Kept o (Gives ws) p = (p.fault ≡ None) × (p.own ≡ record
 PassingAgrees Well Kept o (Fault k) p = (f : machine.Fault) × (p.fault ≡ Some f) × (k ≡ fault_number f) × (p.own ≡ record o { words = p.own.words }) × Kept p.own.words
 
 -- ---- writes
-
-put_all_two : (ws us : Writes) (st : Store) → put_all (ws ++ us) st ≡ put_all us (put_all ws st)
-put_all_two [] us st = refl
-put_all_two (w ∷ ws) us st = put_all_two ws us (put w.0 w.1 st)
-
-bytes_eq_turned : (x y : Name) → bytes_eq x y ≡ false → bytes_eq y x ≡ false
-bytes_eq_turned x y h = by (bytes_eq y x) refl
-  where
-    by : (b : Bool) → bytes_eq y x ≡ b → b ≡ false
-    by true e = absurd (true≢false (sym (ap (λ z. bytes_eq z y) (sym (bytes_same y x e)) ∙ bytes_eq-refl y) ∙ h))
-    by false e = refl
 
 put_here : (n : Owner) (x : Name) (v : StoreValue) (st : Store) → put (parameter_at n x) v st (parameter_at n x) ≡ v
 put_here n x v st = λ i. if same_owner_itself n i && (bytes_eq-refl x i && true) then v else st (parameter_at n x)

@@ -11,7 +11,6 @@ use Rattle.cp_model.specs.Continuations.{Do, Task}
 use Rattle.cp_model.specs.Environments.{Environment, meaning}
 use Rattle.cp_model.specs.Expressions.{value}
 use Rattle.cp_model.specs.Locations.{ByName}
-use Rattle.cp_model.specs.Operators.{realtime}
 use Rattle.cp_model.specs.Outcomes as outcomes
 use Rattle.cp_model.specs.Outcomes.{Fault, Gives, Outcome, and_then}
 use Rattle.cp_model.specs.Places.{Place, TypedValue, place_of_meaning, referent, within}
@@ -28,8 +27,8 @@ use Rattle.cp_code.specs.Sites.{local_location, operation_at}
 use Rattle.cp_code.specs.StandsFor.{StandsFor}
 use Rattle.cp_code.specs.StatementsFor.{AssignsBy, NamesResult}
 use Rattle.cp_code.specs.TermsFor.{Agrees}
-use Rattle.cp_steps.specs.PrivateStates.{PrivateState, go_to, private_outcome, provided, set_word, with_result}
-use Rattle.cp_steps.specs.Steps.{act, alone}
+use Rattle.cp_steps.specs.PrivateStates.{Outside, PrivateState, go_to, private_outcome, provided, set_word, with_result}
+use Rattle.cp_steps.specs.Steps.{act}
 use Rattle.cp_steps.specs.Addresses.{Ground}
 use Rattle.cp_steps.specs.Left.{site}
 use Rattle.cp_steps.specs.PartOf.{PartOf, RunsOn}
@@ -40,17 +39,17 @@ use Rattle.cp_steps.proofs.Resulting.{runs_resulted}
 use Rattle.cp_steps.proofs.RunningOn.{runs_moved}
 use Rattle.cp_steps.proofs.Stepping.{Stepped, clock_of, faulted, went}
 
-pub result_steps : (G : Ground) (s : State) (before : List ℕ) (o : PrivateState) (x : Name) (e : a.Expression) (env : Environment) (k : List Task)
-    → StandsFor G.program G.setup → (Y : Ready G s before o (a.Assign (a.Plain x) e) env k) (lower upper : ℤ) (c : Term) (n : ℕ)
+pub result_steps : (G : Ground) (s : State) (w : Outside) (before : List ℕ) (o : PrivateState) (x : Name) (e : a.Expression) (env : Environment) (k : List Task)
+    → StandsFor G.program G.setup → (Y : Ready G s w before o (a.Assign (a.Plain x) e) env k) (lower upper : ℤ) (c : Term) (n : ℕ)
     → operation_at G.program o.place ≡ Some (op.SetResult lower upper c n)
-    → AssignsBy (site G Y.now.on.running) (known G s before o (Do (a.Assign (a.Plain x) e) env) k Y.now) (a.Plain x) e (op.SetResult lower upper c n) o.place Y.now.on.left.2.3.0 Y.now.on.left.2.0 Y.now.on.left.2.1
-    → Stepped G s before o
-result_steps G s before o x e env k F Y lower upper c n there h =
+    → AssignsBy (site G Y.now.on.running) (known G s w before o (Do (a.Assign (a.Plain x) e) env) k Y.now) (a.Plain x) e (op.SetResult lower upper c n) o.place Y.now.on.left.2.3.0 Y.now.on.left.2.0 Y.now.on.left.2.1
+    → Stepped G s w before o
+result_steps G s w before o x e env k F Y lower upper c n there h =
     let N = Y.now in
-    statement_steps G s before o (a.Assign (a.Plain x) e) env k Y (op.SetResult lower upper c n) refl refl there refl
+    statement_steps G s w before o (a.Assign (a.Plain x) e) env k Y (op.SetResult lower upper c n) refl refl there refl
     (subst (λ p. PartOf G (after_step s G.p (and_then (Gives p) (λ at. and_then (value (clock_of G s) here s.store e) (λ v. and_then (writes_of at.at at.type v) goes)))) before
-    (act G.program (alone (realtime (clock_of G s)) o) o (op.SetResult lower upper c n)).0) (sym place_is)
-    (by _ _ (value_here G s before o (Do (a.Assign (a.Plain x) e) env) k N N.sees e c h.0 o.place N.on.left.2.3.0 N.on.left.2.1 N.on.running.unit.temps h.3
+    (act G.program w o (op.SetResult lower upper c n)).0) (sym place_is)
+    (by _ _ (value_here G s w before o (Do (a.Assign (a.Plain x) e) env) k N N.sees e c h.0 o.place N.on.left.2.3.0 N.on.left.2.1 N.on.running.unit.temps h.3
     (in_context_none (a.Assign (a.Plain x)) (first_call N.on.running.env (a.Literal 0) e) Y.none))))
   where
     here : Environment
@@ -74,7 +73,7 @@ result_steps G s before o x e env k F Y lower upper c n there h =
     stored : (v : ℤ) (b : Bool) → within lower upper v ≡ b
         → PartOf G (after_step s G.p (and_then (outcomes.provided b 1 ((result_location M.frame, Ordinal v) ∷ [])) goes)) before
         (provided b o fault.Range (private_outcome (go_to n (set_word o o.base v)))).0
-    stored v false q = faulted G s before o (Do (a.Assign (a.Plain x) e) env) k Y.now 1 fault.Range refl
+    stored v false q = faulted G s w before o (Do (a.Assign (a.Plain x) e) env) k Y.now 1 fault.Range refl
     stored v true q =
         went G s before o Y.now.part (put (result_location M.frame) (Ordinal v) s.store) (go_to n (set_word o o.base v)) k
         (subst (λ z. RunsOn G (put (result_location M.frame) (Ordinal v) s.store) (go_to z (set_word o o.base v)) k) (sym h.1)
@@ -88,7 +87,7 @@ result_steps G s before o x e env k F Y lower upper c n there h =
     by : (O : Outcome TypedValue) (r : Result ℤ machine.Fault) → Agrees h.0 O r
         → PartOf G (after_step s G.p (and_then (Gives P) (λ at. and_then O (λ v. and_then (writes_of at.at at.type v) goes)))) before
         (with_result o r (λ v. provided (within lower upper v) o fault.Range (private_outcome (go_to n (set_word o o.base v))))).0
-    by (Fault i) (Err f) g = faulted G s before o (Do (a.Assign (a.Plain x) e) env) k Y.now i f g
+    by (Fault i) (Err f) g = faulted G s w before o (Do (a.Assign (a.Plain x) e) env) k Y.now i f g
     by (Fault i) (Ok v) g = absurd g
     by (Gives w) (Err f) g = absurd g
     by (Gives w) (Ok v) g =

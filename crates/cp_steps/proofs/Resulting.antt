@@ -9,7 +9,6 @@ use Rattle.cp_model.specs.Continuations.{Task}
 use Rattle.cp_model.specs.Declarations.{reported_members}
 use Rattle.cp_model.specs.Environments.{Frame}
 use Rattle.cp_model.specs.Locations.{ByName, Location, OfActivation, Path, same_location, under}
-use Rattle.cp_model.specs.Parts.{is_own}
 use Rattle.cp_model.specs.Stores.{Ordinal, Store, put}
 use Rattle.cp_model.specs.Types.{ComponentOf}
 use Rattle.cp_typing.specs.Needs.{result_words}
@@ -17,7 +16,7 @@ use Rattle.cp_code.specs.Layout.{local, natural}
 use Rattle.cp_code.specs.Starts.{unset, word}
 use Rattle.cp_steps.specs.PrivateStates.{PrivateState, set_word}
 use Rattle.cp_steps.specs.Means.{CellMeans}
-use Rattle.cp_steps.specs.Addresses.{Activation, ClassLies, ComponentLies, Ground, MonitorLies, ProcessLies, activation_at, activations, lies, scope}
+use Rattle.cp_steps.specs.Addresses.{Activation, ClassLies, ComponentLies, Ground, MonitorLies, ProcessLies, activation_at, activations, in_sight, lies, scope}
 use Rattle.cp_steps.specs.Left.{held_below, site}
 use Rattle.cp_steps.specs.PartOf.{ActivationMeans, ResultMeans, RunsOn, components}
 use Rattle.cp_steps.proofs.Apart.{InHead, cell_head}
@@ -27,7 +26,8 @@ use Rattle.cp_steps.proofs.Holding.{live_owner, put_apart, result_no_variable}
 use Rattle.cp_steps.proofs.Keeping.{KeepsData, activation_kept, activations_kept, data_kept, depth_of, keeps_given, local_named, right_place}
 use Rattle.cp_steps.proofs.Layouts.{same_some}
 use Rattle.cp_steps.proofs.RunningOn.{runs_room, runs_stacked}
-use Rattle.cp_steps.proofs.Separate.{OwnRight, cell_no_result, local_no_own_right, locals_apart, reference_inside, result_inside}
+use Rattle.cp_steps.proofs.Owned.{OwnRight, reference_inside, result_inside}
+use Rattle.cp_steps.proofs.Separate.{cell_no_result, local_no_own_right, locals_apart}
 use Rattle.cp_steps.proofs.Stacks.{Stacked, found_inside}
 use Rattle.cp_steps.proofs.Writing.{changed_other, location_itself}
 use Rattle.cp_steps.proofs.Given.{all_kept}
@@ -94,9 +94,9 @@ runs_resulted G store o k R f t v runs is none differs = record {
     owners at s n (MonitorLies j w i z) e = absurd (omega (arith, ap (depth_of (suc (length T.rest))) (sym (ap (λ (l : Location). l.owner) w) ∙ e)))
     owners at s n (ClassLies c i) e = absurd (omega (arith, live_owner G [] at _ (length T.rest) i e))
 
-    right_apart : (at : Location) (s : System) (n m : ℕ) → is_own G.p at.owner ≡ true → n + m ≡ o.base
+    right_apart : (at : Location) (s : System) (n m : ℕ) → in_sight G at.owner ≡ true → n + m ≡ o.base
         → OwnRight G (n + m) ⊎ ((lies G xs at ≡ Some (n, ComponentOf s (reported_members (scope G) s))) × InHead (scope G) (ComponentOf s (reported_members (scope G) s)) m × (1 ≤ m)) → ⊥
-    right_apart at s n m mine e (inl r) = local_no_own_right G xs top stack (length T.rest) (n + m) z0 there0 (omega (arith, e)) r
+    right_apart at s n m mine e (inl r) = local_no_own_right G xs top stack (length T.rest) (n + m) z0 there0 (omega (arith, e)) (omega (arith, e, result_inside (scope G) f.routine t is)) r
     right_apart at s n m mine e (inr r) = cell_no_result G xs top stack at n (ComponentOf s (reported_members (scope G) s)) m (length T.rest) z0 t mine r.1 r.0 there0 is e
 
     keeps : KeepsData G store after o.words new xs
@@ -108,11 +108,12 @@ runs_resulted G store o k R f t v runs is none differs = record {
         put_apart L (under at (ByName x ∷ [])) (Ordinal v) store (λ e. owners at s n cl (sym (ap (λ (j : Location). j.owner) e) ∙ T.owner)),
         changed_other o.words (n + m) o.base v (λ e. right_apart at s n m mine e (right_place G xs at s n m x w mine cl r)),
       );
+      stored = λ at s n x sort there no. put_apart L (under at (ByName x ∷ [])) (Ordinal v) store (λ e. owners at s n (ClassLies sort there) (sym (ap (λ (j : Location). j.owner) e) ∙ T.owner));
       marks = λ at s n mine sort there. put_apart L at (Ordinal v) store (λ e. owners at s n (ClassLies sort there) (sym (ap (λ (j : Location). j.owner) e) ∙ T.owner));
     }
 
     room : o.base < length o.words
-    room = omega (arith, (found_inside G top (length T.rest) xs z0 stack there0).0, result_inside (scope G) f.routine t is, runs_room G store o k R)
+    room = omega (arith, (found_inside G top (length T.rest) xs z0 stack.stack there0).0, result_inside (scope G) f.routine t is, runs_room G store o k R)
 
     -- The running function's own: its `var` parameters, and the new result.
     own : (rest : List Activation) (g : Frame) (c : ℕ) → g.owner ≡ OfActivation G.p (length T.rest) → ◌≡◌ {A = Activation} (record { base = c; routine = g.routine }) z0

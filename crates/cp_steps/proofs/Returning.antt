@@ -6,14 +6,13 @@ use Rattle.cp_model.specs.Abstract as a
 use Rattle.cp_model.specs.Abstract.{Name, System}
 use Rattle.cp_model.specs.Actions.{Acts}
 use Rattle.cp_model.specs.Calls.{Found, call_in_statement, first_call, in_context}
-use Rattle.cp_model.specs.CallSteps.{leaving, result_location, return_value, with_answer}
-use Rattle.cp_model.specs.Configurations.{Configuration}
+use Rattle.cp_model.specs.CallSteps.{result_location, return_value, returns, with_answer}
+use Rattle.cp_model.specs.Configurations.{Configuration, own_step}
 use Rattle.cp_model.specs.Continuations.{Do, EndBody, EndCall, EndProcess, ForNext, RepeatTest, Task, WhileTest, marked_monitors}
 use Rattle.cp_model.specs.Environments.{Environment, Frame}
 use Rattle.cp_model.specs.Integers.{same_integer}
 use Rattle.cp_model.specs.Locations.{OfActivation, Owner, same_owner}
 use Rattle.cp_model.specs.Outcomes.{Fault, Gives, Outcome, and_then}
-use Rattle.cp_model.specs.Parts.{is_own}
 use Rattle.cp_model.specs.States.{State, configuration}
 use Rattle.cp_model.specs.Stores.{Absent, Ordinal, Store, Value, forget}
 use Rattle.cp_model.specs.Turns.{after_step}
@@ -25,27 +24,27 @@ use Rattle.cp_code.specs.Sites.{BodyOf, RoutineOf, UnitText}
 use Rattle.cp_code.specs.Starts.{unset, word}
 use Rattle.cp_code.specs.StatementsFor.{is_function}
 use Rattle.cp_steps.specs.PrivateStates as machine
-use Rattle.cp_steps.specs.PrivateStates.{NoEffect, PrivateState, fault_in, set_temp}
+use Rattle.cp_steps.specs.PrivateStates.{NoEffect, Outside, PrivateState, fault_in, set_temp}
 use Rattle.cp_steps.specs.Calling.{gate_effect, leave, return_with}
-use Rattle.cp_steps.specs.Addresses.{Activation, Ground, activation_of, activations, scope}
+use Rattle.cp_steps.specs.Addresses.{Activation, Ground, activation_of, activations, in_sight, scope}
 use Rattle.cp_steps.specs.Left.{CallerAt, FrameFor, Left, Runs, held_below, innermost_gate, kept_below, result_of, site}
 use Rattle.cp_steps.specs.PartOf.{ActivationMeans, ActivationsMean, CallsBehind, DataMeans, IfFrame, PartOf, ResultMeans, RunsOn}
 use Rattle.cp_steps.proofs.Answered.{LeftAnswered, task_answered}
 use Rattle.cp_steps.proofs.Doing.{acts_itself}
-use Rattle.cp_steps.proofs.Finding.{cons_is_not_nil, some_is_not_none}
+use Rattle.cp_steps.proofs.Finding.{some_is_not_none}
 use Rattle.cp_steps.proofs.Heres.{depth_is, lies_behind}
 use Rattle.cp_steps.proofs.Holding.{SameLive, activation_below, data_below}
 use Rattle.cp_steps.proofs.Keeping.{activation_kept, activations_kept, data_kept, keeps_given}
 use Rattle.cp_steps.proofs.Layouts.{same_some}
 use Rattle.cp_steps.proofs.LeftKept.{left_kept, left_raised}
-use Rattle.cp_steps.proofs.Stacks.{Stacked, stacked}
-use Rattle.cp_steps.proofs.Stepping.{Now, Stepped, both_step, faulted, went}
+use Rattle.cp_steps.proofs.Stacks.{Stack, Stacked, stacked}
+use Rattle.cp_steps.proofs.Stepping.{Now, Stepped, both_step, faulted, gates_left, went}
 use Rattle.cp_steps.proofs.Writing.{integer_is, owner_is}
 use Rattle.cp_steps.proofs.Given.{all_kept}
 
 -- ---- an activation less
 
-pub data_behind : (G : Ground) (z : Activation) (xs : List Activation) (store : Store) (words : List ℤ) → DataMeans G (z ∷ xs) (is_own G.p) store words → DataMeans G xs (is_own G.p) store words
+pub data_behind : (G : Ground) (z : Activation) (xs : List Activation) (store : Store) (words : List ℤ) → DataMeans G (z ∷ xs) (in_sight G) store words → DataMeans G xs (in_sight G) store words
 data_behind G z xs store words D = record {
   cells = λ l n t mine h. D.cells l n t mine (lies_behind G z xs l (n, t) h);
   rights = D.rights;
@@ -93,13 +92,13 @@ with_answer_same f v (EndProcess ∷ k) a1 a2 a3 = refl
 
 -- ---- the meaning's return
 
-abbrev result_returns : Configuration → Environment → List Task → Frame → Option Name → Outcome Configuration
+abbrev pub result_returns : Configuration → Environment → List Task → Frame → Option Name → Outcome Configuration
 result_returns config env k f x = elim x [
   | None ↦ Gives (record config { store = forget f.owner config.store; continuation = k })
   | Some t ↦ return_value config env f.owner k t (config.store (result_location f))
 ]
 
-abbrev frame_returns : Configuration → Environment → List Task → Option Frame → Outcome Configuration
+abbrev pub frame_returns : Configuration → Environment → List Task → Option Frame → Outcome Configuration
 frame_returns config env k x = elim x [ None ↦ Gives config | Some f ↦ result_returns config env k f f.routine.result ]
 
 pub text_is : (t : UnitText) (x : Option Frame) (f : Frame) → x ≡ Some f → FrameFor t x → (s : System) × (t ≡ RoutineOf s f.routine)
@@ -107,12 +106,12 @@ text_is t None f e h = absurd (some_is_not_none f (sym e))
 text_is (RoutineOf s r) (Some g) f e h = (s, ap (RoutineOf s) (sym h ∙ ap (λ (y : Frame). y.routine) (same_some g f e)))
 text_is (BodyOf s) (Some g) f e h = absurd h
 
-module _ (G : Ground) (s : State) (before : List ℕ) (o : PrivateState) (f : machine.Frame) (fs : List machine.Frame) (env : Environment) (k : List Task)
-    (N : Now G s before (record o { frames = f ∷ fs }) (EndCall env None) k) where
+module _ (G : Ground) (s : State) (w : Outside) (before : List ℕ) (o : PrivateState) (f : machine.Frame) (fs : List machine.Frame) (env : Environment) (gate : Option ℕ) (k : List Task)
+    (N : Now G s w before (record o { frames = f ∷ fs }) (EndCall env gate) k) where
   abbrev returning : PrivateState
   returning = record o { frames = f ∷ fs }
 
-  here : env.frame ≡ Some N.on.left.1.frame
+  pub here : env.frame ≡ Some N.on.left.1.frame
   here = ap (λ (y : Environment). y.frame) N.on.left.0 ∙ N.on.left.1.runs
 
   -- The caller, at a place and with something left to do that has the same end marks.
@@ -128,7 +127,10 @@ module _ (G : Ground) (s : State) (before : List ℕ) (o : PrivateState) (f : ma
       let inner = kept_below c.2 c.3 o.temps caller.temp in
       let after = forget N.on.left.1.frame.owner s.store in
       let top = caller.base + (site G caller).words in
-      let stack : Stacked G top xs = subst (λ b. Stacked G top (activations b fs k)) (sym c.5.base) (stacked G o.temps o.limit inner caller fs c.1 c.2 k c.4.globals c.4.frame c.7) in
+      let stack : Stacked G top xs = record {
+        stack = subst (λ b. Stack G top (activations b fs k)) (sym c.5.base) (stacked G o.temps o.limit inner caller fs c.1 c.2 k c.4.globals c.4.frame c.7);
+        fits = omega (arith, c.4.words_fit, c.4.activation_fits);
+      } in
       let live_same : SameLive G xs s.store after
       = forgotten G xs N.on.left.1.frame.owner s.store (N.on.left.1.owner ∙ ap (OfActivation G.p) (sym (depth_is G o.temps o.limit f.base inner caller fs c.1 c.2 k c.7))) in
       record {
@@ -146,14 +148,14 @@ module _ (G : Ground) (s : State) (before : List ℕ) (o : PrivateState) (f : ma
             (activations_kept G s.store after o.words o.words o.temps o.limit f.base inner caller fs c.1 c.2 k c.7
             (λ rest g b owner there. activation_kept G s.store after o.words o.words rest b (length rest) g owner
             (activation_below G xs top stack s.store after o.words o.words live_same (λ i q. refl) (length rest) (record { base = b; routine = g.routine }) there)) N.on.activations_mean.1);
-        data_means = marks (λ ys gs. DataMeans G ys (is_own G.p) after o.words)
+        data_means = marks (λ ys gs. DataMeans G ys (in_sight G) after o.words)
             (data_kept G s.store after o.words o.words xs (data_below G xs top stack s.store after o.words o.words live_same (λ i q. refl))
-            (data_behind G (record { base = o.base; routine = N.on.left.1.frame.routine }) xs s.store o.words (subst (λ e. DataMeans G (activation_of o.base e xs) (is_own G.p) s.store o.words) here N.on.data_means)));
+            (data_behind G (record { base = o.base; routine = N.on.left.1.frame.routine }) xs s.store o.words (subst (λ e. DataMeans G (activation_of o.base e xs) (in_sight G) s.store o.words) here N.on.data_means)));
         given = all_kept G s.store after (keeps_given G s.store after o.words o.words xs (data_below G xs top stack s.store after o.words o.words live_same (λ i q. refl))) (f.component ∷ map (λ g. g.component) fs) N.on.given.1;
       }
 
-  abbrev gone : Outcome Configuration → State
-  gone O = after_step s G.p (and_then O (λ after. Gives (after, leaving None)))
+  abbrev pub gone : Outcome Configuration → State
+  gone O = after_step s G.p (and_then O own_step)
 
   abbrev caller_is : (x : Option Name) → Type 0
   caller_is x = CallerAt G N.on.running.number N.on.left.3.2 N.on.left.3.3 x f N.on.left.3.1
@@ -162,7 +164,7 @@ module _ (G : Ground) (s : State) (before : List ℕ) (o : PrivateState) (f : ma
   caller_there x e = subst caller_is (ap result_of N.on.left.1.runs ∙ e) N.on.left.3.6
 
   -- A procedure's caller goes on after the call.
-  procedure_returns : N.on.left.1.frame.routine.result ≡ None → PartOf G (gone (result_returns (configuration s G.p) env k N.on.left.1.frame None)) before (leave o f fs)
+  pub procedure_returns : N.on.left.1.frame.routine.result ≡ None → PartOf G (gone (result_returns (configuration s G.p) env k N.on.left.1.frame None)) before (leave o f fs)
   procedure_returns none =
       let c = N.on.left.3 in
       let there = caller_there None none in
@@ -176,9 +178,9 @@ module _ (G : Ground) (s : State) (before : List ℕ) (o : PrivateState) (f : ma
       record { number = refl; input = refl; consumed = refl; output = refl; activity = refl }
 
   -- A function's value takes the place of the call; one that has set none is a fault.
-  function_returns : (t : Name) → N.on.left.1.frame.routine.result ≡ Some t → local (scope G) N.on.left.1.frame.routine N.on.left.1.frame.routine.name ≡ None
-      → PartOf G (gone (result_returns (configuration s G.p) env k N.on.left.1.frame (Some t))) before (return_with returning returning f fs true NoEffect).0
-  function_returns t is none = by (s.store (result_location N.on.left.1.frame)) (word o.words o.base) refl means
+  pub function_returns : (t : Name) → N.on.left.1.frame.routine.result ≡ Some t → local (scope G) N.on.left.1.frame.routine N.on.left.1.frame.routine.name ≡ None
+      → (effect : machine.Effect) → PartOf G (gone (result_returns (configuration s G.p) env k N.on.left.1.frame (Some t))) before (return_with returning returning f fs true effect).0
+  function_returns t is none effect = by (s.store (result_location N.on.left.1.frame)) (word o.words o.base) refl means
     where
       means : ResultMeans (s.store (result_location N.on.left.1.frame)) (word o.words o.base)
       means = (subst (λ e. IfFrame e (ActivationMeans G (activations f.base fs k) s.store o.words o.base)) here N.on.activations_mean.0).result t is none
@@ -223,7 +225,7 @@ module _ (G : Ground) (s : State) (before : List ℕ) (o : PrivateState) (f : ma
           (sym (with_answer_same (λ j. ActivationsMean G store ws f.base fs j) v k (λ a1 a2 a3 a4. refl) (λ a1 a2 a3 a4 a5 a6. refl) (λ a1 a2 a3 a4 a5 a6. refl))) x
 
       computed : Bool → ℤ → PrivateState
-      computed b n = (if b then fault_in (record o { frames = f ∷ fs }) fault.NoResult else (leave (set_temp (record o { frames = f ∷ fs }) (f.temp + f.into) n) f fs, NoEffect)).0
+      computed b n = (if b then fault_in (record o { frames = f ∷ fs }) fault.NoResult else (leave (set_temp (record o { frames = f ∷ fs }) (f.temp + f.into) n) f fs, effect)).0
 
       value_returns : (n : ℤ) (b : Bool) → same_integer n unset ≡ b → (n ≡ unset → ⊥)
           → PartOf G (gone (return_value (configuration s G.p) env N.on.left.1.frame.owner k t (Ordinal n))) before (computed b n)
@@ -238,31 +240,30 @@ module _ (G : Ground) (s : State) (before : List ℕ) (o : PrivateState) (f : ma
           → PartOf G (gone (return_value (configuration s G.p) env N.on.left.1.frame.owner k t v)) before (computed (same_integer n unset) n)
       by Absent n e h =
           subst (λ z. PartOf G (gone (Fault 9)) before (computed (same_integer z unset) z)) (sym h)
-          (faulted G s before (record o { frames = f ∷ fs }) (EndCall env None) k N 9 fault.NoResult refl)
+          (faulted G s w before (record o { frames = f ∷ fs }) (EndCall env gate) k N 9 fault.NoResult refl)
       by (Ordinal q) n e h =
           subst (λ z. PartOf G (gone (return_value (configuration s G.p) env N.on.left.1.frame.owner k t (Ordinal z))) before (computed (same_integer n unset) n)) h.0
           (value_returns n (same_integer n unset) refl h.1)
       by _ n e h = absurd h
 
--- The end of a routine, by a process that holds no gate. A function's name is no parameter or variable of it.
-pub return_steps : (G : Ground) (s : State) (before : List ℕ) (o : PrivateState) (env : Environment) (gate : Option ℕ) (k : List Task) → Now G s before o (EndCall env gate) k
+-- The end of a routine. A function's name is no parameter or variable of it.
+pub return_steps : (G : Ground) (s : State) (w : Outside) (before : List ℕ) (o : PrivateState) (env : Environment) (gate : Option ℕ) (k : List Task) → Now G s w before o (EndCall env gate) k
     → ((f : Frame) (t : Name) → env.frame ≡ Some f → f.routine.result ≡ Some t → local (scope G) f.routine f.routine.name ≡ None)
-    → Stepped G s before o
-return_steps G s before o env (Some m) k N names = absurd (cons_is_not_nil m (marked_monitors k) N.marks)
-return_steps G s before o env None k N names = by o.frames N
+    → Stepped G s w before o
+return_steps G s w before o env gate k N names = by o.frames N
   where
-    by : (gs : List machine.Frame) → Now G s before (record o { frames = gs }) (EndCall env None) k → Stepped G s before (record o { frames = gs })
+    by : (gs : List machine.Frame) → Now G s w before (record o { frames = gs }) (EndCall env gate) k → Stepped G s w before (record o { frames = gs })
     by [] N = absurd N.on.left
     by (f ∷ fs) N =
         let P = record o { frames = f ∷ fs } in
         let r = N.on.left.1 in
-        both_step G s before P (EndCall env None) k N (Acts (EndCall env None) k) (op.Return (is_function r.frame.routine.result)) (acts_itself (EndCall env None) k refl refl) refl r.return refl
-        (subst (λ g. PartOf G (gone G s before o f fs env k N (frame_returns (configuration s G.p) env k env.frame)) before (return_with P P f fs (is_function r.frame.routine.result) (gate_effect g machine.Leaves)).0) (sym N.on.left.2.0)
-        (subst (λ x. PartOf G (gone G s before o f fs env k N (frame_returns (configuration s G.p) env k x)) before (return_with P P f fs (is_function r.frame.routine.result) NoEffect).0) (sym (here G s before o f fs env k N))
+        both_step G s w before P (EndCall env gate) k N (Acts (EndCall env gate) k) (op.Return (is_function r.frame.routine.result)) (acts_itself (EndCall env gate) k refl refl) refl r.return refl
+        (gates_left G s before gate (returns (configuration s G.p) env k) _
+        (subst (λ x. PartOf G (gone G s w before o f fs env gate k N (frame_returns (configuration s G.p) env k x)) before (return_with P P f fs (is_function r.frame.routine.result) (gate_effect f.gate machine.Leaves)).0) (sym (here G s w before o f fs env gate k N))
         (returned r.frame.routine.result refl)))
       where
         returned : (x : Option Name) → N.on.left.1.frame.routine.result ≡ x
-            → PartOf G (gone G s before o f fs env k N (result_returns (configuration s G.p) env k N.on.left.1.frame x)) before
-            (return_with (record o { frames = f ∷ fs }) (record o { frames = f ∷ fs }) f fs (is_function x) NoEffect).0
-        returned None e = procedure_returns G s before o f fs env k N e
-        returned (Some t) e = function_returns G s before o f fs env k N t e (names N.on.left.1.frame t (here G s before o f fs env k N) e)
+            → PartOf G (gone G s w before o f fs env gate k N (result_returns (configuration s G.p) env k N.on.left.1.frame x)) before
+            (return_with (record o { frames = f ∷ fs }) (record o { frames = f ∷ fs }) f fs (is_function x) (gate_effect f.gate machine.Leaves)).0
+        returned None e = procedure_returns G s w before o f fs env gate k N e
+        returned (Some t) e = function_returns G s w before o f fs env gate k N t e (names N.on.left.1.frame t (here G s w before o f fs env gate k N) e) (gate_effect f.gate machine.Leaves)

@@ -9,17 +9,15 @@ use Rattle.cp_model.specs.CallSteps.{is_initialised}
 use Rattle.cp_model.specs.Continuations.{Task, marked_monitors, push}
 use Rattle.cp_model.specs.Locations.{Location}
 use Rattle.cp_model.specs.Operators.{Clock, realtime}
-use Rattle.cp_model.specs.Parts.{is_own}
 use Rattle.cp_model.specs.Stores.{Ordinal, Store, Value, put}
 use Rattle.cp_model.specs.Types.{ResolvedType, Simple}
 use Rattle.cp_code.specs.TermsFor.{nothing_known}
 use Rattle.cp_code.specs.StatementsFor.{CodeFor}
-use Rattle.cp_steps.specs.PrivateStates.{PrivateState, go_to, set_word, view_of}
+use Rattle.cp_steps.specs.PrivateStates.{Outside, PrivateState, go_to, set_word, view_of}
 use Rattle.cp_steps.specs.PrivateStates as machine
-use Rattle.cp_steps.specs.Steps.{alone}
 use Rattle.cp_steps.specs.Values.{View}
 use Rattle.cp_steps.specs.Means.{CellMeans, Here}
-use Rattle.cp_steps.specs.Addresses.{Ground, HasRights, activations, component_type, lies, scope, seen}
+use Rattle.cp_steps.specs.Addresses.{Ground, HasRights, activations, component_type, in_sight, lies, scope, seen}
 use Rattle.cp_steps.specs.Left.{Left, Running, held_below, innermost_gate, site}
 use Rattle.cp_steps.specs.PartOf.{ActivationsMean, DataMeans, RunsOn, components}
 use Rattle.cp_steps.proofs.Apart.{IsCell, cell_head}
@@ -29,36 +27,38 @@ use Rattle.cp_steps.proofs.Holding.{SameBelow, SameLive, activation_below, activ
 use Rattle.cp_steps.proofs.Keeping.{activation_kept, activations_kept, data_kept, keeps_given}
 use Rattle.cp_steps.proofs.LeftKept.{left_kept, left_raised}
 use Rattle.cp_steps.proofs.Pushing.{activations_push, marks_push, mean_push, push_left}
-use Rattle.cp_steps.proofs.Separate.{cell_below}
-use Rattle.cp_steps.proofs.Stacks.{Stacked, stacked}
+use Rattle.cp_steps.proofs.Separate.{cell_inside}
+use Rattle.cp_steps.proofs.Stacks.{Stack, Stacked, own_in_whole, stacked}
 
 -- The names mean what the words hold.
-pub runs_here : (G : Ground) (store : Store) (o : PrivateState) (k : List Task) (clock : Clock) (R : RunsOn G store o k) → Sees G (is_own G.p) store R.running.env
-    → Here R.running.env clock store (view_of (alone (realtime clock) o) o) (held_below R.live o.temps R.running.temp) (seen (is_own G.p) G (activations o.base o.frames k))
-runs_here G store o k clock R sees =
-    subst (λ b. Here R.running.env clock store (view_of (alone (realtime clock) o) o) (held_below R.live o.temps R.running.temp) (seen (is_own G.p) G (activations b o.frames k))) (sym R.base)
-    (subst (λ z. Here R.running.env clock store z (held_below R.live o.temps R.running.temp) (seen (is_own G.p) G (activations R.running.base o.frames k))) view_is
-    (here G store o.words o.temps o.limit R.live (held_below R.live o.temps R.running.temp) R.running o.frames o.place R.running.unit.temps k (is_own G.p) clock R.left
+pub runs_here : (G : Ground) (store : Store) (w : Outside) (o : PrivateState) (k : List Task) (clock : Clock) → w.clock ≡ realtime clock → (R : RunsOn G store o k) → Sees G (in_sight G) store R.running.env
+    → Here R.running.env clock store (view_of w o) (held_below R.live o.temps R.running.temp) (seen (in_sight G) G (activations o.base o.frames k))
+runs_here G store w o k clock clock_is R sees =
+    subst (λ b. Here R.running.env clock store (view_of w o) (held_below R.live o.temps R.running.temp) (seen (in_sight G) G (activations b o.frames k))) (sym R.base)
+    (subst (λ z. Here R.running.env clock store z (held_below R.live o.temps R.running.temp) (seen (in_sight G) G (activations R.running.base o.frames k))) view_is
+    (here G store o.words o.temps o.limit R.live (held_below R.live o.temps R.running.temp) R.running o.frames o.place R.running.unit.temps k (in_sight G) clock R.left
     (subst (λ b. ActivationsMean G store o.words b o.frames k) R.base R.activations_mean)
     R.runs.component
-    (subst (λ b. DataMeans G (activations b o.frames k) (is_own G.p) store o.words) R.base R.data_means)
+    (subst (λ b. DataMeans G (activations b o.frames k) (in_sight G) store o.words) R.base R.data_means)
     R.runs.globals sees))
   where
     view : View
     view = record { words = o.words; temps = o.temps; base = R.running.base; temp = R.running.temp; component = R.running.component; clock = realtime clock }
 
-    view_is : view ≡ view_of (alone (realtime clock) o) o
-    view_is = λ i. record { words = o.words; temps = o.temps; base = sym R.base i; temp = sym R.temp i; component = sym R.component i; clock = realtime clock }
+    view_is : view ≡ view_of w o
+    view_is = λ i. record { words = o.words; temps = o.temps; base = sym R.base i; temp = sym R.temp i; component = sym R.component i; clock = sym clock_is i }
 
 -- The words of the activations lie one after another, and are the process's own.
 pub runs_stacked : (G : Ground) (store : Store) (o : PrivateState) (k : List Task) (R : RunsOn G store o k)
     → Stacked G (o.base + (site G R.running).words) (activations o.base o.frames k)
-runs_stacked G store o k R =
-    subst (λ b. Stacked G (b + (site G R.running).words) (activations b o.frames k)) (sym R.base)
-    (stacked G o.temps o.limit (held_below R.live o.temps R.running.temp) R.running o.frames o.place R.running.unit.temps k R.runs.globals R.runs.frame R.left)
+runs_stacked G store o k R = record {
+  stack = subst (λ b. Stack G (b + (site G R.running).words) (activations b o.frames k)) (sym R.base)
+      (stacked G o.temps o.limit (held_below R.live o.temps R.running.temp) R.running o.frames o.place R.running.unit.temps k R.runs.globals R.runs.frame R.left);
+  fits = omega (arith, R.base, R.runs.words_fit, R.runs.activation_fits);
+}
 
 pub runs_room : (G : Ground) (store : Store) (o : PrivateState) (k : List Task) (R : RunsOn G store o k) → o.base + (site G R.running).words ≤ length o.words
-runs_room G store o k R = omega (arith, R.base, R.runs.words_fit, R.runs.activation_fits, R.count)
+runs_room G store o k R = omega (arith, R.base, R.runs.words_fit, R.runs.activation_fits, R.count, own_in_whole G)
 
 -- What is left where no value is known is so whatever is.
 pub left_afresh : (G : Ground) (ts : List ℤ) (limit live : ℕ) (R : Running) (fs : List machine.Frame) (place low : ℕ) (k : List Task) → low ≤ R.unit.temps
@@ -85,7 +85,7 @@ runs_moved G store o i j place low R same mean marks left fits = record {
   next_value = λ c n m e. omega arith;
   count = R.count;
   activations_mean = subst (λ (T : Type 0). T) (sym mean) R.activations_mean;
-  data_means = subst (λ xs. DataMeans G xs (is_own G.p) store o.words) (sym same) R.data_means;
+  data_means = subst (λ xs. DataMeans G xs (in_sight G) store o.words) (sym same) R.data_means;
   given = R.given;
 }
 
@@ -102,14 +102,14 @@ runs_pushed G store o i k s place next low R same mean marks code left fits =
 
 -- A value of one word is stored. Where it is a mark that is set, the class has its rights.
 abbrev pub runs_stored : (G : Ground) (store : Store) (o : PrivateState) (k : List Task) (R : RunsOn G store o k) (l : Location) (n : ℕ) (u : ResolvedType) (w : Value) (v : ℤ)
-    → IsCell u → CellMeans u w v → is_own G.p l.owner ≡ true → lies G (activations o.base o.frames k) l ≡ Some (n, u)
+    → IsCell u → CellMeans u w v → in_sight G l.owner ≡ true → lies G (activations o.base o.frames k) l ≡ Some (n, u)
     → ((s : System) → s.sort ≡ Class → u ≡ component_type G s → is_initialised w ≡ true → HasRights G store l s)
     → RunsOn G (put l w store) (set_word o n v) k
 runs_stored G store o k R l n u w v cell means own is fresh =
     let xs = activations o.base o.frames k in
     let top = o.base + (site G R.running).words in
     let stack = runs_stacked G store o k R in
-    let below = cell_below G xs top stack l n u 0 own (cell_head (scope G) u cell) is in
+    let below = cell_inside G xs top stack l n u 0 own (cell_head (scope G) u cell) is in
     record {
       running = R.running;
       runs = R.runs;
@@ -125,19 +125,19 @@ runs_stored G store o k R l n u w v cell means own is fresh =
           activations_kept G store (put l w store) o.words (slice_set o.words n v) o.temps o.limit o.base (held_below R.live o.temps R.running.temp) R.running o.frames o.place R.running.unit.temps k R.left
           (λ rest f c owner there. activation_kept G store (put l w store) o.words (slice_set o.words n v) rest c (length rest) f owner
           (activation_written G xs top stack store o.words l n u w v cell means own is (length rest) (record { base = c; routine = f.routine }) there)) R.activations_mean;
-      data_means = data_written G xs top stack store o.words l n u w v cell means own is (omega (arith, below, runs_room G store o k R)) fresh R.data_means;
+      data_means = data_written G xs top stack store o.words l n u w v cell means own is (omega (arith, below, R.count)) fresh R.data_means;
       given = all_kept G store (put l w store) (written_keeps G xs top stack store o.words l n u w v cell means own is) (components o) R.given;
     }
 
 -- A simple value is stored.
 abbrev pub runs_written : (G : Ground) (store : Store) (o : PrivateState) (k : List Task) (R : RunsOn G store o k) (l : Location) (n : ℕ) (b : BaseType) (low high start v : ℤ)
-    → is_own G.p l.owner ≡ true → lies G (activations o.base o.frames k) l ≡ Some (n, Simple b low high start)
+    → in_sight G l.owner ≡ true → lies G (activations o.base o.frames k) l ≡ Some (n, Simple b low high start)
     → RunsOn G (put l (Ordinal v) store) (set_word o n v) k
 runs_written G store o k R l n b low high start v own is = runs_stored G store o k R l n (Simple b low high start) (Ordinal v) v tt refl own is (λ s sort e set. absurd (true≢false (sym set)))
 
 -- The store and the words change beyond all activations.
 abbrev pub runs_over : (G : Ground) (store after : Store) (o : PrivateState) (new : List ℤ) (k : List Task) (R : RunsOn G store o k)
-    → SameLive G (activations o.base o.frames k) store after → SameBelow (o.base + (site G R.running).words) o.words new → length new ≡ length o.words
+    → SameLive G (activations o.base o.frames k) store after → SameBelow G (o.base + (site G R.running).words) o.words new → length new ≡ length o.words
     → RunsOn G after (record o { words = new }) k
 runs_over G store after o new k R live same count =
     let xs = activations o.base o.frames k in

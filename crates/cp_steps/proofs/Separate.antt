@@ -1,170 +1,50 @@
 -- No two cells of a process share a word: its component, and its activations, lie one behind another.
-use Rattle.std.proofs.Common.{◌≡◌, ◌⊎◌, inl, inr, ℕ, ◌+◌, ◌≤◌, ◌<◌, List, [], ◌∷◌, Bool, true, false, Option, Some, None, refl, ap, sym, subst, ◌∙◌, arith}
+use Rattle.std.proofs.Common.{◌≡◌, ◌⊎◌, inl, inr, ℕ, ◌+◌, ◌≤◌, ◌<◌, List, [], ◌∷◌, Bool, true, false, Some, refl, ap, sym, subst, ◌∙◌, arith}
 use Rattle.std.specs.Prelude.{if◌then◌else◌, nat_eq}
-use Rattle.std.proofs.lemmas.Bool.{eqb-true, true≢false}
-use Rattle.cp_model.specs.Abstract as a
+use Rattle.std.proofs.lemmas.Bool.{eq-eqb, eqb-true, true≢false}
 use Rattle.cp_model.specs.Abstract.{Name, System}
 use Rattle.cp_model.specs.Declarations as declared
 use Rattle.cp_model.specs.Locations.{ByIndex, ByName, Location, OfActivation, OfMonitor, OfProcess, Owner, Path}
-use Rattle.std.specs.Str.{bytes_eq}
-use Rattle.cp_model.specs.Parts.{is_own}
-use Rattle.cp_model.specs.Types.{GlobalScope, ResolvedType}
+use Rattle.cp_model.specs.Types.{ResolvedType}
 use Rattle.cp_typing.specs.Needs.{result_words}
 use Rattle.cp_typing.specs.Words.{words}
-use Rattle.cp_code.specs.Layout.{activation_words, component_words, farther, head_words, local, local_at, local_words, locals, locals_words, member_part, part}
-use Rattle.cp_code.specs.StandsFor.{system_of_process}
-use Rattle.cp_steps.specs.Addresses.{Activation, Ground, activation_at, lies, part_at, part_of_activation, part_of_component, part_of_local, part_of_owner, scope}
-use Rattle.cp_steps.proofs.Apart.{InHead, head_inside, member_above, member_apart, part_apart}
+use Rattle.cp_code.specs.Layout.{activation_words, component_words, head_words, local, local_words, locals, member_part}
+use Rattle.cp_code.specs.StandsFor.{Apart, system_of_monitor, system_of_process}
+use Rattle.cp_steps.specs.Addresses.{Activation, Ground, activation_at, in_sight, lies, part_at, part_of_owner, scope, whole}
+use Rattle.cp_steps.proofs.Apart.{InHead, head_inside, member_above, member_apart}
 use Rattle.cp_steps.proofs.Bounds.{member_fits, part_fits}
 use Rattle.cp_steps.proofs.Finding.{some_is_not_none}
-use Rattle.cp_steps.proofs.Layouts.{farther_some, same_some}
-use Rattle.cp_typing.proofs.Names.{bytes_same}
-use Rattle.cp_steps.proofs.Stacks.{Stacked, found_apart, found_inside}
-
--- ---- the variables of one activation
-
-pub local_inside : (g : GlobalScope) (at : ℕ) (vs : List (Name × declared.Variable)) (x : Name) (k : ℕ) (v : declared.Variable) → local_at g at vs x ≡ Some (k, v)
-    → (at ≤ k) × (k + local_words g v ≤ at + locals_words g vs)
-local_inside g at [] x k v h = absurd (some_is_not_none (k, v) (sym h))
-local_inside g at (y ∷ vs) x k v h = by (bytes_eq x y.0) h (local_inside g (at + local_words g y.1) vs x k v)
-  where
-    by : (b : Bool) → (if b then Some (at, y.1) else local_at g (at + local_words g y.1) vs x) ≡ Some (k, v)
-        → (local_at g (at + local_words g y.1) vs x ≡ Some (k, v) → (at + local_words g y.1 ≤ k) × (k + local_words g v ≤ (at + local_words g y.1) + locals_words g vs))
-        → (at ≤ k) × (k + local_words g v ≤ at + (local_words g y.1 + locals_words g vs))
-    by true h go =
-        let e : ◌≡◌ {A = ℕ × declared.Variable} (at, y.1) (k, v) = same_some (at, y.1) (k, v) h in
-        let p : at ≡ k = ap (λ z. z.0) e in
-        let q : local_words g y.1 ≡ local_words g v = ap (λ z. local_words g z.1) e in
-        (omega (arith, p), omega (arith, p, q))
-    by false h go = (omega (arith, (go h).0), omega (arith, (go h).1))
-
-local_apart : (g : GlobalScope) (at : ℕ) (vs : List (Name × declared.Variable)) (x y : Name) (k l : ℕ) (v w : declared.Variable)
-    → local_at g at vs x ≡ Some (k, v) → local_at g at vs y ≡ Some (l, w)
-    → (x ≡ y) ⊎ ((k + local_words g v ≤ l) ⊎ (l + local_words g w ≤ k))
-local_apart g at [] x y k l v w h e = absurd (some_is_not_none (k, v) (sym h))
-local_apart g at (z ∷ vs) x y k l v w h e = by (bytes_eq x z.0) (bytes_eq y z.0) refl refl h e (local_apart g (at + local_words g z.1) vs x y k l v w)
-  where
-    here : (k : ℕ) (v : declared.Variable) → ◌≡◌ {A = Option (ℕ × declared.Variable)} (Some (at, z.1)) (Some (k, v)) → (at + local_words g z.1) ≡ (k + local_words g v)
-    here k v h =
-        let e : ◌≡◌ {A = ℕ × declared.Variable} (at, z.1) (k, v) = same_some (at, z.1) (k, v) h in
-        ap (λ q. q.0 + local_words g q.1) e
-
-    by : (a b : Bool) → bytes_eq x z.0 ≡ a → bytes_eq y z.0 ≡ b
-        → (if a then Some (at, z.1) else local_at g (at + local_words g z.1) vs x) ≡ Some (k, v)
-        → (if b then Some (at, z.1) else local_at g (at + local_words g z.1) vs y) ≡ Some (l, w)
-        → (local_at g (at + local_words g z.1) vs x ≡ Some (k, v) → local_at g (at + local_words g z.1) vs y ≡ Some (l, w) → (x ≡ y) ⊎ ((k + local_words g v ≤ l) ⊎ (l + local_words g w ≤ k)))
-        → (x ≡ y) ⊎ ((k + local_words g v ≤ l) ⊎ (l + local_words g w ≤ k))
-    by true true a b h e go = inl (bytes_same x z.0 a ∙ sym (bytes_same y z.0 b))
-    by true false a b h e go = inr (inl (omega (arith, here k v h, (local_inside g (at + local_words g z.1) vs y l w e).0)))
-    by false true a b h e go = inr (inr (omega (arith, here l w e, (local_inside g (at + local_words g z.1) vs x k v h).0)))
-    by false false a b h e go = go h e
-
--- What is found in an activation: the variable, and the part of it.
-record FoundLocal (g : GlobalScope) (z : Activation) (x : Name) (path : Path) (n : ℕ) (u : ResolvedType) : Type 0 where
-  at : ℕ
-  variable : declared.Variable
-  is : local g z.routine x ≡ Some (at, variable)
-  far : ℕ
-  there : part g variable.type path ≡ Some (far, u)
-  place : n ≡ z.base + (at + far)
-  words : local_words g variable ≡ words g variable.type
-  passive : variable.by_reference ≡ false
-
-found_local : (g : GlobalScope) (z : Activation) (x : Name) (path : Path) (n : ℕ) (u : ResolvedType) → part_of_activation g (Some z) x path ≡ Some (n, u) → FoundLocal g z x path n u
-found_local g z x path n u h =
-    let f = farther_some z.base (part_of_local g (local g z.routine x) path) n u h in by (local g z.routine x) refl f.0 f.1 f.2
-  where
-    by : (o : Option (ℕ × declared.Variable)) → local g z.routine x ≡ o → (m : ℕ) → part_of_local g o path ≡ Some (m, u) → n ≡ z.base + m → FoundLocal g z x path n u
-    by None e m h p = absurd (some_is_not_none (m, u) (sym h))
-    by (Some v) e m h p = inner v.1.by_reference refl h
-      where
-        inner : (b : Bool) → v.1.by_reference ≡ b → (if b then None else farther v.0 (part g v.1.type path)) ≡ Some (m, u) → FoundLocal g z x path n u
-        inner true b h = absurd (some_is_not_none (m, u) (sym h))
-        inner false b h =
-            let f = farther_some v.0 (part g v.1.type path) m u h in
-            record { at = v.0; variable = v.1; is = e; far = f.0; there = f.1; place = p ∙ ap (λ q. z.base + q) f.2; words = ap (λ t. if t then 1 else words g v.1.type) b; passive = b }
-
-local_cell_inside : (g : GlobalScope) (z : Activation) (x : Name) (path : Path) (n : ℕ) (u : ResolvedType) (a : ℕ) → InHead g u a → FoundLocal g z x path n u
-    → (z.base ≤ n + a) × (n + a < z.base + activation_words g z.routine)
-local_cell_inside g z x path n u a c F =
-    let i = local_inside g (result_words z.routine.result) (locals g z.routine) x F.at F.variable F.is in
-    let p = part_fits g F.variable.type path F.far u F.there in
-    (omega (arith, F.place), omega (arith, F.place, i.1, p, head_inside g u a c, F.words))
-
-local_cells_apart : (g : GlobalScope) (z : Activation) (x y : Name) (p q : Path) (n m : ℕ) (u w : ResolvedType) (a b : ℕ) → InHead g u a → InHead g w b
-    → FoundLocal g z x p n u → FoundLocal g z y q m w → n + a ≡ m + b → (ByName x ∷ p) ≡ (ByName y ∷ q)
-local_cells_apart g z x y p q n m u w a b c d F E e = by (local_apart g (result_words z.routine.result) (locals g z.routine) x y F.at E.at F.variable E.variable F.is E.is)
-  where
-    by : (x ≡ y) ⊎ ((F.at + local_words g F.variable ≤ E.at) ⊎ (E.at + local_words g E.variable ≤ F.at)) → (ByName x ∷ p) ≡ (ByName y ∷ q)
-    by (inl s) =
-        let found : ◌≡◌ {A = ℕ × declared.Variable} (F.at, F.variable) (E.at, E.variable) = same_some (F.at, F.variable) (E.at, E.variable) (sym F.is ∙ (ap (local g z.routine) s ∙ E.is)) in
-        let offsets : F.at ≡ E.at = ap (λ k. k.0) found in
-        let there : part g F.variable.type q ≡ Some (E.far, w) = ap (λ k. part g k.1.type q) found ∙ E.there in
-        let paths = part_apart g F.variable.type p q F.far E.far u w a b F.there there c d (omega (arith, e, F.place, E.place, offsets)) in
-        λ i. ByName (s i) ∷ paths i
-    by (inr (inl s)) = absurd (omega (arith, s, e, F.place, E.place, F.words, part_fits g F.variable.type p F.far u F.there, head_inside g u a c))
-    by (inr (inr s)) = absurd (omega (arith, s, e, F.place, E.place, E.words, part_fits g E.variable.type q E.far w E.there, head_inside g w b d))
-
--- ---- all owners of a process
-
--- What is found in the process's own component.
-component_part : (G : Ground) (xs : List Activation) (q : ℕ) (x : Name) (path : Path) (n : ℕ) (u : ResolvedType) → part_of_owner G xs (OfProcess q) x path ≡ Some (n, u)
-    → (G.p ≡ q) × ((s : System) × (system_of_process G.setup q ≡ Some s) × (member_part (scope G) (head_words (scope G) s) (declared.reported_members (scope G) s) x path ≡ Some (n, u)))
-component_part G xs q x path n u h = by (nat_eq G.p q) refl h
-  where
-    inner : (o : Option System) → system_of_process G.setup q ≡ o → part_of_component (scope G) o x path ≡ Some (n, u)
-        → (s : System) × (system_of_process G.setup q ≡ Some s) × (member_part (scope G) (head_words (scope G) s) (declared.reported_members (scope G) s) x path ≡ Some (n, u))
-    inner None e h = absurd (some_is_not_none (n, u) (sym h))
-    inner (Some s) e h = (s, e, h)
-
-    by : (b : Bool) → nat_eq G.p q ≡ b → (if b then part_of_component (scope G) (system_of_process G.setup q) x path else None) ≡ Some (n, u)
-        → (G.p ≡ q) × ((s : System) × (system_of_process G.setup q ≡ Some s) × (member_part (scope G) (head_words (scope G) s) (declared.reported_members (scope G) s) x path ≡ Some (n, u)))
-    by true e h = (eqb-true G.p q e, inner (system_of_process G.setup q) refl h)
-    by false e h = absurd (some_is_not_none (n, u) (sym h))
-
-component_cell : (G : Ground) (xs : List Activation) (top q : ℕ) (x : Name) (path : Path) (n : ℕ) (u : ResolvedType) (a : ℕ) → InHead (scope G) u a → part_of_owner G xs (OfProcess q) x path ≡ Some (n, u)
-    → (G.p ≡ q) × ((s : System) × (system_of_process G.setup q ≡ Some s) × (member_part (scope G) (head_words (scope G) s) (declared.reported_members (scope G) s) x path ≡ Some (n, u)) × (head_words (scope G) s ≤ n) × (n + a < component_words (scope G) s))
-component_cell G xs top q x path n u a c h =
-    let C = component_part G xs q x path n u h in
-    let s = C.1.0 in
-    let at = head_words (scope G) s in
-    let ms = declared.reported_members (scope G) s in
-    (C.0, (s, C.1.1, C.1.2, member_above (scope G) at ms x path n u C.1.2, omega (arith, member_fits (scope G) at ms x path n u C.1.2, head_inside (scope G) u a c)))
-
--- What is found in an activation of the process.
-record FoundActivation (G : Ground) (xs : List Activation) (q d : ℕ) (x : Name) (path : Path) (n : ℕ) (u : ResolvedType) : Type 0 where
-  own : G.p ≡ q
-  activation : Activation
-  is : activation_at d xs ≡ Some activation
-  found : FoundLocal (scope G) activation x path n u
-
-activation_cell : (G : Ground) (xs : List Activation) (q d : ℕ) (x : Name) (path : Path) (n : ℕ) (u : ResolvedType) → part_of_owner G xs (OfActivation q d) x path ≡ Some (n, u)
-    → FoundActivation G xs q d x path n u
-activation_cell G xs q d x path n u h = by (nat_eq G.p q) refl h
-  where
-    inner : (o : Option Activation) → activation_at d xs ≡ o → part_of_activation (scope G) o x path ≡ Some (n, u) → G.p ≡ q → FoundActivation G xs q d x path n u
-    inner None e h p = absurd (some_is_not_none (n, u) (sym h))
-    inner (Some z) e h p = record { own = p; activation = z; is = e; found = found_local (scope G) z x path n u h }
-
-    by : (b : Bool) → nat_eq G.p q ≡ b → (if b then part_of_activation (scope G) (activation_at d xs) x path else None) ≡ Some (n, u) → FoundActivation G xs q d x path n u
-    by true e h = inner (activation_at d xs) refl h (eqb-true G.p q e)
-    by false e h = absurd (some_is_not_none (n, u) (sym h))
-
--- A right of the process's own component.
-abbrev pub OwnRight : Ground → ℕ → Type 0
-OwnRight G n = (s : System) × (system_of_process G.setup G.p ≡ Some s) × (n < head_words (scope G) s)
+use Rattle.cp_steps.proofs.Layouts.{same_some}
+use Rattle.cp_steps.proofs.Stacks.{Stack, Stacked, found_apart, found_inside, monitor_seen, own_in_whole}
+use Rattle.cp_steps.specs.Passing.{monitor_start}
+use Rattle.cp_steps.proofs.Owned.{FoundActivation, FoundLocal, FoundMonitor, OwnRight, activation_cell, component_cell, component_part, found_monitor, local_apart, local_cell_inside, local_cells_apart, local_inside}
+use Rattle.cp_steps.specs.KernelOf.{is_shared}
 
 module _ (G : Ground) (xs : List Activation) (top : ℕ) (stack : Stacked G top xs) where
+  pub bottom_below : (n : ℕ) (zs : List Activation) → Stack G n zs → (s : System) → system_of_process G.setup G.p ≡ Some s → component_words (scope G) s ≤ n
+  bottom_below n [] h s i = omega (arith, h.2, ap (component_words (scope G)) (same_some s h.0 (sym i ∙ h.1)))
+  bottom_below n (z ∷ zs) h s i = omega (arith, h.0, bottom_below z.base zs h.1 s i)
+
+  -- A word of the process lies below the top.
+  own_cell : (o : Owner) (x : Name) (p : Path) (n : ℕ) (u : ResolvedType) (a : ℕ) → is_shared o ≡ false → InHead (scope G) u a → part_of_owner G xs o x p ≡ Some (n, u) → n + a < top
+  own_cell (OfProcess q) x p n u a m c h =
+      let C = component_cell G xs top q x p n u a c h in
+      omega (arith, C.1.4, bottom_below top xs stack.stack C.1.0 (ap (system_of_process G.setup) C.0 ∙ C.1.1))
+  own_cell (OfActivation q d) x p n u a m c h =
+      let A = activation_cell G xs q d x p n u h in
+      omega (arith, (local_cell_inside (scope G) A.activation x p n u a c A.found).1, (found_inside G top d xs A.activation stack.stack A.is).0)
+  own_cell (OfMonitor m) x p n u a own c h = absurd (true≢false own)
+
   across : (q : ℕ) (x : Name) (path : Path) (n : ℕ) (u : ResolvedType) (r d : ℕ) (y : Name) (path2 : Path) (m : ℕ) (w : ResolvedType) (a b : ℕ) → InHead (scope G) u a → InHead (scope G) w b
       → part_of_owner G xs (OfProcess q) x path ≡ Some (n, u) → part_of_owner G xs (OfActivation r d) y path2 ≡ Some (m, w) → n + a ≡ m + b → ⊥
   across q x path n u r d y path2 m w a b c e h k z =
       let C = component_cell G xs top q x path n u a c h in
       let A = activation_cell G xs r d y path2 m w k in
       let inside = local_cell_inside (scope G) A.activation y path2 m w b e A.found in
-      let behind = (found_inside G top d xs A.activation stack A.is).1 C.1.0 (ap (system_of_process G.setup) C.0 ∙ C.1.1) in
+      let behind = (found_inside G top d xs A.activation stack.stack A.is).1 C.1.0 (ap (system_of_process G.setup) C.0 ∙ C.1.1) in
       absurd (omega (arith, C.1.4, inside.0, behind, z))
 
-  same_owner_cells : (o r : Owner) (x y : Name) (p q : Path) (n m : ℕ) (u w : ResolvedType) (i j : ℕ) → InHead (scope G) u i → InHead (scope G) w j → is_own G.p o ≡ true → is_own G.p r ≡ true
+  same_owner_cells : (o r : Owner) (x y : Name) (p q : Path) (n m : ℕ) (u w : ResolvedType) (i j : ℕ) → InHead (scope G) u i → InHead (scope G) w j → in_sight G o ≡ true → in_sight G r ≡ true
       → part_of_owner G xs o x p ≡ Some (n, u) → part_of_owner G xs r y q ≡ Some (m, w) → n + i ≡ m + j
       → (o ≡ r) × ((ByName x ∷ p) ≡ (ByName y ∷ q))
   same_owner_cells (OfProcess a) (OfProcess b) x y p q n m u w i j c d m1 m2 h k e =
@@ -182,7 +62,7 @@ module _ (G : Ground) (xs : List Activation) (top : ℕ) (stack : Stacked G top 
       let B = activation_cell G xs b g y q m w k in
       let i1 = local_cell_inside (scope G) A.activation x p n u i c A.found in
       let i2 = local_cell_inside (scope G) B.activation y q m w j d B.found in
-      by A B i1 i2 (found_apart G top f g xs A.activation B.activation stack A.is B.is)
+      by A B i1 i2 (found_apart G top f g xs A.activation B.activation stack.stack A.is B.is)
     where
       by : (A : FoundActivation G xs a f x p n u) (B : FoundActivation G xs b g y q m w)
           → ((A.activation.base ≤ n + i) × (n + i < A.activation.base + activation_words (scope G) A.activation.routine))
@@ -195,16 +75,39 @@ module _ (G : Ground) (xs : List Activation) (top : ℕ) (stack : Stacked G top 
           ((λ z. OfActivation ((sym A.own ∙ B.own) z) (s z)), local_cells_apart (scope G) A.activation x y p q n m u w i j c d A.found there e)
       by A B i1 i2 (inr (inl s)) = absurd (omega (arith, s, i1.1, i2.0, e))
       by A B i1 i2 (inr (inr s)) = absurd (omega (arith, s, i2.1, i1.0, e))
-  same_owner_cells (OfMonitor z) r x y p q n m u w i j c d m1 m2 h k e = absurd (true≢false (sym m1))
-  same_owner_cells (OfProcess a) (OfMonitor z) x y p q n m u w i j c d m1 m2 h k e = absurd (true≢false (sym m2))
-  same_owner_cells (OfActivation a f) (OfMonitor z) x y p q n m u w i j c d m1 m2 h k e = absurd (true≢false (sym m2))
+  same_owner_cells (OfMonitor a) (OfMonitor b) x y p q n m u w i j c d m1 m2 h k e =
+      let M = found_monitor G xs a x p n u h in
+      let L = found_monitor G xs b y q m w k in
+      by (nat_eq a b) refl M L (head_inside (scope G) u i c) (head_inside (scope G) w j d)
+    where
+      by : (t : Bool) → nat_eq a b ≡ t → (M : FoundMonitor G a x p n u) (L : FoundMonitor G b y q m w) → i < words (scope G) u → j < words (scope G) w → (OfMonitor a ≡ OfMonitor b) × ((ByName x ∷ p) ≡ (ByName y ∷ q))
+      by true t M L below1 below2 =
+          let owners : a ≡ b = eqb-true a b t in
+          let systems : L.system ≡ M.system = same_some L.system M.system (sym L.is ∙ (ap (system_of_monitor G.setup) (sym owners) ∙ M.is)) in
+          let starts : monitor_start G.program a ≡ monitor_start G.program b = ap (monitor_start G.program) owners in
+          let there : member_part (scope G) (head_words (scope G) M.system) (declared.reported_members (scope G) M.system) y q ≡ Some (L.far, w)
+          = ap (λ s. member_part (scope G) (head_words (scope G) s) (declared.reported_members (scope G) s) y q) (sym systems) ∙ L.there in
+          (ap OfMonitor owners, member_apart (scope G) (head_words (scope G) M.system) (declared.reported_members (scope G) M.system) x y p q M.far L.far u w i j M.there there c d (omega (arith, e, M.place, L.place, starts)))
+      by false t M L below1 below2 = blocks ((monitor_seen G a m1).0.apart a b M.system L.system M.is L.is (λ s. true≢false (sym (eq-eqb a b s) ∙ t)))
+        where
+          blocks : Apart (monitor_start G.program a) (component_words (scope G) M.system) (monitor_start G.program b) (component_words (scope G) L.system) → (OfMonitor a ≡ OfMonitor b) × ((ByName x ∷ p) ≡ (ByName y ∷ q))
+          blocks (inl s) = absurd (omega (arith, s, e, M.place, L.place, M.fits, L.fits, below1, below2))
+          blocks (inr s) = absurd (omega (arith, s, e, M.place, L.place, M.fits, L.fits, below1, below2))
+  same_owner_cells (OfMonitor z) (OfProcess a) x y p q n m u w i j c d m1 m2 h k e =
+      absurd (omega (arith, (found_monitor G xs z x p n u h).place, own_cell (OfProcess a) y q m w j refl d k, stack.fits, e))
+  same_owner_cells (OfMonitor z) (OfActivation a f) x y p q n m u w i j c d m1 m2 h k e =
+      absurd (omega (arith, (found_monitor G xs z x p n u h).place, own_cell (OfActivation a f) y q m w j refl d k, stack.fits, e))
+  same_owner_cells (OfProcess a) (OfMonitor z) x y p q n m u w i j c d m1 m2 h k e =
+      absurd (omega (arith, (found_monitor G xs z y q m w k).place, own_cell (OfProcess a) x p n u i refl c h, stack.fits, e))
+  same_owner_cells (OfActivation a f) (OfMonitor z) x y p q n m u w i j c d m1 m2 h k e =
+      absurd (omega (arith, (found_monitor G xs z y q m w k).place, own_cell (OfActivation a f) x p n u i refl c h, stack.fits, e))
 
   -- Two words at the heads of parts, if they are one word, are of one part.
-  pub separate : (l j : Location) (n m : ℕ) (u w : ResolvedType) (a b : ℕ) → is_own G.p l.owner ≡ true → is_own G.p j.owner ≡ true → InHead (scope G) u a → InHead (scope G) w b
+  pub separate : (l j : Location) (n m : ℕ) (u w : ResolvedType) (a b : ℕ) → in_sight G l.owner ≡ true → in_sight G j.owner ≡ true → InHead (scope G) u a → InHead (scope G) w b
       → lies G xs l ≡ Some (n, u) → lies G xs j ≡ Some (m, w) → n + a ≡ m + b → l ≡ j
   separate l j n m u w a b m1 m2 c d h k e = by l.owner j.owner l.path j.path m1 m2 h k
     where
-      by : (o r : Owner) (p q : Path) → is_own G.p o ≡ true → is_own G.p r ≡ true → part_at G xs o p ≡ Some (n, u) → part_at G xs r q ≡ Some (m, w)
+      by : (o r : Owner) (p q : Path) → in_sight G o ≡ true → in_sight G r ≡ true → part_at G xs o p ≡ Some (n, u) → part_at G xs r q ≡ Some (m, w)
           → ◌≡◌ {A = Location} (record { owner = o; path = p }) (record { owner = r; path = q })
       by o r [] q m1 m2 h k = absurd (some_is_not_none (n, u) (sym h))
       by o r (ByIndex i ∷ p) q m1 m2 h k = absurd (some_is_not_none (n, u) (sym h))
@@ -214,67 +117,109 @@ module _ (G : Ground) (xs : List Activation) (top : ℕ) (stack : Stacked G top 
           let s = same_owner_cells o r x y p q n m u w a b c d m1 m2 h k e in
           λ i. record { owner = s.0 i; path = s.1 i }
 
-  pub bottom_below : (n : ℕ) (zs : List Activation) → Stacked G n zs → (s : System) → system_of_process G.setup G.p ≡ Some s → component_words (scope G) s ≤ n
-  bottom_below n [] h s i = omega (arith, h.2, ap (component_words (scope G)) (same_some s h.0 (sym i ∙ h.1)))
-  bottom_below n (z ∷ zs) h s i = omega (arith, h.0, bottom_below z.base zs h.1 s i)
-
-  -- A word of the process lies below the top.
-  pub cell_below : (l : Location) (n : ℕ) (u : ResolvedType) (a : ℕ) → is_own G.p l.owner ≡ true → InHead (scope G) u a → lies G xs l ≡ Some (n, u) → n + a < top
-  cell_below l n u a mine c h = by l.owner l.path mine h
+  -- A word of the process lies below the top, and one of a monitor behind the process's own.
+  pub cell_below : (l : Location) (n : ℕ) (u : ResolvedType) (a : ℕ) → in_sight G l.owner ≡ true → InHead (scope G) u a → lies G xs l ≡ Some (n, u) → (n + a < top) ⊎ (G.own ≤ n + a)
+  cell_below l n u a mine c h = by l.owner l.path h
     where
-      by : (o : Owner) (p : Path) → is_own G.p o ≡ true → part_at G xs o p ≡ Some (n, u) → n + a < top
+      by : (o : Owner) (p : Path) → part_at G xs o p ≡ Some (n, u) → (n + a < top) ⊎ (G.own ≤ n + a)
+      by o [] h = absurd (some_is_not_none (n, u) (sym h))
+      by o (ByIndex i ∷ p) h = absurd (some_is_not_none (n, u) (sym h))
+      by (OfProcess q) (ByName x ∷ p) h = inl (own_cell (OfProcess q) x p n u a refl c h)
+      by (OfActivation q d) (ByName x ∷ p) h = inl (own_cell (OfActivation q d) x p n u a refl c h)
+      by (OfMonitor m) (ByName x ∷ p) h = inr (omega (arith, (found_monitor G xs m x p n u h).place))
+
+  pub own_below : (l : Location) (n : ℕ) (u : ResolvedType) (a : ℕ) → is_shared l.owner ≡ false → InHead (scope G) u a → lies G xs l ≡ Some (n, u) → n + a < top
+  own_below l n u a own c h = by l.owner l.path own h
+    where
+      by : (o : Owner) (p : Path) → is_shared o ≡ false → part_at G xs o p ≡ Some (n, u) → n + a < top
+      by o [] own h = absurd (some_is_not_none (n, u) (sym h))
+      by o (ByIndex i ∷ p) own h = absurd (some_is_not_none (n, u) (sym h))
+      by o (ByName x ∷ p) own h = own_cell o x p n u a own c h
+
+  -- Each is among the words that are in reach.
+  pub cell_inside : (l : Location) (n : ℕ) (u : ResolvedType) (a : ℕ) → in_sight G l.owner ≡ true → InHead (scope G) u a → lies G xs l ≡ Some (n, u) → n + a < whole G
+  cell_inside l n u a mine c h = by l.owner l.path mine h
+    where
+      by : (o : Owner) (p : Path) → in_sight G o ≡ true → part_at G xs o p ≡ Some (n, u) → n + a < whole G
       by o [] m h = absurd (some_is_not_none (n, u) (sym h))
       by o (ByIndex i ∷ p) m h = absurd (some_is_not_none (n, u) (sym h))
-      by (OfProcess q) (ByName x ∷ p) m h =
-          let C = component_cell G xs top q x p n u a c h in
-          omega (arith, C.1.4, bottom_below top xs stack C.1.0 (ap (system_of_process G.setup) C.0 ∙ C.1.1))
-      by (OfActivation q d) (ByName x ∷ p) m h =
-          let A = activation_cell G xs q d x p n u h in
-          omega (arith, (local_cell_inside (scope G) A.activation x p n u a c A.found).1, (found_inside G top d xs A.activation stack A.is).0)
-      by (OfMonitor m) (ByName x ∷ p) mine h = absurd (true≢false (sym mine))
+      by (OfProcess q) (ByName x ∷ p) m h = omega (arith, own_cell (OfProcess q) x p n u a refl c h, stack.fits, own_in_whole G)
+      by (OfActivation q d) (ByName x ∷ p) m h = omega (arith, own_cell (OfActivation q d) x p n u a refl c h, stack.fits, own_in_whole G)
+      by (OfMonitor z) (ByName x ∷ p) m h =
+          let M = found_monitor G xs z x p n u h in
+          let S = monitor_seen G z m in
+          omega (arith, M.place, M.fits, head_inside (scope G) u a c, S.0.inside z M.system M.is, S.1)
 
-  -- So does a part of any type, or it has no words and lies at the top.
-  pub part_below : (l : Location) (n : ℕ) (u : ResolvedType) → is_own G.p l.owner ≡ true → lies G xs l ≡ Some (n, u) → n ≤ top
+  -- So is a part of any type, or it has no words and lies behind them.
+  pub part_below : (l : Location) (n : ℕ) (u : ResolvedType) → in_sight G l.owner ≡ true → lies G xs l ≡ Some (n, u) → n ≤ whole G
   part_below l n u mine h = by l.owner l.path mine h
     where
-      by : (o : Owner) (p : Path) → is_own G.p o ≡ true → part_at G xs o p ≡ Some (n, u) → n ≤ top
+      by : (o : Owner) (p : Path) → in_sight G o ≡ true → part_at G xs o p ≡ Some (n, u) → n ≤ whole G
       by o [] m h = absurd (some_is_not_none (n, u) (sym h))
       by o (ByIndex i ∷ p) m h = absurd (some_is_not_none (n, u) (sym h))
       by (OfProcess q) (ByName x ∷ p) m h =
           let C = component_part G xs q x p n u h in
           let fits = member_fits (scope G) (head_words (scope G) C.1.0) (declared.reported_members (scope G) C.1.0) x p n u C.1.2 in
-          omega (arith, fits, bottom_below top xs stack C.1.0 (ap (system_of_process G.setup) C.0 ∙ C.1.1))
+          omega (arith, fits, bottom_below top xs stack.stack C.1.0 (ap (system_of_process G.setup) C.0 ∙ C.1.1), stack.fits, own_in_whole G)
       by (OfActivation q d) (ByName x ∷ p) m h =
           let A = activation_cell G xs q d x p n u h in
           let i = local_inside (scope G) (result_words A.activation.routine.result) (locals (scope G) A.activation.routine) x A.found.at A.found.variable A.found.is in
-          omega (arith, A.found.place, i.1, A.found.words, part_fits (scope G) A.found.variable.type p A.found.far u A.found.there, (found_inside G top d xs A.activation stack A.is).0)
-      by (OfMonitor m) (ByName x ∷ p) mine h = absurd (true≢false (sym mine))
+          omega (arith, A.found.place, i.1, A.found.words, part_fits (scope G) A.found.variable.type p A.found.far u A.found.there, (found_inside G top d xs A.activation stack.stack A.is).0, stack.fits, own_in_whole G)
+      by (OfMonitor z) (ByName x ∷ p) m h =
+          let M = found_monitor G xs z x p n u h in
+          let S = monitor_seen G z m in
+          omega (arith, M.place, M.fits, S.0.inside z M.system M.is, S.1)
 
   -- ---- words that are no parts of variables
 
-  pub cell_no_own_right : (l : Location) (n k : ℕ) (u : ResolvedType) (a : ℕ) → is_own G.p l.owner ≡ true → InHead (scope G) u a → lies G xs l ≡ Some (n, u)
+  pub cell_no_own_right : (l : Location) (n k : ℕ) (u : ResolvedType) (a : ℕ) → in_sight G l.owner ≡ true → InHead (scope G) u a → lies G xs l ≡ Some (n, u)
       → OwnRight G k → n + a ≡ k → ⊥
-  cell_no_own_right l n k u a mine c h r e = by l.owner l.path mine h
+  cell_no_own_right l n k u a mine c h r e = by l.owner l.path mine h r
     where
-      by : (o : Owner) (p : Path) → is_own G.p o ≡ true → part_at G xs o p ≡ Some (n, u) → ⊥
-      by o [] m h = absurd (some_is_not_none (n, u) (sym h))
-      by o (ByIndex i ∷ p) m h = absurd (some_is_not_none (n, u) (sym h))
-      by (OfProcess q) (ByName x ∷ p) m h =
+      by : (o : Owner) (p : Path) → in_sight G o ≡ true → part_at G xs o p ≡ Some (n, u) → OwnRight G k → ⊥
+      by o [] m h r = absurd (some_is_not_none (n, u) (sym h))
+      by o (ByIndex i ∷ p) m h r = absurd (some_is_not_none (n, u) (sym h))
+      by (OfProcess q) (ByName x ∷ p) m h (inl r) =
           let C = component_cell G xs top q x p n u a c h in
           let same = same_some C.1.0 r.0 (sym C.1.1 ∙ (ap (system_of_process G.setup) (sym C.0) ∙ r.1)) in
           absurd (omega (arith, C.1.3, ap (head_words (scope G)) same, r.2, e))
-      by (OfActivation q d) (ByName x ∷ p) m h =
+      by (OfActivation q d) (ByName x ∷ p) m h (inl r) =
           let A = activation_cell G xs q d x p n u h in
-          absurd (omega (arith, (local_cell_inside (scope G) A.activation x p n u a c A.found).0, (found_inside G top d xs A.activation stack A.is).1 r.0 r.1, r.2, e))
-      by (OfMonitor m) (ByName x ∷ p) mine h = absurd (true≢false (sym mine))
+          absurd (omega (arith, (local_cell_inside (scope G) A.activation x p n u a c A.found).0, (found_inside G top d xs A.activation stack.stack A.is).1 r.0 r.1, r.2, e))
+      by (OfMonitor z) (ByName x ∷ p) m h (inl r) = absurd (omega (arith, (found_monitor G xs z x p n u h).place, bottom_below top xs stack.stack r.0 r.1, stack.fits, r.2, e))
+      by (OfProcess q) (ByName x ∷ p) m h (inr r) = absurd (omega (arith, own_cell (OfProcess q) x p n u a refl c h, stack.fits, r.6, e))
+      by (OfActivation q d) (ByName x ∷ p) m h (inr r) = absurd (omega (arith, own_cell (OfActivation q d) x p n u a refl c h, stack.fits, r.6, e))
+      by (OfMonitor z) (ByName x ∷ p) m h (inr r) = inner (nat_eq z r.0) refl (found_monitor G xs z x p n u h) (head_inside (scope G) u a c)
+        where
+          inner : (t : Bool) → nat_eq z r.0 ≡ t → (M : FoundMonitor G z x p n u) → a < words (scope G) u → ⊥
+          inner true t M below =
+              let owners : z ≡ r.0 = eqb-true z r.0 t in
+              let systems : M.system ≡ r.1 = same_some M.system r.1 (sym M.is ∙ (ap (system_of_monitor G.setup) owners ∙ r.4)) in
+              let above = member_above (scope G) (head_words (scope G) M.system) (declared.reported_members (scope G) M.system) x p M.far u M.there in
+              omega (arith, M.place, r.6, ap (monitor_start G.program) owners, ap (head_words (scope G)) systems, above, r.5, e)
+          inner false t M below = blocks ((monitor_seen G z m).0.apart z r.0 M.system r.1 M.is r.4 (λ s. true≢false (sym (eq-eqb z r.0 s) ∙ t)))
+            where
+              blocks : Apart (monitor_start G.program z) (component_words (scope G) M.system) (monitor_start G.program r.0) (component_words (scope G) r.1) → ⊥
+              blocks (inl s) = omega (arith, s, M.place, r.6, M.fits, below, r.5, e)
+              blocks (inr s) = omega (arith, s, M.place, r.6, M.fits, below, r.5, e)
 
-  -- A word of an activation is no right of the component.
-  pub local_no_own_right : (d n : ℕ) (z : Activation) → activation_at d xs ≡ Some z → z.base ≤ n → OwnRight G n → ⊥
-  local_no_own_right d n z h low r = absurd (omega (arith, low, (found_inside G top d xs z stack h).1 r.0 r.1, r.2))
+  -- Where rights lie.
+  pub own_right_below : (n : ℕ) → OwnRight G n → (n < top) ⊎ (G.own ≤ n)
+  own_right_below n (inl r) = inl (omega (arith, r.2, bottom_below top xs stack.stack r.0 r.1))
+  own_right_below n (inr r) = inr (omega (arith, r.6))
+
+  pub own_right_inside : (n : ℕ) → OwnRight G n → n < whole G
+  own_right_inside n (inl r) = omega (arith, r.2, bottom_below top xs stack.stack r.0 r.1, stack.fits, own_in_whole G)
+  own_right_inside n (inr r) = let S = monitor_seen G r.0 r.3 in omega (arith, r.6, r.5, S.0.inside r.0 r.1 r.4, S.1)
+
+  -- A word of an activation is no right of a component.
+  pub local_no_own_right : (d n : ℕ) (z : Activation) → activation_at d xs ≡ Some z → z.base ≤ n → n < z.base + activation_words (scope G) z.routine → OwnRight G n → ⊥
+  local_no_own_right d n z h low high (inl r) = absurd (omega (arith, low, (found_inside G top d xs z stack.stack h).1 r.0 r.1, r.2))
+  local_no_own_right d n z h low high (inr r) = absurd (omega (arith, high, (found_inside G top d xs z stack.stack h).0, stack.fits, r.6))
 
   -- A `var` parameter of an activation shares its word with no part of a variable.
   pub cell_no_reference : (l : Location) (n : ℕ) (u : ResolvedType) (a : ℕ) (d : ℕ) (z : Activation) (x : Name) (at : ℕ) (v : declared.Variable)
-      → is_own G.p l.owner ≡ true → InHead (scope G) u a → lies G xs l ≡ Some (n, u)
+      → in_sight G l.owner ≡ true → InHead (scope G) u a → lies G xs l ≡ Some (n, u)
       → activation_at d xs ≡ Some z → local (scope G) z.routine x ≡ Some (at, v) → v.by_reference ≡ true → n + a ≡ z.base + at → ⊥
   cell_no_reference l n u a d z x at v mine c h there is by_reference e = by l.owner l.path mine h
     where
@@ -284,16 +229,16 @@ module _ (G : Ground) (xs : List Activation) (top : ℕ) (stack : Stacked G top 
       one : local_words (scope G) v ≡ 1
       one = ap (λ t. if t then 1 else words (scope G) v.type) by_reference
 
-      by : (o : Owner) (p : Path) → is_own G.p o ≡ true → part_at G xs o p ≡ Some (n, u) → ⊥
+      by : (o : Owner) (p : Path) → in_sight G o ≡ true → part_at G xs o p ≡ Some (n, u) → ⊥
       by o [] m h = absurd (some_is_not_none (n, u) (sym h))
       by o (ByIndex i ∷ p) m h = absurd (some_is_not_none (n, u) (sym h))
       by (OfProcess q) (ByName y ∷ p) m h =
           let C = component_cell G xs top q y p n u a c h in
-          absurd (omega (arith, C.1.4, (found_inside G top d xs z stack there).1 C.1.0 (ap (system_of_process G.setup) C.0 ∙ C.1.1), e))
+          absurd (omega (arith, C.1.4, (found_inside G top d xs z stack.stack there).1 C.1.0 (ap (system_of_process G.setup) C.0 ∙ C.1.1), e))
       by (OfActivation q f) (ByName y ∷ p) m h =
           let A = activation_cell G xs q f y p n u h in
           let i = local_cell_inside (scope G) A.activation y p n u a c A.found in
-          inner A i (found_apart G top f d xs A.activation z stack A.is there)
+          inner A i (found_apart G top f d xs A.activation z stack.stack A.is there)
         where
           inner : (A : FoundActivation G xs q f y p n u) → ((A.activation.base ≤ n + a) × (n + a < A.activation.base + activation_words (scope G) A.activation.routine))
               → (f ≡ d) ⊎ ((A.activation.base + activation_words (scope G) A.activation.routine ≤ z.base) ⊎ (z.base + activation_words (scope G) z.routine ≤ A.activation.base)) → ⊥
@@ -310,27 +255,28 @@ module _ (G : Ground) (xs : List Activation) (top : ℕ) (stack : Stacked G top 
               last F (inr (inr s)) = absurd (omega (arith, s, e, F.place, one))
           inner A i (inr (inl s)) = absurd (omega (arith, s, i.1, e))
           inner A i (inr (inr s)) = absurd (omega (arith, s, i.0, e, inside.1, one))
-      by (OfMonitor m) (ByName y ∷ p) mine h = absurd (true≢false (sym mine))
+      by (OfMonitor m) (ByName y ∷ p) mine h =
+          absurd (omega (arith, (found_monitor G xs m y p n u h).place, inside.1, one, (found_inside G top d xs z stack.stack there).0, stack.fits, e))
 
   -- The result of an activation shares its word with no part of a variable.
   pub cell_no_result : (l : Location) (n : ℕ) (u : ResolvedType) (a : ℕ) (d : ℕ) (z : Activation) (t : Name)
-      → is_own G.p l.owner ≡ true → InHead (scope G) u a → lies G xs l ≡ Some (n, u)
+      → in_sight G l.owner ≡ true → InHead (scope G) u a → lies G xs l ≡ Some (n, u)
       → activation_at d xs ≡ Some z → z.routine.result ≡ Some t → n + a ≡ z.base → ⊥
   cell_no_result l n u a d z t mine c h there is e = by l.owner l.path mine h
     where
       one : result_words z.routine.result ≡ 1
       one = ap result_words is
 
-      by : (o : Owner) (p : Path) → is_own G.p o ≡ true → part_at G xs o p ≡ Some (n, u) → ⊥
+      by : (o : Owner) (p : Path) → in_sight G o ≡ true → part_at G xs o p ≡ Some (n, u) → ⊥
       by o [] m h = absurd (some_is_not_none (n, u) (sym h))
       by o (ByIndex i ∷ p) m h = absurd (some_is_not_none (n, u) (sym h))
       by (OfProcess q) (ByName y ∷ p) m h =
           let C = component_cell G xs top q y p n u a c h in
-          absurd (omega (arith, C.1.4, (found_inside G top d xs z stack there).1 C.1.0 (ap (system_of_process G.setup) C.0 ∙ C.1.1), e))
+          absurd (omega (arith, C.1.4, (found_inside G top d xs z stack.stack there).1 C.1.0 (ap (system_of_process G.setup) C.0 ∙ C.1.1), e))
       by (OfActivation q f) (ByName y ∷ p) m h =
           let A = activation_cell G xs q f y p n u h in
           let i = local_cell_inside (scope G) A.activation y p n u a c A.found in
-          inner A i (found_apart G top f d xs A.activation z stack A.is there)
+          inner A i (found_apart G top f d xs A.activation z stack.stack A.is there)
         where
           inner : (A : FoundActivation G xs q f y p n u) → ((A.activation.base ≤ n + a) × (n + a < A.activation.base + activation_words (scope G) A.activation.routine))
               → (f ≡ d) ⊎ ((A.activation.base + activation_words (scope G) A.activation.routine ≤ z.base) ⊎ (z.base + activation_words (scope G) z.routine ≤ A.activation.base)) → ⊥
@@ -340,25 +286,15 @@ module _ (G : Ground) (xs : List Activation) (top : ℕ) (stack : Stacked G top 
               absurd (omega (arith, e, F.place, one, (local_inside (scope G) (result_words z.routine.result) (locals (scope G) z.routine) y F.at F.variable F.is).0))
           inner A i (inr (inl s)) = absurd (omega (arith, s, i.1, e))
           inner A i (inr (inr s)) = absurd (omega (arith, s, i.0, e, one))
-      by (OfMonitor m) (ByName y ∷ p) mine h = absurd (true≢false (sym mine))
+      by (OfMonitor m) (ByName y ∷ p) mine h =
+          absurd (omega (arith, (found_monitor G xs m y p n u h).place, one, (found_inside G top d xs z stack.stack there).0, stack.fits, e))
 
   -- Words of two activations at different depths are apart.
   pub locals_apart : (d f n m : ℕ) (z y : Activation) → activation_at d xs ≡ Some z → activation_at f xs ≡ Some y → (d ≡ f → ⊥)
       → z.base ≤ n → n < z.base + activation_words (scope G) z.routine → y.base ≤ m → m < y.base + activation_words (scope G) y.routine → n ≡ m → ⊥
-  locals_apart d f n m z y h k differ a b c e same = by (found_apart G top d f xs z y stack h k)
+  locals_apart d f n m z y h k differ a b c e same = by (found_apart G top d f xs z y stack.stack h k)
     where
       by : (d ≡ f) ⊎ ((z.base + activation_words (scope G) z.routine ≤ y.base) ⊎ (y.base + activation_words (scope G) y.routine ≤ z.base)) → ⊥
       by (inl s) = differ s
       by (inr (inl s)) = absurd (omega (arith, s, b, c, same))
       by (inr (inr s)) = absurd (omega (arith, s, a, e, same))
-
--- Where `var` parameters and the result lie in their activation.
-pub reference_inside : (g : GlobalScope) (r : a.Routine) (x : Name) (at : ℕ) (v : declared.Variable) → local g r x ≡ Some (at, v) → v.by_reference ≡ true
-    → (result_words r.result ≤ at) × (at < activation_words g r)
-reference_inside g r x at v is by_reference =
-    let i = local_inside g (result_words r.result) (locals g r) x at v is in
-    let one : local_words g v ≡ 1 = ap (λ t. if t then 1 else words g v.type) by_reference in
-    (i.0, omega (arith, i.1, one))
-
-pub result_inside : (g : GlobalScope) (r : a.Routine) (t : Name) → r.result ≡ Some t → 0 < activation_words g r
-result_inside g r t is = let one : result_words r.result ≡ 1 = ap result_words is in omega (arith, one)

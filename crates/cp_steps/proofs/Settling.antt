@@ -5,7 +5,6 @@ use Rattle.cp_model.specs.Continuations.{Task}
 use Rattle.cp_model.specs.Declarations.{Variable, declarations, is_component}
 use Rattle.cp_model.specs.Environments.{permanent_variables}
 use Rattle.cp_model.specs.Locations.{ByName, Location, Path, same_location, under}
-use Rattle.cp_model.specs.Parts.{is_own}
 use Rattle.cp_model.specs.Stores.{Store, Value}
 use Rattle.cp_model.specs.Types.{ResolvedType}
 use Rattle.cp_typing.specs.Declared.{Distinct}
@@ -17,7 +16,7 @@ use Rattle.cp_code.specs.Layout.{Part, activation_words, component_words, member
 use Rattle.cp_code.specs.Starts.{word}
 use Rattle.cp_steps.specs.PrivateStates.{PrivateState}
 use Rattle.cp_steps.specs.Means.{CellMeans}
-use Rattle.cp_steps.specs.Addresses.{Activation, ClassLies, ComponentLies, Ground, HasRights, IsGiven, MonitorLies, ProcessLies, RightMeans, activation_at, activations, component_type, lies, scope}
+use Rattle.cp_steps.specs.Addresses.{Activation, ClassLies, ComponentLies, Ground, HasRights, IsGiven, MonitorLies, ProcessLies, RightMeans, activation_at, activations, component_type, in_sight, lies, scope}
 use Rattle.cp_steps.specs.Left.{held_below, site}
 use Rattle.cp_steps.specs.PartOf.{DataMeans, RunsOn, components}
 use Rattle.cp_steps.proofs.Apart.{InHead, IsCell, IsClass, cell_head}
@@ -25,12 +24,13 @@ use Rattle.cp_steps.proofs.Copying.{Inside, inside_or_not}
 use Rattle.cp_steps.proofs.Declared.{distinct_first}
 use Rattle.cp_steps.proofs.Finding.{some_is_not_none}
 use Rattle.cp_steps.proofs.Heres.{lies_any, member_lies}
-use Rattle.cp_steps.proofs.Holding.{live_owner}
+use Rattle.cp_steps.proofs.Holding.{live_owner, without_zero}
 use Rattle.cp_steps.proofs.InitOffsets.{Offset, of_filter, offset_at, offset_within, right_is, right_is_no_member, right_same}
 use Rattle.cp_steps.proofs.Keeping.{KeepsActivation, activation_kept, activations_kept, local_named, right_kept, right_no_variable, right_place}
 use Rattle.cp_steps.proofs.Layouts.{same_some}
 use Rattle.cp_steps.proofs.RunningOn.{runs_stacked}
-use Rattle.cp_steps.proofs.Separate.{OwnRight, bottom_below, cell_below, cell_no_own_right, cell_no_reference, cell_no_result, reference_inside, result_inside, separate}
+use Rattle.cp_steps.proofs.Owned.{OwnRight, reference_inside, result_inside}
+use Rattle.cp_steps.proofs.Separate.{cell_below, cell_no_own_right, cell_no_reference, cell_no_result, own_right_below, separate}
 use Rattle.cp_steps.proofs.Stacks.{Stacked, found_inside}
 use Rattle.cp_steps.proofs.Writing.{is_cell, location_is, location_itself}
 use Rattle.cp_steps.proofs.Given.{KeepsGiven, all_kept, rights_kept, system_in, system_same}
@@ -48,7 +48,7 @@ pub record Settled (G : Ground) (top : ℕ) (store after : Store) (old new : Lis
   pub rights : (p : Name × Variable) (k : ℕ) → IsIn p (declarations (scope G) s.parameters) → is_component p.1.type ≡ true → right (scope G) s p.0 ≡ Some (k, p.1)
       → RightMeans G p.1.type (after (stored_at at p.0)) (c + k) (word new (c + k))
   pub given : (p : Name × Variable) (k : ℕ) → IsIn p (declarations (scope G) s.parameters) → is_component p.1.type ≡ true → right (scope G) s p.0 ≡ Some (k, p.1) → IsGiven p.1.type (after (stored_at at p.0))
-  pub outside : (i : ℕ) → i < top → (i < c + 1) ⊎ (c + 1 + length (declarations (scope G) s.parameters) ≤ i) → word new i ≡ word old i
+  pub outside : (i : ℕ) → (i < top) ⊎ (G.own ≤ i) → (i < c + 1) ⊎ (c + 1 + length (declarations (scope G) s.parameters) ≤ i) → word new i ≡ word old i
   pub unwritten : (l : Location) → ((p : Name × Variable) → IsIn p (declarations (scope G) s.parameters) → l ≡ stored_at at p.0 → ⊥) → after l ≡ store l
 
 abbrev pub last_name : Path → Name
@@ -70,7 +70,7 @@ snoc_same (s ∷ p) (t ∷ q) x y e =
     (λ i. k.0 i ∷ r.0 i, r.1)
 
 module _ (G : Ground) (xs : List Activation) (top : ℕ) (stack : Stacked G top xs) (store after : Store) (old new : List ℤ) (at : Location) (c : ℕ) (s : System)
-    (own : is_own G.p at.owner ≡ true) (sort : s.sort ≡ Class) (is : lies G [] at ≡ Some (c, component_type G s)) (distinct : Distinct (permanent_variables (scope G) s))
+    (own : in_sight G at.owner ≡ true) (sort : s.sort ≡ Class) (is : lies G [] at ≡ Some (c, component_type G s)) (distinct : Distinct (permanent_variables (scope G) s))
     (one : (p : Name × Variable) → IsIn p (declarations (scope G) s.parameters) → is_component p.1.type ≡ false → (words (scope G) p.1.type ≡ 1) × IsCell p.1.type)
     (offsets : (p : Name × Variable) → IsIn p (declarations (scope G) s.parameters) → (k : ℕ) × Offset (scope G) s p k)
     (S : Settled G top store after old new at c s) where
@@ -90,7 +90,7 @@ module _ (G : Ground) (xs : List Activation) (top : ℕ) (stack : Stacked G top 
   value_lies p k h = member_lies G xs at s c p.0 k p.1.type there h
 
   right_lies_not : (p : Name × Variable) → IsIn p (declarations (scope G) s.parameters) → is_component p.1.type ≡ true → lies G xs (stored_at at p.0) ≡ None
-  right_lies_not p i component = right_no_variable G xs at s c p.0 own there (right_is_no_member (scope G) s p distinct i component)
+  right_lies_not p i component = right_no_variable G xs at s c p.0 there (right_is_no_member (scope G) s p distinct i component)
 
   right_in_head : (p : Name × Variable) (k : ℕ) → right (scope G) s p.0 ≡ Some (k, p.1) → InHead (scope G) (component_type G s) k
   right_in_head p k h = (subst IsClass (sym sort) tt, omega (arith, (right_is 1 (rights (scope G) s) p.0 k p.1 h).1))
@@ -126,15 +126,15 @@ module _ (G : Ground) (xs : List Activation) (top : ℕ) (stack : Stacked G top 
       by p there' e (k, inr h) =
           within p k i there' (inr h) (ap (λ z. z.0) (same_some {A = Part} (i, t) (c + k, p.1.type) (sym lying ∙ (ap (lies G xs) e ∙ value_lies p k h.1)))) apart
 
-  cells_settled : (l : Location) (i : ℕ) (t : ResolvedType) → is_own G.p l.owner ≡ true → IsCell t → lies G xs l ≡ Some (i, t) → CellMeans t (store l) (word old i) → CellMeans t (after l) (word new i)
+  cells_settled : (l : Location) (i : ℕ) (t : ResolvedType) → in_sight G l.owner ≡ true → IsCell t → lies G xs l ≡ Some (i, t) → CellMeans t (store l) (word old i) → CellMeans t (after l) (word new i)
   cells_settled l i t mine cell lying means = by (around i)
     where
-      below : i + 0 < top
-      below = cell_below G xs top stack l i t 0 mine (cell_head (scope G) t cell) lying
+      below : (i < top) ⊎ (G.own ≤ i)
+      below = without_zero G top i (cell_below G xs top stack l i t 0 mine (cell_head (scope G) t cell) lying)
 
       by : Around i → CellMeans t (after l) (word new i)
       by (inr apart) =
-          subst (λ z. CellMeans t z (word new i)) (sym (cell_unwritten l i t lying apart)) (subst (CellMeans t (store l)) (sym (S.outside i (omega (arith, below)) apart)) means)
+          subst (λ z. CellMeans t z (word new i)) (sym (cell_unwritten l i t lying apart)) (subst (CellMeans t (store l)) (sym (S.outside i below apart)) means)
       by (inl (p, k, there', inl h, e)) =
           let same : l ≡ at = separate G xs top stack l at i c t (component_type G s) 0 k mine own (cell_head (scope G) t cell) (right_in_head p k h.1) lying here (omega (arith, e)) in
           let place_is : i ≡ c = ap (λ z. z.0) (same_some {A = Part} (i, t) (c, component_type G s) (sym lying ∙ (ap (lies G xs) same ∙ here))) in
@@ -147,12 +147,12 @@ module _ (G : Ground) (xs : List Activation) (top : ℕ) (stack : Stacked G top 
           (subst (λ z. CellMeans p.1.type (after z) (word new i)) (sym same) (subst (λ z. CellMeans p.1.type (after (stored_at at p.0)) (word new z)) (sym e) (S.values p k there' h.0 h.1)))
 
   -- A right of another component, or another right.
-  rights_settled : (j : Location) (r : System) (n m : ℕ) (x : Name) (v : Variable) → is_own G.p j.owner ≡ true → ComponentLies G j r n → right (scope G) r x ≡ Some (m, v) → member (scope G) r x ≡ None
+  rights_settled : (j : Location) (r : System) (n m : ℕ) (x : Name) (v : Variable) → in_sight G j.owner ≡ true → ComponentLies G j r n → right (scope G) r x ≡ Some (m, v) → member (scope G) r x ≡ None
       → RightMeans G v.type (store (stored_at j x)) (n + m) (word old (n + m)) → RightMeans G v.type (after (stored_at j x)) (n + m) (word new (n + m))
   rights_settled j r n m x v mine cl is' none means = by (around (n + m)) (right_place G xs j r n m x v mine cl is')
     where
-      below : OwnRight G (n + m) ⊎ ((lies G xs j ≡ Some (n, component_type G r)) × InHead (scope G) (component_type G r) m × (1 ≤ m)) → n + m < top
-      below (inl o) = omega (arith, o.2, bottom_below G xs top stack top xs stack o.0 o.1)
+      below : OwnRight G (n + m) ⊎ ((lies G xs j ≡ Some (n, component_type G r)) × InHead (scope G) (component_type G r) m × (1 ≤ m)) → (n + m < top) ⊎ (G.own ≤ n + m)
+      below (inl o) = own_right_below G xs top stack (n + m) o
       below (inr o) = cell_below G xs top stack j n (component_type G r) m mine o.1 o.0
 
       same_class : j ≡ at → (n ≡ c) × (r ≡ s)
@@ -169,7 +169,7 @@ module _ (G : Ground) (xs : List Activation) (top : ℕ) (stack : Stacked G top 
       unwritten apart = S.unwritten (stored_at j x) (λ p there' e. inner p there' e (offsets p there'))
         where
           inner : (p : Name × Variable) → IsIn p (declarations (scope G) s.parameters) → stored_at j x ≡ stored_at at p.0 → (k : ℕ) × Offset (scope G) s p k → ⊥
-          inner p there' e (k, inr h) = some_is_not_none _ (sym (value_lies p k h.1) ∙ (ap (lies G xs) (sym e) ∙ right_no_variable G xs j r n x mine cl none))
+          inner p there' e (k, inr h) = some_is_not_none _ (sym (value_lies p k h.1) ∙ (ap (lies G xs) (sym e) ∙ right_no_variable G xs j r n x cl none))
           inner p there' e (k, inl h) =
               let z = snoc_same j.path at.path x p.0 (ap (λ (l : Location). l.path) e) in
               let same : j ≡ at = λ i. record { owner = (e i).owner; path = z.0 i } in
@@ -204,8 +204,8 @@ module _ (G : Ground) (xs : List Activation) (top : ℕ) (stack : Stacked G top 
       let i = of_filter (λ d. is_component d.1.type) (declarations (scope G) s.parameters) (x, v) (right_is 1 (rights (scope G) s) x m v r).2 in
       S.given (x, v) m i.0 i.1 r
 
-  rights_there : (j : Location) (r : System) (n : ℕ) → is_own G.p j.owner ≡ true → r.sort ≡ Class → lies G [] j ≡ Some (n, component_type G r) → ((j ≡ at → ⊥) → HasRights G store j r) → HasRights G after j r
-  rights_there j r n mine class' there' h = by (same_location j at) refl
+  rights_there : (j : Location) (r : System) (n : ℕ) → r.sort ≡ Class → lies G [] j ≡ Some (n, component_type G r) → ((j ≡ at → ⊥) → HasRights G store j r) → HasRights G after j r
+  rights_there j r n class' there' h = by (same_location j at) refl
     where
       by : (b : Bool) → same_location j at ≡ b → HasRights G after j r
       by true e =
@@ -218,7 +218,7 @@ module _ (G : Ground) (xs : List Activation) (top : ℕ) (stack : Stacked G top 
           apart (λ y. record { owner = (z y).owner; path = (snoc_same j.path at.path x p.0 (ap (λ (l : Location). l.path) z)).0 y }))) (h apart)
 
   pub settled_keeps : KeepsGiven G store after
-  settled_keeps j r n mine class' there' h = rights_there j r n mine class' there' (λ apart. h)
+  settled_keeps j r n class' there' h = rights_there j r n class' there' (λ apart. h)
 
   -- No mark is stored.
   mark_unwritten : (j : Location) (r : System) (n : ℕ) → lies G [] j ≡ Some (n, component_type G r) → after j ≡ store j
@@ -231,14 +231,14 @@ module _ (G : Ground) (xs : List Activation) (top : ℕ) (stack : Stacked G top 
           ap (λ z. z.1) (same_some {A = Part} (n, component_type G r) (c + k, p.1.type) (sym (lies_any G xs j _ there') ∙ (ap (lies G xs) e ∙ value_lies p k h.1))) in
           true≢false (ap is_component type ∙ h.0)
 
-  pub data_settled : DataMeans G xs (is_own G.p) store old → DataMeans G xs (is_own G.p) after new
+  pub data_settled : DataMeans G xs (in_sight G) store old → DataMeans G xs (in_sight G) after new
   data_settled D = record {
     cells = λ l i t mine lying. by l i t mine lying (is_cell t);
     rights = λ j r n m x v mine cl is' none. rights_settled j r n m x v mine cl is' none (D.rights j r n m x v mine cl is' none);
-    given = λ j r n mine class' there' set. settled_keeps j r n mine class' there' (D.given j r n mine class' there' (ap is_initialised (sym (mark_unwritten j r n there')) ∙ set));
+    given = λ j r n mine class' there' set. settled_keeps j r n class' there' (D.given j r n mine class' there' (ap is_initialised (sym (mark_unwritten j r n there')) ∙ set));
   }
     where
-      by : (l : Location) (i : ℕ) (t : ResolvedType) → is_own G.p l.owner ≡ true → lies G xs l ≡ Some (i, t) → IsCell t ⊎ ((v : Value) (z : ℤ) → CellMeans t v z) → CellMeans t (after l) (word new i)
+      by : (l : Location) (i : ℕ) (t : ResolvedType) → in_sight G l.owner ≡ true → lies G xs l ≡ Some (i, t) → IsCell t ⊎ ((v : Value) (z : ℤ) → CellMeans t v z) → CellMeans t (after l) (word new i)
       by l i t mine lying (inl cell) = cells_settled l i t mine cell lying (D.cells l i t mine lying)
       by l i t mine lying (inr f) = f (after l) (word new i)
 
@@ -247,7 +247,7 @@ module _ (G : Ground) (xs : List Activation) (top : ℕ) (stack : Stacked G top 
   local_unwritten d x = S.unwritten (local_named G d x) (λ p there' e. absurd (omega (arith, live_owner G [] at _ d is (sym (ap (λ (l : Location). l.owner) e)))))
 
   -- A word of an activation that is no part of a variable is as it was.
-  word_settled : (i : ℕ) → i < top → ((l : Location) (n : ℕ) (u : ResolvedType) (a : ℕ) → is_own G.p l.owner ≡ true → InHead (scope G) u a → lies G xs l ≡ Some (n, u) → n + a ≡ i → ⊥) → word new i ≡ word old i
+  word_settled : (i : ℕ) → (i < top) ⊎ (G.own ≤ i) → ((l : Location) (n : ℕ) (u : ResolvedType) (a : ℕ) → in_sight G l.owner ≡ true → InHead (scope G) u a → lies G xs l ≡ Some (n, u) → n + a ≡ i → ⊥) → word new i ≡ word old i
   word_settled i below none = by (around i)
     where
       by : Around i → word new i ≡ word old i
@@ -259,21 +259,21 @@ module _ (G : Ground) (xs : List Activation) (top : ℕ) (stack : Stacked G top 
   activation_settled d z found = (
     λ x far v is' by_reference. (
       local_unwritten d x,
-      word_settled (z.base + far) (omega (arith, inside.0, (reference_inside (scope G) z.routine x far v is' by_reference).1))
+      word_settled (z.base + far) (inl (omega (arith, inside.0, (reference_inside (scope G) z.routine x far v is' by_reference).1)))
           (λ l n u a mine head lying e. cell_no_reference G xs top stack l n u a d z x far v mine head lying found is' by_reference e),
     ),
     λ t is' none. (
       local_unwritten d z.routine.name,
-      word_settled z.base (omega (arith, inside.0, result_inside (scope G) z.routine t is')) (λ l n u a mine head lying e. cell_no_result G xs top stack l n u a d z t mine head lying found is' e),
+      word_settled z.base (inl (omega (arith, inside.0, result_inside (scope G) z.routine t is'))) (λ l n u a mine head lying e. cell_no_result G xs top stack l n u a d z t mine head lying found is' e),
     ),
   )
     where
       inside : (z.base + activation_words (scope G) z.routine ≤ top) × ((y : System) → system_of_process G.setup G.p ≡ Some y → component_words (scope G) y ≤ z.base)
-      inside = found_inside G top d xs z stack found
+      inside = found_inside G top d xs z stack.stack found
 
 -- The process runs on with the parameters of the class.
 abbrev pub runs_settled : (G : Ground) (store after : Store) (o : PrivateState) (new : List ℤ) (k : List Task) (R : RunsOn G store o k) (at : Location) (c : ℕ) (s : System)
-    → is_own G.p at.owner ≡ true → s.sort ≡ Class → lies G [] at ≡ Some (c, component_type G s) → Distinct (permanent_variables (scope G) s)
+    → in_sight G at.owner ≡ true → s.sort ≡ Class → lies G [] at ≡ Some (c, component_type G s) → Distinct (permanent_variables (scope G) s)
     → ((p : Name × Variable) → IsIn p (declarations (scope G) s.parameters) → is_component p.1.type ≡ false → (words (scope G) p.1.type ≡ 1) × IsCell p.1.type)
     → ((p : Name × Variable) → IsIn p (declarations (scope G) s.parameters) → (k : ℕ) × Offset (scope G) s p k)
     → Settled G (o.base + (site G R.running).words) store after o.words new at c s → length new ≡ length o.words

@@ -1,7 +1,7 @@
 -- Activations lie one behind another, and all behind the component of the process.
 use Rattle.std.proofs.Common.{◌≡◌, ◌⊎◌, inl, inr, ℕ, ◌+◌, ◌≤◌, ℤ, List, [], ◌∷◌, length, Bool, true, false, Option, Some, None, refl, ap, sym, subst, ◌∙◌, arith}
 use Rattle.std.specs.Prelude.{if◌then◌else◌, nat_eq}
-use Rattle.std.proofs.lemmas.Bool.{eqb-true}
+use Rattle.std.proofs.lemmas.Bool.{eqb-true, true≢false}
 use Rattle.cp_model.specs.Abstract.{System}
 use Rattle.cp_model.specs.Continuations.{Do, EndBody, EndCall, EndProcess, ForNext, RepeatTest, Task, WhileTest}
 use Rattle.cp_model.specs.Environments.{Environment, Frame}
@@ -11,17 +11,23 @@ use Rattle.cp_code.specs.TermsFor.{Knowns, nothing_known}
 use Rattle.cp_code.specs.Sites.{BodyOf, RoutineOf, UnitText}
 use Rattle.cp_code.specs.StandsFor.{own_words, system_of_process}
 use Rattle.cp_steps.specs.PrivateStates as machine
-use Rattle.cp_steps.specs.Addresses.{Activation, Ground, activation_at, activation_of, activations, scope}
+use Rattle.cp_steps.specs.Addresses.{Activation, AllWords, Ground, MonitorsLie, OwnWords, Sight, WhereMonitorsLie, activation_at, activation_of, activations, in_sight, scope, sees, whole, words_seen}
 use Rattle.cp_steps.specs.Left.{FrameFor, Left, Running, kept_below, site}
 use Rattle.cp_steps.proofs.Finding.{some_is_not_none}
 use Rattle.cp_steps.proofs.Layouts.{same_some}
+use Rattle.cp_model.specs.Locations.{OfMonitor}
 
 -- The activations lie below `top`, each behind the next one, and all behind the component.
-abbrev pub Stacked : Ground → ℕ → List Activation → Type 0
-Stacked G top [] = (s : System) × (system_of_process G.setup G.p ≡ Some s) × (component_words (scope G) s ≤ top)
-Stacked G top (x ∷ xs) = (x.base + activation_words (scope G) x.routine ≤ top) × Stacked G x.base xs
+abbrev pub Stack : Ground → ℕ → List Activation → Type 0
+Stack G top [] = (s : System) × (system_of_process G.setup G.p ≡ Some s) × (component_words (scope G) s ≤ top)
+Stack G top (x ∷ xs) = (x.base + activation_words (scope G) x.routine ≤ top) × Stack G x.base xs
 
-stacked_higher : (G : Ground) (n m : ℕ) (xs : List Activation) → n ≤ m → Stacked G n xs → Stacked G m xs
+-- They lie among the process's own words.
+pub record Stacked (G : Ground) (top : ℕ) (xs : List Activation) : Type 0 where
+  pub stack : Stack G top xs
+  pub fits : top ≤ G.own
+
+stacked_higher : (G : Ground) (n m : ℕ) (xs : List Activation) → n ≤ m → Stack G n xs → Stack G m xs
 stacked_higher G n m [] p h = (h.0, h.1, omega (arith, p, h.2))
 stacked_higher G n m (x ∷ xs) p h = (omega (arith, p, h.0), h.1)
 
@@ -33,7 +39,7 @@ frame_words g (BodyOf s) (Some f) r e h = absurd h
 
 pub stacked : (G : Ground) (temps : List ℤ) (limit : ℕ) (K : Knowns) (R : Running) (fs : List machine.Frame) (place low : ℕ) (k : List Task)
     → R.env.globals ≡ scope G → FrameFor R.text R.env.frame → Left G temps limit K R fs place low k
-    → Stacked G (R.base + (site G R).words) (activations R.base fs k)
+    → Stack G (R.base + (site G R).words) (activations R.base fs k)
 stacked G temps limit K R fs place low [] gl w h = absurd h
 stacked G temps limit K R fs place low (Do s e ∷ k) gl w h = stacked G temps limit nothing_known R fs h.2.0 h.2.1 k gl w h.2.4
 stacked G temps limit K R fs place low (WhileTest now e s env ∷ k) gl w h =
@@ -46,36 +52,36 @@ stacked G temps limit K R (f ∷ fs) place low (EndCall env gate ∷ k) gl w h =
     let c = h.3 in
     let keeps = c.5 in
     let below = stacked G temps limit (kept_below c.2 c.3 temps c.0.temp) c.0 fs c.1 c.2 k c.4.globals c.4.frame c.7 in
-    let rest = subst (λ b. Stacked G (c.0.base + (site G c.0).words) (activations b fs k)) (sym keeps.base) below in
+    let rest = subst (λ b. Stack G (c.0.base + (site G c.0).words) (activations b fs k)) (sym keeps.base) below in
     let own = ap (λ g. own_words g R.text) gl ∙ frame_words (scope G) R.text R.env.frame h.1.frame h.1.runs w in
-    subst (λ z. Stacked G (R.base + (site G R).words) (activation_of R.base z (activations f.base fs k)))
+    subst (λ z. Stack G (R.base + (site G R).words) (activation_of R.base z (activations f.base fs k)))
     (sym (ap (λ (y : Environment). y.frame) h.0 ∙ h.1.runs))
     (stack_frame own (stacked_higher G (c.0.base + (site G c.0).words) R.base (activations f.base fs k) keeps.words_apart rest))
   where
-    stack_frame : (site G R).words ≡ activation_words (scope G) h.1.frame.routine → Stacked G R.base (activations f.base fs k)
-        → Stacked G (R.base + (site G R).words) (record { base = R.base; routine = h.1.frame.routine } ∷ activations f.base fs k)
+    stack_frame : (site G R).words ≡ activation_words (scope G) h.1.frame.routine → Stack G R.base (activations f.base fs k)
+        → Stack G (R.base + (site G R).words) (record { base = R.base; routine = h.1.frame.routine } ∷ activations f.base fs k)
     stack_frame own rest = (omega (arith, own), rest)
 stacked G temps limit K R (f ∷ fs) place low (EndBody gate ∷ k) gl w h =
     let c = h.3 in
     let keeps = c.3 in
     let below = stacked G temps limit nothing_known c.0 fs f.place c.1 k c.2.globals c.2.frame c.4 in
-    let rest = subst (λ b. Stacked G (c.0.base + (site G c.0).words) (activations b fs k)) (sym keeps.base) below in
+    let rest = subst (λ b. Stack G (c.0.base + (site G c.0).words) (activations b fs k)) (sym keeps.base) below in
     stacked_higher G (c.0.base + (site G c.0).words) (R.base + (site G R).words) (activations f.base fs k)
     (omega (arith, keeps.words_apart)) rest
 stacked G temps limit K R fs place low (EndProcess ∷ k) gl w h =
-    subst (λ z. Stacked G (R.base + (site G R).words) (activations R.base fs z)) (sym h.1) (h.4.0, h.4.1, omega (arith, h.4.2))
+    subst (λ z. Stack G (R.base + (site G R).words) (activations R.base fs z)) (sym h.1) (h.4.0, h.4.1, omega (arith, h.4.2))
 stacked G temps limit K R [] place low (EndCall env gate ∷ k) gl w h = absurd h
 stacked G temps limit K R [] place low (EndBody gate ∷ k) gl w h = absurd h
 
 -- ---- look-ups of activations
 
 -- An activation that is found lies below the top, and behind the component.
-pub found_inside : (G : Ground) (top d : ℕ) (xs : List Activation) (x : Activation) → Stacked G top xs → activation_at d xs ≡ Some x
+pub found_inside : (G : Ground) (top d : ℕ) (xs : List Activation) (x : Activation) → Stack G top xs → activation_at d xs ≡ Some x
     → (x.base + activation_words (scope G) x.routine ≤ top) × ((s : System) → system_of_process G.setup G.p ≡ Some s → component_words (scope G) s ≤ x.base)
 found_inside G top d [] x h e = absurd (some_is_not_none x (sym e))
 found_inside G top d (y ∷ xs) x h e = by (nat_eq d (length xs)) e (found_inside G y.base d xs x h.1)
   where
-    bottom : (n : ℕ) (zs : List Activation) → Stacked G n zs → (s : System) → system_of_process G.setup G.p ≡ Some s → component_words (scope G) s ≤ n
+    bottom : (n : ℕ) (zs : List Activation) → Stack G n zs → (s : System) → system_of_process G.setup G.p ≡ Some s → component_words (scope G) s ≤ n
     bottom n [] g s i = omega (arith, g.2, ap (component_words (scope G)) (same_some s g.0 (sym i ∙ g.1)))
     bottom n (z ∷ zs) g s i = omega (arith, g.0, bottom z.base zs g.1 s i)
 
@@ -89,7 +95,7 @@ found_inside G top d (y ∷ xs) x h e = by (nat_eq d (length xs)) e (found_insid
     by false e go = (omega (arith, (go e).0, h.0), (go e).1)
 
 -- Two activations are the same one, or one lies behind the other.
-pub found_apart : (G : Ground) (top d c : ℕ) (xs : List Activation) (x y : Activation) → Stacked G top xs → activation_at d xs ≡ Some x → activation_at c xs ≡ Some y
+pub found_apart : (G : Ground) (top d c : ℕ) (xs : List Activation) (x y : Activation) → Stack G top xs → activation_at d xs ≡ Some x → activation_at c xs ≡ Some y
     → (d ≡ c) ⊎ ((x.base + activation_words (scope G) x.routine ≤ y.base) ⊎ (y.base + activation_words (scope G) y.routine ≤ x.base))
 found_apart G top d c [] x y h e f = absurd (some_is_not_none x (sym e))
 found_apart G top d c (z ∷ xs) x y h e f = by (nat_eq d (length xs)) (nat_eq c (length xs)) refl refl e f (found_apart G z.base d c xs x y h.1)
@@ -103,3 +109,20 @@ found_apart G top d c (z ∷ xs) x y h e f = by (nat_eq d (length xs)) (nat_eq c
     by true false a b e f go = inr (inr (omega (arith, (found_inside G z.base c xs y h.1 f).0, ap (λ (q : Activation). q.base) (same_some z x e))))
     by false true a b e f go = inr (inl (omega (arith, (found_inside G z.base d xs x h.1 e).0, ap (λ (q : Activation). q.base) (same_some z y f))))
     by false false a b e f go = go e f
+
+-- ---- what is in reach
+
+-- A monitor is in reach only with all others.
+pub monitor_seen : (G : Ground) (m : ℕ) → in_sight G (OfMonitor m) ≡ true → MonitorsLie G.program G.setup × (whole G ≡ G.own + G.program.shared)
+monitor_seen G m h = by G.sight G.monitors_lie h
+  where
+    by : (v : Sight) → WhereMonitorsLie v G.program G.setup → sees v G.p (OfMonitor m) ≡ true → MonitorsLie G.program G.setup × (words_seen v G.program G.own ≡ G.own + G.program.shared)
+    by OwnWords lie h = absurd (true≢false (sym h))
+    by AllWords lie h = (lie, refl)
+
+pub own_in_whole : (G : Ground) → G.own ≤ whole G
+own_in_whole G = by G.sight
+  where
+    by : (v : Sight) → G.own ≤ words_seen v G.program G.own
+    by OwnWords = omega arith
+    by AllWords = omega arith

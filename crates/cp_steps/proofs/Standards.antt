@@ -15,9 +15,8 @@ use Rattle.cp_model.specs.Decimal.{decimal}
 use Rattle.cp_model.specs.Environments.{Environment}
 use Rattle.cp_model.specs.Expressions.{place}
 use Rattle.cp_model.specs.Locations.{Location}
-use Rattle.cp_model.specs.Operators.{realtime}
 use Rattle.cp_model.specs.Outcomes.{Fault, Gives, Outcome, and_then}
-use Rattle.cp_model.specs.Parts.{is_own, private_status}
+use Rattle.cp_model.specs.Parts.{private_status}
 use Rattle.cp_model.specs.Places.{Place, TypedValue, simple_value}
 use Rattle.cp_model.specs.StandardCalls as calls
 use Rattle.cp_model.specs.StandardCalls.{byte, delay, display_text, next_input, next_place, standard_procedure}
@@ -33,10 +32,10 @@ use Rattle.cp_code.specs.Sites.{operation_at}
 use Rattle.cp_code.specs.TermsFor.{Agrees}
 use Rattle.cp_code.specs.StatementsFor.{IsByte, PerformsBy}
 use Rattle.cp_steps.specs.PrivateStates as private
-use Rattle.cp_steps.specs.PrivateStates.{Activity, PrivateState, go_to, private_outcome, provided, set_word, with_result}
+use Rattle.cp_steps.specs.PrivateStates.{Activity, Outside, PrivateState, go_to, private_outcome, provided, set_word, with_result}
 use Rattle.cp_steps.specs.Steps as steps
 use Rattle.cp_steps.specs.Means.{PlaceAgrees}
-use Rattle.cp_steps.specs.Addresses.{Ground, activations, seen}
+use Rattle.cp_steps.specs.Addresses.{Ground, activations, in_sight, seen}
 use Rattle.cp_steps.specs.Left.{site}
 use Rattle.cp_steps.specs.PartOf.{PartOf, RunsOn, status_of}
 use Rattle.cp_steps.proofs.Assigning.{stores}
@@ -44,7 +43,7 @@ use Rattle.cp_steps.proofs.Doing.{Ready, goes_next, known, place_here, statement
 use Rattle.cp_steps.proofs.Evaluates.{ordinal_is}
 use Rattle.cp_steps.proofs.Finding.{cons_is_not_nil, in_context_none, or_else_none}
 use Rattle.cp_steps.proofs.RunningOn.{runs_moved, runs_written}
-use Rattle.cp_steps.proofs.Stepping.{Now, Stepped, clock_of, faulted, went}
+use Rattle.cp_steps.proofs.Stepping.{IsFree, Now, Stepped, clock_of, faulted, went}
 
 -- What runs on does so whatever was displayed, taken and waited for.
 abbrev runs_beside : (G : Ground) (store : Store) (o : PrivateState) (k : List Task) (x : Activity) (output : List ℕ) (consumed : ℕ)
@@ -66,7 +65,7 @@ runs_beside G store o k x output consumed R = record {
 }
 
 -- Where a state is reached that the process runs on in.
-arrived : (G : Ground) (before : List ℕ) (u : State) (after : PrivateState) → after.number ≡ G.p → after.input ≡ G.setup.inputs G.p → after.consumed ≡ u.consumed G.p
+pub arrived : (G : Ground) (before : List ℕ) (u : State) (after : PrivateState) → after.number ≡ G.p → after.input ≡ G.setup.inputs G.p → after.consumed ≡ u.consumed G.p
     → u.transcript G.p ≡ before ++ after.output → private_status (u.status G.p) ≡ status_of after.activity → RunsOn G u.store after (u.continuation G.p)
     → PartOf G u before after
 arrived G before u after number input consumed transcript status R = record {
@@ -80,7 +79,7 @@ arrived G before u after number input consumed transcript status R = record {
   runs_on = λ goes. R;
 }
 
-not_called : (env : Environment) (d : a.Designator) (es : a.Expressions) → callee env d ≡ None → procedure_call (Do (a.Perform d es) env) ≡ None
+pub not_called : (env : Environment) (d : a.Designator) (es : a.Expressions) → callee env d ≡ None → procedure_call (Do (a.Perform d es) env) ≡ None
 not_called env d es none =
     ap (λ (x : Option Callee). elim x as (λ y. Option UserCall) [
       | None ↦ None
@@ -91,7 +90,7 @@ append_more : (a b c : List ℕ) → (a ++ b) ++ c ≡ a ++ (b ++ c)
 append_more [] b c = refl
 append_more (x ∷ a) b c = ap (λ y. x ∷ y) (append_more a b c)
 
-abbrev one : a.Expression → a.Expressions
+abbrev pub one : a.Expression → a.Expressions
 one e = a.MoreExpressions e a.NoExpression
 
 -- ---- which one it is
@@ -115,7 +114,7 @@ accepts : (context : Context) (config : Configuration) (env : Environment) (k : 
     own_step (record (with_writes config ws k) { consumed = next_place context.input config.consumed })))
 accepts context config env k x e h g = where_false _ _ _ h ∙ where_true _ _ _ g
 
-delays : (context : Context) (config : Configuration) (env : Environment) (k : List Task) (x : Name) (e : a.Expression)
+pub delays : (context : Context) (config : Configuration) (env : Environment) (k : List Task) (x : Name) (e : a.Expression)
     → bytes_eq x (codes "display") ≡ false → bytes_eq x (codes "accept") ≡ false → bytes_eq x (codes "delay") ≡ true
     → standard_procedure context config env k x e
     ≡ and_then (designation context config env (designator_of e)) (λ at. delay context.process config k at.at (marked_monitors k))
@@ -140,32 +139,32 @@ nothing_continues config q (RepeatTest now s e env ∷ k) h = nothing_continues 
 nothing_continues config q (ForNext x down n last s env ∷ k) h = nothing_continues config q k h
 nothing_continues config q (EndProcess ∷ k) h = nothing_continues config q k h
 
-module _ (G : Ground) (s : State) (before : List ℕ) (o : PrivateState) (x : Name) (env : Environment) (k : List Task) where
+module _ (G : Ground) (s : State) (w : Outside) (before : List ℕ) (o : PrivateState) (x : Name) (env : Environment) (k : List Task) where
   -- No call is left in the one argument.
-  argument_none : (here : Environment) (e : a.Expression) → in_context (a.Perform (a.Plain x)) (or_else (in_context (λ y. a.MoreExpressions y a.NoExpression) (first_call here (a.Literal 0) e)) None) ≡ None
+  pub argument_none : (here : Environment) (e : a.Expression) → in_context (a.Perform (a.Plain x)) (or_else (in_context (λ y. a.MoreExpressions y a.NoExpression) (first_call here (a.Literal 0) e)) None) ≡ None
       → first_call here (a.Literal 0) e ≡ None
   argument_none here e h =
       in_context_none (λ y. a.MoreExpressions y a.NoExpression) (first_call here (a.Literal 0) e)
       (or_else_none (in_context (λ y. a.MoreExpressions y a.NoExpression) (first_call here (a.Literal 0) e)) None
       (in_context_none (a.Perform (a.Plain x)) (or_else (in_context (λ y. a.MoreExpressions y a.NoExpression) (first_call here (a.Literal 0) e)) None) h)).0
 
-  used_none : (here : Environment) (d : a.Designator) → first_call here (a.Literal 0) (a.Use d) ≡ None → call_in_designator here (a.Literal 0) d ≡ None
+  pub used_none : (here : Environment) (d : a.Designator) → first_call here (a.Literal 0) (a.Use d) ≡ None → call_in_designator here (a.Literal 0) d ≡ None
   used_none here d h =
       in_context_none a.Use (call_in_designator here (a.Literal 0) d)
       (or_else_none (in_context a.Use (call_in_designator here (a.Literal 0) d)) (user_call here d a.NoExpression (a.Literal 0)) h).0
 
-  abbrev By : (es : a.Expressions) → Ready G s before o (a.Perform (a.Plain x) es) env k → op.Operation → Type 0
+  abbrev pub By : (es : a.Expressions) → Ready G s w before o (a.Perform (a.Plain x) es) env k → op.Operation → Type 0
   By es Y y =
       (operation_at G.program o.place ≡ Some y)
-      × PerformsBy (site G Y.now.on.running) (known G s before o (Do (a.Perform (a.Plain x) es) env) k Y.now) (a.Plain x) es y o.place Y.now.on.left.2.3.0 Y.now.on.left.2.0 Y.now.on.left.2.1
+      × PerformsBy (site G Y.now.on.running) (known G s w before o (Do (a.Perform (a.Plain x) es) env) k Y.now) (a.Plain x) es y o.place Y.now.on.left.2.3.0 Y.now.on.left.2.0 Y.now.on.left.2.1
 
-  pub display_steps : (e : a.Expression) (Y : Ready G s before o (a.Perform (a.Plain x) (one e)) env k) (c : Term) (as_byte : Bool) (n : ℕ)
-      → By (one e) Y (op.Display c as_byte n) → Stepped G s before o
+  pub display_steps : (e : a.Expression) (Y : Ready G s w before o (a.Perform (a.Plain x) (one e)) env k) (c : Term) (as_byte : Bool) (n : ℕ)
+      → By (one e) Y (op.Display c as_byte n) → Stepped G s w before o
   display_steps e Y c as_byte n h =
       let N = Y.now in
-      statement_steps G s before o (a.Perform (a.Plain x) (one e)) env k Y (op.Display c as_byte n) (not_called N.on.running.env (a.Plain x) (one e) h.1.1.0) refl h.0 refl
-      (subst (λ z. PartOf G (after_step s G.p z) before (steps.with_value (steps.alone (realtime (clock_of G s)) o) o c (λ m. steps.display o m as_byte n)).0) (sym (displays (context G.setup s G.p) (configuration s G.p) N.on.running.env k x e h.1.1.1))
-      (by _ _ (value_here G s before o (Do (a.Perform (a.Plain x) (one e)) env) k N N.sees e c h.1.0 o.place N.on.left.2.3.0 N.on.left.2.1 N.on.running.unit.temps h.1.4
+      statement_steps G s w before o (a.Perform (a.Plain x) (one e)) env k Y (op.Display c as_byte n) (not_called N.on.running.env (a.Plain x) (one e) h.1.1.0) refl h.0 refl
+      (subst (λ z. PartOf G (after_step s G.p z) before (steps.with_value w o c (λ m. steps.display o m as_byte n)).0) (sym (displays (context G.setup s G.p) (configuration s G.p) N.on.running.env k x e h.1.1.1))
+      (by _ _ (value_here G s w before o (Do (a.Perform (a.Plain x) (one e)) env) k N N.sees e c h.1.0 o.place N.on.left.2.3.0 N.on.left.2.1 N.on.running.unit.temps h.1.4
       (argument_none N.on.running.env e Y.none))))
     where
       shown : TypedValue → StepResult
@@ -189,20 +188,20 @@ module _ (G : Ground) (s : State) (before : List ℕ) (o : PrivateState) (x : Na
           Y.now.part.status
           (subst (RunsOn G s.store (record (go_to n o) { output = o.output ++ (if as_byte then byte m ∷ [] else decimal m) })) (sym (with_at_here G.p k s.continuation))
           (runs_beside G s.store (go_to n o) k o.activity (o.output ++ (if as_byte then byte m ∷ [] else decimal m)) o.consumed
-          (subst (λ z. RunsOn G s.store (go_to z o) k) (sym h.1.2) (goes_next G s before o (a.Perform (a.Plain x) (one e)) env k Y))))
-      by (Fault i) (Err f) g = faulted G s before o (Do (a.Perform (a.Plain x) (one e)) env) k Y.now i f g
+          (subst (λ z. RunsOn G s.store (go_to z o) k) (sym h.1.2) (goes_next G s w before o (a.Perform (a.Plain x) (one e)) env k Y))))
+      by (Fault i) (Err f) g = faulted G s w before o (Do (a.Perform (a.Plain x) (one e)) env) k Y.now i f g
       by (Gives v) (Err f) g = absurd g
       by (Fault i) (Ok m) g = absurd g
 
-  pub accept_steps : (d : a.Designator) (Y : Ready G s before o (a.Perform (a.Plain x) (one (a.Use d))) env k) (to : Spot) (lower upper : ℤ) (n : ℕ)
-      → By (one (a.Use d)) Y (op.Accept to lower upper n) → Stepped G s before o
+  pub accept_steps : (d : a.Designator) (Y : Ready G s w before o (a.Perform (a.Plain x) (one (a.Use d))) env k) (to : Spot) (lower upper : ℤ) (n : ℕ)
+      → By (one (a.Use d)) Y (op.Accept to lower upper n) → Stepped G s w before o
   accept_steps d Y to lower upper n h =
       let N = Y.now in
-      statement_steps G s before o (a.Perform (a.Plain x) (one (a.Use d))) env k Y (op.Accept to lower upper n) (not_called N.on.running.env (a.Plain x) (one (a.Use d)) h.1.1.0) refl h.0 refl
-      (subst (λ z. PartOf G (after_step s G.p z) before (steps.with_place (steps.alone (realtime (clock_of G s)) o) o to (λ at. steps.accept o at lower upper n)).0) (sym (accepts (context G.setup s G.p) (configuration s G.p) N.on.running.env k x (a.Use d) h.1.1.1 h.1.1.2))
-      (subst (λ z. PartOf G (after_step s G.p (and_then (place (clock_of G s) N.on.running.env s.store d) (taking z (s.consumed G.p)))) before (steps.with_place (steps.alone (realtime (clock_of G s)) o) o to (λ at. steps.accept o at lower upper n)).0) N.part.input
-      (subst (λ z. PartOf G (after_step s G.p (and_then (place (clock_of G s) N.on.running.env s.store d) (taking o.input z))) before (steps.with_place (steps.alone (realtime (clock_of G s)) o) o to (λ at. steps.accept o at lower upper n)).0) N.part.consumed
-      (by _ _ (place_here G s before o (Do (a.Perform (a.Plain x) (one (a.Use d))) env) k N N.sees d to (Simple Char lower upper h.1.0) o.place N.on.left.2.3.0 N.on.left.2.1 N.on.running.unit.temps h.1.4
+      statement_steps G s w before o (a.Perform (a.Plain x) (one (a.Use d))) env k Y (op.Accept to lower upper n) (not_called N.on.running.env (a.Plain x) (one (a.Use d)) h.1.1.0) refl h.0 refl
+      (subst (λ z. PartOf G (after_step s G.p z) before (steps.with_place w o to (λ at. steps.accept o at lower upper n)).0) (sym (accepts (context G.setup s G.p) (configuration s G.p) N.on.running.env k x (a.Use d) h.1.1.1 h.1.1.2))
+      (subst (λ z. PartOf G (after_step s G.p (and_then (place (clock_of G s) N.on.running.env s.store d) (taking z (s.consumed G.p)))) before (steps.with_place w o to (λ at. steps.accept o at lower upper n)).0) N.part.input
+      (subst (λ z. PartOf G (after_step s G.p (and_then (place (clock_of G s) N.on.running.env s.store d) (taking o.input z))) before (steps.with_place w o to (λ at. steps.accept o at lower upper n)).0) N.part.consumed
+      (by _ _ (place_here G s w before o (Do (a.Perform (a.Plain x) (one (a.Use d))) env) k N N.sees d to (Simple Char lower upper h.1.0) o.place N.on.left.2.3.0 N.on.left.2.1 N.on.running.unit.temps h.1.4
       (used_none N.on.running.env d (argument_none N.on.running.env (a.Use d) Y.none)))))))
     where
       writing : List ℕ → ℕ → Writes → StepResult
@@ -211,12 +210,12 @@ module _ (G : Ground) (s : State) (before : List ℕ) (o : PrivateState) (x : Na
       taking : List ℕ → ℕ → Place → StepResult
       taking input c at = and_then (writes_of at.at at.type (simple_value Char (next_input input c))) (writing input c)
 
-      by : (P : Outcome Place) (r : Result ℕ machine.Fault) → PlaceAgrees (seen (is_own G.p) G (activations o.base o.frames (Do (a.Perform (a.Plain x) (one (a.Use d))) env ∷ k))) (Simple Char lower upper h.1.0) P r
+      by : (P : Outcome Place) (r : Result ℕ machine.Fault) → PlaceAgrees (seen (in_sight G) G (activations o.base o.frames (Do (a.Perform (a.Plain x) (one (a.Use d))) env ∷ k))) (Simple Char lower upper h.1.0) P r
           → PartOf G (after_step s G.p (and_then P (taking o.input o.consumed))) before (with_result o r (λ at. steps.accept o at lower upper n)).0
       by (Gives p) (Ok at) g =
           let v = next_input o.input o.consumed in
           let taken = record (set_word o at v) { consumed = next_place o.input o.consumed } in
-          stores G s before o (Do (a.Perform (a.Plain x) (one (a.Use d))) env) k Y.now (go_to n taken) (writing o.input o.consumed) Char Char lower upper h.1.0 at v (Gives p) g (simple_value Char v) (refl, refl)
+          stores G s w before o (Do (a.Perform (a.Plain x) (one (a.Use d))) env) k Y.now (go_to n taken) (writing o.input o.consumed) Char Char lower upper h.1.0 at v (Gives p) g (simple_value Char v) (refl, refl)
           (λ l own is.
           arrived G before (after_step s G.p (writing o.input o.consumed ((l, Ordinal v) ∷ []))) (go_to n taken)
           Y.now.part.number Y.now.part.input (sym (with_at_here G.p (next_place o.input o.consumed) s.consumed))
@@ -227,62 +226,62 @@ module _ (G : Ground) (s : State) (before : List ℕ) (o : PrivateState) (x : Na
           (subst (λ z. RunsOn G (put l (Ordinal v) s.store) (go_to z (set_word o at v)) k) (sym h.1.2)
           (runs_moved G (put l (Ordinal v) s.store) (set_word o at v) (Do (a.Perform (a.Plain x) (one (a.Use d))) env ∷ k) k Y.now.on.left.2.0 Y.now.on.left.2.1
           (runs_written G s.store o (Do (a.Perform (a.Plain x) (one (a.Use d))) env ∷ k) Y.now.on l at Char lower upper h.1.0 v own is) refl refl refl Y.now.on.left.2.4 Y.now.on.left.2.2)))))
-      by (Fault i) (Err f) g = faulted G s before o (Do (a.Perform (a.Plain x) (one (a.Use d))) env) k Y.now i f g
+      by (Fault i) (Err f) g = faulted G s w before o (Do (a.Perform (a.Plain x) (one (a.Use d))) env) k Y.now i f g
       by (Gives v) (Err f) g = absurd g
       by (Fault i) (Ok m) g = absurd g
 
   -- Where nothing happens.
-  rests : (i : Task) (l : List Task) → Now G s before o i l → PartOf G (after_step s G.p (own_step (configuration s G.p))) before o
+  rests : (i : Task) (l : List Task) → Now G s w before o i l → PartOf G (after_step s G.p (own_step (configuration s G.p))) before o
   rests i l N =
       went G s before o N.part s.store o (s.continuation G.p) (subst (RunsOn G s.store o) (sym N.left) N.on)
       record { number = refl; input = refl; consumed = refl; output = refl; activity = refl }
 
-  free_rests : (i : Task) (l : List Task) → Now G s before o i l → (y : private.Acting) → PartOf G (after_step s G.p (own_step (configuration s G.p))) before (steps.in_monitor o y).0
-  free_rests i l N y =
-      subst (λ g. PartOf G (after_step s G.p (own_step (configuration s G.p))) before (if steps.is_held g then y else private_outcome o).0) (sym N.gate) (rests i l N)
+  free_rests : (i : Task) (l : List Task) → IsFree G s o → Now G s w before o i l → (y : private.Acting) → PartOf G (after_step s G.p (own_step (configuration s G.p))) before (steps.in_monitor o y).0
+  free_rests i l free N y =
+      subst (λ g. PartOf G (after_step s G.p (own_step (configuration s G.p))) before (if steps.is_held g then y else private_outcome o).0) (sym free.1) (rests i l N)
 
   -- A designator of a queue is evaluated, and then nothing happens.
-  queue_rests : (d : a.Designator) (Y : Ready G s before o (a.Perform (a.Plain x) (one (a.Use d))) env k) (go : Place → StepResult) (act : ℕ → private.Acting)
+  queue_rests : IsFree G s o → (d : a.Designator) (Y : Ready G s w before o (a.Perform (a.Plain x) (one (a.Use d))) env k) (go : Place → StepResult) (act : ℕ → private.Acting)
       → ((at : Place) → go at ≡ own_step (configuration s G.p))
-      → (P : Outcome Place) (r : Result ℕ machine.Fault) → PlaceAgrees (seen (is_own G.p) G (activations o.base o.frames (Do (a.Perform (a.Plain x) (one (a.Use d))) env ∷ k))) Queue P r
+      → (P : Outcome Place) (r : Result ℕ machine.Fault) → PlaceAgrees (seen (in_sight G) G (activations o.base o.frames (Do (a.Perform (a.Plain x) (one (a.Use d))) env ∷ k))) Queue P r
       → PartOf G (after_step s G.p (and_then P go)) before (with_result o r (λ at. steps.in_monitor o (act at))).0
-  queue_rests d Y go act same (Gives p) (Ok at) g =
+  queue_rests free d Y go act same (Gives p) (Ok at) g =
       subst (λ z. PartOf G (after_step s G.p z) before (steps.in_monitor o (act at)).0) (sym (same p))
-      (free_rests (Do (a.Perform (a.Plain x) (one (a.Use d))) env) k Y.now (act at))
-  queue_rests d Y go act same (Fault i) (Err f) g = faulted G s before o (Do (a.Perform (a.Plain x) (one (a.Use d))) env) k Y.now i f g
-  queue_rests d Y go act same (Gives v) (Err f) g = absurd g
-  queue_rests d Y go act same (Fault i) (Ok m) g = absurd g
+      (free_rests (Do (a.Perform (a.Plain x) (one (a.Use d))) env) k free Y.now (act at))
+  queue_rests free d Y go act same (Fault i) (Err f) g = faulted G s w before o (Do (a.Perform (a.Plain x) (one (a.Use d))) env) k Y.now i f g
+  queue_rests free d Y go act same (Gives v) (Err f) g = absurd g
+  queue_rests free d Y go act same (Fault i) (Ok m) g = absurd g
 
-  pub delay_steps : (d : a.Designator) (Y : Ready G s before o (a.Perform (a.Plain x) (one (a.Use d))) env k) (queue : Spot) (n : ℕ)
-      → By (one (a.Use d)) Y (op.Delay queue n) → Stepped G s before o
-  delay_steps d Y queue n h =
+  pub delay_steps : IsFree G s o → (d : a.Designator) (Y : Ready G s w before o (a.Perform (a.Plain x) (one (a.Use d))) env k) (queue : Spot) (n : ℕ)
+      → By (one (a.Use d)) Y (op.Delay queue n) → Stepped G s w before o
+  delay_steps free d Y queue n h =
       let N = Y.now in
-      statement_steps G s before o (a.Perform (a.Plain x) (one (a.Use d))) env k Y (op.Delay queue n) (not_called N.on.running.env (a.Plain x) (one (a.Use d)) h.1.0.0) refl h.0 refl
-      (subst (λ z. PartOf G (after_step s G.p z) before (steps.with_place (steps.alone (realtime (clock_of G s)) o) o queue (λ at. steps.delay o at n)).0)
+      statement_steps G s w before o (a.Perform (a.Plain x) (one (a.Use d))) env k Y (op.Delay queue n) (not_called N.on.running.env (a.Plain x) (one (a.Use d)) h.1.0.0) refl h.0 refl
+      (subst (λ z. PartOf G (after_step s G.p z) before (steps.with_place w o queue (λ at. steps.delay o at n)).0)
       (sym (delays (context G.setup s G.p) (configuration s G.p) N.on.running.env k x (a.Use d) h.1.0.1 h.1.0.2 h.1.0.3))
-      (queue_rests d Y (λ at. delay G.p (configuration s G.p) k at.at (marked_monitors k)) _ (λ at. ap (delay G.p (configuration s G.p) k at.at) N.marks) _ _
-      (place_here G s before o (Do (a.Perform (a.Plain x) (one (a.Use d))) env) k N N.sees d queue Queue o.place N.on.left.2.3.0 N.on.left.2.1 N.on.running.unit.temps h.1.3
+      (queue_rests free d Y (λ at. delay G.p (configuration s G.p) k at.at (marked_monitors k)) _ (λ at. ap (delay G.p (configuration s G.p) k at.at) (ap marked_monitors (sym N.left) ∙ free.0)) _ _
+      (place_here G s w before o (Do (a.Perform (a.Plain x) (one (a.Use d))) env) k N N.sees d queue Queue o.place N.on.left.2.3.0 N.on.left.2.1 N.on.running.unit.temps h.1.3
       (used_none N.on.running.env d (argument_none N.on.running.env (a.Use d) Y.none)))))
 
-  pub continue_steps : (d : a.Designator) (Y : Ready G s before o (a.Perform (a.Plain x) (one (a.Use d))) env k) (queue : Spot) (function : Bool)
-      → By (one (a.Use d)) Y (op.Continue queue function) → Stepped G s before o
-  continue_steps d Y queue function h =
+  pub continue_steps : IsFree G s o → (d : a.Designator) (Y : Ready G s w before o (a.Perform (a.Plain x) (one (a.Use d))) env k) (queue : Spot) (function : Bool)
+      → By (one (a.Use d)) Y (op.Continue queue function) → Stepped G s w before o
+  continue_steps free d Y queue function h =
       let N = Y.now in
-      statement_steps G s before o (a.Perform (a.Plain x) (one (a.Use d))) env k Y (op.Continue queue function) (not_called N.on.running.env (a.Plain x) (one (a.Use d)) h.1.0.0) refl h.0 refl
-      (subst (λ z. PartOf G (after_step s G.p z) before (steps.with_place (steps.alone (realtime (clock_of G s)) o) o queue (λ at. steps.continue o at function)).0)
+      statement_steps G s w before o (a.Perform (a.Plain x) (one (a.Use d))) env k Y (op.Continue queue function) (not_called N.on.running.env (a.Plain x) (one (a.Use d)) h.1.0.0) refl h.0 refl
+      (subst (λ z. PartOf G (after_step s G.p z) before (steps.with_place w o queue (λ at. steps.continue o at function)).0)
       (sym (continues (context G.setup s G.p) (configuration s G.p) N.on.running.env k x (a.Use d) h.1.0.1 h.1.0.2 h.1.0.3))
-      (queue_rests d Y (λ at. calls.continue (configuration s G.p) at.at (innermost_call k)) _ (λ at. nothing_continues (configuration s G.p) at.at k N.marks) _ _
-      (place_here G s before o (Do (a.Perform (a.Plain x) (one (a.Use d))) env) k N N.sees d queue Queue o.place N.on.left.2.3.0 N.on.left.2.1 N.on.running.unit.temps h.1.2
+      (queue_rests free d Y (λ at. calls.continue (configuration s G.p) at.at (innermost_call k)) _ (λ at. nothing_continues (configuration s G.p) at.at k (ap marked_monitors (sym N.left) ∙ free.0)) _ _
+      (place_here G s w before o (Do (a.Perform (a.Plain x) (one (a.Use d))) env) k N N.sees d queue Queue o.place N.on.left.2.3.0 N.on.left.2.1 N.on.running.unit.temps h.1.2
       (used_none N.on.running.env d (argument_none N.on.running.env (a.Use d) Y.none)))))
 
-  pub wait_steps : (Y : Ready G s before o (a.Perform (a.Plain x) a.NoExpression) env k) (n : ℕ) → By a.NoExpression Y (op.Wait n) → Stepped G s before o
+  pub wait_steps : (Y : Ready G s w before o (a.Perform (a.Plain x) a.NoExpression) env k) (n : ℕ) → By a.NoExpression Y (op.Wait n) → Stepped G s w before o
   wait_steps Y n h =
       let N = Y.now in
-      statement_steps G s before o (a.Perform (a.Plain x) a.NoExpression) env k Y (op.Wait n) (not_called N.on.running.env (a.Plain x) a.NoExpression h.1.0) refl h.0 refl
+      statement_steps G s w before o (a.Perform (a.Plain x) a.NoExpression) env k Y (op.Wait n) (not_called N.on.running.env (a.Plain x) a.NoExpression h.1.0) refl h.0 refl
       (arrived G before (after_step s G.p (Gives (with_continuation (configuration s G.p) k, Waits))) (go_to n (record o { activity = private.Waiting }))
       N.part.number N.part.input (N.part.consumed ∙ sym (with_at_here G.p (s.consumed G.p) s.consumed))
       (with_at_here G.p (s.transcript G.p) s.transcript ∙ N.part.transcript)
       (ap private_status (with_at_here G.p stage.Waiting s.status))
       (subst (RunsOn G s.store (go_to n (record o { activity = private.Waiting }))) (sym (with_at_here G.p k s.continuation))
       (runs_beside G s.store (go_to n o) k private.Waiting o.output o.consumed
-      (subst (λ z. RunsOn G s.store (go_to z o) k) (sym h.1.1) (goes_next G s before o (a.Perform (a.Plain x) a.NoExpression) env k Y)))))
+      (subst (λ z. RunsOn G s.store (go_to z o) k) (sym h.1.1) (goes_next G s w before o (a.Perform (a.Plain x) a.NoExpression) env k Y)))))

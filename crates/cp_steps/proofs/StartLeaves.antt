@@ -57,7 +57,7 @@ neg_from_neg (suc a) c (suc n) p h = by (nat_eq c (suc a)) refl (λ q. neg_from_
             inner false e = absurd (d (Prim.grind (arith, e, h)))
 
 -- An index within the bounds is one of those that are counted.
-index_in : (low high i : ℤ) → within low high i ≡ true → IsIn i (integers_from low (count_between low high))
+pub index_in : (low high i : ℤ) → within low high i ≡ true → IsIn i (integers_from low (count_between low high))
 index_in low high i h = let k = and_parts (int_le low i) (int_le i high) h in by low high i k.0 k.1
   where
     by : (low high i : ℤ) → int_le low i ≡ true → int_le i high ≡ true → IsIn i (integers_from low (count_between low high))

@@ -13,8 +13,6 @@ use Rattle.cp_model.specs.Environments.{Environment}
 use Rattle.cp_model.specs.Integers.{same_integer}
 use Rattle.cp_model.specs.Invariant.{StoreInvariant}
 use Rattle.cp_model.specs.Locations.{Location}
-use Rattle.cp_model.specs.Operators.{realtime}
-use Rattle.cp_model.specs.Parts.{is_own}
 use Rattle.cp_model.specs.States.{State, context}
 use Rattle.cp_model.specs.Stores.{Absent, ClassRight, Store, Value}
 use Rattle.cp_model.specs.Types.{ComponentOf, ResolvedType}
@@ -22,11 +20,11 @@ use Rattle.cp_code.specs.Terms as t
 use Rattle.cp_code.specs.Layout.{member, natural, right}
 use Rattle.cp_code.specs.Sites.{RightTo, TargetFor, TargetOf, system_of_callee}
 use Rattle.cp_code.specs.Starts.{word}
-use Rattle.cp_steps.specs.PrivateStates.{PrivateState}
+use Rattle.cp_steps.specs.PrivateStates.{Outside, PrivateState}
 use Rattle.cp_steps.specs.Passing.{Called, class_called, class_right, component_called}
-use Rattle.cp_steps.specs.Steps.{alone, is_monitor}
+use Rattle.cp_steps.specs.Steps.{is_monitor}
 use Rattle.cp_steps.specs.Means.{MarkMeans}
-use Rattle.cp_steps.specs.Addresses.{Activation, ClassHasRights, ClassLies, ComponentLies, Ground, MonitorLies, ProcessLies, RightMeans, RightOf, activations, component_type, lies, scope}
+use Rattle.cp_steps.specs.Addresses.{Activation, ClassHasRights, ClassLies, ComponentLies, Ground, MonitorLies, ProcessLies, RightMeans, RightOf, activations, component_type, in_sight, lies, scope, whole}
 use Rattle.cp_steps.specs.Left.{site}
 use Rattle.cp_steps.specs.PartOf.{DataMeans}
 use Rattle.cp_steps.proofs.Heres.{Sees, lies_any, member_lies}
@@ -34,13 +32,15 @@ use Rattle.cp_steps.proofs.Apart.{InHead}
 use Rattle.cp_steps.proofs.Given.{class_has_rights}
 use Rattle.cp_steps.proofs.Invoking.{TargetIs}
 use Rattle.cp_steps.proofs.Keeping.{right_place}
-use Rattle.cp_steps.proofs.RunningOn.{runs_room, runs_stacked}
-use Rattle.cp_steps.proofs.Separate.{OwnRight, bottom_below, cell_below, part_below}
-use Rattle.cp_steps.proofs.Stepping.{Now, clock_of}
+use Rattle.cp_steps.proofs.RunningOn.{runs_stacked}
+use Rattle.cp_steps.proofs.Owned.{OwnRight}
+use Rattle.cp_steps.proofs.Separate.{cell_below, cell_inside, own_right_below, own_right_inside, part_below}
+use Rattle.cp_steps.proofs.Stepping.{Now}
+use Rattle.cp_steps.proofs.Stacks.{monitor_seen}
 
 -- The mark of a class tells whether it was initialised.
-pub mark_is : (G : Ground) (xs : List Activation) (store : Store) (words : List ℤ) → DataMeans G xs (is_own G.p) store words
-    → (l : Location) (n : ℕ) (s : System) → is_own G.p l.owner ≡ true → s.sort ≡ Class → lies G [] l ≡ Some (n, component_type G s)
+pub mark_is : (G : Ground) (xs : List Activation) (store : Store) (words : List ℤ) → DataMeans G xs (in_sight G) store words
+    → (l : Location) (n : ℕ) (s : System) → in_sight G l.owner ≡ true → s.sort ≡ Class → lies G [] l ≡ Some (n, component_type G s)
     → not (same_integer (word words n) (pos 0)) ≡ is_initialised (store l)
 mark_is G xs store words dm l n s m sort h =
     sym (ap is_initialised (subst (λ z. MarkMeans z (store l) (word words n)) sort (dm.cells l n (component_type G s) m (lies_any G xs l _ h))))
@@ -48,7 +48,7 @@ mark_is G xs store words dm l n s m sort h =
 natural_same : (k : ℕ) → natural (pos k +ℤ pos 0) ≡ k
 natural_same k = Prim.grind (arith, ints)
 
-module _ (G : Ground) (s : State) (before : List ℕ) (o : PrivateState) (i : Task) (l : List Task) (N : Now G s before o i l) (sees : Sees G (is_own G.p) s.store N.on.running.env) (I : StoreInvariant s.store) where
+module _ (G : Ground) (s : State) (w : Outside) (before : List ℕ) (o : PrivateState) (i : Task) (l : List Task) (N : Now G s w before o i l) (sees : Sees G (in_sight G) s.store N.on.running.env) (I : StoreInvariant s.store) where
   abbrev here : Environment
   here = N.on.running.env
 
@@ -65,40 +65,56 @@ module _ (G : Ground) (s : State) (before : List ℕ) (o : PrivateState) (i : Ta
       (ap (λ g. member g here.system n.name) (sym N.on.runs.globals) ∙ (h ∙ ap (λ g. Some (at, ComponentOf n.system (reported_members g n.system))) N.on.runs.globals))
       ∙ ap (λ k. Some (k + at, component_type G n.system)) (sym N.on.component)
 
-  -- The word of a right of the running component lies below what is passed.
-  pub right_below : (n : Component) (off : ℕ) → RightTo here n off → o.component + off < o.base + (site G N.on.running).words
+  abbrev right_there : ℕ → Type 0
+  right_there off =
+      OwnRight G (N.on.running.component + off)
+      ⊎ ((lies G (activations o.base o.frames (i ∷ l)) here.component ≡ Some (N.on.running.component, component_type G here.system)) × InHead (scope G) (component_type G here.system) off × (1 ≤ off))
+
+  right_is_there : (n : Component) (off : ℕ) → RightTo here n off → right_there off
+  right_is_there n off r =
+      right_place G (activations o.base o.frames (i ∷ l)) here.component here.system N.on.running.component off n.name r.variable sees.component N.on.runs.component
+      (ap (λ g. right g here.system n.name) (sym N.on.runs.globals) ∙ r.lies)
+
+  -- The word of a right of the running component lies below what is passed, or in a monitor.
+  pub right_below : (n : Component) (off : ℕ) → RightTo here n off → (o.component + off < o.base + (site G N.on.running).words) ⊎ (G.own ≤ o.component + off)
   right_below n off r =
-      by (right_place G (activations o.base o.frames (i ∷ l)) here.component here.system N.on.running.component off n.name r.variable sees.component N.on.runs.component
-      (ap (λ g. right g here.system n.name) (sym N.on.runs.globals) ∙ r.lies))
+      subst (λ z. (z + off < o.base + (site G N.on.running).words) ⊎ (G.own ≤ z + off)) (sym N.on.component) (by (right_is_there n off r))
     where
-      by : OwnRight G (N.on.running.component + off)
-          ⊎ ((lies G (activations o.base o.frames (i ∷ l)) here.component ≡ Some (N.on.running.component, component_type G here.system)) × InHead (scope G) (component_type G here.system) off × (1 ≤ off))
-          → o.component + off < o.base + (site G N.on.running).words
-      by (inl q) = omega (arith, N.on.component, q.2, bottom_below G (activations o.base o.frames (i ∷ l)) _ (runs_stacked G s.store o (i ∷ l) N.on) _ _ (runs_stacked G s.store o (i ∷ l) N.on) q.0 q.1)
+      by : right_there off → (N.on.running.component + off < o.base + (site G N.on.running).words) ⊎ (G.own ≤ N.on.running.component + off)
+      by (inl q) = own_right_below G (activations o.base o.frames (i ∷ l)) _ (runs_stacked G s.store o (i ∷ l) N.on) (N.on.running.component + off) q
+      by (inr q) =
+          cell_below G (activations o.base o.frames (i ∷ l)) _ (runs_stacked G s.store o (i ∷ l) N.on) here.component N.on.running.component (component_type G here.system) off sees.component q.1 q.0
+
+  right_inside : (n : Component) (off : ℕ) → RightTo here n off → o.component + off ≤ whole G
+  right_inside n off r = by (right_is_there n off r)
+    where
+      by : right_there off → o.component + off ≤ whole G
+      by (inl q) = omega (arith, N.on.component, own_right_inside G (activations o.base o.frames (i ∷ l)) _ (runs_stacked G s.store o (i ∷ l) N.on) (N.on.running.component + off) q)
       by (inr q) =
           omega (
             arith,
             N.on.component,
-            cell_below G (activations o.base o.frames (i ∷ l)) _ (runs_stacked G s.store o (i ∷ l) N.on) here.component N.on.running.component (component_type G here.system) off sees.component q.1 q.0,
+            cell_inside G (activations o.base o.frames (i ∷ l)) _ (runs_stacked G s.store o (i ∷ l) N.on) here.component N.on.running.component (component_type G here.system) off sees.component q.1 q.0,
           )
 
-  -- What lies outside the activations lies among the process's own words.
-  pub lies_below : (j : Location) (n : ℕ) (u : ResolvedType) → is_own G.p j.owner ≡ true → lies G [] j ≡ Some (n, u) → n ≤ G.own
+  -- What lies outside the activations lies among the words in reach.
+  pub lies_below : (j : Location) (n : ℕ) (u : ResolvedType) → in_sight G j.owner ≡ true → lies G [] j ≡ Some (n, u) → n ≤ whole G
   lies_below j n u own is =
-      let below = part_below G (activations o.base o.frames (i ∷ l)) (o.base + (site G N.on.running).words) (runs_stacked G s.store o (i ∷ l) N.on) j n u own (lies_any G (activations o.base o.frames (i ∷ l)) j _ is) in
-      omega (arith, below, runs_room G s.store o (i ∷ l) N.on, N.on.count)
+      part_below G (activations o.base o.frames (i ∷ l)) (o.base + (site G N.on.running).words) (runs_stacked G s.store o (i ∷ l) N.on) j n u own (lies_any G (activations o.base o.frames (i ∷ l)) j _ is)
 
-  component_below : o.component ≤ G.own
+  component_below : o.component ≤ whole G
   component_below = by N.on.runs.component
     where
-      by : ComponentLies G here.component here.system N.on.running.component → o.component ≤ G.own
+      by : ComponentLies G here.component here.system N.on.running.component → o.component ≤ whole G
       by (ProcessLies where' is zero') = omega (arith, zero', N.on.component)
-      by (MonitorLies m where' is from) = absurd (true≢false (sym (ap (λ (at : Location). is_own G.p at.owner) (sym where') ∙ sees.component)))
+      by (MonitorLies m where' is from) =
+          let S = monitor_seen G m (sym (ap (λ (at : Location). in_sight G at.owner) where') ∙ sees.component) in
+          omega (arith, S.0.inside m here.system is, S.1, from, N.on.component)
       by (ClassLies sort is) = omega (arith, lies_below here.component N.on.running.component _ sees.component is, N.on.component)
 
   -- A class that was initialised has its rights.
-  class_given : (j : Location) (n : ℕ) (y : System) → is_own G.p j.owner ≡ true → y.sort ≡ Class → lies G [] j ≡ Some (n, component_type G y) → is_initialised (s.store j) ≡ true
-      → ClassHasRights G (is_own G.p) s.store n
+  class_given : (j : Location) (n : ℕ) (y : System) → in_sight G j.owner ≡ true → y.sort ≡ Class → lies G [] j ≡ Some (n, component_type G y) → is_initialised (s.store j) ≡ true
+      → ClassHasRights G s.store n
   class_given j n y own sort is set =
       class_has_rights G (activations o.base o.frames (i ∷ l)) (o.base + (site G N.on.running).words) (runs_stacked G s.store o (i ∷ l) N.on) j y n own sort is s.store (N.on.data_means.given j y n own sort is set)
 
@@ -132,11 +148,11 @@ module _ (G : Ground) (s : State) (before : List ℕ) (o : PrivateState) (i : Ta
           → ClassTarget n (class_or_here (name_location here n) v) (class_called o (class_right o at))
       by (ClassRight j) is h = record {
         set_is = mark_is G (activations o.base o.frames (i ∷ l)) s.store o.words N.on.data_means j (class_right o at) n.system
-            (ap (is_own G.p) (I.classes (name_location here n) j is) ∙ sees.component) sort h;
-        there = lies_below j (class_right o at) _ (ap (is_own G.p) (I.classes (name_location here n) j is) ∙ sees.component) h;
+            (ap (in_sight G) (I.classes (name_location here n) j is) ∙ sees.component) sort h;
+        there = lies_below j (class_right o at) _ (ap (in_sight G) (I.classes (name_location here n) j is) ∙ sees.component) h;
         system = refl;
         lies_there = λ callable. ClassLies sort h;
-        given = λ callable. class_given j (class_right o at) n.system (ap (is_own G.p) (I.classes (name_location here n) j is) ∙ sees.component) sort h callable;
+        given = λ callable. class_given j (class_right o at) n.system (ap (in_sight G) (I.classes (name_location here n) j is) ∙ sees.component) sort h callable;
         gate = refl;
         no_gate = refl;
       }
@@ -147,7 +163,7 @@ module _ (G : Ground) (s : State) (before : List ℕ) (o : PrivateState) (i : Ta
           let nothing : is_initialised (s.store (name_location here n)) ≡ false = ap is_initialised is in
           record {
             set_is = unset ∙ sym nothing;
-            there = omega (arith, itself, right_below n at r, runs_room G s.store o (i ∷ l) N.on, N.on.count);
+            there = omega (arith, itself, right_inside n at r);
             system = refl;
             lies_there = λ callable. absurd (true≢false (sym callable ∙ nothing));
             given = λ callable. absurd (true≢false (sym callable ∙ nothing));
@@ -158,9 +174,9 @@ module _ (G : Ground) (s : State) (before : List ℕ) (o : PrivateState) (i : Ta
 
   -- The target of a call that enters no monitor.
   pub target_is : (of : Option Component) (x : t.Target) → TargetFor here of x → is_monitor x ≡ false
-      → TargetIs G s.store (target (context G.setup s G.p) s.store here of) (component_called G.program (alone (realtime (clock_of G s)) o) o x) (system_of_callee here of)
+      → TargetIs G s.store (target (context G.setup s G.p) s.store here of) (component_called G.program w o x) (system_of_callee here of)
   target_is None x h private =
-      subst (λ z. TargetIs G s.store (target (context G.setup s G.p) s.store here None) (component_called G.program (alone (realtime (clock_of G s)) o) o z) here.system) (sym h)
+      subst (λ z. TargetIs G s.store (target (context G.setup s G.p) s.store here None) (component_called G.program w o z) here.system) (sym h)
       record {
         set_is = refl;
         there = component_below;
@@ -173,7 +189,7 @@ module _ (G : Ground) (s : State) (before : List ℕ) (o : PrivateState) (i : Ta
   target_is (Some n) x h private = by n.system.sort n.is_parameter refl refl x h private
     where
       by : (z : Sort) (b : Bool) → n.system.sort ≡ z → n.is_parameter ≡ b → (x : t.Target) → TargetOf here n z b x → is_monitor x ≡ false
-          → TargetIs G s.store (component_target (context G.setup s G.p) here s.store z n) (component_called G.program (alone (realtime (clock_of G s)) o) o x) n.system
+          → TargetIs G s.store (component_target (context G.setup s G.p) here s.store z n) (component_called G.program w o x) n.system
       by a.Class false sort own (t.Class at) h private =
           subst (λ b. ClassTarget n (if b then class_or_here (name_location here n) (s.store (name_location here n)) else name_location here n) (class_called o (o.component + at))) (sym own)
           (class_variable n at sort h)

@@ -5,7 +5,6 @@ use Rattle.std.proofs.lemmas.Bool.{eq-eqb, eqb-true, true≢false}
 use Rattle.std.proofs.lemmas.List.{get_or-set_other, get_or-set_same}
 use Rattle.cp_model.specs.Abstract.{Class, Sort}
 use Rattle.cp_model.specs.Locations.{ByIndex, ByName, Location, OfActivation, OfMonitor, OfProcess, Owner, Path, PathStep, same_location, same_owner, same_path, same_path_step}
-use Rattle.cp_model.specs.Parts.{is_own}
 use Rattle.cp_model.specs.Stores.{Store, Value, put}
 use Rattle.cp_model.specs.Types.{ArrayOf, ComponentOf, NoType, Queue, RecordOf, ResolvedType, Simple}
 use Rattle.cp_code.specs.Layout.{Part}
@@ -13,7 +12,7 @@ use Rattle.cp_code.specs.Starts.{word}
 use Rattle.cp_typing.proofs.Names.{bytes_eq-refl, bytes_same}
 use Rattle.cp_model.specs.Integers.{same_integer}
 use Rattle.cp_steps.specs.Means.{CellMeans, MarkMeans}
-use Rattle.cp_steps.specs.Addresses.{Activation, Ground, lies, scope}
+use Rattle.cp_steps.specs.Addresses.{Activation, Ground, in_sight, lies, scope}
 use Rattle.cp_steps.proofs.Apart.{IsCell, IsClass, cell_head}
 use Rattle.cp_steps.proofs.Layouts.{same_some}
 use Rattle.cp_steps.proofs.Stacks.{Stacked}
@@ -99,9 +98,9 @@ is_cell (ComponentOf s inner) = by s.sort
     by _ = inr (λ v n. tt)
 
 pub cell_written : (G : Ground) (xs : List Activation) (top : ℕ) (store : Store) (words : List ℤ) (l : Location) (n : ℕ) (u : ResolvedType) (w : Value) (m : ℤ) → IsCell u → CellMeans u w m
-    → Stacked G top xs → ((k : Location) (i : ℕ) (t : ResolvedType) → is_own G.p k.owner ≡ true → lies G xs k ≡ Some (i, t) → CellMeans t (store k) (word words i))
-    → is_own G.p l.owner ≡ true → lies G xs l ≡ Some (n, u) → n < length words
-    → (k : Location) (i : ℕ) (t : ResolvedType) → is_own G.p k.owner ≡ true → lies G xs k ≡ Some (i, t)
+    → Stacked G top xs → ((k : Location) (i : ℕ) (t : ResolvedType) → in_sight G k.owner ≡ true → lies G xs k ≡ Some (i, t) → CellMeans t (store k) (word words i))
+    → in_sight G l.owner ≡ true → lies G xs l ≡ Some (n, u) → n < length words
+    → (k : Location) (i : ℕ) (t : ResolvedType) → in_sight G k.owner ≡ true → lies G xs k ≡ Some (i, t)
     → CellMeans t (put l w store k) (word (slice_set words n m) i)
 cell_written G xs top store words l n u w m cell means stack cells own is room k i t mine there = by (is_cell t) (nat_eq i n) refl
   where

@@ -1,5 +1,5 @@
 -- Where the variables of a process lie: the addresses of locations among its words and the shared ones behind them.
-use Rattle.std.specs.Prelude.{◌≡◌, ℕ, ◌+◌, ℤ, Bool, true, pos, ◌+ℤ◌, if◌then◌else◌, List, [], ◌∷◌, Option, Some, None, length, nat_eq}
+use Rattle.std.specs.Prelude.{◌≡◌, ◌≤◌, ℕ, ◌+◌, ℤ, Bool, true, pos, ◌+ℤ◌, if◌then◌else◌, List, [], ◌∷◌, Option, Some, None, length, nat_eq}
 use Rattle.cp_model.specs.Abstract.{Class, Monitor, Name, Process, Routine, Sort, System}
 use Rattle.cp_model.specs.Types.{ComponentOf, GlobalScope, ResolvedType}
 use Rattle.cp_model.specs.Declarations.{Variable, globals, reported_members}
@@ -7,24 +7,61 @@ use Rattle.cp_model.specs.Environments.{Frame}
 use Rattle.cp_model.specs.Locations.{ByIndex, ByName, Location, OfActivation, OfMonitor, OfProcess, Owner, Path, root, under}
 use Rattle.cp_model.specs.Stores.{Absent, ClassRight, MonitorRight, Store, Value}
 use Rattle.cp_model.specs.Continuations.{EndBody, EndCall, Task}
+use Rattle.cp_model.specs.Parts.{is_own}
 use Rattle.cp_model.specs.States.{Setup}
 use Rattle.cp_code.specs.Programs.{Program}
-use Rattle.cp_code.specs.Layout.{Part, farther, head_words, local, member, member_part, natural, part, right}
+use Rattle.cp_code.specs.Layout.{Part, component_words, farther, head_words, local, member, member_part, natural, part, right}
 use Rattle.cp_code.specs.Sites.{UnitText}
-use Rattle.cp_code.specs.StandsFor.{system_of_monitor, system_of_process}
+use Rattle.cp_code.specs.StandsFor.{Apart, system_of_monitor, system_of_process}
 use Rattle.cp_steps.specs.PrivateStates as machine
 use Rattle.cp_steps.specs.Passing.{monitor_start, monitor_word}
 
--- The program and what its units are the code of, the text, the process, and how many words are its own.
+-- ---- What is in reach
+
+-- A step has the process's own words in reach, or those of all monitors as well, which follow behind them.
+pub data Sight : Type 0 where
+  OwnWords AllWords : Sight
+
+abbrev pub sees : Sight → ℕ → Owner → Bool
+sees OwnWords p o = is_own p o
+sees AllWords p (OfProcess q) = nat_eq p q
+sees AllWords p (OfActivation q d) = nat_eq p q
+sees AllWords p (OfMonitor m) = true
+
+abbrev pub words_seen : Sight → Program → ℕ → ℕ
+words_seen OwnWords program own = own
+words_seen AllWords program own = own + program.shared
+
+-- The words of each monitor are among the shared ones, and those of any two are apart.
+pub record MonitorsLie (program : Program) (setup : Setup) : Type 0 where
+  pub inside : (m : ℕ) (s : System) → system_of_monitor setup m ≡ Some s
+      → monitor_start program m + component_words (globals setup.tree) s ≤ program.shared
+  pub apart : (m k : ℕ) (s r : System) → system_of_monitor setup m ≡ Some s → system_of_monitor setup k ≡ Some r → (m ≡ k → ⊥)
+      → Apart (monitor_start program m) (component_words (globals setup.tree) s) (monitor_start program k)
+      (component_words (globals setup.tree) r)
+
+abbrev pub WhereMonitorsLie : Sight → Program → Setup → Type 0
+WhereMonitorsLie OwnWords program setup = Unit {0}
+WhereMonitorsLie AllWords program setup = MonitorsLie program setup
+
+-- The program and what its units are the code of, the text, the process, how many words are its own, and what is in reach.
 pub record Ground : Type 0 where
   pub program : Program
   pub texts : List UnitText
   pub setup : Setup
   pub p : ℕ
   pub own : ℕ
+  pub sight : Sight
+  pub monitors_lie : WhereMonitorsLie sight program setup
 
 abbrev pub scope : Ground → GlobalScope
 scope G = globals G.setup.tree
+
+abbrev pub in_sight : Ground → Owner → Bool
+in_sight G o = sees G.sight G.p o
+
+abbrev pub whole : Ground → ℕ
+whole G = words_seen G.sight G.program G.own
 
 -- ---- Activations
 
@@ -127,15 +164,14 @@ HasRights G store at s =
     (m : ℕ) (x : Name) (v : Variable) → right (scope G) s x ≡ Some (m, v) → member (scope G) s x ≡ None
     → IsGiven v.type (store (under at (ByName x ∷ [])))
 
--- What is a class there, of an owner that passes the test, has them.
-abbrev pub ClassHasRights : Ground → (Owner → Bool) → Store → ℕ → Type 0
-ClassHasRights G mine store n =
-    (at : Location) (s : System) → mine at.owner ≡ true → s.sort ≡ Class → lies G [] at ≡ Some (n, component_type G s)
-    → HasRights G store at s
+-- What is a class there has them.
+abbrev pub ClassHasRights : Ground → Store → ℕ → Type 0
+ClassHasRights G store n =
+    (at : Location) (s : System) → s.sort ≡ Class → lies G [] at ≡ Some (n, component_type G s) → HasRights G store at s
 
-abbrev pub AllHaveRights : Ground → (Owner → Bool) → Store → List ℕ → Type 0
-AllHaveRights G mine store [] = Unit {0}
-AllHaveRights G mine store (n ∷ ns) = ClassHasRights G mine store n × AllHaveRights G mine store ns
+abbrev pub AllHaveRights : Ground → Store → List ℕ → Type 0
+AllHaveRights G store [] = Unit {0}
+AllHaveRights G store (n ∷ ns) = ClassHasRights G store n × AllHaveRights G store ns
 
 -- ---- What is seen
 

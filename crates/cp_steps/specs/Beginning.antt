@@ -4,14 +4,13 @@
 -- of the round. So what is said of a started process is said of the state that `begin_from` makes of it.
 use Rattle.std.specs.Prelude.{◌≡◌, ◌-◌, [], slice_get, Some}
 use Rattle.cp_model.specs.Configurations as stage
-use Rattle.cp_model.specs.Parts.{is_own}
 use Rattle.cp_model.specs.States.{State}
 use Rattle.cp_code.specs.Programs as code
 use Rattle.cp_code.specs.Programs.{CodeUnit}
 use Rattle.cp_steps.specs.PrivateStates.{NotBegun, PrivateState}
 use Rattle.cp_steps.specs.KernelSteps.{Kernel}
 use Rattle.cp_steps.specs.Machines.{begin_from}
-use Rattle.cp_steps.specs.Addresses.{Ground}
+use Rattle.cp_steps.specs.Addresses.{Ground, in_sight}
 use Rattle.cp_steps.specs.PartOf.{DataMeans, RunsOn}
 
 -- o stands at the start of its body.
@@ -33,5 +32,5 @@ pub record AtStart (G : Ground) (o : PrivateState) : Type 0 where
 pub record Begins (G : Ground) (s : State) (k : Kernel) (o : PrivateState) : Type 0 where
   pub activity_is : o.activity ≡ NotBegun
   pub at_start : AtStart G o
-  pub unstarted : s.status G.p ≡ stage.Unstarted → DataMeans G [] (is_own G.p) s.store o.words
+  pub unstarted : s.status G.p ≡ stage.Unstarted → DataMeans G [] (in_sight G) s.store o.words
   pub fresh : s.status G.p ≡ stage.Fresh → RunsOn G s.store (begin_from G.program k o) (s.continuation G.p)

@@ -17,7 +17,7 @@ use Rattle.cp_code.specs.Sites.{BodyOf, RoutineOf, Site, UnitText, operation_at}
 use Rattle.cp_code.specs.Starts.{word}
 use Rattle.cp_code.specs.TermsFor.{Knowns, TermFor, nothing_known}
 use Rattle.cp_code.specs.StatementsFor.{CodeFor, Counts, is_function, stands_at}
-use Rattle.cp_code.specs.StandsFor.{site_of, system_of_process}
+use Rattle.cp_code.specs.StandsFor.{site_of, system_of_monitor, system_of_process}
 use Rattle.cp_steps.specs.PrivateStates as machine
 use Rattle.cp_steps.specs.Addresses.{ComponentLies, Ground, scope}
 
@@ -124,14 +124,14 @@ abbrev pub innermost_gate : List ℕ → ℕ
 innermost_gate [] = 0
 innermost_gate (m ∷ ms) = m
 
--- Monitors are numbered from 1.
-abbrev pub IsGate : Option ℕ → Type 0
-IsGate None = Unit {0}
-IsGate (Some m) = 1 ≤ m
+-- It is a monitor of the text.
+abbrev pub IsGate : Ground → Option ℕ → Type 0
+IsGate G None = Unit {0}
+IsGate G (Some m) = (s : System) × (system_of_monitor G.setup m ≡ Some s)
 
 -- A frame keeps the gate that its end mark names, and the one that is held after it.
-abbrev pub GatesKept : machine.Frame → Option ℕ → List Task → Type 0
-GatesKept f gate k = (f.gate ≡ gate_number gate) × (f.held ≡ innermost_gate (marked_monitors k)) × IsGate gate
+abbrev pub GatesKept : Ground → machine.Frame → Option ℕ → List Task → Type 0
+GatesKept G f gate k = (f.gate ≡ gate_number gate) × (f.held ≡ innermost_gate (marked_monitors k)) × IsGate G gate
 
 -- A frame keeps the registers of the caller, whose activation and kept temps end before those of the unit that runs.
 pub record Keeps (G : Ground) (f : machine.Frame) (C R : Running) (kept : ℕ) : Type 0 where
@@ -179,12 +179,12 @@ Left G temps limit K R fs place low (ForNext x down n last s env ∷ k) =
     (env ≡ R.env) × ((next : ℕ) × (from : ℕ) × (from + 2 ≤ low)
     × ForLeft (site G R) temps R.temp x down n last s place next from × Left G temps limit nothing_known R fs next from k)
 Left G temps limit K R (f ∷ fs) place low (EndCall env gate ∷ k) =
-    (env ≡ R.env) × ReturnsAt G R place (depth k) × GatesKept f gate k
+    (env ≡ R.env) × ReturnsAt G R place (depth k) × GatesKept G f gate k
     × ((C : Running) × (at : ℕ) × (kept : ℕ) × (live : ℕ) × Runs G (length temps) limit C fs × Keeps G f C R kept
     × CallerAt G R.number kept live (result_of R.env.frame) f at
     × Left G temps limit (kept_below kept live temps C.temp) C fs at kept k)
 Left G temps limit K R (f ∷ fs) place low (EndBody gate ∷ k) =
-    (R.env.frame ≡ None) × (operation_at G.program place ≡ Some op.EndBody) × GatesKept f gate k
+    (R.env.frame ≡ None) × (operation_at G.program place ≡ Some op.EndBody) × GatesKept G f gate k
     × ((C : Running) × (kept : ℕ) × Runs G (length temps) limit C fs × Keeps G f C R kept
     × Left G temps limit nothing_known C fs f.place kept k)
 Left G temps limit K R fs place low (EndProcess ∷ k) =

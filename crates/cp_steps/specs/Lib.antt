@@ -10,4 +10,5 @@ pub mod PartOf
 pub mod KernelSteps
 pub mod Machines
 pub mod Beginning
+pub mod KernelOf
 pub mod Laws

@@ -28,25 +28,27 @@ abbrev pub first_activity : ℕ → Activity
 first_activity (suc zero) = Running
 first_activity _ = NotBegun
 
+-- The unit is the process's body.
+abbrev pub part_at_start : (ℕ → List ℕ) → ℕ → code.Process → CodeUnit → PrivateState
+part_at_start inputs p x u = record {
+  number = p;
+  activity = first_activity p;
+  place = u.start;
+  base = x.words;
+  temp = 0;
+  component = 0;
+  gate = 0;
+  words = started 0 x.starts (replicate (x.words + u.words) (pos 0));
+  temps = replicate u.temps (pos 0);
+  frames = [];
+  limit = u.frames;
+  output = [];
+  input = inputs p;
+  consumed = 0;
+}
+
 abbrev pub first_part : Program → (ℕ → List ℕ) → ℕ → code.Process → PrivateState
-first_part program inputs p x =
-    let u = unit_at program x.body in
-    record {
-      number = p;
-      activity = first_activity p;
-      place = u.start;
-      base = x.words;
-      temp = 0;
-      component = 0;
-      gate = 0;
-      words = started 0 x.starts (replicate (x.words + u.words) (pos 0));
-      temps = replicate u.temps (pos 0);
-      frames = [];
-      limit = u.frames;
-      output = [];
-      input = inputs p;
-      consumed = 0;
-    }
+first_part program inputs p x = part_at_start inputs p x (unit_at program x.body)
 
 abbrev pub first_parts : Program → (ℕ → List ℕ) → ℕ → List code.Process → List PrivateState
 first_parts program inputs p [] = []

@@ -8,7 +8,7 @@ use Rattle.cp_model.specs.Locations.{ByName, Location, Owner, under}
 use Rattle.cp_model.specs.Stores.{Absent, Ordinal, Store, Value}
 use Rattle.cp_model.specs.Continuations.{EndBody, EndCall, Task, marked_monitors}
 use Rattle.cp_model.specs.CallSteps.{is_initialised, result_location}
-use Rattle.cp_model.specs.Parts.{Failed, Finished, HasBegun, NotBegun, PrivateStatus, Running, Sleeping, is_own, private_status}
+use Rattle.cp_model.specs.Parts.{Failed, Finished, HasBegun, NotBegun, PrivateStatus, Running, Sleeping, private_status}
 use Rattle.cp_model.specs.States.{State}
 use Rattle.cp_model.specs.StateViews.{fault_number}
 use Rattle.cp_code.specs.Layout.{local, member, right}
@@ -18,7 +18,7 @@ use Rattle.cp_code.specs.Starts.{unset, word}
 use Rattle.cp_steps.specs.PrivateStates as machine
 use Rattle.cp_steps.specs.PrivateStates.{Activity, PrivateState}
 use Rattle.cp_steps.specs.Means.{CellMeans, ReferenceMeans}
-use Rattle.cp_steps.specs.Addresses.{Activation, AllHaveRights, ComponentLies, Ground, HasRights, RightMeans, activations, component_type, lies, scope}
+use Rattle.cp_steps.specs.Addresses.{Activation, AllHaveRights, ComponentLies, Ground, HasRights, RightMeans, activations, component_type, in_sight, lies, scope, whole}
 use Rattle.cp_steps.specs.Left as left
 use Rattle.cp_steps.specs.Left.{Left, Runs, held_below, innermost_gate}
 
@@ -88,10 +88,10 @@ pub record RunsOn (G : Ground) (store : Store) (o : PrivateState) (k : List Task
   pub live : ℕ
   pub left : Left G o.temps o.limit (held_below live o.temps running.temp) running o.frames o.place running.unit.temps k
   pub next_value : CallsBehind G live o.place
-  pub count : length o.words ≡ G.own
+  pub count : length o.words ≡ whole G
   pub activations_mean : ActivationsMean G store o.words o.base o.frames k
-  pub data_means : DataMeans G (activations o.base o.frames k) (is_own G.p) store o.words
-  pub given : AllHaveRights G (is_own G.p) store (components o)
+  pub data_means : DataMeans G (activations o.base o.frames k) (in_sight G) store o.words
+  pub given : AllHaveRights G store (components o)
 
 -- It runs, or will run again.
 abbrev pub GoesOn : Activity → Type 0
@@ -106,14 +106,15 @@ status_of machine.Waiting = Sleeping
 status_of machine.Ended = Finished
 status_of (machine.Faulted f) = Failed (fault_number f)
 
--- o is the private state of the process in the state s, where `before` of its transcript was moved to the kernel.
+-- o is the private state of the process in the state s, where `before` of its transcript was moved to the kernel. Its words are those in
+-- reach.
 pub record PartOf (G : Ground) (s : State) (before : List ℕ) (o : PrivateState) : Type 0 where
   pub number : o.number ≡ G.p
   pub input : o.input ≡ G.setup.inputs G.p
   pub consumed : o.consumed ≡ s.consumed G.p
   pub transcript : s.transcript G.p ≡ before ++ o.output
   pub status : private_status (s.status G.p) ≡ status_of o.activity
-  pub count : length o.words ≡ G.own
+  pub count : length o.words ≡ whole G
   pub data_means : HasBegun (private_status (s.status G.p))
-      → DataMeans G (activations o.base o.frames (s.continuation G.p)) (is_own G.p) s.store o.words
+      → DataMeans G (activations o.base o.frames (s.continuation G.p)) (in_sight G) s.store o.words
   pub runs_on : GoesOn o.activity → RunsOn G s.store o (s.continuation G.p)

@@ -1,6 +1,6 @@
-//! The laws of private steps and turns. Their statements stand in `specs/Laws.antt`.
+//! The laws of private steps and turns, and of the start. Their statements stand in `specs/Laws.antt`.
 
-ghost use Rattle.cp_steps.specs.Laws.{PrivateStepIsStep, PrivateTurnIsTurn};
+ghost use Rattle.cp_steps.specs.Laws.{PrivateStepIsStep, PrivateTurnIsTurn, StartIsPart};
 
 /// Where a private state is that of its process in a state with the invariant, the machine's private step makes it that of the
 /// process in the state after the meaning's, and so does a turn of so many steps. A function without a body: a caller has the
@@ -8,4 +8,10 @@ ghost use Rattle.cp_steps.specs.Laws.{PrivateStepIsStep, PrivateTurnIsTurn};
 pub fn private_steps()
     ensures step { PrivateStepIsStep }
     ensures turn { PrivateTurnIsTurn }
+{}
+
+/// The first private state of each process is that of the process in the start of the meaning. Each but the first process, which runs
+/// from the start on, is as one that has not begun.
+pub fn start()
+    ensures parts { StartIsPart }
 {}

@@ -5,9 +5,11 @@
 //!
 //! - **The steps.** `Values`, `PrivateStates`, `Passing` and `Calling` say what terms, arguments and calls do to the words of a process,
 //!   `Steps` is one step of any operation, `KernelSteps` adds gates and stages, `Machines` whole rounds.
-//! - **The relation.** `PartOf`: a private state is that of its process in a state of the system. `Addresses` say where variables lie,
-//!   `Means` what words mean, `Left` when a place and frames are what is left to do. `Beginning` tells of a process that hasn't begun.
-//! - **The laws.** `Laws`, which `law::private_steps` states: private steps and turns are the meaning's.
+//! - **The relation.** `PartOf`: a private state is that of its process in a state of the system. `Addresses` say where variables lie and
+//!   which words are in reach, `Means` what words mean, `Left` when a place and frames are what is left to do. `Beginning` tells of a
+//!   process that hasn't begun, `KernelOf` of the kernel.
+//! - **The laws.** `Laws`, which the functions of `law` state: the first private states are those of the start, and private steps and turns
+//!   are the meaning's.
 #![tactic(auto)]
 
 pub mod law;

@@ -19,7 +19,7 @@ use Rattle.cp_steps.specs.PrivateStates.{Activity, Ended, Faulted, NotBegun, Pri
 use Rattle.cp_steps.specs.KernelSteps.{Asking, Begun, Delayed, Fresh, Stage, Unstarted, gate_of, stage_of}
 use Rattle.cp_steps.specs.Machines.{Machine}
 use Rattle.cp_steps.specs.Means.{queued}
-use Rattle.cp_steps.specs.Addresses.{Ground, lies}
+use Rattle.cp_steps.specs.Addresses.{Ground, OwnWords, lies}
 
 abbrev pub part_of : {A : Type 0} → Machine → ℕ → (PrivateState → A) → A → A
 part_of m p read other = elim (slice_get m.parts (p - 1)) [ None ↦ other | Some o ↦ read o ]
@@ -28,7 +28,15 @@ part_of m p read other = elim (slice_get m.parts (p - 1)) [ None ↦ other | Som
 
 -- The monitors' words are counted from the first shared one.
 abbrev pub ground : Setup → Machine → ℕ → Ground
-ground setup m p = record { program = m.program; texts = []; setup = setup; p = p; own = 0 }
+ground setup m p = record {
+  program = m.program;
+  texts = [];
+  setup = setup;
+  p = p;
+  own = 0;
+  sight = OwnWords;
+  monitors_lie = tt;
+}
 
 abbrev pub value_in : ResolvedType → ℤ → Value
 value_in (Simple b low high start) n = Ordinal n

@@ -22,7 +22,7 @@ first_none : (b : Bool) (v : Variable) (o : Option Variable) → (if b then Some
 first_none true v o h = absurd (cc)
 first_none false v o h = (refl, h)
 
-no_member : (x : Name) (vs : List (Name × Variable)) → lookup x vs ≡ None → has_member x (members_from vs NoMembers) ≡ false
+pub no_member : (x : Name) (vs : List (Name × Variable)) → lookup x vs ≡ None → has_member x (members_from vs NoMembers) ≡ false
 no_member x [] h = refl
 no_member x (v ∷ vs) h =
     let k : (bytes_eq x v.0 ≡ false) × (lookup x vs ≡ None) = first_none (bytes_eq x v.0) v.1 (lookup x vs) h in

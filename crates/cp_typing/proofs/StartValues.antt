@@ -24,13 +24,13 @@ use Rattle.cp_typing.proofs.Leaves.{Functional, in_either, in_first, in_flat, in
 use Rattle.cp_typing.proofs.MemberLeaves.{all_good, initial_functional, system_good}
 use Rattle.cp_typing.proofs.StartWrites.{OneValue, found_in, numbers_apart, written}
 
-each_in : (P : Name × Variable → Type 0) (ds : List (Name × Variable)) (d : Name × Variable) → Each P ds → IsIn d ds → P d
+pub each_in : (P : Name × Variable → Type 0) (ds : List (Name × Variable)) (d : Name × Variable) → Each P ds → IsIn d ds → P d
 each_in P [] d h g = absurd g
 each_in P (e ∷ ds) d h (inl g) = subst P (sym g) h.0
 each_in P (e ∷ ds) d h (inr g) = each_in P ds d h.1 g
 
 -- the number in an owner
-abbrev process_in : Owner → ℕ
+abbrev pub process_in : Owner → ℕ
 process_in (OfProcess n) = n
 process_in _ = 0
 
@@ -38,10 +38,10 @@ abbrev monitor_in : Owner → ℕ
 monitor_in (OfMonitor n) = n
 monitor_in _ = 0
 
-name_same : (x y : Name) (p q : Path) → ByName x ∷ p ≡ ByName y ∷ q → (x ≡ y) × (p ≡ q)
+pub name_same : (x y : Name) (p q : Path) → ByName x ∷ p ≡ ByName y ∷ q → (x ≡ y) × (p ≡ q)
 name_same x y p q h = let k = step_same (ByName x) (ByName y) p q h in (cc k.0, k.1)
 
-abbrev members_in : ResolvedType → Members
+abbrev pub members_in : ResolvedType → Members
 members_in (ComponentOf y ps) = ps
 members_in _ = NoMembers
 
@@ -55,17 +55,17 @@ module _ (setup : Setup) (typed : WellTyped setup) where
   abbrev ds : List (Name × Variable)
   ds = initial_variables setup
 
-  abbrev own_writes : Writes
+  abbrev pub own_writes : Writes
   own_writes = starting_writes (process_location 1) ds
 
-  abbrev other_writes : Writes
+  abbrev pub other_writes : Writes
   other_writes = flat_map (λ v. variable_writes env v.0 v.1.type) ds
 
-  distinct : Distinct ds
+  pub distinct : Distinct ds
   distinct = subst (λ ps. Distinct (declarations g ps ++ ds)) typed.initial_parameters typed.initial_bodies.distinct
 
   -- a name has one declaration
-  same_variable : (x y : Name) (v w : Variable) → IsIn (x, v) ds → IsIn (y, w) ds → x ≡ y → v ≡ w
+  pub same_variable : (x y : Name) (v w : Variable) → IsIn (x, v) ds → IsIn (y, w) ds → x ≡ y → v ≡ w
   same_variable x y v w h k is =
       some_same (lookup x ds) v w (found_in ds x v distinct h) (ap (λ z. lookup z ds) is ∙ found_in ds y w distinct k)
 
@@ -81,7 +81,7 @@ module _ (setup : Setup) (typed : WellTyped setup) where
 
   -- ---- what was written where
 
-  record OwnWrite (l : Location) (v : Value) : Type 0 where
+  pub record OwnWrite (l : Location) (v : Value) : Type 0 where
     pub name : Name
     pub variable : Variable
     pub there : IsIn (name, variable) ds
@@ -89,7 +89,7 @@ module _ (setup : Setup) (typed : WellTyped setup) where
     pub leaf : IsIn (path, v) (leaves variable.type)
     pub lies : l ≡ under (process_location 1) (ByName name ∷ path)
 
-  own_write : (l : Location) (v : Value) → IsIn (l, v) own_writes → OwnWrite l v
+  pub own_write : (l : Location) (v : Value) → IsIn (l, v) own_writes → OwnWrite l v
   own_write l v h =
       let k = of_flat (λ d. map (λ leaf. (under (process_location 1) (ByName d.0 ∷ leaf.0), leaf.1)) (leaves d.1.type)) (l, v) ds h in
       let m = of_mapped (λ leaf. (under (process_location 1) (ByName k.0.0 ∷ leaf.0), leaf.1)) (l, v) (leaves k.0.1.type) k.2 in
@@ -102,12 +102,12 @@ module _ (setup : Setup) (typed : WellTyped setup) where
         lies = ap (λ z. z.0) m.2;
       }
 
-  abbrev IsOwnedBy : Sort → Name → Owner → Type 0
+  abbrev pub IsOwnedBy : Sort → Name → Owner → Type 0
   IsOwnedBy Process x o = o ≡ OfProcess (2 + count_before Process x ds)
   IsOwnedBy Monitor x o = o ≡ OfMonitor (1 + count_before Monitor x ds)
   IsOwnedBy Class x o = ⊥
 
-  record OtherWrite (x : Name) (t : ResolvedType) (l : Location) (v : Value) : Type 0 where
+  pub record OtherWrite (x : Name) (t : ResolvedType) (l : Location) (v : Value) : Type 0 where
     pub system : System
     pub inner : Members
     pub type : t ≡ ComponentOf system inner
@@ -144,11 +144,11 @@ module _ (setup : Setup) (typed : WellTyped setup) where
   other_write x Queue l v h = absurd h
   other_write x NoType l v h = absurd h
 
-  other_from : (l : Location) (v : Value) → IsIn (l, v) other_writes → (x : Name) × (w : Variable) × IsIn (x, w) ds × OtherWrite x w.type l v
+  pub other_from : (l : Location) (v : Value) → IsIn (l, v) other_writes → (x : Name) × (w : Variable) × IsIn (x, w) ds × OtherWrite x w.type l v
   other_from l v h = let k = of_flat (λ d. variable_writes env d.0 d.1.type) (l, v) ds h in (k.0.0, k.0.1, k.1, other_write k.0.0 k.0.1.type l v k.2)
 
   -- no process or monitor has the number of the initial process
-  not_first : (z : Sort) (x : Name) (o : Owner) → IsOwnedBy z x o → o ≡ OfProcess 1 → ⊥
+  pub not_first : (z : Sort) (x : Name) (o : Owner) → IsOwnedBy z x o → o ≡ OfProcess 1 → ⊥
   not_first Process x o h is = omega (arith, ap process_in (sym h ∙ is))
   not_first Monitor x o h is = cc
   not_first Class x o h is = h

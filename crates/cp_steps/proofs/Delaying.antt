@@ -1,0 +1,126 @@
+-- `delay` inside a monitor: the process stands in the queue, whose word holds its number.
+use Rattle.std.proofs.Common.{◌≡◌, ℕ, zero, suc, ◌+◌, ◌≤◌, ◌<◌, ℤ, pos, negsuc, List, [], ◌∷◌, length, true, Option, Some, None, Result, Ok, Err, refl, ap, sym, subst, ◌∙◌, arith}
+use Rattle.std.specs.Prelude.{if◌then◌else◌, int_le, nat_lt}
+use Rattle.std.proofs.lemmas.Bool.{lt-leb, lt-ltb, true≢false}
+use Rattle.cp_model.specs.Abstract as a
+use Rattle.cp_model.specs.Abstract.{Name, System}
+use Rattle.cp_model.specs.Configurations as stage
+use Rattle.cp_model.specs.Configurations.{StepResult, with_writes}
+use Rattle.cp_model.specs.Continuations.{Do, Task, marked_monitors}
+use Rattle.cp_model.specs.Environments.{Environment}
+use Rattle.cp_model.specs.Locations.{Location}
+use Rattle.cp_model.specs.Outcomes.{Fault, Gives, Outcome, and_then}
+use Rattle.cp_model.specs.Parts.{private_status}
+use Rattle.cp_model.specs.Places.{Place}
+use Rattle.cp_model.specs.StandardCalls.{delay, enqueue, process_in_queue}
+use Rattle.cp_model.specs.States.{State, configuration, context}
+use Rattle.cp_model.specs.Stores.{QueueHolds, put}
+use Rattle.cp_model.specs.Turns.{after_step}
+use Rattle.cp_model.specs.Types.{Queue}
+use Rattle.cp_model.specs.declared.state.Fault as machine
+use Rattle.cp_model.specs.declared.state.Fault.TheVariants as fault
+use Rattle.cp_model.proofs.StateMaps.{with_at_here}
+use Rattle.cp_code.specs.Terms.{Spot}
+use Rattle.cp_code.specs.Programs as op
+use Rattle.cp_code.specs.StandsFor.{system_of_process}
+use Rattle.cp_code.specs.Starts.{word}
+use Rattle.cp_steps.specs.PrivateStates as private
+use Rattle.cp_steps.specs.PrivateStates.{Outside, PrivateState, go_to, private_outcome, provided, set_word, with_result}
+use Rattle.cp_steps.specs.Steps as steps
+use Rattle.cp_steps.specs.Means.{PlaceAgrees, queued}
+use Rattle.cp_steps.specs.Addresses.{Activation, Ground, activations, in_sight, lies, seen, whole}
+use Rattle.cp_steps.specs.PartOf.{PartOf, RunsOn}
+use Rattle.cp_steps.proofs.Doing.{Ready, place_here, statement_steps}
+use Rattle.cp_steps.proofs.Heres.{seen_mine}
+use Rattle.cp_steps.proofs.RunningOn.{runs_moved, runs_stacked, runs_stored}
+use Rattle.cp_steps.proofs.Separate.{cell_inside}
+use Rattle.cp_steps.proofs.Stacks.{Stack}
+use Rattle.cp_steps.proofs.Standards.{By, argument_none, arrived, delays, not_called, one, used_none}
+use Rattle.cp_steps.proofs.Stepping.{Now, Stepped, faulted, gate_passed}
+
+-- A process that runs has a system type, so it is not 0.
+numbered : (G : Ground) (top : ℕ) (xs : List Activation) → Stack G top xs → (n : ℕ) → G.p ≡ n → 1 ≤ n
+numbered G top [] (s, is, fits) zero e = absurd (none (sym (ap (system_of_process G.setup) e) ∙ is))
+  where
+    none : ◌≡◌ {A = Option System} None (Some s) → ⊥
+    none h = subst is_none h tt
+      where
+        is_none : Option System → Type 0
+        is_none None = Unit {0}
+        is_none (Some y) = ⊥
+numbered G top [] h (suc n) e = omega arith
+numbered G top (x ∷ xs) h n e = numbered G x.base xs h.1 n e
+
+queued_number : (p : ℕ) → 1 ≤ p → queued (pos p) ≡ Some p
+queued_number zero h = absurd (omega (arith, h))
+queued_number (suc p) h = refl
+
+module _ (G : Ground) (s : State) (w : Outside) (before : List ℕ) (o : PrivateState) (x : Name) (env : Environment) (k : List Task) (m : ℕ) (ms : List ℕ) (held : steps.is_held o.gate ≡ true)
+    (marks : marked_monitors k ≡ m ∷ ms) (d : a.Designator) (Y : Ready G s w before o (a.Perform (a.Plain x) (one (a.Use d))) env k) (queue : Spot) (n : ℕ)
+    (h : By G s w before o x env k (one (a.Use d)) Y (op.Delay queue n)) where
+  abbrev first : Task
+  first = Do (a.Perform (a.Plain x) (one (a.Use d))) env
+
+  abbrev xs : List Activation
+  xs = activations o.base o.frames (first ∷ k)
+
+  abbrev stands : ℕ → PrivateState
+  stands at = go_to n (set_word o at (pos o.number))
+
+  -- It stands in the queue.
+  stood : (q : Location) (at : ℕ) → in_sight G q.owner ≡ true → lies G xs q ≡ Some (at, Queue)
+      → PartOf G (after_step s G.p (Gives (with_writes (configuration s G.p) ((q, QueueHolds (Some G.p)) ∷ []) k, stage.Delays m q))) before (stands at)
+  stood q at mine is =
+      gate_passed G before (stands at) m (s.gates m).askers _
+      (arrived G before _ (stands at) N.part.number N.part.input (N.part.consumed ∙ sym (with_at_here G.p (s.consumed G.p) s.consumed))
+      (with_at_here G.p (s.transcript G.p) s.transcript ∙ N.part.transcript)
+      (ap private_status (with_at_here G.p (stage.Delayed m q) s.status) ∙ (ap private_status (sym N.ready) ∙ N.part.status))
+      (subst (RunsOn G (put q (QueueHolds (Some G.p)) s.store) (stands at)) (sym (with_at_here G.p k s.continuation))
+      (subst (λ z. RunsOn G (put q (QueueHolds (Some G.p)) s.store) (go_to z (set_word o at (pos o.number))) k) (sym h.1.1)
+      (runs_moved G (put q (QueueHolds (Some G.p)) s.store) (set_word o at (pos o.number)) (first ∷ k) k N.on.left.2.0 N.on.left.2.1
+      (runs_stored G s.store o (first ∷ k) N.on q at Queue (QueueHolds (Some G.p)) (pos o.number) tt (ap QueueHolds (sym holds)) mine is (λ y sort e set. absurd (true≢false (sym set))))
+      refl refl refl N.on.left.2.4 N.on.left.2.2))))
+    where
+      N : Now G s w before o first k
+      N = Y.now
+
+      holds : queued (pos o.number) ≡ Some G.p
+      holds = ap (λ z. queued (pos z)) N.part.number ∙ queued_number G.p (numbered G _ xs (runs_stacked G s.store o (first ∷ k) N.on).stack G.p refl)
+
+  tested : (q : Location) (at : ℕ) → in_sight G q.owner ≡ true → lies G xs q ≡ Some (at, Queue) → (z : ℤ)
+      → PartOf G (after_step s G.p (enqueue G.p (configuration s G.p) k q m (queued z))) before
+      (provided (int_le z (pos 0)) o fault.QueueTaken (stands at, private.Delays o.gate at)).0
+  tested q at mine is (pos zero) = stood q at mine is
+  tested q at mine is (pos (suc r)) =
+      subst (λ b. PartOf G (after_step s G.p (Fault 5)) before (provided b o fault.QueueTaken (stands at, private.Delays o.gate at)).0) (sym (lt-leb (suc r) 0 (omega arith)))
+      (faulted G s w before o first k Y.now 5 fault.QueueTaken refl)
+  tested q at mine is (negsuc r) = stood q at mine is
+
+  by_place : (P : Outcome Place) (r : Result ℕ machine.Fault) → PlaceAgrees (seen (in_sight G) G xs) Queue P r
+      → PartOf G (after_step s G.p (and_then P (λ at. delay G.p (configuration s G.p) k at.at (marked_monitors k)))) before (with_result o r (λ at. steps.delay o at n)).0
+  by_place (Gives q) (Ok at) g =
+      let f = seen_mine (in_sight G) G xs q.at (at, Queue) g.0 in
+      let inside : at + 0 < whole G = cell_inside G xs _ (runs_stacked G s.store o (first ∷ k) Y.now.on) q.at at Queue 0 f.0 refl f.1 in
+      let there : nat_lt at (length o.words) ≡ true = lt-ltb at (length o.words) (omega (arith, inside, Y.now.on.count)) in
+      subst (λ z. PartOf G (after_step s G.p (delay G.p (configuration s G.p) k q.at z)) before (steps.delay o at n).0) (sym marks)
+      (subst (λ b. PartOf G (after_step s G.p (enqueue G.p (configuration s G.p) k q.at m (process_in_queue (s.store q.at)))) before
+      (if b then (if nat_lt at (length o.words) then tests at else private_outcome o) else private_outcome o).0) (sym held)
+      (subst (λ b. PartOf G (after_step s G.p (enqueue G.p (configuration s G.p) k q.at m (process_in_queue (s.store q.at)))) before (if b then tests at else private_outcome o).0) (sym there)
+      (subst (λ v. PartOf G (after_step s G.p (enqueue G.p (configuration s G.p) k q.at m (process_in_queue v))) before (tests at).0) (sym (Y.now.on.data_means.cells q.at at Queue f.0 f.1))
+      (tested q.at at f.0 f.1 (word o.words at)))))
+    where
+      tests : ℕ → private.Acting
+      tests at = provided (int_le (word o.words at) (pos 0)) o fault.QueueTaken (stands at, private.Delays o.gate at)
+  by_place (Fault i) (Err f) g = faulted G s w before o first k Y.now i f g
+  by_place (Gives v) (Err f) g = absurd g
+  by_place (Fault i) (Ok at) g = absurd g
+
+  pub delay_in_monitor : Stepped G s w before o
+  delay_in_monitor =
+      let N = Y.now in
+      statement_steps G s w before o (a.Perform (a.Plain x) (one (a.Use d))) env k Y (op.Delay queue n) (not_called N.on.running.env (a.Plain x) (one (a.Use d)) h.1.0.0) refl h.0 refl
+      (subst (λ z. PartOf G (after_step s G.p z) before (steps.with_place w o queue (λ at. steps.delay o at n)).0)
+      (sym (delays (context G.setup s G.p) (configuration s G.p) N.on.running.env k x (a.Use d) h.1.0.1 h.1.0.2 h.1.0.3))
+      (by_place _ _
+      (place_here G s w before o first k N N.sees d queue Queue o.place N.on.left.2.3.0 N.on.left.2.1 N.on.running.unit.temps h.1.3
+      (used_none G s w before o x env k N.on.running.env d (argument_none G s w before o x env k N.on.running.env (a.Use d) Y.none)))))

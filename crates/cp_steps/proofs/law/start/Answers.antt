@@ -1,0 +1,5 @@
+use Rattle.cp_steps.proofs.Starting.{start_is_part}
+use Rattle.cp_steps.proofs.law.start.Goals as goal
+
+pub returns : goal.returns
+returns c = record { parts = start_is_part }

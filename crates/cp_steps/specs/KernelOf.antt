@@ -1,0 +1,50 @@
+-- When a kernel, as plain data, is the kernel's part of a state of the system.
+use Rattle.std.specs.Prelude.{◌≡◌, ◌≤◌, ℕ, Bool, false, true, List, [], Some, length}
+use Rattle.cp_model.specs.Configurations as status
+use Rattle.cp_model.specs.Configurations.{Status}
+use Rattle.cp_model.specs.Locations.{OfMonitor, Owner}
+use Rattle.cp_model.specs.States.{Setup, State, monitor_count, process_count}
+use Rattle.cp_model.specs.Types.{Queue}
+use Rattle.cp_code.specs.Programs.{Program}
+use Rattle.cp_code.specs.Sites.{UnitText}
+use Rattle.cp_steps.specs.Addresses.{Ground, OwnWords, lies}
+use Rattle.cp_steps.specs.KernelSteps.{Asking, Begun, Delayed, Fresh, Kernel, Stage, Unstarted, gate_of, stage_of}
+use Rattle.cp_steps.specs.PartOf.{DataMeans}
+
+-- Where monitors lie among the shared words alone.
+abbrev pub kernel_ground : Program → List UnitText → Setup → Ground
+kernel_ground program texts setup = record {
+  program = program;
+  texts = texts;
+  setup = setup;
+  p = 0;
+  own = 0;
+  sight = OwnWords;
+  monitors_lie = tt;
+}
+
+abbrev pub is_shared : Owner → Bool
+is_shared (OfMonitor m) = true
+is_shared _ = false
+
+-- What the kernel knows of the status of a process. A queue is told by its word.
+abbrev pub StageMeans : Ground → Status → Stage → Type 0
+StageMeans G status.Unstarted Unstarted = Unit {0}
+StageMeans G status.Fresh Fresh = Unit {0}
+StageMeans G (status.Asking m) (Asking k) = m ≡ k
+StageMeans G (status.Delayed m q) (Delayed k n) = (m ≡ k) × (lies G [] q ≡ Some (n, Queue))
+StageMeans G status.Ready Begun = Unit {0}
+StageMeans G status.Ended Begun = Unit {0}
+StageMeans G status.Waiting Begun = Unit {0}
+StageMeans G (status.Faulted n) Begun = Unit {0}
+StageMeans G _ _ = ⊥
+
+-- The gates and stages are those of the state, and the shared words mean what the store holds of the monitors.
+pub record KernelOf (program : Program) (texts : List UnitText) (setup : Setup) (s : State) (k : Kernel) : Type 0 where
+  pub word_count : length k.shared ≡ program.shared
+  pub gate_count : length k.gates ≡ monitor_count setup
+  pub gates : (m : ℕ) → gate_of k.gates m ≡ s.gates m
+  pub stage_count : length k.stages ≡ process_count setup
+  pub stages : (p : ℕ) → 1 ≤ p → p ≤ process_count setup
+      → StageMeans (kernel_ground program texts setup) (s.status p) (stage_of k.stages p)
+  pub data_means : DataMeans (kernel_ground program texts setup) [] is_shared s.store k.shared
