@@ -210,8 +210,8 @@ impl<'s, 't> Translator<'s, 't> {
         low: u32,
         calls: &mut Vec<CodedCall>,
     ) -> Result<MadeTerm, CompileError>
-        ensures { IfOk result (λ made. (s : code.Scope) (c : model.Callee) → IsScope self.now.scope s
-            → IsCallee self.now.scope s callee.now c
+        ensures { IfOk result (λ made. (s : code.Scope) (c : model.Callee)
+            → IsScope self.now.scope s → IsCallee self.now.scope s callee.now c
             → IsTerm (map coded_call calls.old.items) calls.new.items made (function_call s c
             (coded_arguments s
             (erase.expressions (tree.expressions_of (map tree.expression es.now)))
@@ -231,8 +231,8 @@ impl<'s, 't> Translator<'s, 't> {
         low: u32,
         calls: &mut Vec<CodedCall>,
     ) -> Result<MadeTerm, CompileError>
-        ensures { IfOk result (λ made. (s : code.Scope) (d : a.Designator) → IsScope self.now.scope s
-            → callee (environment s) d ≡ None → name.now ≡ name_of d
+        ensures { IfOk result (λ made. (s : code.Scope) (d : a.Designator)
+            → IsScope self.now.scope s → callee (environment s) d ≡ None → name.now ≡ name_of d
             → IsTerm (map coded_call calls.old.items) calls.new.items made (coded_term s
             (erase.called d
             (erase.expressions (tree.expressions_of (map tree.expression es.now)))) low)) }
@@ -293,7 +293,8 @@ impl<'s, 't> Translator<'s, 't> {
             → parameter.now.by_reference ≡ v.by_reference
             → Stands self.now.scope.tables.now.types parameter.now.of v.type
             → IsArgument (map coded_call calls.old.items) calls.new.items made
-            (argument_of s.globals v at (coded_term s (erase.expression (tree.expression e.now)) low)
+            (argument_of s.globals v at
+            (coded_term s (erase.expression (tree.expression e.now)) low)
             (coded_variable s (erase.expression (tree.expression e.now)) low))) }
     {
         if parameter.by_reference {

@@ -53,8 +53,8 @@ impl<'s, 't> Translator<'s, 't> {
         emitter.emit(calls, test)
     }
 
-    /// A `case` with these arms.
-    pub fn case(
+    /// The operation of a `case` with these arms.
+    pub fn choose(
         &self,
         e: &Expression,
         arms: Vec<Arm>,

@@ -48,15 +48,12 @@ impl<'s, 't> Translator<'s, 't> {
                 let yes = self.statement(then, low, next, emitter)?;
                 self.test(condition, low, yes, no, emitter)
             }
-            Statement::Case { selector, arms } => {
-                let arms = self.arms(arms, low, next, emitter)?;
-                self.case(selector, arms, low, emitter)
-            }
+            Statement::Case { selector, arms } => self.case(arms, selector, low, next, emitter),
             Statement::While { condition, body } => {
                 self.while_loop(body, condition, low, next, emitter)
             }
             Statement::Repeat { body, condition } => {
-                self.repeat_loop(body, condition, low, next, emitter)
+                self.repeat(body, condition, low, next, emitter)
             }
             Statement::For {
                 variable,
@@ -87,6 +84,23 @@ impl<'s, 't> Translator<'s, 't> {
             entry = self.statement(&list[i], low, entry, emitter)?;
         }
         Ok(entry)
+    }
+
+    #[cycle(statements)]
+    fn case(
+        &self,
+        list: &[Arm],
+        selector: &Expression,
+        low: u32,
+        next: u32,
+        emitter: &mut Emitter,
+    ) -> Result<u32, CompileError>
+        ensures { IfOk result (StatementOf self.now.scope emitter.old emitter.new
+            (a.Case (erase.expression (tree.expression selector.now))
+            (erase.arms (tree.arms_of (map tree.arm list.now)))) low next) }
+    {
+        let arms = self.arms(list, low, next, emitter)?;
+        self.choose(selector, arms, low, emitter)
     }
 
     // The statements of a `case`, and where each of their labels leads.
@@ -132,7 +146,7 @@ impl<'s, 't> Translator<'s, 't> {
     }
 
     #[cycle(statements)]
-    fn repeat_loop(
+    fn repeat(
         &self,
         list: &[Statement],
         condition: &Expression,

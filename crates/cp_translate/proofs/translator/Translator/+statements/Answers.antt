@@ -103,8 +103,8 @@ while_loop-returns t c = λ s scope.
       emits = subst (λ n. Emits old c.close_loop.new.self (op.Test e.term n c.args.next ∷ (calls.operations ++ body.operations))) made.body_is made.emits;
     }
 
-pub repeat_loop-returns : goal.repeat_loop-returns
-repeat_loop-returns t c = λ s scope.
+pub repeat-returns : goal.repeat-returns
+repeat-returns t c = λ s scope.
     let old = c.args.emitter.now in
     let e = coded_term s (erase.expression (tree.expression c.args.condition.now)) c.args.low in
     let x = erase.statements (tree.statements_of (map tree.statement c.args.list.now)) in
@@ -174,22 +174,32 @@ statement-returns-in-Cycle t c =
     ((rw c.deref-in-Cycle.ensures.value at h) c.args.next s scope))
     c.cycle.ensures
 
-pub statement-returns-in_ok-arms-in-Case : goal.statement-returns-in_ok-arms-in-Case
-statement-returns-in_ok-arms-in-Case t c =
+pub case-returns : goal.case-returns
+case-returns t c =
+    let old = c.args.emitter.now in
+    let all = erase.arms (tree.arms_of (map tree.arm c.args.list.now)) in
+    let e = erase.expression (tree.expression c.args.selector.now) in
+    if_ok c.choose.result
+    (λ place h s scope.
+    let made = c.in_ok-arms.ensures s scope in
+    let whole = emitted_arms s all c.args.low (place_of old) c.args.next in
+    let d = coded_term s e c.args.low in
+    then_entered old c.arms.new.emitter c.choose.new.emitter whole.operations place (λ at. with_calls d.calls (op.Case d.term (table_of whole.arms)) at)
+    made.emits
+    (subst (λ xs. Enters c.arms.new.emitter c.choose.new.emitter place (with_calls d.calls (op.Case d.term (table_of xs)) (place_of c.arms.new.emitter)))
+    made.labels (h s scope)))
+    c.choose.ensures
+
+pub statement-returns-in-Case : goal.statement-returns-in-Case
+statement-returns-in-Case t c =
     let old = c.args.emitter.now in
     let all = tree.arms_of (map tree.arm c.in-Case.arms.items) in
     let e = tree.expression c.in-Case.selector in
     let v : tree.statement c.args.s.now ≡ syntax.Case e all = rw c.in-Case.is (view_case c.in-Case.selector c.in-Case.arms) in
     if_ok c.case.result
     (λ place h s scope.
-    let made = (rw c.deref-in-Case.ensures.value at c.in_ok-arms-in-Case.ensures) s scope in
-    let whole = emitted_arms s (erase.arms all) c.args.low (place_of old) c.args.next in
-    let d = coded_term s (erase.expression e) c.args.low in
     subst (λ x. Enters old c.case.new.emitter place (emitted s (erase.statement x) c.args.low (place_of old) c.args.next)) (sym v)
-    (then_entered old c.arms.new.emitter c.case.new.emitter whole.operations place (λ at. with_calls d.calls (op.Case d.term (table_of whole.arms)) at)
-    made.emits
-    (subst (λ xs. Enters c.arms.new.emitter c.case.new.emitter place (with_calls d.calls (op.Case d.term (table_of xs)) (place_of c.arms.new.emitter)))
-    made.labels (h s scope))))
+    ((rw c.deref-in-Case.ensures.value at h) s scope))
     c.case.ensures
 
 pub statement-returns-in_ok-yes-in-IfElse : goal.statement-returns-in_ok-yes-in-IfElse

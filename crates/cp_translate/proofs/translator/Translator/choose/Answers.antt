@@ -9,7 +9,7 @@ use Rattle.cp_translate.proofs.Answered.{both_ok}
 use Rattle.cp_translate.proofs.Emitting.{entered}
 use Rattle.cp_code.specs.CodedStatements.{table_of}
 use Rattle.cp_threaded.specs.Labels.{arm}
-use Rattle.cp_translate.proofs.translator.Translator.case.Goals as goal
+use Rattle.cp_translate.proofs.translator.Translator.choose.Goals as goal
 
 pub returns : goal.returns
 returns c =
