@@ -1,5 +1,5 @@
 -- Rights that are passed to a class.
-use Rattle.std.proofs.Common.{◌≡◌, ◌⊎◌, inl, inr, ℕ, ◌+◌, ◌≤◌, ◌<◌, ℤ, pos, List, [], ◌∷◌, Bool, true, false, Some, refl, ap, sym, subst, ◌∙◌, arith}
+use Rattle.std.proofs.Common.{◌≡◌, ℕ, ◌+◌, ◌≤◌, ◌<◌, ℤ, pos, List, [], ◌∷◌, length, Bool, true, false, Some, refl, ap, sym, subst, ◌∙◌, arith}
 use Rattle.std.specs.Prelude.{if◌then◌else◌, ◌+ℤ◌, ◌-ℤ◌}
 use Rattle.std.proofs.lemmas.Int.{ints}
 use Rattle.cp_model.specs.Abstract as a
@@ -19,17 +19,14 @@ use Rattle.cp_code.specs.Layout.{member, natural, right}
 use Rattle.cp_code.specs.Sites.{RightTo, TargetFor, TargetOf}
 use Rattle.cp_code.specs.Starts.{word}
 use Rattle.cp_steps.specs.PrivateStates.{PrivateState}
-use Rattle.cp_steps.specs.Passing.{right_word}
-use Rattle.cp_steps.specs.Addresses.{Ground, RightMeans, RightOf, activations, component_type, lies, scope}
+use Rattle.cp_steps.specs.Passing.{monitor_word, right_word}
+use Rattle.cp_steps.specs.Addresses.{Ground, RightMeans, RightOf, component_type, lies}
 use Rattle.cp_steps.specs.Laws.{IsNotHandedOn}
 use Rattle.cp_steps.specs.Left.{site}
-use Rattle.cp_steps.proofs.Apart.{InHead}
 use Rattle.cp_steps.proofs.Heres.{Sees}
-use Rattle.cp_steps.proofs.Keeping.{right_place}
-use Rattle.cp_steps.proofs.RunningOn.{runs_stacked}
-use Rattle.cp_steps.proofs.Separate.{OwnRight, bottom_below, cell_below}
+use Rattle.cp_steps.proofs.Rooms.{far}
 use Rattle.cp_steps.proofs.Stepping.{Now}
-use Rattle.cp_steps.proofs.Targets.{class_lies}
+use Rattle.cp_steps.proofs.Targets.{class_lies, lies_below, right_below}
 
 back_again : (x y : ℕ) → natural (pos x +ℤ (pos y -ℤ pos x)) ≡ y
 back_again x y = Prim.grind (arith, ints)
@@ -38,25 +35,8 @@ module _ (G : Ground) (s : State) (before : List ℕ) (o : PrivateState) (i : Ta
   abbrev here : Environment
   here = N.on.running.env
 
-  -- The word of a right of the running component lies below what is passed.
-  right_below : (n : Component) (off : ℕ) → RightTo here n off → o.component + off < o.base + (site G N.on.running).words
-  right_below n off r =
-      by (right_place G (activations o.base o.frames (i ∷ l)) here.component here.system N.on.running.component off n.name r.variable sees.component N.on.runs.component
-      (ap (λ g. right g here.system n.name) (sym N.on.runs.globals) ∙ r.lies))
-    where
-      by : OwnRight G (N.on.running.component + off)
-          ⊎ ((lies G (activations o.base o.frames (i ∷ l)) here.component ≡ Some (N.on.running.component, component_type G here.system)) × InHead (scope G) (component_type G here.system) off × (1 ≤ off))
-          → o.component + off < o.base + (site G N.on.running).words
-      by (inl q) = omega (arith, N.on.component, q.2, bottom_below G (activations o.base o.frames (i ∷ l)) _ (runs_stacked G s.store o (i ∷ l) N.on) _ _ (runs_stacked G s.store o (i ∷ l) N.on) q.0 q.1)
-      by (inr q) =
-          omega (
-            arith,
-            N.on.component,
-            cell_below G (activations o.base o.frames (i ∷ l)) _ (runs_stacked G s.store o (i ∷ l) N.on) here.component N.on.running.component (component_type G here.system) off sees.component q.1 q.0,
-          )
-
   -- What a right to a monitor holds.
-  monitor_held : (n : Component) (off : ℕ) → n.system.sort ≡ a.Monitor → RightTo here n off → word o.words (o.component + off) ≡ pos (monitor_right (s.store (name_location here n)))
+  monitor_held : (n : Component) (off : ℕ) → n.system.sort ≡ a.Monitor → RightTo here n off → word o.words (o.component + off) ≡ monitor_word (monitor_right (s.store (name_location here n)))
   monitor_held n off sort r = by (s.store (name_location here n)) means
     where
       held : RightMeans G r.variable.type (s.store (name_location here n)) (o.component + off) (word o.words (o.component + off))
@@ -70,25 +50,28 @@ module _ (G : Ground) (s : State) (before : List ℕ) (o : PrivateState) (i : Ta
           subst (λ z. RightOf G n.system z (s.store (name_location here n)) (o.component + off) (word o.words (o.component + off))) sort
           (subst (λ z. RightMeans G z (s.store (name_location here n)) (o.component + off) (word o.words (o.component + off))) r.type held)
 
-      by : (v : Value) → RightOf G n.system a.Monitor v (o.component + off) (word o.words (o.component + off)) → word o.words (o.component + off) ≡ pos (monitor_right v)
+      by : (v : Value) → RightOf G n.system a.Monitor v (o.component + off) (word o.words (o.component + off)) → word o.words (o.component + off) ≡ monitor_word (monitor_right v)
       by (MonitorRight m) h = h
       by Absent h = h
       by _ h = absurd h
 
   -- A right as the meaning and the machine pass it.
   pub given : (y : System) (c : ℕ) → y.sort ≡ Class → (n : Component) (x : t.Target) → TargetFor here (Some n) x → IsNotHandedOn x → (ws : List ℤ)
-      → ((j : ℕ) → j < o.base + (site G N.on.running).words → word ws j ≡ word o.words j) → (k : ℕ) (inner : Members) (at : Location)
+      → ((j : ℕ) → j < o.base + (site G N.on.running).words → word ws j ≡ word o.words j) → length ws ≡ length o.words → (k : ℕ) (inner : Members) (at : Location)
+      → c + k ≤ length o.words
       → (v : Value) × (right_writes here s.store y.sort at n.system.sort n ≡ (at, v) ∷ []) × RightMeans G (ComponentOf n.system inner) v (c + k) (right_word (record o { words = ws }) (c + k) x)
-  given y c class n x h fine ws same k inner at =
+  given y c class n x h fine ws same len k inner at room =
       subst (λ q. (v : Value) × (right_writes here s.store q at n.system.sort n ≡ (at, v) ∷ []) × RightOf G n.system n.system.sort v (c + k) (right_word (record o { words = ws }) (c + k) x)) (sym class)
       (by n.system.sort n.is_parameter refl refl x h fine)
     where
       by : (z : Sort) (b : Bool) → n.system.sort ≡ z → n.is_parameter ≡ b → (x : t.Target) → TargetOf here n z b x → IsNotHandedOn x
           → (v : Value) × (right_writes here s.store Class at z n ≡ (at, v) ∷ []) × RightOf G n.system z v (c + k) (right_word (record o { words = ws }) (c + k) x)
-      by a.Class false sort own (t.Class off) h fine = (
+      by a.Class false sort own (t.Class off) h fine = let there = class_lies G s before o i l N sees I n off h in (
         ClassRight (name_location here n),
         (λ j. (at, ClassRight (if own j then class_or_here (name_location here n) (s.store (name_location here n)) else name_location here n)) ∷ []),
-        class_lies G s before o i l N sees I n off h ∙ ap (λ z. Some (z, component_type G n.system)) (sym (back_again (c + k) (o.component + off))),
+        subst (λ z. lies G [] (name_location here n) ≡ Some (natural (pos (c + k) +ℤ z), component_type G n.system))
+            (sym (far (record o { words = ws }) (o.component + off) (c + k) (omega (arith, len, N.on.count, lies_below G s before o i l N sees I (name_location here n) (o.component + off) _ sees.component there)) (omega (arith, len, room))))
+            (there ∙ ap (λ z. Some (z, component_type G n.system)) (sym (back_again (c + k) (o.component + off)))),
       )
       by a.Class true sort own (t.ClassRight off) h fine = absurd fine
       by a.Monitor false sort own (t.Monitor m) h fine = (
@@ -99,6 +82,6 @@ module _ (G : Ground) (s : State) (before : List ℕ) (o : PrivateState) (i : Ta
       by a.Monitor true sort own (t.MonitorRight off) h fine = (
         MonitorRight (monitor_right (s.store (name_location here n))),
         (λ j. (at, MonitorRight (if own j then monitor_right (s.store (name_location here n)) else declared_monitor here n)) ∷ []),
-        same (o.component + off) (right_below n off h) ∙ monitor_held n off sort h,
+        same (o.component + off) (right_below G s before o i l N sees I n off h) ∙ monitor_held n off sort h,
       )
       by _ _ sort own _ h fine = absurd h

@@ -71,7 +71,7 @@ module _ (G : Ground) (xs : List Activation) (top : ℕ) (stack : Stacked G top 
     (is : lies G [] at ≡ Some (c, component_type G s)) (distinct : Distinct (declarations (scope G) s.parameters))
     (one : (p : Name × Variable) → IsIn p (declarations (scope G) s.parameters) → is_component p.1.type ≡ false → (words (scope G) p.1.type ≡ 1) × IsCell p.1.type) where
   -- The words of its parameters lie below the top.
-  class_below : c + length (declarations (scope G) s.parameters) < top
+  pub class_below : c + length (declarations (scope G) s.parameters) < top
   class_below = by (length (declarations (scope G) s.parameters)) refl
     where
       inner : (k : ℕ) (p : Name × Variable) → Offset (scope G) s p k → c + k < top

@@ -1,6 +1,6 @@
 -- Whole private steps of the `init` of a class.
-use Rattle.std.proofs.Common.{◌≡◌, inl, ℕ, ℤ, ◌+◌, ◌≤◌, ◌<◌, pos, List, [], ◌∷◌, length, Bool, true, false, Option, Some, None, refl, ap, sym, subst, ◌∙◌, arith}
-use Rattle.std.specs.Prelude.{if◌then◌else◌, nat_lt, not}
+use Rattle.std.proofs.Common.{◌≡◌, inl, ℕ, ℤ, ◌+◌, ◌≤◌, pos, List, [], ◌∷◌, length, Bool, true, false, Option, Some, None, refl, ap, sym, subst, ◌∙◌, arith}
+use Rattle.std.specs.Prelude.{if◌then◌else◌, not}
 use Rattle.cp_model.specs.Abstract as a
 use Rattle.cp_model.specs.Abstract.{Class, Name, Sort, System}
 use Rattle.cp_model.specs.Arguments.{bind, init_argument_writes}
@@ -57,11 +57,12 @@ use Rattle.cp_steps.proofs.Finding.{in_context_none}
 use Rattle.cp_steps.proofs.InitOffsets.{Offset}
 use Rattle.cp_steps.proofs.InitPassing.{InitAgrees, InitBound, passes_init}
 use Rattle.cp_steps.proofs.InitRights.{given}
-use Rattle.cp_steps.proofs.InitSettled.{init_count, init_offsets, init_settled, init_values}
+use Rattle.cp_steps.proofs.InitSettled.{class_below, init_count, init_offsets, init_settled, init_values}
+use Rattle.cp_steps.proofs.Rooms.{room_for}
 use Rattle.cp_steps.proofs.RunningOn.{left_afresh, runs_here, runs_over, runs_room, runs_stacked, runs_stored}
 use Rattle.cp_steps.proofs.Settling.{runs_settled}
 use Rattle.cp_steps.proofs.Stepping.{Stepped, clock_of, faulted, stopped, went}
-use Rattle.cp_steps.proofs.Targets.{class_lies, mark_is}
+use Rattle.cp_steps.proofs.Targets.{class_lies, lies_below, mark_is}
 use Rattle.cp_steps.specs.Means.{MarkMeans}
 
 -- The body of a class.
@@ -200,20 +201,16 @@ init_steps G s before o x es env k I units Y call next there h fine =
         (when_passed (pass_all w (o.base + call.words) at xs o) (λ p.
         private_outcome (enter (set_word (settle p (o.base + call.words) at (length xs)) at (pos 1)) (class_at at) u call (record { place = next; into = 0 }))))
 
-    room : nat_lt (length o.frames) o.limit ≡ true
-    room = inner (nat_lt (length o.frames) o.limit) refl
-      where
-        less : length o.frames < o.limit
-        less = omega (arith, Y.now.on.runs.frames_fit, h.2.runs.fits.frames)
-
-        inner : (b : Bool) → nat_lt (length o.frames) o.limit ≡ b → b ≡ true
-        inner true e = refl
-        inner false e = absurd (Prim.grind (arith, e, less))
-
-    has_unit : (at : ℕ) → (init_class G.program w o call at next).0 ≡ (started at call.arguments h.2.runs.unit).0
-    has_unit at =
-        (λ z. (elim (h.2.runs.there z) as (λ x. Acting) [ None ↦ private_outcome o | Some u ↦ if has_room o then started at call.arguments u else private_outcome o ]).0)
+    has_unit : (at : ℕ) → at ≤ G.own → (init_class G.program w o call at next).0 ≡ (started at call.arguments h.2.runs.unit).0
+    has_unit at there =
+        (λ z. (elim (h.2.runs.there z) as (λ x. Acting) [ None ↦ private_outcome o | Some u ↦ if has_room w o call u at then started at call.arguments u else private_outcome o ]).0)
         ∙ ap (λ b. (if b then started at call.arguments h.2.runs.unit else private_outcome o).0) room
+      where
+        room : has_room w o call h.2.runs.unit at ≡ true
+        room =
+            room_for w o call h.2.runs.unit at (omega (arith, Y.now.on.runs.frames_fit, h.2.runs.fits.frames))
+            (omega (arith, Y.now.on.base, Y.now.on.count, Y.now.on.runs.words_fit, h.2.runs.fits.words, h.2.runs.words))
+            (omega (arith, Y.now.on.temp, Y.now.on.runs.temps_fit, h.2.runs.fits.temps, h.2.runs.temps)) (omega (arith, there, Y.now.on.count))
 
     first : Task
     first = Do (a.Init x es) env
@@ -256,16 +253,17 @@ init_steps G s before o x es env k I units Y call next there h fine =
         init_offsets (scope G) (site G Y.now.on.running) known_here n.system Y.now.on.runs.globals names one passed es call.arguments o.place Y.now.on.left.2.3.0 Y.now.on.left.2.1 Y.now.on.running.unit.temps arguments (λ q j. j) p i
 
     -- The arguments are passed behind the running activation.
-    passed_ok : (c : ℕ)
+    passed_ok : (c : ℕ) → c + length passed ≤ length o.words
         → InitAgrees G n.system (name_location here n) c (o.base + call.words) names one passed w.own (record o { words = o.words }) o.words
         (bind (λ l v e. init_argument_writes n.system.sort (clock_of G s) here s.store l v.type e) (name_location here n) passed es) (pass_all w (o.base + call.words) c call.arguments o)
-    passed_ok c =
+    passed_ok c there =
         subst (λ z. InitAgrees G n.system (name_location here n) c (o.base + z) names one passed w.own (record o { words = o.words }) o.words
         (bind (λ l v e. init_argument_writes n.system.sort (clock_of G s) here s.store l v.type e) (name_location here n) passed es) (pass_all w (o.base + z) c call.arguments o)) (sym h.2.runs.words)
         (passes_init G n.system (name_location here n) c top names one (site G Y.now.on.running) (clock_of G s) s.store w known_here lying' o
         (λ ws len same. runs_here G s.store (record o { words = ws }) (first ∷ k) (clock_of G s) (runs_over G s.store s.store o ws (first ∷ k) Y.now.on (λ at q. refl) (λ j q. same j (inl q)) len) Y.now.sees)
         Y.now.on.runs.globals
-        (λ m t f g ws same j inner l. given G s before o first k Y.now Y.now.sees I n.system c h.0 m t f g ws (λ z q. same z (inl q)) j inner l)
+        (λ m t f g ws same len j inner l room. given G s before o first k Y.now Y.now.sees I n.system c h.0 m t f g ws (λ z q. same z (inl q)) len j inner l room)
+        there
         passed es call.arguments o.place Y.now.on.left.2.3.0 Y.now.on.left.2.1 Y.now.on.running.unit.temps o.words arguments
         (in_context_none (a.Init x) (call_in_arguments here (a.Literal 0) es) Y.none) fine names (λ p i. i)
         (omega (arith, h.2.room, count, Y.now.on.runs.words_fit, Y.now.on.count, Y.now.on.base)) (omega arith) refl (λ z q. refl))
@@ -349,12 +347,14 @@ init_steps G s before o x es env k I units Y call next there h fine =
         by : (b : Bool) → PartOf G (after_step s G.p (if not b then Fault 7 else meant)) before
             (provided b o fault.InitialisedTwice (when_passed (pass_all w (o.base + call.words) (o.component + off) call.arguments o) begun)).0
         by false = faulted G s before o first k Y.now 7 fault.InitialisedTwice refl
-        by true = inner (bind (λ l v e. init_argument_writes n.system.sort (clock_of G s) here s.store l v.type e) (name_location here n) passed es) (pass_all w (o.base + call.words) (o.component + off) call.arguments o) (passed_ok (o.component + off))
+        by true = inner (bind (λ l v e. init_argument_writes n.system.sort (clock_of G s) here s.store l v.type e) (name_location here n) passed es) (pass_all w (o.base + call.words) (o.component + off) call.arguments o)
+            (passed_ok (o.component + off)
+            (omega (arith, class_below G (activations o.base o.frames (first ∷ k)) top (runs_stacked G s.store o (first ∷ k) Y.now.on) (name_location here n) (o.component + off) top n.system Y.now.sees.component h.0 lying names one, runs_room G s.store o (first ∷ k) Y.now.on)))
 
     by_target : (t : target.Target) → TargetOf here n Class false t → call.target ≡ t
         → PartOf G (after_step s G.p (inits (name_location here n) (declarations here.globals n.system.parameters) es)) before computed
     by_target (target.Class off) f e =
         subst (λ z. PartOf G (after_step s G.p (inits (name_location here n) (declarations here.globals n.system.parameters) es)) before (init_class G.program w o call (component_called G.program w o z).component next).0) (sym e)
-        (subst (PartOf G (after_step s G.p (inits (name_location here n) (declarations here.globals n.system.parameters) es)) before) (sym (has_unit (o.component + off)))
+        (subst (PartOf G (after_step s G.p (inits (name_location here n) (declarations here.globals n.system.parameters) es)) before) (sym (has_unit (o.component + off) (lies_below G s before o first k Y.now Y.now.sees I (name_location here n) (o.component + off) _ Y.now.sees.component (class_lies G s before o first k Y.now Y.now.sees I n off f))))
         (begins off f))
     by_target _ f e = absurd f

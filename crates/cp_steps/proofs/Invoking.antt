@@ -1,6 +1,6 @@
 -- A call, from what opens the new activation: the meaning's and the machine's.
-use Rattle.std.proofs.Common.{◌≡◌, inl, ℕ, ◌+◌, ◌≤◌, ◌<◌, ℤ, List, [], ◌∷◌, ◌++◌, length, Bool, true, false, Some, None, refl, ap, sym, subst, ◌∙◌, arith}
-use Rattle.std.specs.Prelude.{if◌then◌else◌, nat_lt}
+use Rattle.std.proofs.Common.{◌≡◌, inl, ℕ, ◌+◌, ◌≤◌, ℤ, List, [], ◌∷◌, ◌++◌, length, Bool, true, false, Some, None, refl, ap, sym, subst, ◌∙◌, arith}
+use Rattle.std.specs.Prelude.{if◌then◌else◌}
 use Rattle.std.proofs.lemmas.Bool.{true≢false}
 use Rattle.cp_model.specs.Abstract as a
 use Rattle.cp_model.specs.Abstract.{Name, System}
@@ -22,7 +22,7 @@ use Rattle.cp_model.specs.Places.{Place, TypedValue}
 use Rattle.cp_model.specs.States.{State, configuration, context}
 use Rattle.cp_model.specs.Stores.{Store, Writes, forget, put, put_all}
 use Rattle.cp_model.specs.Turns.{after_step}
-use Rattle.cp_model.specs.Types.{GlobalScope}
+use Rattle.cp_model.specs.Types.{GlobalScope, ResolvedType}
 use Rattle.cp_model.specs.declared.state.Fault.TheVariants as fault
 use Rattle.cp_model.proofs.ExpressionReach.{IfGives}
 use Rattle.cp_model.proofs.WriteReach.{WritesIn, bind_in, starting_writes_in, writes_in}
@@ -47,7 +47,9 @@ use Rattle.cp_steps.proofs.Layouts.{PartsLie, lies_under}
 use Rattle.cp_steps.proofs.Holding.{SameBelow, SameLive}
 use Rattle.cp_steps.proofs.Passing.{Bound, KeptOutside, PassingAgrees, Stays, passes}
 use Rattle.cp_steps.proofs.Returning.{forgotten}
-use Rattle.cp_steps.proofs.RunningOn.{runs_here, runs_over}
+use Rattle.cp_steps.proofs.Rooms.{room_for}
+use Rattle.cp_steps.proofs.RunningOn.{runs_here, runs_over, runs_room, runs_stacked}
+use Rattle.cp_steps.proofs.Separate.{part_below}
 use Rattle.cp_steps.proofs.Stepping.{Now, clock_of, faulted, stopped, went}
 use Rattle.cp_steps.proofs.Writing.{location_is, owner_is, same_owner_itself}
 
@@ -80,6 +82,7 @@ locals_two g (x ∷ xs) ys = let e = locals_two g xs ys in omega (arith, e)
 -- The machine calls where the meaning does, and no gate is entered.
 pub record TargetIs (G : Ground) (t : calls.Target) (c : Called) (s : System) : Type 0 where
   pub set_is : c.is_set ≡ t.is_callable
+  pub there : c.component ≤ G.own
   pub system : t.system ≡ s
   pub lies_there : t.is_callable ≡ true → ComponentLies G t.component s c.component
   pub gate : c.gate ≡ 0
@@ -151,21 +154,17 @@ module _ (G : Ground) (s : State) (before : List ℕ) (o : PrivateState) (i : Ta
       passing : Acting
       passing = when_passed (pass_all w (o.base + call.words) (o.base + call.words) call.arguments o) (entering_by I.runs.unit)
 
-      room : nat_lt (length o.frames) o.limit ≡ true
-      room = inner (nat_lt (length o.frames) o.limit) refl
-        where
-          less : length o.frames < o.limit
-          less = omega (arith, N.on.runs.frames_fit, I.runs.fits.frames)
-
-          inner : (b : Bool) → nat_lt (length o.frames) o.limit ≡ b → b ≡ true
-          inner true e = refl
-          inner false e = absurd (Prim.grind (arith, e, less))
+      room : has_room w o call I.runs.unit c.component ≡ true
+      room =
+          room_for w o call I.runs.unit c.component (omega (arith, N.on.runs.frames_fit, I.runs.fits.frames))
+          (omega (arith, N.on.base, N.on.count, N.on.runs.words_fit, I.runs.fits.words, I.runs.words)) (omega (arith, N.on.temp, N.on.runs.temps_fit, I.runs.fits.temps, I.runs.temps))
+          (omega (arith, I.target_is.there, N.on.count))
 
       computed : (call_step G.program w o call back).0 ≡ (provided c.is_set o fault.NotInitialised passing).0
       computed =
           (λ z. (elim (I.runs.there z) as (λ x. Acting) [
             | None ↦ private_outcome o
-            | Some u ↦ if has_room o then provided c.is_set o fault.NotInitialised (when_passed (pass_all w (o.base + call.words) (o.base + call.words) call.arguments o) (entering_by u)) else private_outcome o
+            | Some u ↦ if has_room w o call u c.component then provided c.is_set o fault.NotInitialised (when_passed (pass_all w (o.base + call.words) (o.base + call.words) call.arguments o) (entering_by u)) else private_outcome o
           ]).0)
           ∙ ap (λ b. (if b then provided c.is_set o fault.NotInitialised passing else private_outcome o).0) room
 
@@ -203,11 +202,16 @@ module _ (G : Ground) (s : State) (before : List ℕ) (o : PrivateState) (i : Ta
           seen_is (is_own G.p) G (activations o.base o.frames (i ∷ l)) (under at path) (n + m, u) z.0
           (lies_under G (activations o.base o.frames (i ∷ l)) at path n m t u z.1 (ap (λ g. part g t path) (sym N.on.runs.globals) ∙ there))
 
+      lying_there : (j : Location) (m : ℕ) (u : ResolvedType) → seen (is_own G.p) G (activations o.base o.frames (i ∷ l)) j ≡ Some (m, u) → m ≤ length o.words
+      lying_there j m u is =
+          let z = seen_mine (is_own G.p) G (activations o.base o.frames (i ∷ l)) j (m, u) is in
+          omega (arith, part_below G (activations o.base o.frames (i ∷ l)) top (runs_stacked G s.store o (i ∷ l) N.on) j m u z.0 z.1, runs_room G s.store o (i ∷ l) N.on)
+
       passed_ok : PassingAgrees Bounds (KeptOutside top (length o.words) o.words) o
           (bind (argument_writes (clock_of G s) N.on.running.env s.store) (root owner) (parameters (site G N.on.running) v.callee) v.arguments)
           (pass_all w top top call.arguments o)
       passed_ok =
-          passes (site G N.on.running) (clock_of G s) s.store w (held_below N.on.live o.temps N.on.running.temp) (seen (is_own G.p) G (activations o.base o.frames (i ∷ l))) owner top o stays parts_lie
+          passes (site G N.on.running) (clock_of G s) s.store w (held_below N.on.live o.temps N.on.running.temp) (seen (is_own G.p) G (activations o.base o.frames (i ∷ l))) owner top o stays parts_lie lying_there
           (parameters (site G N.on.running) v.callee) v.arguments call.arguments (first_parameter v.callee) from last low high o.words I.arguments I.made I.distinct sized (omega arith) refl (λ z q. refl)
 
       env : Environment

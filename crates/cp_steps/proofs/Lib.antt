@@ -1,5 +1,6 @@
 mod LeftExample
 pub mod Finding
+pub mod Rooms
 pub mod Evaluates
 pub mod Layouts
 pub mod Bounds

@@ -36,13 +36,14 @@ use Rattle.cp_code.specs.TermsFor.{Agrees, ArgumentsFor, IsPlainStructure, Known
 use Rattle.cp_steps.specs.Means.{Here, PlaceAgrees}
 use Rattle.cp_code.specs.StatementsFor.{either}
 use Rattle.cp_steps.specs.PrivateStates.{Outside, PrivateState, view_of}
-use Rattle.cp_steps.specs.Passing.{Passing, pass_all, pass_copy, pass_result, pass_word, unless_fault}
+use Rattle.cp_steps.specs.Passing.{Passing, pass_all, pass_copy, pass_result, pass_word, reference_word, unless_fault}
 use Rattle.cp_steps.proofs.Apart.{cell_has_word}
 use Rattle.cp_steps.proofs.Bounds.{part_fits}
 use Rattle.cp_steps.proofs.Copying.{copied_length, copied_outside, copied_word, leaf_unwritten, leaf_writes, leaf_written, read_below, simple_cell, simple_holds, structure_writes}
 use Rattle.cp_steps.proofs.Finding.{in_context_none, or_else_none, some_is_not_none}
 use Rattle.cp_steps.proofs.Evaluates.{ordinal_is, place_agrees, value_agrees, value_reads}
 use Rattle.cp_steps.proofs.Layouts.{PartsLie, same_some}
+use Rattle.cp_steps.proofs.Rooms.{refers}
 use Rattle.cp_steps.proofs.StartLeaves.{IsSimple, first_name, simple_part}
 use Rattle.cp_steps.proofs.Writing.{changed_other, same_owner_itself}
 
@@ -209,7 +210,7 @@ Stays env clock store w K lies to o =
     (ws : List ℤ) → length ws ≡ length o.words → SameOutside to w.own o.words ws → Here env clock store (view_of w (record o { words = ws })) K lies
 
 module _ (site : Site) (clock : Clock) (store : Store) (w : Outside) (K : Knowns) (lies : Location → Option Part) (n : Owner) (to : ℕ) (o : PrivateState)
-    (stays : Stays site.env clock store w K lies to o) (parts_lie : PartsLie site.env.globals lies) where
+    (stays : Stays site.env clock store w K lies to o) (parts_lie : PartsLie site.env.globals lies) (there : (l : Location) (m : ℕ) (t : ResolvedType) → lies l ≡ Some (m, t) → m ≤ length o.words) where
   abbrev pub Passes : List (Name × declared.Variable) → ℕ → List ℤ → Outcome Writes → Passing → Type 0
   Passes ps at ws O P = PassingAgrees (λ us new. Bound site lies n to at ps us ws new) (KeptOutside to w.own ws) (record o { words = ws }) O P
 
@@ -250,19 +251,21 @@ module _ (site : Site) (clock : Clock) (store : Store) (w : Outside) (K : Knowns
 
   -- What a `var` parameter refers to.
   reference_passes : (p : Name × declared.Variable) (ps : List (Name × declared.Variable)) (at : ℕ) (ws : List ℤ) (xs : List Argument)
-      → p.1.by_reference ≡ true → Distinct (p ∷ ps) → to + at < w.own → w.own ≤ length ws
+      → p.1.by_reference ≡ true → Distinct (p ∷ ps) → to + at < w.own → w.own ≤ length ws → length ws ≡ length o.words
       → (O : Outcome Place) (r : Result ℕ machine.Fault) (more : Outcome Writes) → PlaceAgrees lies p.1.type O r
       → ((m : ℤ) → Passes ps (at + local_words site.env.globals p.1) (slice_set ws (to + at) m) more (pass_all w to to xs (record o { words = slice_set ws (to + at) m })))
       → Passes (p ∷ ps) at ws
       (and_then (reference_writes (parameter_at n p.0) O) (λ us. and_then more (λ vs. Gives (us ++ vs))))
-      (unless_fault (pass_result (record o { words = ws }) r (λ m. pass_word (record o { words = ws }) (to + at) (pos m))) (pass_all w to to xs))
-  reference_passes p ps at ws xs by_reference distinct room in_words (Fault k) (Err f) more h go = (f, refl, h, refl, (refl, λ i g. refl))
-  reference_passes p ps at ws xs by_reference distinct room in_words (Fault k) (Ok m) more h go = absurd h
-  reference_passes p ps at ws xs by_reference distinct room in_words (Gives v) (Err f) more h go = absurd h
-  reference_passes p ps at ws xs by_reference distinct room in_words (Gives v) (Ok m) more h go =
-      prepend_word site lies n to at p ps (Refers v.at) (pos m) w.own ws (record o { words = ws }) more (pass_all w to to xs (record o { words = slice_set ws (to + at) (pos m) }))
+      (unless_fault (pass_result (record o { words = ws }) r (λ m. pass_word (record o { words = ws }) (to + at) (reference_word (record o { words = ws }) m))) (pass_all w to to xs))
+  reference_passes p ps at ws xs by_reference distinct room in_words len (Fault k) (Err f) more h go = (f, refl, h, refl, (refl, λ i g. refl))
+  reference_passes p ps at ws xs by_reference distinct room in_words len (Fault k) (Ok m) more h go = absurd h
+  reference_passes p ps at ws xs by_reference distinct room in_words len (Gives v) (Err f) more h go = absurd h
+  reference_passes p ps at ws xs by_reference distinct room in_words len (Gives v) (Ok m) more h go =
+      subst (λ z. Passes (p ∷ ps) at ws (and_then more (λ vs. Gives ((parameter_at n p.0, Refers v.at) ∷ vs))) (pass_all w to to xs (record o { words = slice_set ws (to + at) z })))
+      (sym (refers (record o { words = ws }) m (omega (arith, len, there v.at m p.1.type h.0))))
+      (prepend_word site lies n to at p ps (Refers v.at) (pos m) w.own ws (record o { words = ws }) more (pass_all w to to xs (record o { words = slice_set ws (to + at) (pos m) }))
       (ap (λ t. if t then 1 else words site.env.globals p.1.type) by_reference) distinct room in_words
-      (subst (λ t. either t ((j : Location) × (Refers v.at ≡ Refers j) × (lies j ≡ Some (natural (pos m), p.1.type))) (IsSimple p.1.type × (Refers v.at ≡ Ordinal (pos m)))) (sym by_reference) (v.at, refl, h.0)) (go (pos m))
+      (subst (λ t. either t ((j : Location) × (Refers v.at ≡ Refers j) × (lies j ≡ Some (natural (pos m), p.1.type))) (IsSimple p.1.type × (Refers v.at ≡ Ordinal (pos m)))) (sym by_reference) (v.at, refl, h.0)) (go (pos m)))
 
   -- An array or a record.
   copy_passes : (p : Name × declared.Variable) (ps : List (Name × declared.Variable)) (at : ℕ) (ws : List ℤ) (xs : List Argument)
@@ -386,11 +389,11 @@ module _ (site : Site) (clock : Clock) (store : Store) (w : Outside) (K : Knowns
       let r = place_of (view_of w (record o { words = ws })) s in
       subst (λ z. Passes (p ∷ ps) at ws
       (and_then (argument_writes clock site.env store (parameter_at n p.0) p.1 (a.Use d)) (λ us. and_then (bind (argument_writes clock site.env store) (root n) ps es) (λ vs. Gives (us ++ vs))))
-      (unless_fault (pass_result (record o { words = ws }) r (λ m. pass_word (record o { words = ws }) (to + z) (pos m))) (pass_all w to to xs))) (sym h.2)
+      (unless_fault (pass_result (record o { words = ws }) r (λ m. pass_word (record o { words = ws }) (to + z) (reference_word (record o { words = ws }) m))) (pass_all w to to xs))) (sym h.2)
       (subst (λ t. Passes (p ∷ ps) at ws
       (and_then (if t then reference_writes (parameter_at n p.0) (place clock site.env store d) else and_then (value clock site.env store (a.Use d)) (writes_of (parameter_at n p.0) p.1.type)) (λ us. and_then (bind (argument_writes clock site.env store) (root n) ps es) (λ vs. Gives (us ++ vs))))
-      (unless_fault (pass_result (record o { words = ws }) r (λ m. pass_word (record o { words = ws }) (to + at) (pos m))) (pass_all w to to xs))) (sym h.3)
-      (reference_passes p ps at ws xs h.3 distinct here in_words (place clock site.env store d) r (bind (argument_writes clock site.env store) (root n) ps es)
+      (unless_fault (pass_result (record o { words = ws }) r (λ m. pass_word (record o { words = ws }) (to + at) (reference_word (record o { words = ws }) m))) (pass_all w to to xs))) (sym h.3)
+      (reference_passes p ps at ws xs h.3 distinct here in_words len (place clock site.env store d) r (bind (argument_writes clock site.env store) (root n) ps es)
       (place_agrees site clock store (view_of w (record o { words = ws })) K lies (stays ws len same) d s p.1.type from h.0 low h.1 h.7 (in_context_none a.Use (call_in_designator site.env (a.Literal 0) d) found.0))
       (λ m. passes ps es xs (at + local_words site.env.globals p.1) h.0 next h.1 high (slice_set ws (to + at) m) h.8 (in_context_none (a.MoreExpressions (a.Use d)) (call_in_arguments site.env (a.Literal 0) es) both.1) distinct.1
       (omega (arith, room)) (omega (arith, in_words, length-set ws (to + at) m)) (length-set ws (to + at) m ∙ len) (still_same ws at m same here))))

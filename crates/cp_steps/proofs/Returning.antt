@@ -192,7 +192,7 @@ module _ (G : Ground) (s : State) (before : List ℕ) (o : PrivateState) (f : ma
       globals : N.on.left.3.0.env.globals ≡ env.globals
       globals = N.on.left.3.4.globals ∙ (sym N.on.runs.globals ∙ ap (λ (y : Environment). y.globals) (sym N.on.left.0))
 
-      into_is : N.on.left.3.0.temp + caller.1 ≡ f.into
+      into_is : N.on.left.3.0.temp + caller.1 ≡ f.temp + f.into
       into_is = omega (arith, caller.6, N.on.left.3.5.temp)
 
       A : LeftAnswered G o.temps o.limit N.on.left.3.0 fs N.on.left.3.3 N.on.left.3.1 caller.0 caller.1 f.place caller.5 room caller.4 k
@@ -201,11 +201,11 @@ module _ (G : Ground) (s : State) (before : List ℕ) (o : PrivateState) (f : ma
           (left_raised G o.temps o.limit (kept_below caller.0.temps N.on.left.3.3 o.temps N.on.left.3.0.temp) N.on.left.3.0 fs N.on.left.3.1 N.on.left.3.2 N.on.left.3.0.unit.temps k N.on.left.3.5.kept_fit
           (subst (λ z. Left G o.temps o.limit (kept_below z N.on.left.3.3 o.temps N.on.left.3.0.temp) N.on.left.3.0 fs N.on.left.3.1 N.on.left.3.2 k) (sym caller.3) N.on.left.3.7))
 
-      answer : (n : ℤ) → Left G (slice_set o.temps f.into n) o.limit (held_below (caller.1 + 1) (slice_set o.temps f.into n) N.on.left.3.0.temp) N.on.left.3.0 fs f.place N.on.left.3.0.unit.temps
+      answer : (n : ℤ) → Left G (slice_set o.temps (f.temp + f.into) n) o.limit (held_below (caller.1 + 1) (slice_set o.temps (f.temp + f.into) n) N.on.left.3.0.temp) N.on.left.3.0 fs f.place N.on.left.3.0.unit.temps
           (with_answer (a.Known (base_of_type (named_type env.globals t)) n) k)
       answer n =
           let base_is = A.1 _ N.on.left.1.frame.routine t text is ∙ ap (λ g. base_of_type (named_type g t)) globals in
-          subst (λ b. Left G (slice_set o.temps f.into n) o.limit (held_below (caller.1 + 1) (slice_set o.temps f.into n) N.on.left.3.0.temp) N.on.left.3.0 fs f.place N.on.left.3.0.unit.temps (with_answer (a.Known b n) k)) base_is
+          subst (λ b. Left G (slice_set o.temps (f.temp + f.into) n) o.limit (held_below (caller.1 + 1) (slice_set o.temps (f.temp + f.into) n) N.on.left.3.0.temp) N.on.left.3.0 fs f.place N.on.left.3.0.unit.temps (with_answer (a.Known b n) k)) base_is
           (subst (λ i. Left G (slice_set o.temps i n) o.limit (held_below (caller.1 + 1) (slice_set o.temps i n) N.on.left.3.0.temp) N.on.left.3.0 fs f.place N.on.left.3.0.unit.temps (with_answer (a.Known A.0 n) k)) into_is
           (A.3 n))
 
@@ -220,15 +220,15 @@ module _ (G : Ground) (s : State) (before : List ℕ) (o : PrivateState) (f : ma
           (sym (with_answer_same (λ j. ActivationsMean G store ws f.base fs j) v k (λ a1 a2 a3 a4. refl) (λ a1 a2 a3 a4 a5 a6. refl) (λ a1 a2 a3 a4 a5 a6. refl))) x
 
       computed : Bool → ℤ → PrivateState
-      computed b n = (if b then fault_in (record o { frames = f ∷ fs }) fault.NoResult else (leave (set_temp (record o { frames = f ∷ fs }) f.into n) f fs, NoEffect)).0
+      computed b n = (if b then fault_in (record o { frames = f ∷ fs }) fault.NoResult else (leave (set_temp (record o { frames = f ∷ fs }) (f.temp + f.into) n) f fs, NoEffect)).0
 
       value_returns : (n : ℤ) (b : Bool) → same_integer n unset ≡ b → (n ≡ unset → ⊥)
           → PartOf G (gone (return_value (configuration s G.p) env N.on.left.1.frame.owner k t (Ordinal n))) before (computed b n)
       value_returns n true e d = absurd (d (integer_is n unset e))
       value_returns n false e d =
           let v = a.Known (base_of_type (named_type env.globals t)) n in
-          went G s before (record o { frames = f ∷ fs }) N.part (forget N.on.left.1.frame.owner s.store) (leave (set_temp (record o { frames = f ∷ fs }) f.into n) f fs) (with_answer v k)
-          (caller_on (slice_set o.temps f.into n) f.place (caller.1 + 1) (with_answer v k) (length-set o.temps f.into n) (answer n) A.2 (marks v) (others v))
+          went G s before (record o { frames = f ∷ fs }) N.part (forget N.on.left.1.frame.owner s.store) (leave (set_temp (record o { frames = f ∷ fs }) (f.temp + f.into) n) f fs) (with_answer v k)
+          (caller_on (slice_set o.temps (f.temp + f.into) n) f.place (caller.1 + 1) (with_answer v k) (length-set o.temps (f.temp + f.into) n) (answer n) A.2 (marks v) (others v))
           record { number = refl; input = refl; consumed = refl; output = refl; activity = refl }
 
       by : (v : Value) (n : ℤ) → s.store (result_location N.on.left.1.frame) ≡ v → ResultMeans v n

@@ -108,19 +108,28 @@ local_cells_apart g z x y p q n m u w a b c d F E e = by (local_apart g (result_
 -- ---- all owners of a process
 
 -- What is found in the process's own component.
-component_cell : (G : Ground) (xs : List Activation) (top q : ℕ) (x : Name) (path : Path) (n : ℕ) (u : ResolvedType) (a : ℕ) → InHead (scope G) u a → part_of_owner G xs (OfProcess q) x path ≡ Some (n, u)
-    → (G.p ≡ q) × ((s : System) × (system_of_process G.setup q ≡ Some s) × (member_part (scope G) (head_words (scope G) s) (declared.reported_members (scope G) s) x path ≡ Some (n, u)) × (head_words (scope G) s ≤ n) × (n + a < component_words (scope G) s))
-component_cell G xs top q x path n u a c h = by (nat_eq G.p q) refl h
+component_part : (G : Ground) (xs : List Activation) (q : ℕ) (x : Name) (path : Path) (n : ℕ) (u : ResolvedType) → part_of_owner G xs (OfProcess q) x path ≡ Some (n, u)
+    → (G.p ≡ q) × ((s : System) × (system_of_process G.setup q ≡ Some s) × (member_part (scope G) (head_words (scope G) s) (declared.reported_members (scope G) s) x path ≡ Some (n, u)))
+component_part G xs q x path n u h = by (nat_eq G.p q) refl h
   where
     inner : (o : Option System) → system_of_process G.setup q ≡ o → part_of_component (scope G) o x path ≡ Some (n, u)
-        → (s : System) × (system_of_process G.setup q ≡ Some s) × (member_part (scope G) (head_words (scope G) s) (declared.reported_members (scope G) s) x path ≡ Some (n, u)) × (head_words (scope G) s ≤ n) × (n + a < component_words (scope G) s)
+        → (s : System) × (system_of_process G.setup q ≡ Some s) × (member_part (scope G) (head_words (scope G) s) (declared.reported_members (scope G) s) x path ≡ Some (n, u))
     inner None e h = absurd (some_is_not_none (n, u) (sym h))
-    inner (Some s) e h = (s, e, h, member_above (scope G) (head_words (scope G) s) (declared.reported_members (scope G) s) x path n u h, omega (arith, member_fits (scope G) (head_words (scope G) s) (declared.reported_members (scope G) s) x path n u h, head_inside (scope G) u a c))
+    inner (Some s) e h = (s, e, h)
 
     by : (b : Bool) → nat_eq G.p q ≡ b → (if b then part_of_component (scope G) (system_of_process G.setup q) x path else None) ≡ Some (n, u)
-        → (G.p ≡ q) × ((s : System) × (system_of_process G.setup q ≡ Some s) × (member_part (scope G) (head_words (scope G) s) (declared.reported_members (scope G) s) x path ≡ Some (n, u)) × (head_words (scope G) s ≤ n) × (n + a < component_words (scope G) s))
+        → (G.p ≡ q) × ((s : System) × (system_of_process G.setup q ≡ Some s) × (member_part (scope G) (head_words (scope G) s) (declared.reported_members (scope G) s) x path ≡ Some (n, u)))
     by true e h = (eqb-true G.p q e, inner (system_of_process G.setup q) refl h)
     by false e h = absurd (some_is_not_none (n, u) (sym h))
+
+component_cell : (G : Ground) (xs : List Activation) (top q : ℕ) (x : Name) (path : Path) (n : ℕ) (u : ResolvedType) (a : ℕ) → InHead (scope G) u a → part_of_owner G xs (OfProcess q) x path ≡ Some (n, u)
+    → (G.p ≡ q) × ((s : System) × (system_of_process G.setup q ≡ Some s) × (member_part (scope G) (head_words (scope G) s) (declared.reported_members (scope G) s) x path ≡ Some (n, u)) × (head_words (scope G) s ≤ n) × (n + a < component_words (scope G) s))
+component_cell G xs top q x path n u a c h =
+    let C = component_part G xs q x path n u h in
+    let s = C.1.0 in
+    let at = head_words (scope G) s in
+    let ms = declared.reported_members (scope G) s in
+    (C.0, (s, C.1.1, C.1.2, member_above (scope G) at ms x path n u C.1.2, omega (arith, member_fits (scope G) at ms x path n u C.1.2, head_inside (scope G) u a c)))
 
 -- What is found in an activation of the process.
 record FoundActivation (G : Ground) (xs : List Activation) (q d : ℕ) (x : Name) (path : Path) (n : ℕ) (u : ResolvedType) : Type 0 where
@@ -222,6 +231,23 @@ module _ (G : Ground) (xs : List Activation) (top : ℕ) (stack : Stacked G top 
       by (OfActivation q d) (ByName x ∷ p) m h =
           let A = activation_cell G xs q d x p n u h in
           omega (arith, (local_cell_inside (scope G) A.activation x p n u a c A.found).1, (found_inside G top d xs A.activation stack A.is).0)
+      by (OfMonitor m) (ByName x ∷ p) mine h = absurd (true≢false (sym mine))
+
+  -- So does a part of any type, or it has no words and lies at the top.
+  pub part_below : (l : Location) (n : ℕ) (u : ResolvedType) → is_own G.p l.owner ≡ true → lies G xs l ≡ Some (n, u) → n ≤ top
+  part_below l n u mine h = by l.owner l.path mine h
+    where
+      by : (o : Owner) (p : Path) → is_own G.p o ≡ true → part_at G xs o p ≡ Some (n, u) → n ≤ top
+      by o [] m h = absurd (some_is_not_none (n, u) (sym h))
+      by o (ByIndex i ∷ p) m h = absurd (some_is_not_none (n, u) (sym h))
+      by (OfProcess q) (ByName x ∷ p) m h =
+          let C = component_part G xs q x p n u h in
+          let fits = member_fits (scope G) (head_words (scope G) C.1.0) (declared.reported_members (scope G) C.1.0) x p n u C.1.2 in
+          omega (arith, fits, bottom_below top xs stack C.1.0 (ap (system_of_process G.setup) C.0 ∙ C.1.1))
+      by (OfActivation q d) (ByName x ∷ p) m h =
+          let A = activation_cell G xs q d x p n u h in
+          let i = local_inside (scope G) (result_words A.activation.routine.result) (locals (scope G) A.activation.routine) x A.found.at A.found.variable A.found.is in
+          omega (arith, A.found.place, i.1, A.found.words, part_fits (scope G) A.found.variable.type p A.found.far u A.found.there, (found_inside G top d xs A.activation stack A.is).0)
       by (OfMonitor m) (ByName x ∷ p) mine h = absurd (true≢false (sym mine))
 
   -- ---- words that are no parts of variables

@@ -1,5 +1,5 @@
 -- The component that a call goes to: where it begins, and whether it was initialised.
-use Rattle.std.proofs.Common.{◌≡◌, ℕ, ◌+◌, ℤ, pos, List, [], ◌∷◌, Bool, true, false, Option, Some, None, refl, ap, sym, subst, ◌∙◌, arith}
+use Rattle.std.proofs.Common.{◌≡◌, ◌⊎◌, inl, inr, ℕ, ◌+◌, ◌≤◌, ◌<◌, ℤ, pos, List, [], ◌∷◌, Bool, true, false, Option, Some, None, refl, ap, sym, subst, ◌∙◌, arith}
 use Rattle.std.specs.Prelude.{if◌then◌else◌, not, ◌+ℤ◌}
 use Rattle.std.proofs.lemmas.Bool.{true≢false}
 use Rattle.std.proofs.lemmas.Int.{ints}
@@ -17,7 +17,7 @@ use Rattle.cp_model.specs.Operators.{realtime}
 use Rattle.cp_model.specs.Parts.{is_own}
 use Rattle.cp_model.specs.States.{State, context}
 use Rattle.cp_model.specs.Stores.{Absent, ClassRight, Store, Value}
-use Rattle.cp_model.specs.Types.{ComponentOf}
+use Rattle.cp_model.specs.Types.{ComponentOf, ResolvedType}
 use Rattle.cp_code.specs.Terms as t
 use Rattle.cp_code.specs.Layout.{member, natural, right}
 use Rattle.cp_code.specs.Sites.{RightTo, TargetFor, TargetOf, system_of_callee}
@@ -26,10 +26,15 @@ use Rattle.cp_steps.specs.PrivateStates.{PrivateState}
 use Rattle.cp_steps.specs.Passing.{Called, class_called, class_right, component_called}
 use Rattle.cp_steps.specs.Steps.{alone, is_monitor}
 use Rattle.cp_steps.specs.Means.{MarkMeans}
-use Rattle.cp_steps.specs.Addresses.{Activation, ClassLies, ComponentLies, Ground, RightMeans, RightOf, activations, component_type, lies}
+use Rattle.cp_steps.specs.Addresses.{Activation, ClassLies, ComponentLies, Ground, MonitorLies, ProcessLies, RightMeans, RightOf, activations, component_type, lies, scope}
+use Rattle.cp_steps.specs.Left.{site}
 use Rattle.cp_steps.specs.PartOf.{DataMeans}
 use Rattle.cp_steps.proofs.Heres.{Sees, lies_any, member_lies}
+use Rattle.cp_steps.proofs.Apart.{InHead}
 use Rattle.cp_steps.proofs.Invoking.{TargetIs}
+use Rattle.cp_steps.proofs.Keeping.{right_place}
+use Rattle.cp_steps.proofs.RunningOn.{runs_room, runs_stacked}
+use Rattle.cp_steps.proofs.Separate.{OwnRight, bottom_below, cell_below, part_below}
 use Rattle.cp_steps.proofs.Stepping.{Now, clock_of}
 
 -- The mark of a class tells whether it was initialised.
@@ -59,11 +64,43 @@ module _ (G : Ground) (s : State) (before : List ℕ) (o : PrivateState) (i : Ta
       (ap (λ g. member g here.system n.name) (sym N.on.runs.globals) ∙ (h ∙ ap (λ g. Some (at, ComponentOf n.system (reported_members g n.system))) N.on.runs.globals))
       ∙ ap (λ k. Some (k + at, component_type G n.system)) (sym N.on.component)
 
+  -- The word of a right of the running component lies below what is passed.
+  pub right_below : (n : Component) (off : ℕ) → RightTo here n off → o.component + off < o.base + (site G N.on.running).words
+  right_below n off r =
+      by (right_place G (activations o.base o.frames (i ∷ l)) here.component here.system N.on.running.component off n.name r.variable sees.component N.on.runs.component
+      (ap (λ g. right g here.system n.name) (sym N.on.runs.globals) ∙ r.lies))
+    where
+      by : OwnRight G (N.on.running.component + off)
+          ⊎ ((lies G (activations o.base o.frames (i ∷ l)) here.component ≡ Some (N.on.running.component, component_type G here.system)) × InHead (scope G) (component_type G here.system) off × (1 ≤ off))
+          → o.component + off < o.base + (site G N.on.running).words
+      by (inl q) = omega (arith, N.on.component, q.2, bottom_below G (activations o.base o.frames (i ∷ l)) _ (runs_stacked G s.store o (i ∷ l) N.on) _ _ (runs_stacked G s.store o (i ∷ l) N.on) q.0 q.1)
+      by (inr q) =
+          omega (
+            arith,
+            N.on.component,
+            cell_below G (activations o.base o.frames (i ∷ l)) _ (runs_stacked G s.store o (i ∷ l) N.on) here.component N.on.running.component (component_type G here.system) off sees.component q.1 q.0,
+          )
+
+  -- What lies outside the activations lies among the process's own words.
+  pub lies_below : (j : Location) (n : ℕ) (u : ResolvedType) → is_own G.p j.owner ≡ true → lies G [] j ≡ Some (n, u) → n ≤ G.own
+  lies_below j n u own is =
+      let below = part_below G (activations o.base o.frames (i ∷ l)) (o.base + (site G N.on.running).words) (runs_stacked G s.store o (i ∷ l) N.on) j n u own (lies_any G (activations o.base o.frames (i ∷ l)) j _ is) in
+      omega (arith, below, runs_room G s.store o (i ∷ l) N.on, N.on.count)
+
+  component_below : o.component ≤ G.own
+  component_below = by N.on.runs.component
+    where
+      by : ComponentLies G here.component here.system N.on.running.component → o.component ≤ G.own
+      by (ProcessLies where' is zero') = omega (arith, zero', N.on.component)
+      by (MonitorLies m where' is from) = absurd (true≢false (sym (ap (λ (at : Location). is_own G.p at.owner) (sym where') ∙ sees.component)))
+      by (ClassLies sort is) = omega (arith, lies_below here.component N.on.running.component _ sees.component is, N.on.component)
+
   class_variable : (n : Component) (at : ℕ) → n.system.sort ≡ Class
       → member here.globals here.system n.name ≡ Some (at, ComponentOf n.system (reported_members here.globals n.system))
       → ClassTarget n (name_location here n) (class_called o (o.component + at))
   class_variable n at sort h = record {
     set_is = mark_is G (activations o.base o.frames (i ∷ l)) s.store o.words N.on.data_means (name_location here n) (o.component + at) n.system sees.component sort (class_lies n at h);
+    there = lies_below (name_location here n) (o.component + at) _ sees.component (class_lies n at h);
     system = refl;
     lies_there = λ callable. ClassLies sort (class_lies n at h);
     gate = refl;
@@ -91,6 +128,7 @@ module _ (G : Ground) (s : State) (before : List ℕ) (o : PrivateState) (i : Ta
       by (ClassRight j) is h = record {
         set_is = mark_is G (activations o.base o.frames (i ∷ l)) s.store o.words N.on.data_means j (class_right o at) n.system
             (ap (is_own G.p) (I.classes (name_location here n) j is) ∙ sees.component) sort h;
+        there = lies_below j (class_right o at) _ (ap (is_own G.p) (I.classes (name_location here n) j is) ∙ sees.component) h;
         system = refl;
         lies_there = λ callable. ClassLies sort h;
         gate = refl;
@@ -103,6 +141,7 @@ module _ (G : Ground) (s : State) (before : List ℕ) (o : PrivateState) (i : Ta
           let nothing : is_initialised (s.store (name_location here n)) ≡ false = ap is_initialised is in
           record {
             set_is = unset ∙ sym nothing;
+            there = omega (arith, itself, right_below n at r, runs_room G s.store o (i ∷ l) N.on, N.on.count);
             system = refl;
             lies_there = λ callable. absurd (true≢false (sym callable ∙ nothing));
             gate = refl;
@@ -117,6 +156,7 @@ module _ (G : Ground) (s : State) (before : List ℕ) (o : PrivateState) (i : Ta
       subst (λ z. TargetIs G (target (context G.setup s G.p) s.store here None) (component_called G.program (alone (realtime (clock_of G s)) o) o z) here.system) (sym h)
       record {
         set_is = refl;
+        there = component_below;
         system = refl;
         lies_there = λ callable. subst (ComponentLies G here.component here.system) (sym N.on.component) N.on.runs.component;
         gate = refl;

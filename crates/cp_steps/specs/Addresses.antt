@@ -13,7 +13,7 @@ use Rattle.cp_code.specs.Layout.{Part, farther, head_words, local, member_part, 
 use Rattle.cp_code.specs.Sites.{UnitText}
 use Rattle.cp_code.specs.StandsFor.{system_of_monitor, system_of_process}
 use Rattle.cp_steps.specs.PrivateStates as machine
-use Rattle.cp_steps.specs.Passing.{monitor_start}
+use Rattle.cp_steps.specs.Passing.{monitor_start, monitor_word}
 
 -- The program and what its units are the code of, the text, the process, and how many words are its own.
 pub record Ground : Type 0 where
@@ -99,7 +99,7 @@ pub data ComponentLies (G : Ground) (at : Location) (s : System) (n : ℕ) : Typ
 -- ---- Rights
 
 abbrev pub RightOf : Ground → System → Sort → Value → ℕ → ℤ → Type 0
-RightOf G s Monitor (MonitorRight m) at n = n ≡ pos m
+RightOf G s Monitor (MonitorRight m) at n = n ≡ monitor_word m
 RightOf G s Monitor Absent at n = n ≡ pos 0
 RightOf G s Class (ClassRight j) at n = lies G [] j ≡ Some (natural (pos at +ℤ n), component_type G s)
 RightOf G s Class Absent at n = n ≡ pos 0

@@ -1,5 +1,5 @@
 -- Calls, returns and `init` over words.
-use Rattle.std.specs.Prelude.{Bool, true, false, not, ℕ, zero, suc, ◌+◌, ◌-◌, pos, List, [], ◌∷◌, None, Some, if◌then◌else◌, length, nat_lt, slice_get}
+use Rattle.std.specs.Prelude.{Bool, true, false, not, ◌&&◌, ℕ, zero, suc, ◌+◌, ◌-◌, pos, List, [], ◌∷◌, None, Some, if◌then◌else◌, length, nat_le, nat_lt, slice_get}
 use Rattle.cp_model.specs.Integers.{same_integer}
 use Rattle.cp_model.specs.declared.state.Fault.TheVariants as fault
 use Rattle.cp_code.specs.Terms.{Argument}
@@ -14,7 +14,7 @@ abbrev pub innermost : ℕ → ℕ → ℕ
 innermost zero held = held
 innermost (suc g) held = suc g
 
--- Where a call leads back: the place, and the temp that takes a value.
+-- Where a call leads back: the place, and which temp of the caller takes a value.
 pub record Back : Type 0 where
   pub place : ℕ
   pub into : ℕ
@@ -25,7 +25,7 @@ frame_of o c back = record {
   base = o.base;
   temp = o.temp;
   component = o.component;
-  into = o.temp + back.into;
+  into = back.into;
   gate = c.gate;
   held = o.gate;
 }
@@ -42,14 +42,18 @@ enter o c u call back =
       frames = frame_of o c back ∷ o.frames;
     }
 
-abbrev pub has_room : PrivateState → Bool
-has_room o = nat_lt (length o.frames) o.limit
+-- Own words, temps and a frame are left for the unit, and its component is there.
+abbrev pub has_room : Outside → PrivateState → Call → CodeUnit → ℕ → Bool
+has_room w o call u component =
+    nat_lt (length o.frames) o.limit
+    && (nat_le (o.base + call.words + u.words) w.own
+    && (nat_le (o.temp + call.temps + u.temps) (length o.temps) && nat_le component (length o.words)))
 
 -- A unit that isn't there, or has no room, is not run.
-abbrev pub with_unit : Program → PrivateState → ℕ → (CodeUnit → Acting) → Acting
-with_unit program o n go = elim (slice_get program.units n) [
+abbrev pub with_unit : Program → Outside → PrivateState → Call → ℕ → (CodeUnit → Acting) → Acting
+with_unit program w o call component go = elim (slice_get program.units call.routine) [
   | None ↦ private_outcome o
-  | Some u ↦ if has_room o then go u else private_outcome o
+  | Some u ↦ if has_room w o call u component then go u else private_outcome o
 ]
 
 -- 0 is no monitor.
@@ -66,7 +70,7 @@ abbrev pub call_step : Program → Outside → PrivateState → Call → Back �
 call_step program w o call back =
     let c = component_called program w o call.target in
     let to = o.base + call.words in
-    with_unit program o call.routine (λ u.
+    with_unit program w o call c.component (λ u.
     provided c.is_set o fault.NotInitialised
     (when_passed (pass_all w to to call.arguments o) (λ p.
     (enter (start_words to u p) c u call back, gate_effect c.gate Enters))))
@@ -89,7 +93,7 @@ return_with o changed f fs false e = (leave changed f fs, e)
 return_with o changed f fs true e =
     if same_integer (word o.words o.base) unset
     then fault_in o fault.NoResult
-    else (leave (set_temp changed f.into (word o.words o.base)) f fs, e)
+    else (leave (set_temp changed (f.temp + f.into) (word o.words o.base)) f fs, e)
 
 abbrev pub with_frame : PrivateState → List Frame → (Frame → List Frame → Acting) → Acting
 with_frame o [] go = private_outcome o
@@ -107,7 +111,7 @@ class_at at = record { component = at; is_set = true; gate = 0 }
 abbrev pub init_class : Program → Outside → PrivateState → Call → ℕ → ℕ → Acting
 init_class program w o call at next =
     let from = o.base + call.words in
-    with_unit program o call.routine (λ u.
+    with_unit program w o call at (λ u.
     provided (same_integer (word o.words at) (pos 0)) o fault.InitialisedTwice
     (when_passed (pass_all w from at call.arguments o) (λ p.
     let q = set_word (settle p from at (length call.arguments)) at (pos 1) in
@@ -117,7 +121,7 @@ abbrev pub init_monitor : Program → Outside → PrivateState → Call → ℕ 
 init_monitor program w o call m next =
     let c = monitor_called program w m in
     let from = o.base + call.words in
-    with_unit program o call.routine (λ u.
+    with_unit program w o call c.component (λ u.
     provided (not c.is_set) o fault.InitialisedTwice
     (when_passed (pass_all w from c.component call.arguments o) (λ p.
     let q = settle p from c.component (length call.arguments) in

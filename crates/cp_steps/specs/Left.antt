@@ -147,7 +147,7 @@ abbrev pub CallerAt : Ground → ℕ → ℕ → ℕ → Option Name → machine
 CallerAt G n kept live None f place = (place ≡ f.place) × (live ≡ 0)
 CallerAt G n kept live (Some t) f place =
     (call : Call) × (into : ℕ) × (call.routine ≡ n) × (call.temps ≡ kept) × (live ≤ into)
-    × (operation_at G.program place ≡ Some (op.Function call into f.place)) × (f.into ≡ f.temp + into)
+    × (operation_at G.program place ≡ Some (op.Function call into f.place)) × (f.into ≡ into)
 
 abbrev pub result_of : Option Frame → Option Name
 result_of None = None

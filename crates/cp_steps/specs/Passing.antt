@@ -1,5 +1,5 @@
 -- Targets of calls over words, and the arguments that are passed.
-use Rattle.std.specs.Prelude.{Bool, true, not, ℕ, ◌+◌, ◌-◌, ℤ, pos, ◌+ℤ◌, ◌-ℤ◌, List, [], ◌∷◌, Option, None, Some, Result, Ok, Err, if◌then◌else◌, slice_get}
+use Rattle.std.specs.Prelude.{Bool, true, not, ◌&&◌, ℕ, ◌+◌, ◌-◌, ℤ, pos, ◌+ℤ◌, ◌-ℤ◌, List, [], ◌∷◌, Option, None, Some, Result, Ok, Err, if◌then◌else◌, length, nat_le, nat_lt, slice_get}
 use Rattle.cp_model.specs.Integers.{same_integer}
 use Rattle.cp_model.specs.Places.{within}
 use Rattle.cp_model.specs.declared.state.Fault.{Fault}
@@ -40,12 +40,27 @@ component_called program w o (target.ClassRight at) = class_called o (class_righ
 component_called program w o (target.Monitor m) = monitor_called program w m
 component_called program w o (target.MonitorRight at) = monitor_called program w (natural (word o.words (o.component + at)))
 
+-- ---- Places and numbers as words
+--
+-- Words have 32 bits, and there are fewer than 2 ^ 31 of them. What isn't there is told by 0.
+
+abbrev pub reference_word : PrivateState → ℕ → ℤ
+reference_word o at = if nat_le at (length o.words) then pos at else pos 0
+
+-- How far a class at the one place lies from the word at the other.
+abbrev pub distance_word : PrivateState → ℕ → ℕ → ℤ
+distance_word o at from =
+    if nat_le at (length o.words) && nat_le from (length o.words) then pos at -ℤ pos from else pos 0
+
+abbrev pub monitor_word : ℕ → ℤ
+monitor_word m = if nat_lt m 2147483648 then pos m else pos 0
+
 -- A right as it is handed on, to lie in the word `to`.
 abbrev pub right_word : PrivateState → ℕ → Target → ℤ
 right_word o to target.Own = pos 0
-right_word o to (target.Class at) = pos (o.component + at) -ℤ pos to
-right_word o to (target.ClassRight at) = pos (class_right o at) -ℤ pos to
-right_word o to (target.Monitor m) = pos m
+right_word o to (target.Class at) = distance_word o (o.component + at) to
+right_word o to (target.ClassRight at) = distance_word o (class_right o at) to
+right_word o to (target.Monitor m) = monitor_word m
 right_word o to (target.MonitorRight at) = word o.words (o.component + at)
 
 -- ---- Arguments
@@ -75,7 +90,7 @@ pass_one w to home o (Value at low high e) =
 pass_one w to home o (Copy at size from) =
     pass_result o (place_of (view_of w o) from) (λ a. pass_copy o (to + at) size a)
 pass_one w to home o (Reference at s) =
-    pass_result o (place_of (view_of w o) s) (λ a. pass_word o (to + at) (pos a))
+    pass_result o (place_of (view_of w o) s) (λ a. pass_word o (to + at) (reference_word o a))
 pass_one w to home o (Right at t) = pass_word o (to + at) (right_word o (home + at) t)
 
 abbrev pub unless_fault : Passing → (PrivateState → Passing) → Passing

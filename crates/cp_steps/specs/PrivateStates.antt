@@ -7,8 +7,8 @@ pub data Activity : Type 0 where
   NotBegun Running Waiting Ended : Activity
   Faulted : (f : Fault) → Activity
 
--- What a call keeps of its caller: where that goes on, the registers, the temp that takes the value, the monitor that was entered, or
--- 0, and the gate that is held behind it, or 0.
+-- What a call keeps of its caller: where that goes on, the registers, which of its temps takes the value, the monitor that was entered,
+-- or 0, and the gate that is held behind it, or 0.
 pub record Frame : Type 0 where
   pub place : ℕ
   pub base : ℕ

@@ -2,7 +2,7 @@
 --
 -- In a private step the words are the process's own. In a kernel step the shared words, of all monitors, follow behind them, so
 -- that both kinds of step are one function: an address at or above the number of own words lies in a monitor.
-use Rattle.std.specs.Prelude.{Bool, true, false, not, ℕ, zero, suc, ◌+◌, ℤ, pos, [], ◌∷◌, ◌++◌, Option, None, Some, if◌then◌else◌, int_le, length, slice_get}
+use Rattle.std.specs.Prelude.{Bool, true, false, not, ℕ, zero, suc, ◌+◌, ℤ, pos, [], ◌∷◌, ◌++◌, Option, None, Some, if◌then◌else◌, int_le, length, nat_lt, slice_get}
 use Rattle.cp_model.specs.Decimal.{decimal}
 use Rattle.cp_model.specs.Integers.{same_integer}
 use Rattle.cp_model.specs.Places.{within}
@@ -76,11 +76,14 @@ is_held (suc g) = true
 abbrev pub in_monitor : PrivateState → Acting → Acting
 in_monitor o x = if is_held o.gate then x else private_outcome o
 
+-- In a queue that isn't there nobody is delayed.
 abbrev pub delay : PrivateState → ℕ → ℕ → Acting
 delay o at next =
     in_monitor o
-    (provided (int_le (word o.words at) (pos 0)) o fault.QueueTaken
-    (go_to next (set_word o at (pos o.number)), Delays o.gate at))
+    (if nat_lt at (length o.words)
+    then provided (int_le (word o.words at) (pos 0)) o fault.QueueTaken
+    (go_to next (set_word o at (pos o.number)), Delays o.gate at)
+    else private_outcome o)
 
 abbrev pub continue : PrivateState → ℕ → Bool → Acting
 continue o at function =
