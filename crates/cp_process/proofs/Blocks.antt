@@ -167,6 +167,35 @@ copied_there ws to from count there is = by (leb_tells count there)
         let lt : there < count = e.1 in
         sym (clip there count to from ws ws (omega arith) (omega arith))
 
+-- Places that are told as the greatest number are no places of words.
+pub copied_capped : (ws : List ℤ) (to from i j count : ℕ) → length ws < 2 ^ 32 → capped i ≡ to → capped j ≡ from
+    → paste to (block ws from count) ws ≡ paste i (block ws j count) ws
+copied_capped ws to from i j count small toward away =
+    ap (λ ns. paste to ns ws) (blocks (leb_tells (2 ^ 32) j)) ∙ pastes (leb_tells (2 ^ 32) i)
+  where
+    nothing : (count a b : ℕ) → length ws ≤ a → length ws ≤ b → block ws a count ≡ block ws b count
+    nothing zero a b h k = refl
+    nothing (suc n) a b h k = λ t. (get_or_past ws a (pos 0) h ∙ sym (get_or_past ws b (pos 0) k)) t ∷ nothing n (suc a) (suc b) (omega arith) (omega arith) t
+
+    blocks : ((leb (2 ^ 32) j ≡ true) × (2 ^ 32 ≤ j)) ⊎ ((leb (2 ^ 32) j ≡ false) × (j < 2 ^ 32)) → block ws from count ≡ block ws j count
+    blocks (inl h) =
+        let far : 2 ^ 32 ≤ j = h.1 in
+        nothing count from j (omega arith) (omega arith)
+    blocks (inr h) =
+        let near : j < 2 ^ 32 = h.1 in
+        let same : from ≡ j = omega arith in
+        ap (λ k. block ws k count) same
+
+    pastes : ((leb (2 ^ 32) i ≡ true) × (2 ^ 32 ≤ i)) ⊎ ((leb (2 ^ 32) i ≡ false) × (i < 2 ^ 32))
+        → paste to (block ws j count) ws ≡ paste i (block ws j count) ws
+    pastes (inl h) =
+        let far : 2 ^ 32 ≤ i = h.1 in
+        paste_beyond (block ws j count) to ws (omega arith) ∙ sym (paste_beyond (block ws j count) i ws (omega arith))
+    pastes (inr h) =
+        let near : i < 2 ^ 32 = h.1 in
+        let same : to ≡ i = omega arith in
+        ap (λ k. paste k (block ws j count) ws) same
+
 -- ---- Repeats
 
 pub repeated_nothing : (k at size : ℕ) (ws : List ℤ) → size ≡ 0 → repeated at size k ws ≡ ws

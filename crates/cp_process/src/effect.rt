@@ -13,13 +13,7 @@ pub enum Effect {
     /// It has initialised the process.
     Starts(u32),
     /// It stands in a queue of the monitor, told by its place.
-    Delays {
-        monitor: u32,
-        queue: u32,
-    },
+    Delays { monitor: u32, queue: u32 },
     /// It has left the monitor by `continue`: what the word of the queue held is the number of the process that stood in it, or 0.
-    Continues {
-        monitor: u32,
-        resumed: i32,
-    },
+    Continues { monitor: u32, resumed: i32 },
 }

@@ -1,7 +1,12 @@
 //! The private state of a process, and its steps.
 #![tactic(auto)]
 
+pub mod assignments;
+pub mod changing;
+pub mod counting;
 pub mod effect;
 pub mod outside;
 pub mod private;
+pub mod reading;
+pub mod standards;
 pub mod words;

@@ -20,10 +20,7 @@ pub enum Stage {
     /// It waits for the gate of this monitor.
     Asking(u32),
     /// It stands in a queue of this monitor, which is this one of the shared words.
-    Delayed {
-        monitor: u32,
-        queue: u32,
-    },
+    Delayed { monitor: u32, queue: u32 },
 }
 
 /// What a step reads beside: the clock, the input of the process, and what the kernel tells.

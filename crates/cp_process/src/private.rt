@@ -1,6 +1,6 @@
 //! The private state of a process.
 
-ghost use Rattle.std.specs.Prelude.{◌≡◌, ◌≤◌, ◌<◌, ◌^◌, length};
+ghost use Rattle.std.specs.Prelude.{◌≤◌, ◌<◌, ◌^◌, length};
 
 use cp_model::state::Fault;
 use smallvec::SmallVec;
