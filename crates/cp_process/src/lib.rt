@@ -2,11 +2,14 @@
 #![tactic(auto)]
 
 pub mod assignments;
+mod called;
 pub mod changing;
 pub mod counting;
 pub mod effect;
+pub mod frames;
 pub mod outside;
 pub mod private;
 pub mod reading;
 pub mod standards;
+pub mod targets;
 pub mod words;

@@ -1,0 +1,20 @@
+//! What a call finds, and where it leads back.
+
+/// The component that is called.
+#[derive(Clone, Copy, Debug, PartialEq, Eq)]
+pub(crate) struct Called {
+    /// Its first word.
+    pub(crate) component: usize,
+    /// Whether it was initialised.
+    pub(crate) is_set: bool,
+    /// The monitor that is entered, or 0.
+    pub(crate) gate: u32,
+}
+
+/// Where a call leads back.
+#[derive(Clone, Copy, Debug, PartialEq, Eq)]
+pub(crate) struct Back {
+    pub(crate) place: u32,
+    /// The temp of the caller that takes the value.
+    pub(crate) into: u32,
+}
