@@ -8,6 +8,7 @@ pub mod counting;
 pub mod effect;
 pub mod frames;
 pub mod outside;
+pub mod passing;
 pub mod private;
 pub mod reading;
 pub mod standards;

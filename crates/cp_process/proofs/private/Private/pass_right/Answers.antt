@@ -1,0 +1,15 @@
+use Rattle.std.proofs.Common.{rules, arith, ◌≡◌, ◌+◌, ◌<◌, ◌^◌, ◌++◌, true, false, Ok, Err, None, Some, length, refl, to_z, of_z, ap, sym, ◌∙◌}
+use Rattle.std.specs.Int.{w32}
+use Rattle.cp_model.specs.Places.{within}
+use Rattle.cp_steps.specs.Passing as plain
+use Rattle.cp_process.specs.States.{joined}
+use Rattle.cp_process.proofs.Results.{placed, unplaced}
+use Rattle.cp_process.proofs.private.Private.pass_right.Goals as goal
+
+pub returns : goal.returns
+returns c =
+    λ input.
+    let whole : to_z w32 (of_z w32 c.right_word-word.result) ≡ c.right_word-word.result = search rules in
+    let value = whole ∙ c.right_word-word.ensures input in
+    let written = rw value at (c.set_word.ensures input c.args.at (omega (arith, c.requires.at))) in
+    λ i. record { own = sym written i; fault = None }
