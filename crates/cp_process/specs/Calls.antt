@@ -1,5 +1,5 @@
 -- What a call finds, what it returns, and what is known once arguments were passed.
-use Rattle.std.specs.Prelude.{Bool, true, false, ◌+◌, ℤ, Option, None, Some, Result, Ok, Err, if◌then◌else◌}
+use Rattle.std.specs.Prelude.{◌≤◌, ◌<◌, ℕ, Bool, true, false, ◌+◌, ℤ, List, length, Option, None, Some, Result, Ok, Err, if◌then◌else◌}
 use Rattle.cp_model.specs.Integers.{same_integer}
 use Rattle.cp_model.specs.declared.state.Fault.{Fault}
 use Rattle.cp_model.specs.declared.state.Fault.TheVariants as fault
@@ -10,6 +10,9 @@ use Rattle.cp_steps.specs.Calling as calling
 use Rattle.cp_steps.specs.Passing as passing
 use Rattle.cp_process.specs.declared.called.Called.{Called}
 use Rattle.cp_process.specs.declared.called.Back.{Back}
+use Rattle.cp_process.specs.declared.private.Private.{Private}
+use Rattle.cp_threaded.specs.declared.operation.Call.{Call}
+use Rattle.cp_threaded.specs.declared.program.CodeUnit.{CodeUnit}
 
 abbrev pub called : Called → passing.Called
 called c = record { component = c.component; is_set = c.is_set; gate = c.gate }
@@ -32,3 +35,10 @@ value_to_return o true =
 abbrev pub returning : PrivateState → states.Frame → Option ℤ → PrivateState
 returning o f None = o
 returning o f (Some n) = set_temp o (f.temp + f.into) n
+
+-- What is left for a unit that is called.
+pub record HasRoom (x : Private) (shared : List ℤ) (call : Call) (u : CodeUnit) (place : ℕ) : Type 0 where
+  pub frames : x.depth < length x.frames.items
+  pub words : x.base + call.words + u.words ≤ length x.words.items
+  pub temps : x.temp + call.temps + u.temps ≤ length x.temps.items
+  pub component : place ≤ length x.words.items + length shared

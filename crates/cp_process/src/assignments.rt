@@ -18,7 +18,7 @@ use cp_threaded::operation::Table;
 use cp_threaded::term::{Spot, Term};
 
 /// The bounds of what may be assigned.
-#[derive(Clone, Copy, Debug, PartialEq, Eq)]
+#[derive(Clone, Copy)]
 pub(crate) struct Bounds {
     pub(crate) low: i32,
     pub(crate) high: i32,

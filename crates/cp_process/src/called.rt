@@ -1,7 +1,7 @@
 //! What a call finds, and where it leads back.
 
 /// The component that is called.
-#[derive(Clone, Copy, Debug, PartialEq, Eq)]
+#[derive(Clone, Copy)]
 pub(crate) struct Called {
     /// Its first word.
     pub(crate) component: usize,
@@ -12,7 +12,7 @@ pub(crate) struct Called {
 }
 
 /// Where a call leads back.
-#[derive(Clone, Copy, Debug, PartialEq, Eq)]
+#[derive(Clone, Copy)]
 pub(crate) struct Back {
     pub(crate) place: u32,
     /// The temp of the caller that takes the value.

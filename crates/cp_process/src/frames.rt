@@ -30,7 +30,7 @@ pub(crate) fn enters(gate: u32) -> Effect
     }
 }
 
-fn leaves(gate: u32) -> Effect
+pub(crate) fn leaves(gate: u32) -> Effect
     ensures { effect result ≡ plain.gate_effect gate Leaves }
 {
     if gate == 0 {
@@ -98,8 +98,8 @@ impl Private {
         self.keep(frame);
     }
 
-    // The value that the running routine returns, if it is a function.
-    fn value_to_return(&self, shared: &[i32], function: bool) -> Result<Option<i32>, Fault>
+    /// The value that the running routine returns, if it is a function.
+    pub(crate) fn value_to_return(&self, shared: &[i32], function: bool) -> Result<Option<i32>, Fault>
         requires { length shared.now < 2 ^ 30 }
         ensures { (input : List ℕ) → result ≡ value_to_return (joined self.now input shared.now)
             function }
@@ -114,8 +114,8 @@ impl Private {
         Ok(Some(value))
     }
 
-    // Back in the caller, which gets the value.
-    fn return_to(&mut self, caller: Frame, value: Option<i32>)
+    /// Back in the caller, which gets the value.
+    pub(crate) fn return_to(&mut self, caller: Frame, value: Option<i32>)
         requires { 0 < self.old.depth }
         ensures { (input : List ℕ) (shared : List ℤ) → joined self.new input shared ≡ plain.leave
             (returning (joined self.old input shared) (view_frame caller) value) (view_frame caller)

@@ -3,6 +3,7 @@
 
 pub mod assignments;
 mod called;
+pub mod calls;
 pub mod changing;
 pub mod counting;
 pub mod effect;
@@ -11,6 +12,7 @@ pub mod outside;
 pub mod passing;
 pub mod private;
 pub mod reading;
+pub mod returns;
 pub mod standards;
 pub mod targets;
 pub mod words;

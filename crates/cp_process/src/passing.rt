@@ -17,7 +17,7 @@ use cp_threaded::operation::{Argument, Target};
 use cp_threaded::term::{Spot, Term};
 
 /// Where arguments are put: their first word, and the first word of the activation or component that they are of in the end.
-#[derive(Clone, Copy, Debug, PartialEq, Eq)]
+#[derive(Clone, Copy)]
 pub(crate) struct Destination {
     pub(crate) to: usize,
     pub(crate) home: usize,

@@ -18,7 +18,7 @@ pub enum Activity {
 }
 
 /// What a call keeps of its caller.
-#[derive(Clone, Copy, Debug, Default, PartialEq, Eq)]
+#[derive(Clone, Copy, Debug, Default)]
 pub(crate) struct Frame {
     /// Where the caller goes on.
     pub(crate) place: u32,
