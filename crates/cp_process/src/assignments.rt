@@ -1,12 +1,12 @@
 //! Assignments, and what chooses the operation that comes next.
 
-ghost use Rattle.std.specs.Prelude.{◌≡◌, ◌<◌, ◌^◌, ℕ, pos, List, if◌then◌else◌, length};
+ghost use Rattle.std.specs.Prelude.{◌≡◌, ◌<◌, ◌^◌, ℕ, ℤ, pos, List, if◌then◌else◌, length};
 ghost use Rattle.cp_code.specs.Tables.{place_in};
 ghost use Rattle.cp_model.specs.Integers.{same_integer};
 ghost use Rattle.cp_model.specs.Places.{within};
 ghost use Rattle.cp_steps.specs.Steps as plain;
-ghost use Rattle.cp_steps.specs.PrivateStates.{go_to, private_outcome};
-ghost use Rattle.cp_process.specs.States.{joined, outcome, outside_of};
+ghost use Rattle.cp_steps.specs.PrivateStates.{NoEffect, go_to, private_outcome};
+ghost use Rattle.cp_process.specs.States.{effect, joined, outcome, outside_of};
 ghost use Rattle.cp_threaded.specs.Reaches.{capped};
 ghost use Rattle.cp_threaded.specs.View as view;
 
@@ -25,6 +25,14 @@ pub(crate) struct Bounds {
 }
 
 impl Bounds {
+    #[inline(always)]
+    pub(crate) fn new(low: i32, high: i32) -> Bounds
+        ensures low { result.low ≡ low }
+        ensures high { result.high ≡ high }
+    {
+        Bounds { low, high }
+    }
+
     #[inline(always)]
     pub(crate) fn contain(self, n: i32) -> bool
         ensures { result ≡ within self.low self.high n }
@@ -165,5 +173,16 @@ impl Private {
             }
             None => Err(Fault::NoLabel),
         }
+    }
+
+    /// Leads to the operation at a place.
+    #[inline(always)]
+    pub(crate) fn go_to(&mut self, place: u32) -> Effect
+        ensures effect { effect result ≡ NoEffect }
+        ensures step { (input : List ℕ) (shared : List ℤ) → joined self.new input shared ≡ go_to place
+            (joined self.old input shared) }
+    {
+        self.place = place;
+        Effect::None
     }
 }

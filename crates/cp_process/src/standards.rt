@@ -2,9 +2,10 @@
 
 ghost use Rattle.std.specs.Prelude.{◌≡◌, ◌+◌, ◌*◌, ◌≤◌, ◌<◌, ◌^◌, ◌++◌, ℕ, ℤ, List, length, vec_capacity, vec_len};
 ghost use Rattle.cp_process.specs.Rooms.{HasRoomFor, KeepsRoom};
-ghost use Rattle.cp_process.specs.States.{joined, outcome, outside_of};
+ghost use Rattle.cp_process.specs.States.{effect, joined, outcome, outside_of};
 ghost use Rattle.cp_model.specs.StandardCalls as standard;
-ghost use Rattle.cp_steps.specs.PrivateStates.{go_to};
+ghost use Rattle.cp_steps.specs.PrivateStates as states;
+ghost use Rattle.cp_steps.specs.PrivateStates.{NoEffect, go_to};
 ghost use Rattle.cp_steps.specs.Steps as plain;
 ghost use Rattle.cp_threaded.specs.Reaches.{capped};
 ghost use Rattle.cp_threaded.specs.View as view;
@@ -12,7 +13,7 @@ ghost use Rattle.cp_threaded.specs.View as view;
 use crate::assignments::Bounds;
 use crate::effect::Effect;
 use crate::outside::Outside;
-use crate::private::Private;
+use crate::private::{Activity, Private};
 use cp_model::state::Fault;
 use cp_threaded::term::{Spot, Term};
 use itoa::Buffer;
@@ -141,5 +142,26 @@ impl Private {
             monitor,
             queue: at as u32,
         })
+    }
+
+    /// Waits for the clock.
+    pub(crate) fn wait(&mut self, next: u32) -> Effect
+        ensures effect { effect result ≡ NoEffect }
+        ensures step { (input : List ℕ) (shared : List ℤ) → let o = joined self.old input shared in
+            joined self.new input shared ≡ go_to next (record o { activity = states.Waiting }) }
+    {
+        self.activity = Activity::Waiting;
+        self.place = next;
+        Effect::None
+    }
+
+    /// Has no more to do.
+    pub(crate) fn end(&mut self) -> Effect
+        ensures effect { effect result ≡ NoEffect }
+        ensures step { (input : List ℕ) (shared : List ℤ) → let o = joined self.old input shared in
+            joined self.new input shared ≡ record o { activity = states.Ended } }
+    {
+        self.activity = Activity::Ended;
+        Effect::None
     }
 }

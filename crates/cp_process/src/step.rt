@@ -1,0 +1,110 @@
+//! One step of a process.
+
+ghost use Rattle.std.specs.Prelude.{◌≡◌, ◌<◌, ◌^◌, false, ℕ, [], Some, length};
+ghost use Rattle.cp_process.specs.Rooms.{HasRoomFor, KeepsRoom};
+ghost use Rattle.cp_process.specs.States.{effect, joined, outcome, outside_of};
+ghost use Rattle.cp_steps.specs.Steps as plain;
+ghost use Rattle.cp_threaded.specs.View as view;
+
+use crate::assignments::Bounds;
+use crate::called::Back;
+use crate::effect::Effect;
+use crate::outside::Outside;
+use crate::private::{Activity, Private};
+use cp_model::state::Fault;
+use cp_threaded::operation::Operation;
+use cp_threaded::program::Program;
+
+impl Private {
+    // The step of an operation. Where it faults, no more than what was passed to a call has changed.
+    #[inline(always)]
+    fn act(
+        &mut self,
+        operation: &Operation,
+        program: &Program,
+        shared: &mut [i32],
+        outside: &Outside,
+    ) -> Result<Effect, Fault>
+        requires shared { length shared.old < 2 ^ 30 }
+        requires room { HasRoomFor self.old 1 }
+        ensures step { let w = outside_of outside.now (length self.old.words.items) in outcome
+            (joined self.new outside.now.input.now shared.new) result ≡ plain.act
+            (view.program program.now) w (joined self.old outside.now.input.now shared.old)
+            (view.operation operation.now) }
+    {
+        match operation {
+            Operation::Set {
+                to,
+                low,
+                high,
+                value,
+                next,
+            } => self.set(
+                shared,
+                outside,
+                to,
+                value,
+                Bounds::new(*low, *high),
+                *next,
+            ),
+            Operation::SetResult {
+                low,
+                high,
+                value,
+                next,
+            } => self.set_result(shared, outside, value, Bounds::new(*low, *high), *next),
+            Operation::CopyWords {
+                to,
+                from,
+                size,
+                next,
+            } => self.copy_words(shared, outside, to, from, *size, *next),
+            Operation::Test { value, yes, no } => self.test(shared, outside, value, *yes, *no),
+            Operation::Case { value, table } => self.choose(shared, outside, value, table),
+            Operation::For {
+                counting,
+                first,
+                last,
+            } => self.count_from(shared, outside, counting, first, last),
+            Operation::ForNext(counting) => self.count_on(shared, outside, counting),
+            Operation::Cycle { body } => Ok(self.go_to(*body)),
+            Operation::Procedure { call, next } => {
+                self.call(program, shared, outside, call, Back::new(*next, 0))
+            }
+            Operation::Function { call, into, next } => {
+                self.call(program, shared, outside, call, Back::new(*next, *into))
+            }
+            Operation::Return { function } => self.give_back(shared, outside, *function),
+            Operation::InitClass { call, next } => {
+                self.init_class(program, shared, outside, call, *next)
+            }
+            Operation::InitMonitor { call, next } => {
+                self.init_monitor(program, shared, outside, call, *next)
+            }
+            Operation::InitProcess {
+                process,
+                arguments,
+                words,
+                next,
+            } => self.init_process(program, shared, outside, *process, arguments, *words, *next),
+            Operation::EndBody => self.end_body(shared, outside),
+            Operation::End => Ok(self.end()),
+            Operation::Display {
+                value,
+                as_byte,
+                next,
+            } => self.display(shared, outside, value, *as_byte, *next),
+            Operation::Accept {
+                to,
+                low,
+                high,
+                next,
+            } => self.accept(shared, outside, to, Bounds::new(*low, *high), *next),
+            Operation::Delay { queue, next } => self.delay(shared, outside, queue, *next),
+            Operation::Continue { queue, function } => {
+                self.let_go(shared, outside, queue, *function)
+            }
+            Operation::Wait { next } => Ok(self.wait(*next)),
+        }
+    }
+}
