@@ -1,5 +1,5 @@
 -- The code's private state, and what a step reads beside and leaves, as the plain data of the definitions.
-use Rattle.std.specs.Prelude.{ℕ, zero, suc, ℤ, Bool, List, [], ◌∷◌, ◌++◌, Option, None, Some, Result, Ok, Err, length, slice_get}
+use Rattle.std.specs.Prelude.{◌≡◌, ℕ, zero, suc, ℤ, Bool, List, [], ◌∷◌, ◌++◌, Option, None, Some, Result, Ok, Err, length, slice_get}
 use Rattle.cp_model.specs.States as model
 use Rattle.cp_model.specs.declared.state.Fault.{Fault}
 use Rattle.cp_steps.specs.PrivateStates as plain
@@ -109,6 +109,11 @@ outside_of w own = record {
   is_set = λ m. kernel.is_set (holder_of w.holders.now m);
   is_started = λ r. kernel.is_started (stage_of w.stages.now r);
 }
+
+-- Nothing of the kernel is told.
+pub record IsAlone (w : Outside) : Type 0 where
+  pub holders : w.holders.now ≡ []
+  pub stages : w.stages.now ≡ []
 
 -- ---- Effects and outcomes
 

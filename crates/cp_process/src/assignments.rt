@@ -1,12 +1,12 @@
 //! Assignments, and what chooses the operation that comes next.
 
-ghost use Rattle.std.specs.Prelude.{◌≡◌, ◌<◌, ◌^◌, ℕ, ℤ, pos, List, if◌then◌else◌, length};
+ghost use Rattle.std.specs.Prelude.{◌≡◌, ◌<◌, ◌^◌, ℕ, pos, List, if◌then◌else◌, length};
 ghost use Rattle.cp_code.specs.Tables.{place_in};
 ghost use Rattle.cp_model.specs.Integers.{same_integer};
 ghost use Rattle.cp_model.specs.Places.{within};
 ghost use Rattle.cp_steps.specs.Steps as plain;
-ghost use Rattle.cp_steps.specs.PrivateStates.{NoEffect, go_to, private_outcome};
-ghost use Rattle.cp_process.specs.States.{effect, joined, outcome, outside_of};
+ghost use Rattle.cp_steps.specs.PrivateStates.{go_to, private_outcome};
+ghost use Rattle.cp_process.specs.States.{joined, outcome, outside_of};
 ghost use Rattle.cp_threaded.specs.Reaches.{capped};
 ghost use Rattle.cp_threaded.specs.View as view;
 
@@ -53,9 +53,10 @@ impl Private {
         next: u32,
     ) -> Result<Effect, Fault>
         requires { length shared.old < 2 ^ 30 }
-        ensures { (input : List ℕ) (place : ℕ) → capped place ≡ at
+        ensures step { (input : List ℕ) (place : ℕ) → capped place ≡ at
             → outcome (joined self.new input shared.new) result ≡ plain.set_within
             (joined self.old input shared.old) bounds.low bounds.high place n next }
+        ensures output { self.new.output ≡ self.old.output }
     {
         if !bounds.contain(n) {
             return Err(Fault::Range);
@@ -76,11 +77,12 @@ impl Private {
         next: u32,
     ) -> Result<Effect, Fault>
         requires { length shared.old < 2 ^ 30 }
-        ensures { let o = joined self.old outside.now.input.now shared.old in let w = outside_of
+        ensures step { let o = joined self.old outside.now.input.now shared.old in let w = outside_of
             outside.now (length self.old.words.items) in outcome
             (joined self.new outside.now.input.now shared.new) result ≡ plain.with_place w o
             (view.spot to.now) (λ at. plain.with_value w o (view.term value.now)
             (λ n. plain.set_within o bounds.low bounds.high at n next)) }
+        ensures output { self.new.output ≡ self.old.output }
     {
         let at = self.place(shared, outside, to)?;
         let n = self.value(shared, outside, value)?;
@@ -96,11 +98,12 @@ impl Private {
         next: u32,
     ) -> Result<Effect, Fault>
         requires { length shared.old < 2 ^ 30 }
-        ensures { let o = joined self.old outside.now.input.now shared.old in let w = outside_of
+        ensures step { let o = joined self.old outside.now.input.now shared.old in let w = outside_of
             outside.now (length self.old.words.items) in outcome
             (joined self.new outside.now.input.now shared.new) result ≡ plain.with_value w o
             (view.term value.now)
             (λ n. plain.set_within o bounds.low bounds.high o.base n next) }
+        ensures output { self.new.output ≡ self.old.output }
     {
         let n = self.value(shared, outside, value)?;
         let at = self.base as usize;
@@ -117,11 +120,12 @@ impl Private {
         next: u32,
     ) -> Result<Effect, Fault>
         requires { length shared.old < 2 ^ 30 }
-        ensures { let o = joined self.old outside.now.input.now shared.old in let w = outside_of
+        ensures step { let o = joined self.old outside.now.input.now shared.old in let w = outside_of
             outside.now (length self.old.words.items) in outcome
             (joined self.new outside.now.input.now shared.new) result ≡ plain.with_place w o
             (view.spot to.now) (λ at. plain.with_place w o (view.spot from.now)
             (λ b. plain.copy_words o at b size next)) }
+        ensures output { self.new.output ≡ self.old.output }
     {
         let at = self.place(shared, outside, to)?;
         let from = self.place(shared, outside, from)?;
@@ -140,11 +144,12 @@ impl Private {
         no: u32,
     ) -> Result<Effect, Fault>
         requires { length shared.now < 2 ^ 30 }
-        ensures { let o = joined self.old outside.now.input.now shared.now in let w = outside_of
+        ensures step { let o = joined self.old outside.now.input.now shared.now in let w = outside_of
             outside.now (length self.old.words.items) in outcome
             (joined self.new outside.now.input.now shared.now) result ≡ plain.with_value w o
             (view.term value.now)
             (λ n. private_outcome (go_to (if same_integer n (pos 1) then yes else no) o)) }
+        ensures output { self.new.output ≡ self.old.output }
     {
         let n = self.value(shared, outside, value)?;
         self.place = if n == 1 { yes } else { no };
@@ -159,11 +164,12 @@ impl Private {
         table: &Table,
     ) -> Result<Effect, Fault>
         requires { length shared.now < 2 ^ 30 }
-        ensures { let o = joined self.old outside.now.input.now shared.now in let w = outside_of
+        ensures step { let o = joined self.old outside.now.input.now shared.now in let w = outside_of
             outside.now (length self.old.words.items) in outcome
             (joined self.new outside.now.input.now shared.now) result ≡ plain.with_value w o
             (view.term value.now)
             (λ n. plain.go_to_arm o (place_in (view.table table.now) n)) }
+        ensures output { self.new.output ≡ self.old.output }
     {
         let n = self.value(shared, outside, value)?;
         match table.place(n) {
@@ -177,12 +183,18 @@ impl Private {
 
     /// Leads to the operation at a place.
     #[inline(always)]
-    pub(crate) fn go_to(&mut self, place: u32) -> Effect
-        ensures effect { effect result ≡ NoEffect }
-        ensures step { (input : List ℕ) (shared : List ℤ) → joined self.new input shared ≡ go_to place
-            (joined self.old input shared) }
+    pub(crate) fn go_to(
+        &mut self,
+        shared: &[i32],
+        outside: &Outside,
+        place: u32,
+    ) -> Result<Effect, Fault>
+        ensures step { let o = joined self.old outside.now.input.now shared.now in outcome
+            (joined self.new outside.now.input.now shared.now) result ≡ private_outcome
+            (go_to place o) }
+        ensures output { self.new.output ≡ self.old.output }
     {
         self.place = place;
-        Effect::None
+        Ok(Effect::None)
     }
 }

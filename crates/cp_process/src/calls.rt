@@ -81,10 +81,11 @@ impl Private {
         link: Back,
     ) -> Result<Effect, Fault>
         requires { length shared.old < 2 ^ 30 }
-        ensures { let o = joined self.old outside.now.input.now shared.old in let w = outside_of
+        ensures step { let o = joined self.old outside.now.input.now shared.old in let w = outside_of
             outside.now (length self.old.words.items) in outcome
             (joined self.new outside.now.input.now shared.new) result ≡ plain.call_step
             (view.program program.now) w o (view.call call.now) (back link) }
+        ensures output { self.new.output ≡ self.old.output }
     {
         let callee = self.called(program, shared, outside, call.target);
         let Some(unit) = self.unit_with_room(program, shared, call, callee.component) else {

@@ -16,17 +16,19 @@ impl Private {
     #[inline(always)]
     pub(crate) fn set_word(&mut self, shared: &mut [i32], at: usize, n: i32)
         requires { length shared.old < 2 ^ 30 }
-        ensures { (input : List ℕ) (place : ℕ) → capped place ≡ at
+        ensures step { (input : List ℕ) (place : ℕ) → capped place ≡ at
             → joined self.new input shared.new ≡ plain.set_word (joined self.old input shared.old)
             place n }
+        ensures output { self.new.output ≡ self.old.output }
     {
         words::write(&mut self.words, shared, at, n);
     }
 
     /// Writes the temp at a place. Nothing is written where it is missing.
     pub(crate) fn set_temp(&mut self, at: usize, n: i32)
-        ensures { (input : List ℕ) (shared : List ℤ) → joined self.new input shared ≡ plain.set_temp
+        ensures step { (input : List ℕ) (shared : List ℤ) → joined self.new input shared ≡ plain.set_temp
             (joined self.old input shared) at n }
+        ensures output { self.new.output ≡ self.old.output }
     {
         if at < self.temps.len() {
             self.temps[at] = n;
@@ -36,9 +38,10 @@ impl Private {
     /// Copies so many words. The places may be told as the greatest number.
     pub(crate) fn move_words(&mut self, shared: &mut [i32], to: usize, from: usize, count: usize)
         requires { length shared.old < 2 ^ 30 }
-        ensures { (input : List ℕ) (i j : ℕ) → capped i ≡ to → capped j ≡ from
+        ensures step { (input : List ℕ) (i j : ℕ) → capped i ≡ to → capped j ≡ from
             → let o = joined self.old input shared.old in joined self.new input shared.new
             ≡ record o { words = paste i (block o.words j count) o.words } }
+        ensures output { self.new.output ≡ self.old.output }
     {
         words::copy(&mut self.words, shared, to, from, count);
     }
@@ -47,9 +50,10 @@ impl Private {
     pub(crate) fn start_words(&mut self, shared: &mut [i32], base: usize, plan: &[Start])
         requires shared { length shared.old < 2 ^ 30 }
         requires base { base < 2 ^ 33 }
-        ensures { (input : List ℕ)
+        ensures step { (input : List ℕ)
             → let o = joined self.old input shared.old in joined self.new input shared.new
             ≡ record o { words = started base (map view.start plan.now) o.words } }
+        ensures output { self.new.output ≡ self.old.output }
     {
         words::start(&mut self.words, shared, base, plan);
     }

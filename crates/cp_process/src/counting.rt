@@ -37,10 +37,11 @@ impl Private {
         last: i32,
     ) -> Result<Effect, Fault>
         requires { length shared.old < 2 ^ 30 }
-        ensures { let o = joined self.old outside.now.input.now shared.old in let w = outside_of
+        ensures step { let o = joined self.old outside.now.input.now shared.old in let w = outside_of
             outside.now (length self.old.words.items) in outcome
             (joined self.new outside.now.input.now shared.new) result ≡ plain.count_to w o
             (view.counting counting.now) n last }
+        ensures output { self.new.output ≡ self.old.output }
     {
         let bounds = Bounds {
             low: counting.low,
@@ -68,11 +69,12 @@ impl Private {
         last: &Term,
     ) -> Result<Effect, Fault>
         requires { length shared.old < 2 ^ 30 }
-        ensures { let o = joined self.old outside.now.input.now shared.old in let w = outside_of
+        ensures step { let o = joined self.old outside.now.input.now shared.old in let w = outside_of
             outside.now (length self.old.words.items) in outcome
             (joined self.new outside.now.input.now shared.new) result ≡ plain.with_value w o
             (view.term first.now) (λ n. plain.with_value w o (view.term last.now)
             (λ m. plain.first_count w o (view.counting counting.now) n m)) }
+        ensures output { self.new.output ≡ self.old.output }
     {
         let n = self.value(shared, outside, first)?;
         let last = self.value(shared, outside, last)?;
@@ -91,11 +93,12 @@ impl Private {
         counting: &Counting,
     ) -> Result<Effect, Fault>
         requires { length shared.old < 2 ^ 30 }
-        ensures { let o = joined self.old outside.now.input.now shared.old in let w = outside_of
+        ensures step { let o = joined self.old outside.now.input.now shared.old in let w = outside_of
             outside.now (length self.old.words.items) in outcome
             (joined self.new outside.now.input.now shared.new) result ≡ plain.next_count w o
             (view.counting counting.now) (word o.temps (o.temp + counting.now.temp))
             (word o.temps (o.temp + counting.now.temp + 1)) }
+        ensures output { self.new.output ≡ self.old.output }
     {
         let temp = self.temp as usize + counting.temp as usize;
         let n = self.temp_at(temp);

@@ -31,8 +31,9 @@ impl Private {
         requires shared { length shared.old < 2 ^ 30 }
         requires from { from < 2 ^ 35 }
         requires to { to < 2 ^ 35 }
-        ensures { (input : List ℕ) → joined self.new input shared.new ≡ plain.settle
+        ensures step { (input : List ℕ) → joined self.new input shared.new ≡ plain.settle
             (joined self.old input shared.old) from to count }
+        ensures output { self.new.output ≡ self.old.output }
     {
         self.move_words(shared, to + 1, from + 1, count);
     }
@@ -47,11 +48,12 @@ impl Private {
         next: u32,
     ) -> Result<Effect, Fault>
         requires { length shared.old < 2 ^ 30 }
-        ensures { let o = joined self.old outside.now.input.now shared.old in let w = outside_of
+        ensures step { let o = joined self.old outside.now.input.now shared.old in let w = outside_of
             outside.now (length self.old.words.items) in let program = view.program program.now in outcome
             (joined self.new outside.now.input.now shared.new) result ≡ plain.init_class program w o
             (view.call call.now) (component_called program w o (view.target call.now.target)).component
             next }
+        ensures output { self.new.output ≡ self.old.output }
     {
         let at = self.called(program, shared, outside, call.target).component;
         let Some(unit) = self.unit_with_room(program, shared, call, at) else {
@@ -88,11 +90,12 @@ impl Private {
         next: u32,
     ) -> Result<Effect, Fault>
         requires { length shared.old < 2 ^ 30 }
-        ensures { let o = joined self.old outside.now.input.now shared.old in let w = outside_of
+        ensures step { let o = joined self.old outside.now.input.now shared.old in let w = outside_of
             outside.now (length self.old.words.items) in let program = view.program program.now in outcome
             (joined self.new outside.now.input.now shared.new) result ≡ plain.init_monitor program w
             o (view.call call.now) (component_called program w o (view.target call.now.target)).gate
             next }
+        ensures output { self.new.output ≡ self.old.output }
     {
         let number = self.called(program, shared, outside, call.target).gate;
         let monitor = self.monitor_called(program, outside, number);
@@ -127,10 +130,11 @@ impl Private {
         next: u32,
     ) -> Result<Effect, Fault>
         requires { length shared.old < 2 ^ 30 }
-        ensures { let o = joined self.old outside.now.input.now shared.old in let w = outside_of
+        ensures step { let o = joined self.old outside.now.input.now shared.old in let w = outside_of
             outside.now (length self.old.words.items) in outcome
             (joined self.new outside.now.input.now shared.new) result ≡ plain.init_process
             (view.program program.now) w o process (map view.argument arguments.now) words next }
+        ensures output { self.new.output ≡ self.old.output }
     {
         if outside.is_started(process) {
             return Err(Fault::InitialisedTwice);

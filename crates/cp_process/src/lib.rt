@@ -1,6 +1,7 @@
 //! The private state of a process, and its steps.
 #![tactic(auto)]
 
+mod alone;
 pub mod assignments;
 mod called;
 pub mod calls;
@@ -17,4 +18,6 @@ pub mod returns;
 pub mod standards;
 pub mod step;
 pub mod targets;
+pub mod turn;
+pub mod turns;
 pub mod words;

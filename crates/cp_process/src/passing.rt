@@ -35,10 +35,11 @@ impl Private {
     ) -> Result<(), Fault>
         requires shared { length shared.old < 2 ^ 30 }
         requires at { at < 2 ^ 36 }
-        ensures { (own : ℕ) → let o = joined self.old outside.now.input.now shared.old in passed
+        ensures step { (own : ℕ) → let o = joined self.old outside.now.input.now shared.old in passed
             (joined self.new outside.now.input.now shared.new) result ≡ plain.pass_result o
             (value_of (view_of (outside_of outside.now own) o) (view.term term.now))
             (λ n. plain.pass_value o at bounds.low bounds.high n) }
+        ensures output { self.new.output ≡ self.old.output }
     {
         let n = self.value(shared, outside, term)?;
         if !bounds.contain(n) {
@@ -58,10 +59,11 @@ impl Private {
     ) -> Result<(), Fault>
         requires shared { length shared.old < 2 ^ 30 }
         requires at { at < 2 ^ 36 }
-        ensures { (own : ℕ) → let o = joined self.old outside.now.input.now shared.old in passed
+        ensures step { (own : ℕ) → let o = joined self.old outside.now.input.now shared.old in passed
             (joined self.new outside.now.input.now shared.new) result ≡ plain.pass_result o
             (place_of (view_of (outside_of outside.now own) o) (view.spot from.now))
             (λ a. plain.pass_copy o at size a) }
+        ensures output { self.new.output ≡ self.old.output }
     {
         let from = self.place(shared, outside, from)?;
         self.move_words(shared, at, from, size as usize);
@@ -90,10 +92,11 @@ impl Private {
     ) -> Result<(), Fault>
         requires shared { length shared.old < 2 ^ 30 }
         requires at { at < 2 ^ 36 }
-        ensures { (own : ℕ) → let o = joined self.old outside.now.input.now shared.old in passed
+        ensures step { (own : ℕ) → let o = joined self.old outside.now.input.now shared.old in passed
             (joined self.new outside.now.input.now shared.new) result ≡ plain.pass_result o
             (place_of (view_of (outside_of outside.now own) o) (view.spot to.now))
             (λ a. plain.pass_word o at (plain.reference_word o a)) }
+        ensures output { self.new.output ≡ self.old.output }
     {
         let place = self.place(shared, outside, to)?;
         let word = self.reference_word(shared, place);
@@ -104,9 +107,10 @@ impl Private {
     fn pass_right(&mut self, shared: &mut [i32], at: usize, home: usize, of: Target)
         requires shared { length shared.old < 2 ^ 30 }
         requires at { at < 2 ^ 36 }
-        ensures { (input : List ℕ) → let o = joined self.old input shared.old in plain.pass_word o
+        ensures step { (input : List ℕ) → let o = joined self.old input shared.old in plain.pass_word o
             at (plain.right_word o home (view.target of))
             ≡ record { own = joined self.new input shared.new; fault = None } }
+        ensures output { self.new.output ≡ self.old.output }
     {
         let word = self.right_word(shared, home, of);
         self.set_word(shared, at, word);
@@ -120,9 +124,10 @@ impl Private {
         argument: &Argument,
     ) -> Result<(), Fault>
         requires { length shared.old < 2 ^ 30 }
-        ensures { (own : ℕ) → passed (joined self.new outside.now.input.now shared.new) result
+        ensures step { (own : ℕ) → passed (joined self.new outside.now.input.now shared.new) result
             ≡ plain.pass_one (outside_of outside.now own) destination.to destination.home
             (joined self.old outside.now.input.now shared.old) (view.argument argument.now) }
+        ensures output { self.new.output ≡ self.old.output }
     {
         let Destination { to, home } = destination;
         match argument {
@@ -161,10 +166,11 @@ impl Private {
         arguments: &[Argument],
     ) -> Result<(), Fault>
         requires { length shared.old < 2 ^ 30 }
-        ensures { (own : ℕ) → passed (joined self.new outside.now.input.now shared.new) result
+        ensures step { (own : ℕ) → passed (joined self.new outside.now.input.now shared.new) result
             ≡ plain.pass_all (outside_of outside.now own) destination.to destination.home
             (map view.argument arguments.now)
             (joined self.old outside.now.input.now shared.old) }
+        ensures output { self.new.output ≡ self.old.output }
     {
         for argument in arguments {
             self.pass_one(shared, outside, destination, argument)?;

@@ -23,9 +23,10 @@ impl Private {
         function: bool,
     ) -> Result<Effect, Fault>
         requires { length shared.now < 2 ^ 30 }
-        ensures { let o = joined self.old outside.now.input.now shared.now in outcome
+        ensures step { let o = joined self.old outside.now.input.now shared.now in outcome
             (joined self.new outside.now.input.now shared.now) result ≡ calling.with_frame o o.frames
             (λ f fs. calling.return_with o o f fs function (calling.gate_effect f.gate Leaves)) }
+        ensures output { self.new.output ≡ self.old.output }
     {
         let Some(frame) = self.innermost() else {
             return Ok(Effect::None);
@@ -38,9 +39,10 @@ impl Private {
     /// Ends the body of a component.
     pub(crate) fn end_body(&mut self, shared: &[i32], outside: &Outside) -> Result<Effect, Fault>
         requires { length shared.now < 2 ^ 30 }
-        ensures { let o = joined self.old outside.now.input.now shared.now in outcome
+        ensures step { let o = joined self.old outside.now.input.now shared.now in outcome
             (joined self.new outside.now.input.now shared.now) result ≡ calling.with_frame o o.frames
             (λ f fs. (calling.leave o f fs, calling.gate_effect f.gate Leaves)) }
+        ensures output { self.new.output ≡ self.old.output }
     {
         let Some(frame) = self.innermost() else {
             return Ok(Effect::None);
@@ -58,10 +60,11 @@ impl Private {
         function: bool,
     ) -> Result<Effect, Fault>
         requires { length shared.old < 2 ^ 30 }
-        ensures { let o = joined self.old outside.now.input.now shared.old in let w = outside_of
+        ensures step { let o = joined self.old outside.now.input.now shared.old in let w = outside_of
             outside.now (length self.old.words.items) in outcome
             (joined self.new outside.now.input.now shared.new) result ≡ plain.with_place w o
             (view.spot queue.now) (λ at. plain.continue o at function) }
+        ensures output { self.new.output ≡ self.old.output }
     {
         let at = self.place(shared, outside, queue)?;
         if self.gate == 0 {

@@ -2,10 +2,10 @@
 
 ghost use Rattle.std.specs.Prelude.{◌≡◌, ◌+◌, ◌*◌, ◌≤◌, ◌<◌, ◌^◌, ◌++◌, ℕ, ℤ, List, length, vec_capacity, vec_len};
 ghost use Rattle.cp_process.specs.Rooms.{HasRoomFor, KeepsRoom};
-ghost use Rattle.cp_process.specs.States.{effect, joined, outcome, outside_of};
+ghost use Rattle.cp_process.specs.States.{joined, outcome, outside_of};
 ghost use Rattle.cp_model.specs.StandardCalls as standard;
 ghost use Rattle.cp_steps.specs.PrivateStates as states;
-ghost use Rattle.cp_steps.specs.PrivateStates.{NoEffect, go_to};
+ghost use Rattle.cp_steps.specs.PrivateStates.{go_to, private_outcome};
 ghost use Rattle.cp_steps.specs.Steps as plain;
 ghost use Rattle.cp_threaded.specs.Reaches.{capped};
 ghost use Rattle.cp_threaded.specs.View as view;
@@ -94,10 +94,11 @@ impl Private {
         next: u32,
     ) -> Result<Effect, Fault>
         requires { length shared.old < 2 ^ 30 }
-        ensures { let o = joined self.old outside.now.input.now shared.old in let w = outside_of
+        ensures step { let o = joined self.old outside.now.input.now shared.old in let w = outside_of
             outside.now (length self.old.words.items) in outcome
             (joined self.new outside.now.input.now shared.new) result ≡ plain.with_place w o
             (view.spot to.now) (λ at. plain.accept o at bounds.low bounds.high next) }
+        ensures output { self.new.output ≡ self.old.output }
     {
         let at = self.place(shared, outside, to)?;
         let n = next_input(outside.input, self.consumed);
@@ -119,10 +120,11 @@ impl Private {
         next: u32,
     ) -> Result<Effect, Fault>
         requires { length shared.old < 2 ^ 30 }
-        ensures { let o = joined self.old outside.now.input.now shared.old in let w = outside_of
+        ensures step { let o = joined self.old outside.now.input.now shared.old in let w = outside_of
             outside.now (length self.old.words.items) in outcome
             (joined self.new outside.now.input.now shared.new) result ≡ plain.with_place w o
             (view.spot queue.now) (λ at. plain.delay o at next) }
+        ensures output { self.new.output ≡ self.old.output }
     {
         let at = self.place(shared, outside, queue)?;
         let monitor = self.gate;
@@ -145,23 +147,30 @@ impl Private {
     }
 
     /// Waits for the clock.
-    pub(crate) fn wait(&mut self, next: u32) -> Effect
-        ensures effect { effect result ≡ NoEffect }
-        ensures step { (input : List ℕ) (shared : List ℤ) → let o = joined self.old input shared in
-            joined self.new input shared ≡ go_to next (record o { activity = states.Waiting }) }
+    pub(crate) fn wait(
+        &mut self,
+        shared: &[i32],
+        outside: &Outside,
+        next: u32,
+    ) -> Result<Effect, Fault>
+        ensures step { let o = joined self.old outside.now.input.now shared.now in outcome
+            (joined self.new outside.now.input.now shared.now) result ≡ private_outcome
+            (go_to next (record o { activity = states.Waiting })) }
+        ensures output { self.new.output ≡ self.old.output }
     {
         self.activity = Activity::Waiting;
         self.place = next;
-        Effect::None
+        Ok(Effect::None)
     }
 
     /// Has no more to do.
-    pub(crate) fn end(&mut self) -> Effect
-        ensures effect { effect result ≡ NoEffect }
-        ensures step { (input : List ℕ) (shared : List ℤ) → let o = joined self.old input shared in
-            joined self.new input shared ≡ record o { activity = states.Ended } }
+    pub(crate) fn end(&mut self, shared: &[i32], outside: &Outside) -> Result<Effect, Fault>
+        ensures step { let o = joined self.old outside.now.input.now shared.now in outcome
+            (joined self.new outside.now.input.now shared.now) result ≡ private_outcome
+            (record o { activity = states.Ended }) }
+        ensures output { self.new.output ≡ self.old.output }
     {
         self.activity = Activity::Ended;
-        Effect::None
+        Ok(Effect::None)
     }
 }

@@ -2,7 +2,7 @@
 
 ghost use Rattle.std.specs.Prelude.{◌≡◌, ◌<◌, ◌^◌, false, ℕ, [], Some, length};
 ghost use Rattle.cp_process.specs.Rooms.{HasRoomFor, KeepsRoom};
-ghost use Rattle.cp_process.specs.States.{effect, joined, outcome, outside_of};
+ghost use Rattle.cp_process.specs.States.{IsAlone, effect, joined, outcome, outside_of, private_of};
 ghost use Rattle.cp_steps.specs.Steps as plain;
 ghost use Rattle.cp_threaded.specs.View as view;
 
@@ -12,7 +12,7 @@ use crate::effect::Effect;
 use crate::outside::Outside;
 use crate::private::{Activity, Private};
 use cp_model::state::Fault;
-use cp_threaded::operation::Operation;
+use cp_threaded::operation::{Operation, Target};
 use cp_threaded::program::Program;
 
 impl Private {
@@ -31,6 +31,7 @@ impl Private {
             (joined self.new outside.now.input.now shared.new) result ≡ plain.act
             (view.program program.now) w (joined self.old outside.now.input.now shared.old)
             (view.operation operation.now) }
+        ensures room { KeepsRoom self.old self.new }
     {
         match operation {
             Operation::Set {
@@ -67,7 +68,7 @@ impl Private {
                 last,
             } => self.count_from(shared, outside, counting, first, last),
             Operation::ForNext(counting) => self.count_on(shared, outside, counting),
-            Operation::Cycle { body } => Ok(self.go_to(*body)),
+            Operation::Cycle { body } => self.go_to(shared, outside, *body),
             Operation::Procedure { call, next } => {
                 self.call(program, shared, outside, call, Back::new(*next, 0))
             }
@@ -88,7 +89,7 @@ impl Private {
                 next,
             } => self.init_process(program, shared, outside, *process, arguments, *words, *next),
             Operation::EndBody => self.end_body(shared, outside),
-            Operation::End => Ok(self.end()),
+            Operation::End => self.end(shared, outside),
             Operation::Display {
                 value,
                 as_byte,
@@ -104,7 +105,78 @@ impl Private {
             Operation::Continue { queue, function } => {
                 self.let_go(shared, outside, queue, *function)
             }
-            Operation::Wait { next } => Ok(self.wait(*next)),
+            Operation::Wait { next } => self.wait(shared, outside, *next),
         }
+    }
+
+    // Makes the step of an operation. A fault ends the process.
+    #[inline(always)]
+    fn make(
+        &mut self,
+        operation: &Operation,
+        program: &Program,
+        shared: &mut [i32],
+        outside: &Outside,
+    ) -> Effect
+        requires shared { length shared.old < 2 ^ 30 }
+        requires room { HasRoomFor self.old 1 }
+        ensures step { let w = outside_of outside.now (length self.old.words.items) in
+            (joined self.new outside.now.input.now shared.new, effect result) ≡ plain.act
+            (view.program program.now) w (joined self.old outside.now.input.now shared.old)
+            (view.operation operation.now) }
+        ensures room { KeepsRoom self.old self.new }
+    {
+        match self.act(operation, program, shared, outside) {
+            Ok(effect) => effect,
+            Err(fault) => {
+                self.activity = Activity::Faulted(fault);
+                Effect::None
+            }
+        }
+    }
+
+    /// One step, if the next one is private; else nothing. Tells whether it was.
+    #[inline(always)]
+    pub(crate) fn private_step(&mut self, program: &Program, outside: &Outside) -> bool
+        requires alone { IsAlone outside.now }
+        requires room { HasRoomFor self.old 1 }
+        ensures step { private_of self.new outside.now.input.now ≡ plain.private_step
+            (view.program program.now) outside.now.clock
+            (private_of self.old outside.now.input.now) }
+        ensures rest { result ≡ false → plain.private_step (view.program program.now)
+            outside.now.clock (private_of self.old outside.now.input.now)
+            ≡ private_of self.old outside.now.input.now }
+        ensures room { KeepsRoom self.old self.new }
+    {
+        if !matches!(self.activity, Activity::Running) || self.gate != 0 {
+            return false;
+        }
+        let Some(operation) = program.operation(self.place) else {
+            return false;
+        };
+        if needs_kernel(operation) {
+            return false;
+        }
+        self.make(operation, program, &mut [], outside);
+        true
+    }
+}
+
+fn is_monitor(target: Target) -> bool
+    ensures { result ≡ plain.is_monitor (view.target target) }
+{
+    matches!(target, Target::Monitor(_) | Target::MonitorRight(_))
+}
+
+// Whether the step of an operation is the kernel's wherever it is made.
+#[inline(always)]
+fn needs_kernel(operation: &Operation) -> bool
+    ensures { result ≡ plain.is_kernel_operation (view.operation operation.now) }
+{
+    match operation {
+        Operation::Procedure { call, .. } => is_monitor(call.target),
+        Operation::Function { call, .. } => is_monitor(call.target),
+        Operation::InitMonitor { .. } | Operation::InitProcess { .. } => true,
+        _ => false,
     }
 }

@@ -7,30 +7,30 @@ use Rattle.cp_process.specs.States.{joined}
 use Rattle.cp_process.proofs.Results.{placed, unplaced}
 use Rattle.cp_process.proofs.private.Private.accept.Goals as goal
 
-pub returns-in_err-at : goal.returns-in_err-at
-returns-in_err-at c =
+pub returns-in_err-at-clause-step : goal.returns-in_err-at-clause-step
+returns-in_err-at-clause-step c =
     let own = length c.args.self.now.words.items in
     let input = c.args.outside.now.input.now in
     let given : c.from_residual.result ≡ Err c.in_err-at.field-0.0 = search rules in
     let is = unplaced _ _ (sym c.in_err-at.was ∙ c.place.ensures input own) in
     rw (given, is) refl
 
-pub returns-then-not-contain : goal.returns-then-not-contain
-returns-then-not-contain c =
+pub returns-then-not-contain-clause-step : goal.returns-then-not-contain-clause-step
+returns-then-not-contain-clause-step c =
     let own = length c.args.self.now.words.items in
     let input = c.args.outside.now.input.now in
     let to = placed _ _ (sym c.in_ok-at.was ∙ c.place.ensures input own) in
     let outside : within c.args.bounds.low c.args.bounds.high (next_input input c.args.self.now.consumed) ≡ false = search rules in
     rw (to.1, outside) refl
 
-pub returns : goal.returns
-returns c =
+pub returns-clause-step : goal.returns-clause-step
+returns-clause-step c =
     let own = length c.args.self.now.words.items in
     let input = c.args.outside.now.input.now in
     let consumed = c.args.self.now.consumed in
     let to = placed _ _ (sym c.in_ok-at.was ∙ c.place.ensures input own) in
     let inside : within c.args.bounds.low c.args.bounds.high (next_input input consumed) ≡ true = search rules in
     let taken : to_z w32 (of_z w32 c.next_input-n.result) ≡ next_input input consumed = search rules in
-    let written = rw taken at (c.set_word.ensures input to.0 to.2) in
+    let written = rw taken at (c.set_word.ensures.step input to.0 to.2) in
     rw (to.1, inside)
     ((λ i. private_outcome (go_to c.args.next (record (written i) { consumed = c.next_place-consumed.ensures i }))))

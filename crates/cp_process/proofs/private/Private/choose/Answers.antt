@@ -6,16 +6,16 @@ use Rattle.cp_threaded.specs.View as view
 use Rattle.cp_process.specs.States.{joined}
 use Rattle.cp_process.proofs.private.Private.choose.Goals as goal
 
-pub returns-in_err-n : goal.returns-in_err-n
-returns-in_err-n c =
+pub returns-in_err-n-clause-step : goal.returns-in_err-n-clause-step
+returns-in_err-n-clause-step c =
     let own = length c.args.self.now.words.items in
     let input = c.args.outside.now.input.now in
     let given : c.from_residual.result ≡ Err c.in_err-n.field-0.0 = search rules in
     let is = sym c.in_err-n.was ∙ c.value.ensures input own in
     rw (given, ← is) refl
 
-pub returns-in-Some : goal.returns-in-Some
-returns-in-Some c =
+pub returns-in-Some-clause-step : goal.returns-in-Some-clause-step
+returns-in-Some-clause-step c =
     let own = length c.args.self.now.words.items in
     let input = c.args.outside.now.input.now in
     let table = view.table c.args.table.now in
@@ -25,8 +25,8 @@ returns-in-Some c =
     let leads = sym c.in-Some.is ∙ c.place.ensures ∙ ap (place_in table) whole in
     rw (← is) (ap (go_to_arm o) leads)
 
-pub returns-in-None : goal.returns-in-None
-returns-in-None c =
+pub returns-in-None-clause-step : goal.returns-in-None-clause-step
+returns-in-None-clause-step c =
     let own = length c.args.self.now.words.items in
     let input = c.args.outside.now.input.now in
     let table = view.table c.args.table.now in

@@ -5,8 +5,8 @@ use Rattle.cp_model.specs.StatementSteps.{next_counter}
 use Rattle.cp_code.specs.Starts.{word}
 use Rattle.cp_process.proofs.private.Private.count_on.Goals as goal
 
-pub returns-in-Some : goal.returns-in-Some
-returns-in-Some c =
+pub returns-in-Some-clause-step : goal.returns-in-Some-clause-step
+returns-in-Some-clause-step c =
     let temps = c.args.self.now.temps.items in
     let t = c.args.self.now.temp + c.args.counting.now.temp in
     let n = word temps t in
@@ -14,4 +14,4 @@ returns-in-Some c =
     let apart : same_integer n last ≡ false = search rules in
     let next : to_z w32 (of_z w32 c.in-Some.n) ≡ next_counter c.args.counting.now.down n = search rules in
     let end : to_z w32 (of_z w32 c.temp_at-last.result) ≡ last = search rules in
-    rw apart (rw (next, end) at c.count_to.ensures)
+    rw apart (rw (next, end) at c.count_to.ensures.step)

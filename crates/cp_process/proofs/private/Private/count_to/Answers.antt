@@ -8,8 +8,8 @@ use Rattle.cp_threaded.specs.View as view
 use Rattle.cp_process.specs.States.{joined, outside_of}
 use Rattle.cp_process.proofs.private.Private.count_to.Goals as goal
 
-pub returns : goal.returns
-returns c =
+pub returns-clause-step : goal.returns-clause-step
+returns-clause-step c =
     let own = length c.args.self.now.words.items in
     let input = c.args.outside.now.input.now in
     let counting = c.args.counting.now in
@@ -23,8 +23,8 @@ returns c =
     let at : c.root_place-at.result ≡ place = c.root_place-at.ensures.place ∙ ap (λ v. root_place v root) view_is in
     let told : capped place ≡ c.root_place-at.result = omega (arith, c.root_place-at.ensures.small) in
     let t = o.temp + counting.temp in
-    let written = rw n at (c.set_word.ensures input place told) in
-    let counted = rw n at (c.set_temp.ensures input c.set_word.new.shared) in
-    let bounded = rw last at (c.set_temp-2.ensures input c.set_word.new.shared) in
+    let written = rw n at (c.set_word.ensures.step input place told) in
+    let counted = rw n at (c.set_temp.ensures.step input c.set_word.new.shared) in
+    let bounded = rw last at (c.set_temp-2.ensures.step input c.set_word.new.shared) in
     let all = bounded ∙ ap (λ x. set_temp x (t + 1) c.args.last) (counted ∙ ap (λ x. set_temp x t c.args.n) written) in
     rw inside (ap (λ x. private_outcome (go_to counting.body x)) all)

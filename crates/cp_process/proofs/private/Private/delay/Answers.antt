@@ -9,16 +9,16 @@ use Rattle.cp_process.specs.States.{joined}
 use Rattle.cp_process.proofs.Results.{held_none, held_some, placed, unplaced}
 use Rattle.cp_process.proofs.private.Private.delay.Goals as goal
 
-pub returns-in_err-at : goal.returns-in_err-at
-returns-in_err-at c =
+pub returns-in_err-at-clause-step : goal.returns-in_err-at-clause-step
+returns-in_err-at-clause-step c =
     let own = length c.args.self.now.words.items in
     let input = c.args.outside.now.input.now in
     let given : c.from_residual.result ≡ Err c.in_err-at.field-0.0 = search rules in
     let is = unplaced _ _ (sym c.in_err-at.was ∙ c.place.ensures input own) in
     rw (given, is) refl
 
-pub returns-then-monitor-eq0 : goal.returns-then-monitor-eq0
-returns-then-monitor-eq0 c =
+pub returns-then-monitor-eq0-clause-step : goal.returns-then-monitor-eq0-clause-step
+returns-then-monitor-eq0-clause-step c =
     let own = length c.args.self.now.words.items in
     let input = c.args.outside.now.input.now in
     let ws = c.args.self.now.words.items ++ c.args.shared.now in
@@ -26,8 +26,8 @@ returns-then-monitor-eq0 c =
     let none : c.args.self.now.gate ≡ 0 = omega arith in
     rw (to.1, held_none c.args.self.now.gate none) refl
 
-pub returns-then-len-shared : goal.returns-then-len-shared
-returns-then-len-shared c =
+pub returns-then-len-shared-clause-step : goal.returns-then-len-shared-clause-step
+returns-then-len-shared-clause-step c =
     let own = length c.args.self.now.words.items in
     let input = c.args.outside.now.input.now in
     let ws = c.args.self.now.words.items ++ c.args.shared.now in
@@ -37,8 +37,8 @@ returns-then-len-shared c =
     let beyond = le-ltb to.0 (length ws) (omega (arith, all, to.2)) in
     rw (to.1, held, beyond) refl
 
-pub returns-then-word-gt0 : goal.returns-then-word-gt0
-returns-then-word-gt0 c =
+pub returns-then-word-gt0-clause-step : goal.returns-then-word-gt0-clause-step
+returns-then-word-gt0-clause-step c =
     let own = length c.args.self.now.words.items in
     let input = c.args.outside.now.input.now in
     let ws = c.args.self.now.words.items ++ c.args.shared.now in
@@ -50,8 +50,8 @@ returns-then-word-gt0 c =
     let taken = rw (c.word.ensures input to.0 to.2) at over in
     rw (to.1, held, there, taken) refl
 
-pub returns : goal.returns
-returns c =
+pub returns-clause-step : goal.returns-clause-step
+returns-clause-step c =
     let own = length c.args.self.now.words.items in
     let input = c.args.outside.now.input.now in
     let ws = c.args.self.now.words.items ++ c.args.shared.now in
@@ -63,4 +63,4 @@ returns c =
     let free = rw (c.word.ensures input to.0 to.2) at under in
     let same : c.in_ok-at.at ≡ to.0 = omega (arith, all, to.2, c.args.self.now.facts, c.requires) in
     let number : to_z w32 c.args.self.now.number ≡ pos c.args.self.now.number = search rules in
-    rw (to.1, held, there, free) (λ i. (go_to c.args.next ((rw number at (c.set_word.ensures input to.0 to.2)) i), Delays c.args.self.now.gate (same i)))
+    rw (to.1, held, there, free) (λ i. (go_to c.args.next ((rw number at (c.set_word.ensures.step input to.0 to.2)) i), Delays c.args.self.now.gate (same i)))

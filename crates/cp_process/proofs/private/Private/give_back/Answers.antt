@@ -8,8 +8,8 @@ use Rattle.cp_process.proofs.Results.{held_none, held_some, placed, unplaced}
 use Rattle.cp_process.proofs.Returning.{returned, unreturned, written_after}
 use Rattle.cp_process.proofs.private.Private.give_back.Goals as goal
 
-pub returns-in_err-value : goal.returns-in_err-value
-returns-in_err-value c =
+pub returns-in_err-value-clause-step : goal.returns-in_err-value-clause-step
+returns-in_err-value-clause-step c =
     let input = c.args.outside.now.input.now in
     let shared = c.args.shared.now in
     let o = joined c.args.self.now input shared in
@@ -22,8 +22,8 @@ returns-in_err-value c =
     let is = sym c.in_err-value.was ∙ c.value_to_return.ensures input in
     rw given (sym (unreturned o o f fs (gate_effect f.gate Leaves) c.args.function c.in_err-value.field-0.0 is) ∙ sym here)
 
-pub returns : goal.returns
-returns c =
+pub returns-clause-step : goal.returns-clause-step
+returns-clause-step c =
     let input = c.args.outside.now.input.now in
     let shared = c.args.shared.now in
     let o = joined c.args.self.now input shared in
@@ -33,6 +33,6 @@ returns c =
     let is = sym c.in_ok-value.was ∙ c.value_to_return.ensures input in
     let go = λ (g : Frame) (gs : List Frame). return_with o o g gs c.args.function (gate_effect g.gate Leaves) in
     let here = ap (λ gs. with_frame o gs go) c.in-Some.ensures.2 in
-    let left = c.return_to.ensures input shared
+    let left = c.return_to.ensures.step input shared
     ∙ ap (λ n. leave (returning o f c.in_ok-value.value) f (frames_in n c.args.self.now.frames.items)) below in
     (λ i. (left i, c.leaves.ensures i)) ∙ sym (returned o o f fs (gate_effect f.gate Leaves) c.args.function c.in_ok-value.value is) ∙ sym here

@@ -15,8 +15,8 @@ use Rattle.cp_process.proofs.Calling.{init_by, init_done, init_rest, init_unit}
 use Rattle.cp_process.proofs.Kept.{all_kept, same_registers}
 use Rattle.cp_process.proofs.private.Private.init_class.Goals as goal
 
-pub returns-in_default : goal.returns-in_default
-returns-in_default c =
+pub returns-in_default-clause-step : goal.returns-in_default-clause-step
+returns-in_default-clause-step c =
     let x = c.args.self.now in
     let input = c.args.outside.now.input.now in
     let own = length x.words.items in
@@ -30,8 +30,8 @@ returns-in_default c =
     let named = ap (λ k. init_by program w o call next k.component) (c.called-at.ensures input) in
     sym (c.in_default.ensures.unit w input refl (init_unit program w o call next at)) ∙ named
 
-pub returns-then-word-ne0 : goal.returns-then-word-ne0
-returns-then-word-ne0 c =
+pub returns-then-word-ne0-clause-step : goal.returns-then-word-ne0-clause-step
+returns-then-word-ne0-clause-step c =
     let x = c.args.self.now in
     let input = c.args.outside.now.input.now in
     let own = length x.words.items in
@@ -52,8 +52,8 @@ returns-then-word-ne0 c =
     let tested = ap (λ b. provided b o fault.InitialisedTwice (init_rest program w o call next at unit)) (ap (λ n. same_integer n (pos 0)) (sym mark) ∙ set) in
     sym tested ∙ (sym there ∙ named)
 
-pub returns-in_err-pass_all : goal.returns-in_err-pass_all
-returns-in_err-pass_all c =
+pub returns-in_err-pass_all-clause-step : goal.returns-in_err-pass_all-clause-step
+returns-in_err-pass_all-clause-step c =
     let x = c.args.self.now in
     let input = c.args.outside.now.input.now in
     let own = length x.words.items in
@@ -73,7 +73,7 @@ returns-in_err-pass_all c =
     let unset : same_integer c.word.result (pos 0) ≡ true = search rules in
     let tested = ap (λ b. provided b o fault.InitialisedTwice (init_rest program w o call next at unit)) (ap (λ n. same_integer n (pos 0)) (sym mark) ∙ unset) in
     let done = init_done program w o call next at unit in
-    let passing = rw c.deref.ensures.value at c.pass_all.ensures own in
+    let passing = rw c.deref.ensures.value at c.pass_all.ensures.step own in
     let p = joined c.pass_all.new.self input c.pass_all.new.shared in
     let f = c.in_err-pass_all.field-0.0 in
     let given : c.from_residual.result ≡ Err f = search rules in
@@ -94,13 +94,13 @@ enter-requires-clause-frame c =
     let at = c.called-at.result.component in
     let place = c.in-Some.ensures.room.component in
     let told : capped at ≡ at = omega (arith, place, x.facts, c.requires) in
-    let passing = rw c.deref.ensures.value at c.pass_all.ensures own in
+    let passing = rw c.deref.ensures.value at c.pass_all.ensures.step own in
     let p = joined c.pass_all.new.self input c.pass_all.new.shared in
     let all = ap (passed p) (sym c.in_ok-pass_all.was) ∙ passing in
     let kept = ap (λ a. a.own) all ∙ all_kept call.arguments w from at o in
-    let settled = c.settle.ensures input ∙ ap (λ (q : PrivateState). record q { words = (settle p from at c.len.result).words }) kept in
+    let settled = c.settle.ensures.step input ∙ ap (λ (q : PrivateState). record q { words = (settle p from at c.len.result).words }) kept in
     let ws = (set_word (joined c.settle.new.self input c.settle.new.shared) at (pos 1)).words in
-    let marked = c.set_word.ensures input at told ∙ ap (λ (q : PrivateState). record q { words = ws }) settled in
+    let marked = c.set_word.ensures.step input at told ∙ ap (λ (q : PrivateState). record q { words = ws }) settled in
     let regs = same_registers x c.set_word.new.self input c.args.shared.now c.set_word.new.shared ws marked in
     let room = c.in-Some.ensures.room in
     omega (arith, regs.depth, regs.frames, room.frames)
@@ -119,13 +119,13 @@ enter-requires-clause-base c =
     let at = c.called-at.result.component in
     let place = c.in-Some.ensures.room.component in
     let told : capped at ≡ at = omega (arith, place, x.facts, c.requires) in
-    let passing = rw c.deref.ensures.value at c.pass_all.ensures own in
+    let passing = rw c.deref.ensures.value at c.pass_all.ensures.step own in
     let p = joined c.pass_all.new.self input c.pass_all.new.shared in
     let all = ap (passed p) (sym c.in_ok-pass_all.was) ∙ passing in
     let kept = ap (λ a. a.own) all ∙ all_kept call.arguments w from at o in
-    let settled = c.settle.ensures input ∙ ap (λ (q : PrivateState). record q { words = (settle p from at c.len.result).words }) kept in
+    let settled = c.settle.ensures.step input ∙ ap (λ (q : PrivateState). record q { words = (settle p from at c.len.result).words }) kept in
     let ws = (set_word (joined c.settle.new.self input c.settle.new.shared) at (pos 1)).words in
-    let marked = c.set_word.ensures input at told ∙ ap (λ (q : PrivateState). record q { words = ws }) settled in
+    let marked = c.set_word.ensures.step input at told ∙ ap (λ (q : PrivateState). record q { words = ws }) settled in
     let regs = same_registers x c.set_word.new.self input c.args.shared.now c.set_word.new.shared ws marked in
     let room = c.in-Some.ensures.room in
     omega (arith, regs.base, room.words, x.facts)
@@ -144,19 +144,19 @@ enter-requires-clause-temp c =
     let at = c.called-at.result.component in
     let place = c.in-Some.ensures.room.component in
     let told : capped at ≡ at = omega (arith, place, x.facts, c.requires) in
-    let passing = rw c.deref.ensures.value at c.pass_all.ensures own in
+    let passing = rw c.deref.ensures.value at c.pass_all.ensures.step own in
     let p = joined c.pass_all.new.self input c.pass_all.new.shared in
     let all = ap (passed p) (sym c.in_ok-pass_all.was) ∙ passing in
     let kept = ap (λ a. a.own) all ∙ all_kept call.arguments w from at o in
-    let settled = c.settle.ensures input ∙ ap (λ (q : PrivateState). record q { words = (settle p from at c.len.result).words }) kept in
+    let settled = c.settle.ensures.step input ∙ ap (λ (q : PrivateState). record q { words = (settle p from at c.len.result).words }) kept in
     let ws = (set_word (joined c.settle.new.self input c.settle.new.shared) at (pos 1)).words in
-    let marked = c.set_word.ensures input at told ∙ ap (λ (q : PrivateState). record q { words = ws }) settled in
+    let marked = c.set_word.ensures.step input at told ∙ ap (λ (q : PrivateState). record q { words = ws }) settled in
     let regs = same_registers x c.set_word.new.self input c.args.shared.now c.set_word.new.shared ws marked in
     let room = c.in-Some.ensures.room in
     omega (arith, regs.temp, room.temps, x.facts)
 
-pub returns : goal.returns
-returns c =
+pub returns-clause-step : goal.returns-clause-step
+returns-clause-step c =
     let x = c.args.self.now in
     let input = c.args.outside.now.input.now in
     let own = length x.words.items in
@@ -176,13 +176,13 @@ returns c =
     let unset : same_integer c.word.result (pos 0) ≡ true = search rules in
     let tested = ap (λ b. provided b o fault.InitialisedTwice (init_rest program w o call next at unit)) (ap (λ n. same_integer n (pos 0)) (sym mark) ∙ unset) in
     let done = init_done program w o call next at unit in
-    let passing = rw c.deref.ensures.value at c.pass_all.ensures own in
+    let passing = rw c.deref.ensures.value at c.pass_all.ensures.step own in
     let p = joined c.pass_all.new.self input c.pass_all.new.shared in
     let all = ap (passed p) (sym c.in_ok-pass_all.was) ∙ passing in
     let arguments = c.args.call.now.arguments.items in
     let count : c.len.result ≡ length (map view.argument arguments) = omega (arith, c.len.ensures, length-map arguments view.argument) in
     let link : Back = record { place = next; into = 0 } in
-    let settled = c.settle.ensures input ∙ ap (settle p from at) count in
-    let marked = c.set_word.ensures input at told ∙ ap (λ q. set_word q at (pos 1)) settled in
-    let entered = c.enter.ensures input c.set_word.new.shared ∙ ap (λ q. enter q (class_at at) unit call link) marked in
+    let settled = c.settle.ensures.step input ∙ ap (settle p from at) count in
+    let marked = c.set_word.ensures.step input at told ∙ ap (λ q. set_word q at (pos 1)) settled in
+    let entered = c.enter.ensures.step input c.set_word.new.shared ∙ ap (λ q. enter q (class_at at) unit call link) marked in
     ap private_outcome entered ∙ (ap (λ a. when_passed a done) all ∙ (sym tested ∙ (sym there ∙ named)))

@@ -15,8 +15,8 @@ use Rattle.cp_process.proofs.Calling.{open_by, open_done, open_rest, open_unit}
 use Rattle.cp_process.proofs.Kept.{all_kept, same_registers}
 use Rattle.cp_process.proofs.private.Private.init_monitor.Goals as goal
 
-pub returns-in_default : goal.returns-in_default
-returns-in_default c =
+pub returns-in_default-clause-step : goal.returns-in_default-clause-step
+returns-in_default-clause-step c =
     let x = c.args.self.now in
     let input = c.args.outside.now.input.now in
     let own = length x.words.items in
@@ -33,8 +33,8 @@ returns-in_default c =
     let named = ap (open_by program w o call next m) c.monitor_called-monitor.ensures ∙ numbered in
     sym (c.in_default.ensures.unit w input refl (open_unit program w o call next m callee)) ∙ named
 
-pub returns-then-monitor : goal.returns-then-monitor
-returns-then-monitor c =
+pub returns-then-monitor-clause-step : goal.returns-then-monitor-clause-step
+returns-then-monitor-clause-step c =
     let x = c.args.self.now in
     let input = c.args.outside.now.input.now in
     let own = length x.words.items in
@@ -55,8 +55,8 @@ returns-then-monitor c =
     let tested = ap (λ b. provided b o fault.InitialisedTwice (open_rest program w o call next m callee unit)) set in
     sym tested ∙ (sym there ∙ named)
 
-pub returns-in_err-pass_all : goal.returns-in_err-pass_all
-returns-in_err-pass_all c =
+pub returns-in_err-pass_all-clause-step : goal.returns-in_err-pass_all-clause-step
+returns-in_err-pass_all-clause-step c =
     let x = c.args.self.now in
     let input = c.args.outside.now.input.now in
     let own = length x.words.items in
@@ -76,7 +76,7 @@ returns-in_err-pass_all c =
     let unset : not callee.is_set ≡ true = search rules in
     let tested = ap (λ b. provided b o fault.InitialisedTwice (open_rest program w o call next m callee unit)) unset in
     let done = open_done program w o call next m callee unit in
-    let passing = rw c.deref.ensures.value at c.pass_all.ensures own in
+    let passing = rw c.deref.ensures.value at c.pass_all.ensures.step own in
     let p = joined c.pass_all.new.self input c.pass_all.new.shared in
     let f = c.in_err-pass_all.field-0.0 in
     let given : c.from_residual.result ≡ Err f = search rules in
@@ -97,12 +97,12 @@ enter-requires-clause-frame c =
     let m = c.called-number.result.gate in
     let callee = called c.monitor_called-monitor.result in
     let at = callee.component in
-    let passing = rw c.deref.ensures.value at c.pass_all.ensures own in
+    let passing = rw c.deref.ensures.value at c.pass_all.ensures.step own in
     let p = joined c.pass_all.new.self input c.pass_all.new.shared in
     let all = ap (passed p) (sym c.in_ok-pass_all.was) ∙ passing in
     let kept = ap (λ a. a.own) all ∙ all_kept call.arguments w from at o in
     let ws = (settle p from at c.len.result).words in
-    let settled = c.settle.ensures input ∙ ap (λ (q : PrivateState). record q { words = ws }) kept in
+    let settled = c.settle.ensures.step input ∙ ap (λ (q : PrivateState). record q { words = ws }) kept in
     let regs = same_registers x c.settle.new.self input c.args.shared.now c.settle.new.shared ws settled in
     let room = c.in-Some.ensures.room in
     omega (arith, regs.depth, regs.frames, room.frames)
@@ -121,12 +121,12 @@ enter-requires-clause-base c =
     let m = c.called-number.result.gate in
     let callee = called c.monitor_called-monitor.result in
     let at = callee.component in
-    let passing = rw c.deref.ensures.value at c.pass_all.ensures own in
+    let passing = rw c.deref.ensures.value at c.pass_all.ensures.step own in
     let p = joined c.pass_all.new.self input c.pass_all.new.shared in
     let all = ap (passed p) (sym c.in_ok-pass_all.was) ∙ passing in
     let kept = ap (λ a. a.own) all ∙ all_kept call.arguments w from at o in
     let ws = (settle p from at c.len.result).words in
-    let settled = c.settle.ensures input ∙ ap (λ (q : PrivateState). record q { words = ws }) kept in
+    let settled = c.settle.ensures.step input ∙ ap (λ (q : PrivateState). record q { words = ws }) kept in
     let regs = same_registers x c.settle.new.self input c.args.shared.now c.settle.new.shared ws settled in
     let room = c.in-Some.ensures.room in
     omega (arith, regs.base, room.words, x.facts)
@@ -145,18 +145,18 @@ enter-requires-clause-temp c =
     let m = c.called-number.result.gate in
     let callee = called c.monitor_called-monitor.result in
     let at = callee.component in
-    let passing = rw c.deref.ensures.value at c.pass_all.ensures own in
+    let passing = rw c.deref.ensures.value at c.pass_all.ensures.step own in
     let p = joined c.pass_all.new.self input c.pass_all.new.shared in
     let all = ap (passed p) (sym c.in_ok-pass_all.was) ∙ passing in
     let kept = ap (λ a. a.own) all ∙ all_kept call.arguments w from at o in
     let ws = (settle p from at c.len.result).words in
-    let settled = c.settle.ensures input ∙ ap (λ (q : PrivateState). record q { words = ws }) kept in
+    let settled = c.settle.ensures.step input ∙ ap (λ (q : PrivateState). record q { words = ws }) kept in
     let regs = same_registers x c.settle.new.self input c.args.shared.now c.settle.new.shared ws settled in
     let room = c.in-Some.ensures.room in
     omega (arith, regs.temp, room.temps, x.facts)
 
-pub returns : goal.returns
-returns c =
+pub returns-clause-step : goal.returns-clause-step
+returns-clause-step c =
     let x = c.args.self.now in
     let input = c.args.outside.now.input.now in
     let own = length x.words.items in
@@ -176,12 +176,12 @@ returns c =
     let unset : not callee.is_set ≡ true = search rules in
     let tested = ap (λ b. provided b o fault.InitialisedTwice (open_rest program w o call next m callee unit)) unset in
     let done = open_done program w o call next m callee unit in
-    let passing = rw c.deref.ensures.value at c.pass_all.ensures own in
+    let passing = rw c.deref.ensures.value at c.pass_all.ensures.step own in
     let p = joined c.pass_all.new.self input c.pass_all.new.shared in
     let all = ap (passed p) (sym c.in_ok-pass_all.was) ∙ passing in
     let arguments = c.args.call.now.arguments.items in
     let count : c.len.result ≡ length (map view.argument arguments) = omega (arith, c.len.ensures, length-map arguments view.argument) in
     let link : Back = record { place = next; into = 0 } in
-    let settled = c.settle.ensures input ∙ ap (settle p from at) count in
-    let entered = c.enter.ensures input c.settle.new.shared ∙ ap (λ q. enter q callee unit call link) settled in
+    let settled = c.settle.ensures.step input ∙ ap (settle p from at) count in
+    let entered = c.enter.ensures.step input c.settle.new.shared ∙ ap (λ q. enter q callee unit call link) settled in
     (λ i. (entered i, Opens m)) ∙ (ap (λ a. when_passed a done) all ∙ (sym tested ∙ (sym there ∙ named)))

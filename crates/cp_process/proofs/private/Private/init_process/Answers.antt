@@ -14,8 +14,8 @@ use Rattle.cp_process.specs.States.{joined, outcome, outside_of}
 use Rattle.cp_process.proofs.Kept.{all_kept, same_registers}
 use Rattle.cp_process.proofs.private.Private.init_process.Goals as goal
 
-pub returns : goal.returns
-returns c =
+pub returns-clause-step : goal.returns-clause-step
+returns-clause-step c =
     let x = c.args.self.now in
     let input = c.args.outside.now.input.now in
     let own = length x.words.items in
@@ -33,7 +33,7 @@ returns c =
     let p = joined c.pass_all.new.self input c.pass_all.new.shared in
     let done : PrivateState → Acting = λ q. (go_to next (settle q from to (length xs)), Starts r) in
     let rest = λ (q : Passing). when_passed q done in
-    let all = ap (passed p) (sym c.in_ok-pass_all.was) ∙ c.pass_all.ensures own ∙ ap (λ k. pass_all w from k xs o) there in
-    let settled = c.settle.ensures input ∙ (λ i. settle p from (there i) (count i)) in
+    let all = ap (passed p) (sym c.in_ok-pass_all.was) ∙ c.pass_all.ensures.step own ∙ ap (λ k. pass_all w from k xs o) there in
+    let settled = c.settle.ensures.step input ∙ (λ i. settle p from (there i) (count i)) in
     let tested = ap (λ b. provided b o fault.InitialisedTwice (rest (pass_all w from to xs o))) unset in
     (λ i. (go_to next (settled i), Starts r)) ∙ (ap rest all ∙ sym tested)

@@ -5,8 +5,8 @@ use Rattle.cp_process.specs.States.{frame, frames_in, joined}
 use Rattle.cp_process.proofs.InUse.{frames_more, refilled}
 use Rattle.cp_process.proofs.private.Private.keep.Goals as goal
 
-pub returns : goal.returns
-returns c =
+pub returns-clause-step : goal.returns-clause-step
+returns-clause-step c =
     let old = c.args.self.now in
     let fs = old.frames.items in
     let kept = slice_set fs old.depth c.args.frame in

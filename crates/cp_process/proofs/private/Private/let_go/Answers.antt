@@ -9,15 +9,15 @@ use Rattle.cp_process.proofs.Results.{held_none, held_some, placed, unplaced}
 use Rattle.cp_process.proofs.Returning.{returned, unreturned, written_after}
 use Rattle.cp_process.proofs.private.Private.let_go.Goals as goal
 
-pub returns-in_err-at : goal.returns-in_err-at
-returns-in_err-at c =
+pub returns-in_err-at-clause-step : goal.returns-in_err-at-clause-step
+returns-in_err-at-clause-step c =
     let own = length c.args.self.now.words.items in
     let given : c.from_residual.result ≡ Err c.in_err-at.field-0.0 = search rules in
     let is = unplaced _ _ (sym c.in_err-at.was ∙ c.place.ensures c.args.outside.now.input.now own) in
     rw (given, is) refl
 
-pub returns-then-self-eq0 : goal.returns-then-self-eq0
-returns-then-self-eq0 c =
+pub returns-then-self-eq0-clause-step : goal.returns-then-self-eq0-clause-step
+returns-then-self-eq0-clause-step c =
     let input = c.args.outside.now.input.now in
     let shared = c.args.shared.now in
     let o = joined c.args.self.now input shared in
@@ -26,8 +26,8 @@ returns-then-self-eq0 c =
     let none : c.args.self.now.gate ≡ 0 = omega arith in
     rw (at.1, held_none c.args.self.now.gate none) refl
 
-pub returns-in_default : goal.returns-in_default
-returns-in_default c =
+pub returns-in_default-clause-step : goal.returns-in_default-clause-step
+returns-in_default-clause-step c =
     let input = c.args.outside.now.input.now in
     let shared = c.args.shared.now in
     let o = joined c.args.self.now input shared in
@@ -38,8 +38,8 @@ returns-in_default c =
     let none : c.args.self.now.depth ≡ 0 = search rules in
     rw (at.1, held) (sym (ap (λ n. with_frame o (frames_in n c.args.self.now.frames.items) go) none))
 
-pub returns-in_err-value : goal.returns-in_err-value
-returns-in_err-value c =
+pub returns-in_err-value-clause-step : goal.returns-in_err-value-clause-step
+returns-in_err-value-clause-step c =
     let input = c.args.outside.now.input.now in
     let shared = c.args.shared.now in
     let o = joined c.args.self.now input shared in
@@ -56,8 +56,8 @@ returns-in_err-value c =
     let e = Continues f.gate (word o.words at.0) in
     rw (at.1, held, given) (sym (unreturned o (set_word o at.0 (pos 0)) f fs e c.args.function c.in_err-value.field-0.0 is) ∙ sym here)
 
-pub returns : goal.returns
-returns c =
+pub returns-clause-step : goal.returns-clause-step
+returns-clause-step c =
     let input = c.args.outside.now.input.now in
     let shared = c.args.shared.now in
     let o = joined c.args.self.now input shared in
@@ -72,8 +72,8 @@ returns c =
     let e = Continues f.gate (word o.words at.0) in
     let go = λ (g : Frame) (gs : List Frame). return_with o (set_word o at.0 (pos 0)) g gs c.args.function (Continues g.gate (word o.words at.0)) in
     let here = ap (λ gs. with_frame o gs go) c.in-Some.ensures.2 in
-    let left = c.return_to.ensures input shared ∙ ap (λ n. leave (returning o f v) f (frames_in n c.args.self.now.frames.items)) below in
-    let written = c.set_word.ensures input at.0 at.2 ∙ ap (λ p. set_word p at.0 (pos 0)) left ∙ written_after o f fs at.0 (pos 0) v in
+    let left = c.return_to.ensures.step input shared ∙ ap (λ n. leave (returning o f v) f (frames_in n c.args.self.now.frames.items)) below in
+    let written = c.set_word.ensures.step input at.0 at.2 ∙ ap (λ p. set_word p at.0 (pos 0)) left ∙ written_after o f fs at.0 (pos 0) v in
     let whole : to_z w32 (of_z w32 c.word-resumed.result) ≡ c.word-resumed.result = search rules in
     let resumed = whole ∙ c.word-resumed.ensures input at.0 at.2 in
     rw (at.1, held)

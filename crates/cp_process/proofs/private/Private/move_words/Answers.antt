@@ -4,8 +4,8 @@ use Rattle.cp_process.specs.States.{joined}
 use Rattle.cp_process.proofs.Blocks.{copied_capped}
 use Rattle.cp_process.proofs.private.Private.move_words.Goals as goal
 
-pub returns : goal.returns
-returns c =
+pub returns-clause-step : goal.returns-clause-step
+returns-clause-step c =
     let old = c.args.self.now in
     let shared = c.args.shared.now in
     let ws = old.words.items ++ shared in

@@ -3,16 +3,16 @@ use Rattle.std.specs.Int.{w32}
 use Rattle.cp_process.proofs.Results.{placed, unplaced}
 use Rattle.cp_process.proofs.private.Private.set.Goals as goal
 
-pub returns-in_err-at : goal.returns-in_err-at
-returns-in_err-at c =
+pub returns-in_err-at-clause-step : goal.returns-in_err-at-clause-step
+returns-in_err-at-clause-step c =
     let own = length c.args.self.now.words.items in
     let input = c.args.outside.now.input.now in
     let given : c.from_residual.result ≡ Err c.in_err-at.field-0.0 = search rules in
     let is = unplaced _ _ (sym c.in_err-at.was ∙ c.place.ensures input own) in
     rw (given, is) refl
 
-pub returns-in_err-n : goal.returns-in_err-n
-returns-in_err-n c =
+pub returns-in_err-n-clause-step : goal.returns-in_err-n-clause-step
+returns-in_err-n-clause-step c =
     let own = length c.args.self.now.words.items in
     let input = c.args.outside.now.input.now in
     let given : c.from_residual-in_err-n.result ≡ Err c.in_err-n.field-0.0 = search rules in
@@ -20,12 +20,12 @@ returns-in_err-n c =
     let is = sym c.in_err-n.was ∙ c.value.ensures input own in
     rw (given, found.1, ← is) refl
 
-pub returns : goal.returns
-returns c =
+pub returns-clause-step : goal.returns-clause-step
+returns-clause-step c =
     let own = length c.args.self.now.words.items in
     let input = c.args.outside.now.input.now in
     let found = placed _ _ (sym c.in_ok-at.was ∙ c.place.ensures input own) in
     let is = sym c.in_ok-n.was ∙ c.value.ensures input own in
     let whole : to_z w32 (of_z w32 c.in_ok-n.n) ≡ c.in_ok-n.n = search rules in
-    let done = c.set_within.ensures input found.0 found.2 in
+    let done = c.set_within.ensures.step input found.0 found.2 in
     rw (found.1, ← is) (rw whole at done)

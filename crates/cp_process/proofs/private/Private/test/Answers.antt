@@ -5,16 +5,16 @@ use Rattle.cp_steps.specs.PrivateStates.{go_to, private_outcome}
 use Rattle.cp_process.specs.States.{joined}
 use Rattle.cp_process.proofs.private.Private.test.Goals as goal
 
-pub returns-in_err-n : goal.returns-in_err-n
-returns-in_err-n c =
+pub returns-in_err-n-clause-step : goal.returns-in_err-n-clause-step
+returns-in_err-n-clause-step c =
     let own = length c.args.self.now.words.items in
     let input = c.args.outside.now.input.now in
     let given : c.from_residual.result ≡ Err c.in_err-n.field-0.0 = search rules in
     let is = sym c.in_err-n.was ∙ c.value.ensures input own in
     rw (given, ← is) refl
 
-pub returns : goal.returns
-returns c =
+pub returns-clause-step : goal.returns-clause-step
+returns-clause-step c =
     let own = length c.args.self.now.words.items in
     let input = c.args.outside.now.input.now in
     let is = sym c.in_ok-n.was ∙ c.value.ensures input own in
