@@ -28,3 +28,4 @@ pub mod OrderRows
 pub mod SharedTurns
 pub mod AskingChains
 pub mod PrivatelyReady
+pub mod Views

@@ -15,3 +15,5 @@ pub mod RoutinesNumbered
 pub mod Called
 pub mod Meanings
 pub mod Parts
+pub mod TypeNames
+pub mod ValueTypes

@@ -15,12 +15,12 @@ use Rattle.cp_model.specs.declared.tree.TypeExpression.TheFolds.{fold-roll-TypeE
 use Rattle.cp_scope.specs.declared.types.Types.{Types}
 use Rattle.cp_scope.specs.Standing.{AreMembers, Stands, entries_of, fields_of, indexed, recorded, with_groups, written}
 
-view_array : (at : ℕ) (indices : Vec TypeExpression Global) (element : Box TypeExpression Global)
+pub view_array : (at : ℕ) (indices : Vec TypeExpression Global) (element : Box TypeExpression Global)
     → type_expression (tree.Array at indices element) ≡ s.Array at (types_of (map type_expression indices.items)) (type_expression element.value)
 view_array at indices element =
     ap type_expression (sym (rolls-Array at indices element)) ∙ fold-roll-TypeExpression s.TypeExpression s.Variables type_layer fields_layer _
 
-view_record : (at : ℕ) (groups : Vec Fields Global)
+pub view_record : (at : ℕ) (groups : Vec Fields Global)
     → type_expression (tree.Record at groups) ≡ s.Record at (view.fields_of (map view.variables groups.items))
 view_record at groups =
     ap type_expression (sym (rolls-Record at groups)) ∙ fold-roll-TypeExpression s.TypeExpression s.Variables type_layer fields_layer _

@@ -11,3 +11,5 @@ pub mod Texts
 pub mod Numbering
 pub mod Scopes
 pub mod Places
+pub mod TypeNames
+pub mod Expressions

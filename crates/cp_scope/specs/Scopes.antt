@@ -4,7 +4,9 @@ use Rattle.std.specs.Borrow.{Bor}
 use Rattle.cp_model.specs.Abstract.{Name, Routine, System}
 use Rattle.cp_model.specs.Calls as calls
 use Rattle.cp_model.specs.Declarations.{Variable, declarations}
+use Rattle.cp_model.specs.Components as components
 use Rattle.cp_model.specs.Environments as environments
+use Rattle.cp_model.specs.Names.{lookup}
 use Rattle.cp_model.specs.Environments.{local_variables, result_variable}
 use Rattle.cp_model.specs.Erase as erase
 use Rattle.cp_model.specs.View as view
@@ -13,11 +15,13 @@ use Rattle.cp_model.specs.Types.{GlobalScope}
 use Rattle.cp_model.specs.declared.tree.Fields.{Fields}
 use Rattle.cp_model.specs.declared.tree.Parameters.{Parameters}
 use Rattle.cp_model.specs.declared.tree.Routine as tree
+use Rattle.cp_code.specs.Layout.{activation_words}
 use Rattle.cp_code.specs.Scopes as code
 use Rattle.cp_code.specs.Scopes.{environment, routine_index}
 use Rattle.cp_code.specs.Sites.{system_of_callee}
 use Rattle.cp_scope.specs.declared.routines.RoutineTable.{RoutineTable}
 use Rattle.cp_scope.specs.declared.scope.Callee.{Callee}
+use Rattle.cp_scope.specs.declared.systems.Component.{Component}
 use Rattle.cp_scope.specs.declared.scope.Meaning.{Meaning}
 use Rattle.cp_scope.specs.declared.scope.Meaning.TheVariants as meaning
 use Rattle.cp_scope.specs.declared.scope.Scope.{Scope}
@@ -25,7 +29,7 @@ use Rattle.cp_scope.specs.declared.types.Types.{Types}
 use Rattle.cp_scope.specs.Layouts.{AreLaid}
 use Rattle.cp_scope.specs.Routines.{RoutineStands}
 use Rattle.cp_scope.specs.Standing.{ScopeStands, Stands, value_of}
-use Rattle.cp_scope.specs.Systems.{ComponentIs, IsIndexed, SystemStands, routines_of}
+use Rattle.cp_scope.specs.Systems.{ComponentIs, IsComponent, IsIndexed, SystemStands, routines_of}
 use Rattle.cp_scope.specs.Texts.{AreSystems}
 
 -- The system type declares these.
@@ -39,6 +43,11 @@ IsRoutine g types None None = Unit {0}
 IsRoutine g types (Some t) (Some r) = RoutineStands g types t.now r
 IsRoutine g types _ _ = ⊥
 
+-- The words of an activation; a body has none.
+abbrev pub words_of : GlobalScope → Option Routine → ℕ
+words_of g None = 0
+words_of g (Some r) = activation_words g r
+
 -- The scope is that of a unit: the tables stand for its text, and those of its system type and routine for these.
 pub record IsScope (scope : Scope) (s : code.Scope) : Type 0 where
   pub parameters : List Parameters
@@ -50,6 +59,9 @@ pub record IsScope (scope : Scope) (s : code.Scope) : Type 0 where
   pub systems : AreSystems s.globals scope.tables.now.types scope.tables.now.systems.items
   pub system : SystemStands s.globals scope.tables.now.types scope.system.now parameters variables routines
   pub routine : IsRoutine s.globals scope.tables.now.types scope.routine s.routine
+  pub firsts : (x : Name) → lookup x scope.firsts.now ≡ lookup x s.firsts
+  pub first : s.first ≡ scope.first
+  pub words : s.words ≡ words_of s.globals s.routine
 
 -- ---- Calls
 
@@ -67,6 +79,11 @@ abbrev pub CalleeIs : Scope → code.Scope → Option Callee → Option calls.Ca
 CalleeIs scope s None None = Unit {0}
 CalleeIs scope s (Some f) (Some c) = IsCallee scope s f c
 CalleeIs scope s _ _ = ⊥
+
+-- A component that a name of the scope means.
+abbrev pub Names : Scope → code.Scope → Component → components.Component → Type 0
+Names scope s found n =
+    IsComponent scope.tables.now.types (declarations s.globals s.system.parameters) (declarations s.globals s.system.variables) found n
 
 -- ---- Meanings
 

@@ -29,6 +29,7 @@ use Rattle.cp_scope.specs.Components.{RightIs, own_members}
 use Rattle.cp_scope.specs.Layouts.{AreLaid, MembersLie, rights_of}
 use Rattle.cp_scope.specs.Routines.{Builds, RoutineStands}
 use Rattle.cp_scope.specs.Numbering.{NumberedIs, system_of}
+use Rattle.cp_scope.specs.TypeNames.{AreTypeNames}
 use Rattle.cp_scope.specs.Standing.{Grows, ScopeStands, row_at, system_at}
 use Rattle.cp_scope.specs.Variables.{AreDeclared, declared_entry, parameters_of, variables_of}
 
@@ -59,6 +60,8 @@ pub record SystemStands (g : GlobalScope) (types : Types) (table : SystemTable) 
   pub rights : (x : Name) → RightIs types (lookup x table.rights) (right_at 1 (filter (λ v. is_component v.1.type) (parameters_of g ps)) x)
   pub parameter_names : (x : Name) → NumberedIs types (parameters_of g ps) x (lookup x table.parameter_names) (lookup x (parameters_of g ps))
   pub variable_names : (x : Name) → NumberedIs types (variables_of g vs) x (lookup x table.variable_names) (lookup x (variables_of g vs))
+  pub parameter_types : AreTypeNames table.parameter_types (map erase.parameter_group (map view.parameters ps))
+  pub variable_types : AreTypeNames table.variable_types (map erase.variable_group (map view.variables vs))
   pub routines : AreRoutines g types table.routines.items (routines_of rs)
   pub routine_names : (x : Name) → lookup x table.routine_names ≡ routine_number x 0 (routines_of rs)
 

@@ -14,7 +14,8 @@
 //!   its members and rights lie, which
 //!   components its names mean, and a `RoutineTable` of each routine, where its locals lie.
 //! - **Scopes.** A `Scope` is what the code of a unit is compiled with. It tells what names,
-//!   designators and calls mean there (`specs/Scopes.antt`, `specs/Places.antt`).
+//!   designators and calls mean there (`specs/Scopes.antt`), of what types places and values are
+//!   (`specs/Places.antt`, `specs/Expressions.antt`), and the numbers of units.
 //!
 //! Names are lent by the tree and found by comparison, in a time that grows as the logarithm of
 //! their number. Numbers and names stand for
@@ -26,6 +27,7 @@
 
 mod components;
 mod error;
+mod expressions;
 mod layout;
 mod locals;
 mod names;
@@ -37,11 +39,14 @@ mod routines;
 mod scope;
 mod systems;
 mod tables;
+mod type_names;
 mod types;
+mod units;
 mod variables;
 
 pub use components::Right;
 pub use error::TableError;
+pub use expressions::base_type;
 pub use layout::{Layout, Layouts, Part};
 pub use locals::{Local, Locals};
 pub use names::{Names, Value};

@@ -24,14 +24,18 @@ use crate::routines::RoutineTable;
 use crate::systems::{Component, IndexedRoutine, SystemTable};
 use crate::tables::Tables;
 use cp_model::tree::{Designator, Selector};
+use cp_names::NameTable;
 
 /// What the code of a unit is compiled with: the tables of its text, its system type, and its
-/// routine, where it isn't a body.
+/// routine, where it isn't a body. `firsts` has the first unit of each type that was defined before,
+/// by its name, and `first` is that of the system type itself.
 #[derive(Clone, Copy)]
 pub struct Scope<'s, 't> {
-    pub tables: &'s Tables<'t>,
-    pub system: &'s SystemTable<'t>,
-    pub routine: Option<&'s RoutineTable<'t>>,
+    pub(crate) tables: &'s Tables<'t>,
+    pub(crate) system: &'s SystemTable<'t>,
+    pub(crate) routine: Option<&'s RoutineTable<'t>>,
+    pub(crate) firsts: &'s NameTable<'t, u32>,
+    pub(crate) first: u32,
 }
 
 /// What a designator calls: a routine, and the component of which it is one, where that is another.
@@ -56,8 +60,8 @@ fn type_of(found: Option<Numbered>) -> Option<usize>
     Some(found?.of)
 }
 
-// Every index list of a text has an index.
-fn refuse_no_index(selector: &Selector) -> Result<(), TableError>
+/// Every index list of a text has an index: one without is refused.
+pub fn refuse_no_index(selector: &Selector) -> Result<(), TableError>
     ensures { OnOk result (Selects (view.selector selector.now)) }
 {
     match selector {
@@ -70,6 +74,52 @@ fn refuse_no_index(selector: &Selector) -> Result<(), TableError>
 }
 
 impl<'s, 't> Scope<'s, 't> {
+    /// The scope of a routine, or of the body, of a system type.
+    pub fn new(
+        tables: &'s Tables<'t>,
+        system: &'s SystemTable<'t>,
+        routine: Option<&'s RoutineTable<'t>>,
+        firsts: &'s NameTable<'t, u32>,
+        first: u32,
+    ) -> Scope<'s, 't>
+        ensures { result ≡ record {
+          tables = tables.entry;
+          system = system.entry;
+          routine = routine.entry;
+          firsts = firsts.entry;
+          first = first;
+        } }
+    {
+        Scope {
+            tables,
+            system,
+            routine,
+            firsts,
+            first,
+        }
+    }
+
+    /// The tables of its text.
+    pub fn tables(&self) -> &'s Tables<'t>
+        ensures { result ≡ self.now.tables }
+    {
+        self.tables
+    }
+
+    /// The table of its system type.
+    pub fn system(&self) -> &'s SystemTable<'t>
+        ensures { result ≡ self.now.system }
+    {
+        self.system
+    }
+
+    /// The table of its routine, where it isn't that of a body.
+    pub fn routine(&self) -> Option<&'s RoutineTable<'t>>
+        ensures { result ≡ self.now.routine }
+    {
+        self.routine
+    }
+
     /// The parameter or variable of the routine that has a name.
     pub fn local(&self, name: &[u8]) -> Option<Local>
         ensures { (s : code.Scope) → IsScope self.now s → LocalIs self.now.tables.now.types result

@@ -12,6 +12,7 @@ use crate::layout::{Layout, Layouts};
 use crate::names::{Names, add_first};
 use crate::numbering::Numbered;
 use crate::routines::RoutineTable;
+use crate::type_names::{parameter_types, variable_types};
 use crate::types::Types;
 use crate::variables::Declared;
 use cp_model::tree::{Fields, Parameters, Routine};
@@ -21,7 +22,7 @@ use std::alloc::Global;
 /// A system type: its parameters, variables and routines in text order, and where the members and
 /// the rights of its components lie.
 /// The words of a component are those of `members`. Its parameters, variables and routines are also
-/// found by their names.
+/// found by their names, and so are the names of the types of its parameters and variables.
 #[derive(Drop)]
 pub struct SystemTable<'t> {
     pub parameters: Vec<Declared<'t>>,
@@ -30,6 +31,8 @@ pub struct SystemTable<'t> {
     pub rights: NameTable<'t, Right>,
     pub parameter_names: NameTable<'t, Numbered>,
     pub variable_names: NameTable<'t, Numbered>,
+    pub(crate) parameter_types: NameTable<'t, &'t [u8]>,
+    pub(crate) variable_types: NameTable<'t, &'t [u8]>,
     pub routines: Vec<RoutineTable<'t>>,
     pub routine_names: NameTable<'t, usize>,
 }
@@ -86,6 +89,8 @@ impl<'t> Layouts<'t> {
         let rights = types.rights_to(&components)?;
         let parameter_names = types.numbered(&own_parameters)?;
         let variable_names = types.numbered(&own_variables)?;
+        let parameter_types = parameter_types(self.alloc, parameters)?;
+        let variable_types = variable_types(self.alloc, variables)?;
         let routine_names = self.routine_names(routines)?;
         let routines = self.routines(names, types, routines)?;
         Ok(SystemTable {
@@ -95,6 +100,8 @@ impl<'t> Layouts<'t> {
             rights,
             parameter_names,
             variable_names,
+            parameter_types,
+            variable_types,
             routines,
             routine_names,
         })

@@ -32,10 +32,10 @@ use Rattle.cp_steps.specs.Values.{place_of}
 use Rattle.cp_steps.specs.Means.{PlaceAgrees}
 use Rattle.cp_steps.specs.Addresses.{Ground, activations, lies, scope, seen}
 use Rattle.cp_steps.specs.Left.{held_below, site}
-use Rattle.cp_steps.specs.PartOf.{PartOf, RunsOn}
+use Rattle.cp_steps.specs.PartOf.{PartOf, RunsOn, components}
 use Rattle.cp_steps.proofs.Apart.{cell_has_word, cell_head}
 use Rattle.cp_steps.proofs.Bounds.{part_fits}
-use Rattle.cp_steps.proofs.Copying.{activation_changed, copied_length, copied_outside, copied_word, data_changed, leaf_writes, read_below, simple_cell, simple_holds, structure_writes}
+use Rattle.cp_steps.proofs.Copying.{activation_changed, changed_keeps, copied_length, copied_outside, copied_word, data_changed, leaf_writes, read_below, simple_cell, simple_holds, structure_writes}
 use Rattle.cp_steps.proofs.Doing.{Ready, known, place_here, statement_steps, view}
 use Rattle.cp_steps.proofs.Evaluates.{value_reads}
 use Rattle.cp_steps.proofs.Finding.{in_context_none, or_else_none}
@@ -47,6 +47,7 @@ use Rattle.cp_steps.proofs.RunningOn.{runs_here, runs_moved, runs_room, runs_sta
 use Rattle.cp_steps.proofs.Separate.{cell_below}
 use Rattle.cp_steps.proofs.StartLeaves.{IsSimple}
 use Rattle.cp_steps.proofs.Stepping.{Stepped, clock_of, faulted, went}
+use Rattle.cp_steps.proofs.Given.{all_kept}
 
 -- A plain variable lies below the top, if it has words.
 pub plain_below : (G : Ground) (store : Store) (o : PrivateState) (k : List Task) (R : RunsOn G store o k) (l : Location) (n : ℕ) (t : ResolvedType) → SoundType t → has_queues t ≡ false → is_own G.p l.owner ≡ true
@@ -85,6 +86,10 @@ runs_copied G store o k R to from n b t sound free own_to own_from to_is from_is
       (length rest) (record { base = c; routine = f.routine }) there)) R.activations_mean;
   data_means =
       data_changed G (activations o.base o.frames k) _ (runs_stacked G store o k R) store o.words (paste n (block o.words b (words (scope G) t)) o.words) to n t (read_below store from) sound free own_to to_is inside outside R.data_means;
+  given =
+      all_kept G store (put_all (leaf_writes to (read_below store from) (leaves t)) store)
+      (changed_keeps G (activations o.base o.frames k) _ (runs_stacked G store o k R) store o.words (paste n (block o.words b (words (scope G) t)) o.words) to n t (read_below store from) sound free own_to to_is inside outside)
+      (components o) R.given;
 }
   where
     outside : (i : ℕ) → (i < n) ⊎ (n + words (scope G) t ≤ i) → word (paste n (block o.words b (words (scope G) t)) o.words) i ≡ word o.words i

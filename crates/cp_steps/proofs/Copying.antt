@@ -22,7 +22,7 @@ use Rattle.cp_code.specs.Starts.{block, paste, word}
 use Rattle.cp_code.proofs.Pasting.{paste_inside, paste_length, paste_outside}
 use Rattle.std.proofs.lemmas.Bool.{true≢false}
 use Rattle.cp_steps.specs.Means.{CellMeans}
-use Rattle.cp_steps.specs.Addresses.{Activation, Ground, activation_at, lies, scope}
+use Rattle.cp_steps.specs.Addresses.{Activation, ClassLies, Ground, activation_at, component_type, lies, scope}
 use Rattle.cp_steps.specs.PartOf.{DataMeans}
 use Rattle.cp_steps.proofs.Apart.{InHead, IsCell, cell_has_word, cell_head}
 use Rattle.cp_steps.proofs.Bounds.{part_fits}
@@ -35,6 +35,9 @@ use Rattle.cp_steps.proofs.Separate.{OwnRight, cell_no_own_right, cell_no_refere
 use Rattle.cp_steps.proofs.Stacks.{Stacked}
 use Rattle.cp_steps.proofs.StartLeaves.{IsSimple, not_written, part_is_leaf}
 use Rattle.cp_steps.proofs.Writing.{is_cell}
+use Rattle.cp_steps.proofs.Given.{KeepsGiven, rights_kept}
+use Rattle.cp_model.specs.CallSteps.{is_initialised}
+use Rattle.cp_steps.proofs.Heres.{lies_any}
 
 -- ---- words
 
@@ -216,6 +219,19 @@ module _ (G : Ground) (xs : List Activation) (top : ℕ) (stack : Stacked G top 
       by (inr apart) = outside i apart
       by (inl h) = let p = leaf_at h.0 h.1 in absurd (none p.0 h.0 p.1 p.2 p.4 (sym h.2))
 
+  pub changed_keeps : KeepsGiven G store changed
+  changed_keeps at s k mine sort there =
+      rights_kept G store changed at s (λ i x v r none. not_there (under at (ByName x ∷ [])) (right_no_variable G xs at s k x mine (ClassLies sort there) none))
+
+  -- No mark is changed.
+  mark_unwritten : (at : Location) (s : System) (k : ℕ) → lies G [] at ≡ Some (k, component_type G s) → changed at ≡ store at
+  mark_unwritten at s k there =
+      leaf_unwritten to f t store at (λ path v leaf e.
+      let p = leaf_is_part (scope G) t path v sound free leaf in
+      let found : ◌≡◌ {A = Part} (k, component_type G s) (n + p.0, p.1)
+      = same_some (k, component_type G s) (n + p.0, p.1) (sym (lies_any G xs at _ there) ∙ (ap (lies G xs) e ∙ lies_under G xs to path n p.0 t p.1 is p.3)) in
+      subst IsSimple (sym (ap (λ z. z.1) found)) p.2)
+
   pub data_changed : DataMeans G xs (is_own G.p) store old → DataMeans G xs (is_own G.p) changed new
   data_changed D = record {
     cells = λ l i w mine there. cells l i w mine there (is_cell w);
@@ -223,6 +239,7 @@ module _ (G : Ground) (xs : List Activation) (top : ℕ) (stack : Stacked G top 
         right_kept G store changed old new xs at s k i x v
         (not_there (under at (ByName x ∷ [])) (right_no_variable G xs at s k x mine cl none), apart_word (k + i) (λ path j u simple there e. by at s k i mine path j u simple there e (right_place G xs at s k i x v mine cl r)))
         (D.rights at s k i x v mine cl r none);
+    given = λ at s k mine sort there set. changed_keeps at s k mine sort there (D.given at s k mine sort there (ap is_initialised (sym (mark_unwritten at s k there)) ∙ set));
   }
     where
       cells : (l : Location) (i : ℕ) (w : ResolvedType) → is_own G.p l.owner ≡ true → lies G xs l ≡ Some (i, w) → IsCell w ⊎ ((v : Value) (z : ℤ) → CellMeans w v z) → CellMeans w (changed l) (word new i)

@@ -72,6 +72,7 @@ counted_on G store o i k R x down st c next low test n last same means marks cou
   count = R.count;
   activations_mean = subst (λ (T : Type 0). T) (sym (mean_push G store o.words o.base o.frames st R.running.env (ForNext x down n last st R.running.env ∷ k) ∙ means)) R.activations_mean;
   data_means = subst (λ xs. DataMeans G xs (is_own G.p) store o.words) (sym (activations_push o.base o.frames st R.running.env (ForNext x down n last st R.running.env ∷ k) ∙ same)) R.data_means;
+  given = R.given;
 }
   where
     j : List Task

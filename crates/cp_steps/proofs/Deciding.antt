@@ -27,7 +27,6 @@ use Rattle.cp_steps.specs.PrivateStates as machine
 use Rattle.cp_steps.specs.PrivateStates.{PrivateState}
 use Rattle.cp_steps.specs.Steps.{is_kernel_operation}
 use Rattle.cp_steps.specs.Addresses.{Ground, scope}
-use Rattle.cp_steps.specs.Laws.{IsTold}
 use Rattle.cp_steps.specs.Left.{Left, Running, held_below, innermost_gate, kept_below, site}
 use Rattle.cp_steps.specs.PartOf.{PartOf, RunsOn}
 use Rattle.cp_steps.proofs.AssignCalls.{StatementAdvances}
@@ -44,6 +43,7 @@ use Rattle.cp_steps.proofs.Heres.{Sees}
 use Rattle.cp_steps.proofs.InitSteps.{init_steps}
 use Rattle.cp_steps.proofs.LeftKept.{held_within, left_kept}
 use Rattle.cp_steps.proofs.NextCalls.{AllMade, Calling}
+use Rattle.cp_steps.proofs.ProcessRights.{no_class_rights}
 use Rattle.cp_steps.proofs.ResultSteps.{result_steps}
 use Rattle.cp_steps.proofs.Returning.{return_steps, text_is}
 use Rattle.cp_steps.proofs.Standards.{accept_steps, continue_steps, delay_steps, display_steps, wait_steps}
@@ -72,8 +72,7 @@ SameSort _ _ = ⊥
 other_sort : (z y : a.Sort) → z ≡ y → SameSort z z → SameSort z y
 other_sort z y e h = subst (SameSort z) e h
 
-module _ (G : Ground) (s : State) (before : List ℕ) (o : PrivateState) (F : StandsFor G.program G.setup) (texts : F.texts ≡ G.texts) (part : PartOf G s before o) (I : Invariant s)
-    (told : IsTold (operation_at G.program o.place)) where
+module _ (G : Ground) (s : State) (before : List ℕ) (o : PrivateState) (F : StandsFor G.program G.setup) (texts : F.texts ≡ G.texts) (part : PartOf G s before o) (I : Invariant s) where
   units : UnitsStand G
   units n u t unit text =
       subst (λ ts. UnitStands G.program ts (scope G) u t) texts (F.units n u t unit (ap (λ ts. slice_get ts n) texts ∙ text))
@@ -132,7 +131,7 @@ module _ (G : Ground) (s : State) (before : List ℕ) (o : PrivateState) (F : St
   inits : (x : Name) (es : a.Expressions) (env : Environment) (k : List Task) (Y : Ready G s before o (a.Init x es) env k) (y : Operation) → operation_at G.program o.place ≡ Some y
       → InitsBy (site G Y.now.on.running) (known G s before o (Do (a.Init x es) env) k Y.now) Y.now.on.left.2.3.2 es y o.place Y.now.on.left.2.3.0 Y.now.on.left.2.0 Y.now.on.left.2.1
       → Stepped G s before o
-  inits x es env k Y (op.InitClass call m) there h = init_steps G s before o x es env k I.store units Y call m there h (subst IsTold there told)
+  inits x es env k Y (op.InitClass call m) there h = init_steps G s before o x es env k I.store units Y call m there h (no_class_rights G.setup F.typed G.p)
   inits x es env k Y (op.InitMonitor call m) there h = inits_by_kernel x es env k Y (op.InitMonitor call m) there refl (λ e. other_sort a.Class a.Monitor (sym e ∙ h.0) tt)
   inits x es env k Y (op.InitProcess r xs count m) there h = inits_by_kernel x es env k Y (op.InitProcess r xs count m) there refl (λ e. other_sort a.Class a.Process (sym e ∙ h.0) tt)
   inits x es env k Y _ there h = absurd h

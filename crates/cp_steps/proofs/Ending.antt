@@ -58,5 +58,6 @@ body_ends G s before o None k N = by o.frames N
           count = N.on.count;
           activations_mean = N.on.activations_mean;
           data_means = N.on.data_means;
+          given = N.on.given.1;
         }
         record { number = refl; input = refl; consumed = refl; output = refl; activity = refl })

@@ -20,14 +20,16 @@ use Rattle.cp_steps.specs.PrivateStates as machine
 use Rattle.cp_steps.specs.Passing.{Called}
 use Rattle.cp_steps.specs.Calling.{Back, enter, frame_of, innermost}
 use Rattle.cp_steps.specs.Means.{CellMeans}
-use Rattle.cp_steps.specs.Addresses.{Activation, ComponentLies, Ground, activation_at, activations, lies, part_at, part_of_activation, scope}
+use Rattle.cp_steps.specs.Addresses.{Activation, ClassHasRights, ComponentLies, Ground, activation_at, activations, lies, part_at, part_of_activation, scope}
 use Rattle.cp_steps.specs.Left.{CallerAt, Left, Running, Runs, innermost_gate, kept_below, site}
-use Rattle.cp_steps.specs.PartOf.{ActivationMeans, ActivationsMean, DataMeans, RunsOn}
+use Rattle.cp_steps.specs.PartOf.{ActivationMeans, ActivationsMean, DataMeans, RunsOn, components}
 use Rattle.cp_steps.proofs.Apart.{IsCell}
-use Rattle.cp_steps.proofs.Holding.{SameBelow, SameLive}
+use Rattle.cp_steps.proofs.Holding.{SameBelow, SameLive, data_below}
 use Rattle.cp_steps.proofs.Pushing.{activations_push, marks_push, mean_push, push_left}
-use Rattle.cp_steps.proofs.RunningOn.{left_afresh, runs_over}
+use Rattle.cp_steps.proofs.RunningOn.{left_afresh, runs_over, runs_stacked}
 use Rattle.cp_steps.proofs.Writing.{is_cell}
+use Rattle.cp_steps.proofs.Given.{all_kept}
+use Rattle.cp_steps.proofs.Keeping.{keeps_given}
 
 -- ---- one activation more
 
@@ -61,6 +63,7 @@ data_opened : (G : Ground) (xs : List Activation) (store : Store) (words : List 
 data_opened G xs store words base f O D = record {
   cells = λ l n t mine h. by l n t mine h (is_cell t);
   rights = D.rights;
+  given = D.given;
 }
   where
     inner : (l : Location) (n : ℕ) (t : ResolvedType) → is_own G.p l.owner ≡ true → lies G (record { base = base; routine = f.routine } ∷ xs) l ≡ Some (n, t) → IsCell t
@@ -99,12 +102,12 @@ environment_of_call G k s r at = routine_environment (scope G) s r at (owner_of_
 -- The process runs on in the routine, where the store and the words are as they were at what is live, and the new activation is opened.
 pub entered_on : (G : Ground) (store after : Store) (o : PrivateState) (ws : List ℤ) (i k : List Task) (R : RunsOn G store o i) (call : Call) (back : Back) (s : System) (r : Routine) (at : Location) (c : Called)
     (place kept live : ℕ) → Waits G o i k R.running place kept live → (E : Entered G R.running call kept s r at c)
-    → CallerAt G call.routine kept live r.result (frame_of o c back) place
+    → CallerAt G call.routine kept live r.result (frame_of o c back) place → ClassHasRights G (is_own G.p) store c.component
     → SameLive G (activations o.base o.frames i) store after → SameBelow (o.base + (site G R.running).words) o.words ws → length ws ≡ length o.words
     → Opened G (activations o.base o.frames k) after ws (o.base + call.words) (record { owner = owner_of_call G k; routine = r })
     → RunsOn G after (enter (record o { words = ws }) c E.runs.unit call back)
     (push r.body (environment_of_call G k s r at) (EndCall (environment_of_call G k s r at) None ∷ k))
-entered_on G store after o ws i k R call back s r at c place kept live W E caller same_live below len opened = record {
+entered_on G store after o ws i k R call back s r at c place kept live W E caller has same_live below len opened = record {
   running = N;
   runs = new_runs;
   base = omega (arith, R.base);
@@ -141,6 +144,9 @@ entered_on G store after o ws i k R call back s r at c place kept live W E calle
       (opened.frame, subst (λ (T : Type 0). T) (sym (W.means after ws)) over.activations_mean);
   data_means = subst (λ ys. DataMeans G ys (is_own G.p) after ws) (sym (activations_push (o.base + call.words) (f ∷ o.frames) r.body env (EndCall env None ∷ k)))
       (data_opened G ys after ws (o.base + call.words) (record { owner = owner_of_call G k; routine = r }) opened (subst (λ ys. DataMeans G ys (is_own G.p) after ws) (sym W.same) over.data_means));
+  given = all_kept G store after
+      (keeps_given G store after o.words ws (activations o.base o.frames i) (data_below G (activations o.base o.frames i) (o.base + (site G R.running).words) (runs_stacked G store o i R) store after o.words ws same_live below))
+      (c.component ∷ components o) (has, R.given);
 }
   where
     N : Running

@@ -2,7 +2,8 @@
 use Rattle.std.proofs.Common.{◌≡◌, ◌≢◌, ◌⊎◌, inl, inr, ℕ, suc, ◌+◌, ◌≤◌, ◌<◌, ℤ, List, [], ◌∷◌, length, Bool, true, false, Option, Some, None, refl, ap, sym, subst, ◌∙◌, arith}
 use Rattle.std.specs.Prelude.{if◌then◌else◌, nat_eq, slice_set}
 use Rattle.std.proofs.lemmas.Bool.{eq-eqb}
-use Rattle.cp_model.specs.Abstract.{Name, System}
+use Rattle.cp_model.specs.Abstract.{Class, Name, System}
+use Rattle.cp_model.specs.CallSteps.{is_initialised}
 use Rattle.cp_model.specs.Declarations as declared
 use Rattle.cp_model.specs.Declarations.{reported_members}
 use Rattle.cp_model.specs.Locations.{ByIndex, ByName, Location, OfActivation, OfMonitor, OfProcess, Owner, Path, same_location, under}
@@ -12,11 +13,12 @@ use Rattle.cp_model.specs.Types.{ComponentOf, ResolvedType}
 use Rattle.cp_code.specs.Layout.{Part, activation_words, component_words, farther, local, part}
 use Rattle.cp_code.specs.Starts.{word}
 use Rattle.cp_steps.specs.Means.{CellMeans}
-use Rattle.cp_steps.specs.Addresses.{Activation, ClassLies, ComponentLies, Ground, MonitorLies, ProcessLies, activation_at, lies, part_at, part_of_activation, part_of_local, scope}
+use Rattle.cp_steps.specs.Addresses.{Activation, ClassLies, ComponentLies, Ground, HasRights, MonitorLies, ProcessLies, activation_at, component_type, lies, part_at, part_of_activation, part_of_local, scope}
 use Rattle.cp_steps.specs.PartOf.{DataMeans}
 use Rattle.cp_code.specs.StandsFor.{system_of_process}
 use Rattle.cp_steps.proofs.Apart.{InHead, IsCell, cell_head}
 use Rattle.cp_steps.proofs.Finding.{some_is_not_none}
+use Rattle.cp_steps.proofs.Given.{KeepsGiven, rights_kept}
 use Rattle.cp_steps.proofs.Heres.{found_below, lies_any}
 use Rattle.cp_steps.proofs.Keeping.{KeepsActivation, KeepsData, depth_of, local_named, right_kept, right_no_variable, right_place}
 use Rattle.cp_steps.proofs.Layouts.{same_some}
@@ -66,6 +68,7 @@ module _ (G : Ground) (xs : List Activation) (top : ℕ) (stack : Stacked G top 
         (subst (λ z. CellMeans t (store l) z) (sym (same n (omega (arith, low)))) m);
     rights = λ at s n m x v mine cl r none.
         (live (under at (ByName x ∷ [])) (right_owner at s n mine cl), same (n + m) (by at s n m mine (right_place G xs at s n m x v mine cl r)));
+    marks = λ at s n mine sort is. live at (λ d e. live_owner G xs at _ d (lies_any G xs at _ is) e);
   }
     where
       by : (at : Location) (s : System) (n m : ℕ) → is_own G.p at.owner ≡ true
@@ -116,8 +119,16 @@ module _ (G : Ground) (xs : List Activation) (top : ℕ) (stack : Stacked G top 
   not_there : (k : Location) → lies G xs k ≡ None → l ≡ k → ⊥
   not_there k none e = absurd (some_is_not_none _ (sym (ap (lies G xs) (sym e) ∙ is) ∙ none))
 
-  pub data_written : n < length words → DataMeans G xs (is_own G.p) store words → DataMeans G xs (is_own G.p) (put l w store) (slice_set words n m)
-  data_written room D = record {
+  pub written_keeps : KeepsGiven G store (put l w store)
+  written_keeps at s k mine sort there =
+      rights_kept G store (put l w store) at s (λ i x v r none. put_apart l (under at (ByName x ∷ [])) w store (not_there (under at (ByName x ∷ [])) (right_no_variable G xs at s k x mine (ClassLies sort there) none)))
+
+  -- Where it is a mark that is set, the class has its rights.
+  abbrev pub MarksGiven : Type 0
+  MarksGiven = (s : System) → s.sort ≡ Class → u ≡ component_type G s → is_initialised w ≡ true → HasRights G store l s
+
+  pub data_written : n < length words → MarksGiven → DataMeans G xs (is_own G.p) store words → DataMeans G xs (is_own G.p) (put l w store) (slice_set words n m)
+  data_written room fresh D = record {
     cells = cell_written G xs top store words l n u w m cell means stack D.cells own is room;
     rights = λ at s k i x v mine cl r none.
         right_kept G store (put l w store) words (slice_set words n m) xs at s k i x v (
@@ -125,8 +136,17 @@ module _ (G : Ground) (xs : List Activation) (top : ℕ) (stack : Stacked G top 
           changed_other words (k + i) n m (by at s k i mine (right_place G xs at s k i x v mine cl r)),
         )
         (D.rights at s k i x v mine cl r none);
+    given = λ at s k mine sort there set. written_keeps at s k mine sort there (marked at s k mine sort there (same_location l at) refl set);
   }
     where
+      marked : (at : Location) (s : System) (k : ℕ) → is_own G.p at.owner ≡ true → s.sort ≡ Class → lies G [] at ≡ Some (k, component_type G s) → (b : Bool) → same_location l at ≡ b
+          → is_initialised (if b then w else store at) ≡ true → HasRights G store at s
+      marked at s k mine sort there false e set = D.given at s k mine sort there set
+      marked at s k mine sort there true e set =
+          let same : l ≡ at = location_is l at e in
+          let type : u ≡ component_type G s = ap (λ z. z.1) (same_some {A = Part} (n, u) (k, component_type G s) (sym is ∙ (ap (lies G xs) same ∙ lies_any G xs at _ there))) in
+          subst (λ z. HasRights G store z s) same (fresh s sort type set)
+
       by : (at : Location) (s : System) (k i : ℕ) → is_own G.p at.owner ≡ true
           → OwnRight G (k + i) ⊎ ((lies G xs at ≡ Some (k, ComponentOf s (reported_members (scope G) s))) × InHead (scope G) (ComponentOf s (reported_members (scope G) s)) i × (1 ≤ i))
           → k + i ≢ n

@@ -32,7 +32,7 @@ in_filter f (w ∷ vs) v h e = by (f w) refl h (in_filter f vs v)
     by true q (inr i) go = inr (go i e)
     by false q (inr i) go = go i e
 
-of_filter : (f : Name × Variable → Bool) (vs : List (Name × Variable)) (v : Name × Variable) → IsIn v (filter f vs) → IsIn v vs × (f v ≡ true)
+pub of_filter : (f : Name × Variable → Bool) (vs : List (Name × Variable)) (v : Name × Variable) → IsIn v (filter f vs) → IsIn v vs × (f v ≡ true)
 of_filter f [] v h = absurd h
 of_filter f (w ∷ vs) v h = by (f w) refl h (of_filter f vs v)
   where

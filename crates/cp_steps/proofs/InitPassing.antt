@@ -35,8 +35,7 @@ use Rattle.cp_steps.specs.PrivateStates.{Outside, PrivateState, view_of}
 use Rattle.cp_steps.specs.Passing.{Passing, pass_all, pass_result, pass_word, right_word, unless_fault}
 use Rattle.cp_steps.specs.Values.{value_of}
 use Rattle.cp_steps.specs.Means.{CellMeans}
-use Rattle.cp_steps.specs.Addresses.{Ground, RightMeans, scope}
-use Rattle.cp_steps.specs.Laws.{HandsOnNoClass, IsNotHandedOn}
+use Rattle.cp_steps.specs.Addresses.{Ground, IsGiven, RightMeans, scope}
 use Rattle.cp_steps.proofs.Apart.{IsCell}
 use Rattle.cp_steps.proofs.Evaluates.{ordinal_is, value_agrees}
 use Rattle.cp_steps.proofs.Finding.{in_context_none, or_else_none, some_is_not_none}
@@ -57,6 +56,7 @@ module _ (G : Ground) (sys : System) (at : Location) (c from : ℕ) (distinct : 
         → CellMeans p.1.type (put_all ws st (stored_at at p.0)) (word new (from + k))
     pub rights : (p : Name × Variable) (k : ℕ) (st : Store) → IsIn p ps → is_component p.1.type ≡ true → right (scope G) sys p.0 ≡ Some (k, p.1)
         → RightMeans G p.1.type (put_all ws st (stored_at at p.0)) (c + k) (word new (from + k))
+    pub given : (p : Name × Variable) (k : ℕ) (st : Store) → IsIn p ps → is_component p.1.type ≡ true → right (scope G) sys p.0 ≡ Some (k, p.1) → IsGiven p.1.type (put_all ws st (stored_at at p.0))
     pub unwritten : (l : Location) (st : Store) → ((p : Name × Variable) → IsIn p ps → l ≡ stored_at at p.0 → ⊥) → put_all ws st l ≡ st l
 
   abbrev pub InitAgrees : List (Name × Variable) → ℕ → PrivateState → List ℤ → Outcome Writes → Passing → Type 0
@@ -65,7 +65,7 @@ module _ (G : Ground) (sys : System) (at : Location) (c from : ℕ) (distinct : 
   -- A parameter's value and word, whatever it is.
   abbrev Meant : Name × Variable → ℕ → StoreValue → ℤ → Type 0
   Meant p k v m =
-      ((is_component p.1.type ≡ true) × RightMeans G p.1.type v (c + k) m)
+      ((is_component p.1.type ≡ true) × RightMeans G p.1.type v (c + k) m × IsGiven p.1.type v)
       ⊎ ((is_component p.1.type ≡ false) × CellMeans p.1.type v m)
 
   prepend : (p : Name × Variable) (ps : List (Name × Variable)) (k : ℕ) (v : StoreValue) (m : ℤ) (own : ℕ) (ws : List ℤ) (x : PrivateState) (O : Outcome Writes) (P : Passing)
@@ -86,6 +86,7 @@ module _ (G : Ground) (sys : System) (at : Location) (c from : ℕ) (distinct : 
       outside = λ i none. B.outside i (λ q j i' o e. none q j (inr i') o e) ∙ changed_other ws i (from + k) m (λ e. none p k (inl refl) off e);
       values = λ q j st i' component lies. of_value q j st i' component lies;
       rights = λ q j st i' component lies. of_right q j st i' component lies;
+      given = λ q j st i' component lies. of_given q j st i' component lies;
       unwritten = λ l st none.
           B.unwritten l (put (stored_at at p.0) v st) (λ q i' e. none q (inr i') e) ∙ put_apart (stored_at at p.0) l v st (λ e. none p (inl refl) (sym e));
     },
@@ -140,10 +141,20 @@ module _ (G : Ground) (sys : System) (at : Location) (c from : ℕ) (distinct : 
               subst (λ y. RightMeans G p.1.type (put_all more (put (stored_at at p.0) v st) (stored_at at p.0)) (c + y) (word P.own.words (from + y))) far
               (subst (λ y. RightMeans G p.1.type y (c + k) (word P.own.words (from + k))) (sym (stored st)) (subst (RightMeans G p.1.type v (c + k)) (sym held) z.1))
 
+      of_given : (q : Name × Variable) (j : ℕ) (st : Store) → (q ≡ p) ⊎ IsIn q ps → is_component q.1.type ≡ true → right (scope G) sys q.0 ≡ Some (j, q.1)
+          → IsGiven q.1.type (put_all more (put (stored_at at p.0) v st) (stored_at at q.0))
+      of_given q j st (inr i') component lies = B.given q j (put (stored_at at p.0) v st) i' component lies
+      of_given q j st (inl e) component lies =
+          subst (λ (z : Name × Variable). is_component z.1.type ≡ true → IsGiven z.1.type (put_all more (put (stored_at at p.0) v st) (stored_at at z.0))) (sym e) (λ component. inner component meant) component
+        where
+          inner : is_component p.1.type ≡ true → Meant p k v m → IsGiven p.1.type (put_all more (put (stored_at at p.0) v st) (stored_at at p.0))
+          inner component (inr z) = absurd (true≢false (sym component ∙ z.0))
+          inner component (inl z) = subst (IsGiven p.1.type) (sym (stored st)) z.2
+
   module _ (site : Site) (clock : Clock) (store : Store) (w : Outside) (K : Knowns) (lies : Location → Option Part) (o : PrivateState) (stays : Stays site.env clock store w K lies from o)
       (globals : site.env.globals ≡ scope G)
-      (given : (n : Component) (t : Target) → TargetFor site.env (Some n) t → IsNotHandedOn t → (ws : List ℤ) → SameOutside from w.own o.words ws → length ws ≡ length o.words → (k : ℕ) (inner : Members) (l : Location)
-      → c + k ≤ length o.words → (v : StoreValue) × (right_writes site.env store sys.sort l n.system.sort n ≡ (l, v) ∷ []) × RightMeans G (ComponentOf n.system inner) v (c + k) (right_word (record o { words = ws }) (c + k) t))
+      (given : (n : Component) (t : Target) → TargetFor site.env (Some n) t → (ws : List ℤ) → SameOutside from w.own o.words ws → length ws ≡ length o.words → (k : ℕ) (inner : Members) (l : Location)
+      → c + k ≤ length o.words → (v : StoreValue) × (right_writes site.env store sys.sort l n.system.sort n ≡ (l, v) ∷ []) × RightMeans G (ComponentOf n.system inner) v (c + k) (right_word (record o { words = ws }) (c + k) t) × IsGiven (ComponentOf n.system inner) v)
       (there : c + length (declarations (scope G) sys.parameters) ≤ length o.words) where
     abbrev pub Inits : List (Name × Variable) → List ℤ → Outcome Writes → Passing → Type 0
     Inits ps ws O P = InitAgrees ps w.own (record o { words = ws }) ws O P
@@ -184,11 +195,11 @@ module _ (G : Ground) (sys : System) (at : Location) (c from : ℕ) (distinct : 
             (inr (no_component, lying, subst IsCell (sym type) tt)) room in_words (inr (no_component, subst (λ t. CellMeans t (Ordinal m) m) (sym type) refl)) (go m)
 
     pub passes_init : (ps : List (Name × Variable)) (es : a.Expressions) (xs : List Argument) (place next low high : ℕ) (ws : List ℤ)
-        → InitArgumentsFor site K sys ps es xs place next low high → call_in_arguments site.env (a.Literal 0) es ≡ None → HandsOnNoClass xs → Distinct ps
+        → InitArgumentsFor site K sys ps es xs place next low high → call_in_arguments site.env (a.Literal 0) es ≡ None → Distinct ps
         → ((p : Name × Variable) → IsIn p ps → IsIn p (declarations (scope G) sys.parameters))
         → from + (1 + length (declarations (scope G) sys.parameters)) ≤ w.own → w.own ≤ length ws → length ws ≡ length o.words → SameOutside from w.own o.words ws
         → Inits ps ws (bind (λ l v e. init_argument_writes sys.sort clock site.env store l v.type e) at ps es) (pass_all w from c xs (record o { words = ws }))
-    passes_init [] a.NoExpression [] place next low high ws h none fine d all room in_words len same = (
+    passes_init [] a.NoExpression [] place next low high ws h none d all room in_words len same = (
       refl,
       refl,
       record {
@@ -196,10 +207,11 @@ module _ (G : Ground) (sys : System) (at : Location) (c from : ℕ) (distinct : 
         outside = λ i none. refl;
         values = λ p k st i. absurd i;
         rights = λ p k st i. absurd i;
+        given = λ p k st i. absurd i;
         unwritten = λ l st none. refl;
       },
     )
-    passes_init (p ∷ ps) (a.MoreExpressions e es) (Value to lower upper x ∷ xs) place next low high ws h none fine d all room in_words len same =
+    passes_init (p ∷ ps) (a.MoreExpressions e es) (Value to lower upper x ∷ xs) place next low high ws h none d all room in_words len same =
         let both = or_else_none (in_context (λ y. a.MoreExpressions y es) (first_call site.env (a.Literal 0) e)) (in_context (a.MoreExpressions e) (call_in_arguments site.env (a.Literal 0) es)) none in
         let lying : member (scope G) sys p.0 ≡ Some (to, p.1.type) = ap (λ g. member g sys p.0) (sym globals) ∙ h.4 in
         let off : Offset (scope G) sys p to = inr (ap is_component h.5, lying, subst IsCell (sym h.5) tt) in
@@ -211,16 +223,16 @@ module _ (G : Ground) (sys : System) (at : Location) (c from : ℕ) (distinct : 
         (value_passes p ps h.0 h.0 lower upper h.1 to ws xs h.5 d (all p (inl refl)) lying here in_words (value clock site.env store e) r
         (bind (λ l v e. init_argument_writes sys.sort clock site.env store l v.type e) at ps es)
         (value_agrees site clock store (view_of w (record o { words = ws })) K lies (stays ws len same) e x h.0 place h.2 low h.3 h.8 (in_context_none (λ y. a.MoreExpressions y es) (first_call site.env (a.Literal 0) e) both.0))
-        (λ m. passes_init ps es xs h.2 next h.3 high (slice_set ws (from + to) m) h.9 (in_context_none (a.MoreExpressions e) (call_in_arguments site.env (a.Literal 0) es) both.1) fine d.1 (λ q i. all q (inr i))
+        (λ m. passes_init ps es xs h.2 next h.3 high (slice_set ws (from + to) m) h.9 (in_context_none (a.MoreExpressions e) (call_in_arguments site.env (a.Literal 0) es) both.1) d.1 (λ q i. all q (inr i))
         room (omega (arith, in_words, length-set ws (from + to) m)) (length-set ws (from + to) m ∙ len) (still_same ws to m same here)))
-    passes_init (p ∷ ps) (a.MoreExpressions (a.Use (a.Plain x)) es) (Right to t ∷ xs) place next low high ws h none fine d all room in_words len same =
+    passes_init (p ∷ ps) (a.MoreExpressions (a.Use (a.Plain x)) es) (Right to t ∷ xs) place next low high ws h none d all room in_words len same =
         let both = or_else_none (in_context (λ y. a.MoreExpressions y es) (first_call site.env (a.Literal 0) (a.Use (a.Plain x)))) (in_context (a.MoreExpressions (a.Use (a.Plain x))) (call_in_arguments site.env (a.Literal 0) es)) none in
         let found : right (scope G) sys p.0 ≡ Some (to, h.2) = ap (λ g. right g sys p.0) (sym globals) ∙ h.3 in
         let lying : right (scope G) sys p.0 ≡ Some (to, p.1) = found ∙ ap (λ z. Some (to, z)) (right_of (scope G) sys distinct one p to h.2 (all p (inl refl)) found) in
         let component : is_component p.1.type ≡ true = ap is_component h.4 in
         let off : Offset (scope G) sys p to = inl (component, lying) in
         let here : from + to < w.own = omega (arith, room, (offset_within (scope G) sys distinct one p to (all p (inl refl)) off).1) in
-        let r = given h.0 t h.6 fine.0 ws same len to h.1 (stored_at at p.0) (omega (arith, there, (offset_within (scope G) sys distinct one p to (all p (inl refl)) off).1)) in
+        let r = given h.0 t h.6 ws same len to h.1 (stored_at at p.0) (omega (arith, there, (offset_within (scope G) sys distinct one p to (all p (inl refl)) off).1)) in
         let m = right_word (record o { words = ws }) (c + to) t in
         subst (λ y. Inits (p ∷ ps) ws
         (and_then (init_argument_writes sys.sort clock site.env store (stored_at at p.0) y (a.Use (a.Plain x))) (λ us. and_then (bind (λ l v e. init_argument_writes sys.sort clock site.env store l v.type e) at ps es) (λ vs. Gives (us ++ vs))))
@@ -228,7 +240,7 @@ module _ (G : Ground) (sys : System) (at : Location) (c from : ℕ) (distinct : 
         (subst (λ us. Inits (p ∷ ps) ws (and_then (bind (λ l v e. init_argument_writes sys.sort clock site.env store l v.type e) at ps es) (λ vs. Gives (us ++ vs))) (pass_all w from c xs (record o { words = slice_set ws (from + to) m })))
         (sym (ap (named_right_writes site.env store sys.sort (stored_at at p.0)) h.5 ∙ r.1))
         (prepend p ps to r.0 m w.own ws (record o { words = ws }) (bind (λ l v e. init_argument_writes sys.sort clock site.env store l v.type e) at ps es) (pass_all w from c xs (record o { words = slice_set ws (from + to) m })) d (all p (inl refl)) off here in_words
-        (inl (component, subst (λ y. RightMeans G y r.0 (c + to) m) (sym h.4) r.2))
-        (passes_init ps es xs place next low high (slice_set ws (from + to) m) h.8 (in_context_none (a.MoreExpressions (a.Use (a.Plain x))) (call_in_arguments site.env (a.Literal 0) es) both.1) fine.1 d.1 (λ q i. all q (inr i))
+        (inl (component, subst (λ y. RightMeans G y r.0 (c + to) m) (sym h.4) r.2, subst (λ y. IsGiven y r.0) (sym h.4) r.3))
+        (passes_init ps es xs place next low high (slice_set ws (from + to) m) h.8 (in_context_none (a.MoreExpressions (a.Use (a.Plain x))) (call_in_arguments site.env (a.Literal 0) es) both.1) d.1 (λ q i. all q (inr i))
         room (omega (arith, in_words, length-set ws (from + to) m)) (length-set ws (from + to) m ∙ len) (still_same ws to m same here))))
-    passes_init _ _ _ place next low high ws h none fine d all room in_words len same = absurd h
+    passes_init _ _ _ place next low high ws h none d all room in_words len same = absurd h

@@ -96,6 +96,7 @@ module _ (G : Ground) (xs : List Activation) (top : ℕ) (stack : Stacked G top 
     rights = λ p k i component lying.
         subst (RightMeans G p.1.type (put_all ws store (stored_at at p.0)) (c + k)) (sym (moved k (offset_within (scope G) s distinct one p k i (inl (component, lying)))))
         (B.rights p k store i component lying);
+    given = λ p k i component lying. B.given p k store i component lying;
     outside = λ i below apart.
         copied_outside us us (c + 1) (from + 1) (length (declarations (scope G) s.parameters)) i apart ∙ B.outside i (λ p k j o e. omega (arith, below, e, start));
     unwritten = λ l none. B.unwritten l store none;

@@ -42,14 +42,15 @@ use Rattle.cp_steps.specs.PrivateStates.{Acting, Outside, PrivateState, fault_in
 use Rattle.cp_steps.specs.Passing.{Passing, component_called, pass_all, when_passed}
 use Rattle.cp_steps.specs.Calling.{Back, class_at, enter, frame_of, has_room, init_class, settle}
 use Rattle.cp_steps.specs.Steps.{alone}
-use Rattle.cp_steps.specs.Addresses.{ClassLies, Ground, activations, component_type, lies, scope, seen}
-use Rattle.cp_steps.specs.Laws.{HandsOnNoClass}
+use Rattle.cp_steps.specs.Addresses.{Activation, ClassLies, Ground, HasRights, activations, component_type, lies, scope, seen}
 use Rattle.cp_steps.specs.Left.{Left, Running, Runs, innermost_gate, site}
 use Rattle.cp_steps.specs.PartOf.{ActivationsMean, DataMeans, PartOf, RunsOn}
 use Rattle.cp_steps.proofs.Apart.{IsCell, IsClass}
 use Rattle.cp_steps.proofs.CallSteps.{UnitsStand}
 use Rattle.cp_steps.proofs.Doing.{Ready, known, statement_steps}
+use Rattle.cp_steps.proofs.Given.{KeepsGiven, class_has_rights, system_same}
 use Rattle.cp_steps.proofs.Heres.{lies_any}
+use Rattle.cp_steps.proofs.Holding.{written_keeps}
 use Rattle.cp_steps.proofs.Pushing.{activations_push, marks_push, mean_push, push_left}
 use Rattle.cp_steps.proofs.Copying.{copied_length}
 use Rattle.cp_steps.proofs.Declared.{distinct_first}
@@ -58,9 +59,11 @@ use Rattle.cp_steps.proofs.InitOffsets.{Offset}
 use Rattle.cp_steps.proofs.InitPassing.{InitAgrees, InitBound, passes_init}
 use Rattle.cp_steps.proofs.InitRights.{given}
 use Rattle.cp_steps.proofs.InitSettled.{class_below, init_count, init_offsets, init_settled, init_values}
+use Rattle.cp_steps.proofs.ProcessRights.{NoClassRights}
 use Rattle.cp_steps.proofs.Rooms.{room_for}
 use Rattle.cp_steps.proofs.RunningOn.{left_afresh, runs_here, runs_over, runs_room, runs_stacked, runs_stored}
-use Rattle.cp_steps.proofs.Settling.{runs_settled}
+use Rattle.cp_steps.proofs.Settling.{Settled, has_settled, runs_settled}
+use Rattle.cp_steps.proofs.Stacks.{Stacked}
 use Rattle.cp_steps.proofs.Stepping.{Stepped, clock_of, faulted, stopped, went}
 use Rattle.cp_steps.proofs.Targets.{class_lies, lies_below, mark_is}
 use Rattle.cp_steps.specs.Means.{MarkMeans}
@@ -71,12 +74,12 @@ body_of_class G s at = record { globals = scope G; system = s; component = at; f
 
 -- The process runs on in the body, where the mark is set.
 body_entered : (G : Ground) (store : Store) (o : PrivateState) (i : Task) (k : List Task) (R : RunsOn G store o (i ∷ k)) (call : Call) (back : Back) (s : System) (at : Location) (n kept : ℕ)
-    → (C : sites.Runs (site G R.running) (BodyOf s) kept call) → UnitStands G.program G.texts (scope G) C.unit (BodyOf s) → s.sort ≡ Class → is_own G.p at.owner ≡ true → lies G [] at ≡ Some (n, component_type G s)
+    → (C : sites.Runs (site G R.running) (BodyOf s) kept call) → UnitStands G.program G.texts (scope G) C.unit (BodyOf s) → s.sort ≡ Class → is_own G.p at.owner ≡ true → lies G [] at ≡ Some (n, component_type G s) → HasRights G store at s
     → activations o.base o.frames (i ∷ k) ≡ activations o.base o.frames k → ActivationsMean G (put at (Initialised true) store) (set_word o n (pos 1)).words o.base o.frames (i ∷ k) ≡ ActivationsMean G (put at (Initialised true) store) (set_word o n (pos 1)).words o.base o.frames k
     → marked_monitors (i ∷ k) ≡ marked_monitors k
     → Left G o.temps o.limit nothing_known R.running o.frames back.place kept k → kept ≤ R.running.unit.temps
     → RunsOn G (put at (Initialised true) store) (enter (set_word o n (pos 1)) (class_at n) C.unit call back) (push s.body (body_of_class G s at) (EndBody None ∷ k))
-body_entered G store o i k R call back s at n kept C stands sort own there same means marks left fits = record {
+body_entered G store o i k R call back s at n kept C stands sort own there has same means marks left fits = record {
   running = N;
   runs = new_runs;
   base = omega (arith, R.base);
@@ -110,6 +113,7 @@ body_entered G store o i k R call back s at n kept C stands sort own there same 
       (subst (λ (T : Type 0). T) means S.activations_mean);
   data_means = subst (λ ys. DataMeans G ys (is_own G.p) (put at (Initialised true) store) (set_word o n (pos 1)).words) (sym (activations_push (o.base + call.words) (f ∷ o.frames) s.body env (EndBody None ∷ k)))
       (subst (λ ys. DataMeans G ys (is_own G.p) (put at (Initialised true) store) (set_word o n (pos 1)).words) same S.data_means);
+  given = (class_has_rights G ys top stack at s n own sort there (put at (Initialised true) store) (written at s n own sort there has), S.given);
 }
   where
     N : Running
@@ -136,6 +140,19 @@ body_entered G store o i k R call back s at n kept C stands sort own there same 
     S =
         runs_stored G store o (i ∷ k) R at n (component_type G s) (Initialised true) (pos 1) is_cell
         (subst (λ z. MarkMeans z (Initialised true) (pos 1)) (sym sort) refl) own (lies_any G (activations o.base o.frames (i ∷ k)) at _ there)
+        (λ r class' type set. subst (HasRights G store at) (system_same G s r type) has)
+
+    ys : List Activation
+    ys = activations o.base o.frames (i ∷ k)
+
+    top : ℕ
+    top = o.base + (site G R.running).words
+
+    stack : Stacked G top ys
+    stack = runs_stacked G store o (i ∷ k) R
+
+    written : KeepsGiven G store (put at (Initialised true) store)
+    written = written_keeps G ys top stack store o.words at n (component_type G s) (Initialised true) (pos 1) is_cell (subst (λ z. MarkMeans z (Initialised true) (pos 1)) (sym sort) refl) own (lies_any G ys at _ there)
 
     held : o.gate ≡ innermost_gate (marked_monitors k)
     held = R.gate ∙ ap innermost_gate marks
@@ -157,8 +174,8 @@ body_entered G store o i k R call back s at n kept C stands sort own there same 
 pub init_steps : (G : Ground) (s : State) (before : List ℕ) (o : PrivateState) (x : Name) (es : a.Expressions) (env : Environment) (k : List Task) → StoreInvariant s.store → UnitsStand G
     → (Y : Ready G s before o (a.Init x es) env k) (call : Call) (next : ℕ) → operation_at G.program o.place ≡ Some (op.InitClass call next)
     → InitsBy (site G Y.now.on.running) (known G s before o (Do (a.Init x es) env) k Y.now) Y.now.on.left.2.3.2 es (op.InitClass call next) o.place Y.now.on.left.2.3.0 Y.now.on.left.2.0 Y.now.on.left.2.1
-    → HandsOnNoClass call.arguments → Stepped G s before o
-init_steps G s before o x es env k I units Y call next there h fine =
+    → NoClassRights G → Stepped G s before o
+init_steps G s before o x es env k I units Y call next there h none =
     statement_steps G s before o (a.Init x es) env k Y (op.InitClass call next) refl private there refl
     (subst (λ (z : Option Component). PartOf G (after_step s G.p (elim z as (λ y. StepResult) [ None ↦ own_step (with_continuation (configuration s G.p) k) | Some m ↦ init_component m.system.sort (context G.setup s G.p) (configuration s G.p) here k es m ])) before computed)
     (sym Y.now.on.left.2.3.4)
@@ -262,10 +279,10 @@ init_steps G s before o x es env k I units Y call next there h fine =
         (passes_init G n.system (name_location here n) c top names one (site G Y.now.on.running) (clock_of G s) s.store w known_here lying' o
         (λ ws len same. runs_here G s.store (record o { words = ws }) (first ∷ k) (clock_of G s) (runs_over G s.store s.store o ws (first ∷ k) Y.now.on (λ at q. refl) (λ j q. same j (inl q)) len) Y.now.sees)
         Y.now.on.runs.globals
-        (λ m t f g ws same len j inner l room. given G s before o first k Y.now Y.now.sees I n.system c h.0 m t f g ws (λ z q. same z (inl q)) len j inner l room)
+        (λ m t f ws same len j inner l room. given G s before o first k Y.now Y.now.sees I none n.system c h.0 m t f ws (λ z q. same z (inl q)) len j inner l room)
         there
         passed es call.arguments o.place Y.now.on.left.2.3.0 Y.now.on.left.2.1 Y.now.on.running.unit.temps o.words arguments
-        (in_context_none (a.Init x) (call_in_arguments here (a.Literal 0) es) Y.none) fine names (λ p i. i)
+        (in_context_none (a.Init x) (call_in_arguments here (a.Literal 0) es) Y.none) names (λ p i. i)
         (omega (arith, h.2.room, count, Y.now.on.runs.words_fit, Y.now.on.count, Y.now.on.base)) (omega arith) refl (λ z q. refl))
 
     -- The mark is tested, the arguments become the parameters, the mark is set, and the body is entered.
@@ -318,14 +335,19 @@ init_steps G s before o x es env k I units Y call next there h fine =
             }))) before result) (sym env_is)
             (went G s before o Y.now.part (put (name_location here n) (Initialised true) (put_all ws s.store)) result (push n.system.body (body_of_class G n.system (name_location here n)) (EndBody None ∷ k))
             (body_entered G (put_all ws s.store) (record o { words = moved us }) first k
-            (runs_settled G s.store (put_all ws s.store) o (moved us) (first ∷ k) Y.now.on (name_location here n) (o.component + off) n.system Y.now.sees.component h.0 lying stands.1 one offsets
-            (init_settled G (activations o.base o.frames (first ∷ k)) top (runs_stacked G s.store o (first ∷ k) Y.now.on) (name_location here n) (o.component + off) (o.base + call.words) n.system Y.now.sees.component h.0 lying names one
-            s.store o.words us ws B (ap (λ z. o.base + z) h.2.runs.words) (omega (arith, B.length_is, runs_room G s.store o (first ∷ k) Y.now.on)))
+            (runs_settled G s.store (put_all ws s.store) o (moved us) (first ∷ k) Y.now.on (name_location here n) (o.component + off) n.system Y.now.sees.component h.0 lying stands.1 one offsets settled
             (copied_length us us (o.component + off + 1) (o.base + call.words + 1) (length passed) ∙ B.length_is))
-            call back n.system (name_location here n) (o.component + off) Y.now.on.left.2.1 h.2.runs stands h.0 Y.now.sees.component lying refl refl refl
+            call back n.system (name_location here n) (o.component + off) Y.now.on.left.2.1 h.2.runs stands h.0 Y.now.sees.component lying
+            (has_settled G (activations o.base o.frames (first ∷ k)) top (runs_stacked G s.store o (first ∷ k) Y.now.on) s.store (put_all ws s.store) o.words (moved us) (name_location here n) (o.component + off) n.system Y.now.sees.component h.0 lying stands.1 one offsets settled)
+            refl refl refl
             (subst (λ z. Left G o.temps o.limit nothing_known Y.now.on.running o.frames z Y.now.on.left.2.1 k) (sym h.1) Y.now.on.left.2.4) Y.now.on.left.2.2)
             record { number = refl; input = refl; consumed = refl; output = refl; activity = refl }))
           where
+            settled : Settled G top s.store (put_all ws s.store) o.words (moved us) (name_location here n) (o.component + off) n.system
+            settled =
+                init_settled G (activations o.base o.frames (first ∷ k)) top (runs_stacked G s.store o (first ∷ k) Y.now.on) (name_location here n) (o.component + off) (o.base + call.words) n.system Y.now.sees.component h.0 lying names one
+                s.store o.words us ws B (ap (λ z. o.base + z) h.2.runs.words) (omega (arith, B.length_is, runs_room G s.store o (first ∷ k) Y.now.on))
+
             result : PrivateState
             result = enter (set_word (record o { words = moved us }) (o.component + off) (pos 1)) (class_at (o.component + off)) h.2.runs.unit call back
 

@@ -38,7 +38,7 @@ use Rattle.cp_steps.specs.PrivateStates.{Acting, Enters, Outside, PrivateState, 
 use Rattle.cp_steps.specs.Passing.{Called, Passing, component_called, pass_all, when_passed}
 use Rattle.cp_steps.specs.Calling.{Back, call_step, enter, frame_of, gate_effect, has_room, start_words}
 use Rattle.cp_steps.specs.Steps.{alone}
-use Rattle.cp_steps.specs.Addresses.{ComponentLies, Ground, activations, scope, seen}
+use Rattle.cp_steps.specs.Addresses.{ClassHasRights, ComponentLies, Ground, activations, scope, seen}
 use Rattle.cp_steps.specs.Left.{CallerAt, held_below, kept_below, site}
 use Rattle.cp_steps.specs.PartOf.{DataMeans, PartOf, RunsOn}
 use Rattle.cp_steps.proofs.Entering.{Opened, Waits, entered_on, environment_of_call, owner_of_call}
@@ -80,11 +80,12 @@ locals_two g (x ∷ xs) ys = let e = locals_two g xs ys in omega (arith, e)
 -- ---- targets
 
 -- The machine calls where the meaning does, and no gate is entered.
-pub record TargetIs (G : Ground) (t : calls.Target) (c : Called) (s : System) : Type 0 where
+pub record TargetIs (G : Ground) (store : Store) (t : calls.Target) (c : Called) (s : System) : Type 0 where
   pub set_is : c.is_set ≡ t.is_callable
   pub there : c.component ≤ G.own
   pub system : t.system ≡ s
   pub lies_there : t.is_callable ≡ true → ComponentLies G t.component s c.component
+  pub given : t.is_callable ≡ true → ClassHasRights G (is_own G.p) store c.component
   pub gate : c.gate ≡ 0
   pub no_gate : t.gate ≡ None
 
@@ -119,7 +120,7 @@ module _ (G : Ground) (s : State) (before : List ℕ) (o : PrivateState) (i : Ta
     pub made : call_in_arguments N.on.running.env (a.Literal 0) v.arguments ≡ None
     pub where_is : v.environment ≡ N.on.running.env
     pub distinct : Distinct (parameters (site G N.on.running) v.callee)
-    pub target_is : TargetIs G (target (context G.setup s G.p) s.store N.on.running.env v.callee.of) (component_called G.program (alone (realtime (clock_of G s)) o) o call.target) callee_system
+    pub target_is : TargetIs G s.store (target (context G.setup s G.p) s.store N.on.running.env v.callee.of) (component_called G.program (alone (realtime (clock_of G s)) o) o call.target) callee_system
     pub caller : CallerAt G call.routine kept live v.callee.routine.result (frame_of o (component_called G.program (alone (realtime (clock_of G s)) o) o call.target) back) place
     pub opens : Opens runs.unit
 
@@ -229,7 +230,7 @@ module _ (G : Ground) (s : State) (before : List ℕ) (o : PrivateState) (i : Ta
           (went G s before o N.part (opened_store ws) after (push v.callee.routine.body env (EndCall env None ∷ k))
           (entered_on G s.store (opened_store ws) o new_words (i ∷ l) k N.on call back callee_system v.callee.routine t.component c place kept live I.waits
           (record { runs = I.runs; stands = I.stands; lies_there = I.target_is.lies_there callable; gate = I.target_is.gate })
-          I.caller (live_same ws inside) below (I.stands.0.length_is (o.base + call.words) new ∙ B.length_is) (I.opens ws new B.length_is B))
+          I.caller (I.target_is.given callable) (live_same ws inside) below (I.stands.0.length_is (o.base + call.words) new ∙ B.length_is) (I.opens ws new B.length_is B))
           record { number = refl; input = refl; consumed = refl; output = refl; activity = refl }))
         where
           here : Environment

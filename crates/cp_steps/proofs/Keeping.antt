@@ -2,8 +2,8 @@
 use Rattle.std.proofs.Common.{◌≡◌, ◌⊎◌, inl, inr, ℕ, suc, ◌+◌, ◌≤◌, ◌<◌, ℤ, List, [], ◌∷◌, length, Bool, true, false, Some, None, refl, ap, sym, subst, ◌∙◌, arith}
 use Rattle.std.specs.Prelude.{if◌then◌else◌}
 use Rattle.std.proofs.lemmas.Bool.{eq-eqb, true≢false}
-use Rattle.cp_model.specs.Abstract.{Name, System}
-use Rattle.cp_model.specs.CallSteps.{result_location}
+use Rattle.cp_model.specs.Abstract.{Class, Name, System}
+use Rattle.cp_model.specs.CallSteps.{is_initialised, result_location}
 use Rattle.cp_model.specs.Continuations.{Do, EndBody, EndCall, EndProcess, ForNext, RepeatTest, Task, WhileTest}
 use Rattle.cp_model.specs.Declarations as declared
 use Rattle.cp_model.specs.Declarations.{reported_members}
@@ -18,12 +18,13 @@ use Rattle.cp_code.specs.Starts.{word}
 use Rattle.cp_code.specs.TermsFor.{Knowns, nothing_known}
 use Rattle.cp_steps.specs.Means.{CellMeans}
 use Rattle.cp_steps.specs.PrivateStates as machine
-use Rattle.cp_steps.specs.Addresses.{Activation, ClassLies, ComponentLies, Ground, MonitorLies, ProcessLies, RightMeans, activation_at, activation_of, activations, lies, part_of_component, scope}
+use Rattle.cp_steps.specs.Addresses.{Activation, ClassLies, ComponentLies, Ground, MonitorLies, ProcessLies, RightMeans, activation_at, activation_of, activations, component_type, lies, part_of_component, scope}
 use Rattle.cp_steps.specs.Left.{Left, Running, kept_below}
 use Rattle.cp_steps.specs.PartOf.{ActivationMeans, ActivationsMean, DataMeans, IfFrame, ResultMeans}
 use Rattle.cp_code.specs.StandsFor.{system_of_process}
 use Rattle.cp_steps.proofs.Apart.{InHead, IsCell, IsClass}
 use Rattle.cp_steps.proofs.Finding.{some_is_not_none}
+use Rattle.cp_steps.proofs.Given.{KeepsGiven, rights_kept}
 use Rattle.cp_steps.proofs.Heres.{depth_is, found_behind, found_here, lies_any}
 use Rattle.cp_steps.proofs.Layouts.{same_some}
 use Rattle.cp_steps.proofs.Leads.{lies_on}
@@ -154,6 +155,10 @@ module _ (G : Ground) (store after : Store) (old new : List ℤ) where
     pub rights : (at : Location) (s : System) (n m : ℕ) (x : Name) (v : declared.Variable) → is_own G.p at.owner ≡ true → ComponentLies G at s n
         → right (scope G) s x ≡ Some (m, v) → member (scope G) s x ≡ None
         → (after (under at (ByName x ∷ [])) ≡ store (under at (ByName x ∷ []))) × (word new (n + m) ≡ word old (n + m))
+    pub marks : (at : Location) (s : System) (n : ℕ) → is_own G.p at.owner ≡ true → s.sort ≡ Class → lies G [] at ≡ Some (n, component_type G s) → after at ≡ store at
+
+  pub keeps_given : (xs : List Activation) → KeepsData xs → KeepsGiven G store after
+  keeps_given xs K at s n mine sort is = rights_kept G store after at s (λ m x v r none. (K.rights at s n m x v mine (ClassLies sort is) r none).0)
 
   pub right_kept : (xs : List Activation) (at : Location) (s : System) (n m : ℕ) (x : Name) (v : declared.Variable)
       → (after (under at (ByName x ∷ [])) ≡ store (under at (ByName x ∷ []))) × (word new (n + m) ≡ word old (n + m))
@@ -167,6 +172,7 @@ module _ (G : Ground) (store after : Store) (old new : List ℤ) where
     cells = λ l n t mine h. by l n t mine h (is_cell t);
     rights = λ at s n m x v mine cl r none.
         right_kept xs at s n m x v (K.rights at s n m x v mine cl r none) (D.rights at s n m x v mine cl r none);
+    given = λ at s n mine sort is set. keeps_given xs K at s n mine sort is (D.given at s n mine sort is (ap is_initialised (sym (K.marks at s n mine sort is)) ∙ set));
   }
     where
       by : (l : Location) (n : ℕ) (t : ResolvedType) → is_own G.p l.owner ≡ true → lies G xs l ≡ Some (n, t)

@@ -9,6 +9,7 @@ pub mod Leads
 pub mod Apart
 pub mod Stacks
 pub mod Separate
+pub mod Given
 pub mod Writing
 pub mod Keeping
 pub mod Holding
@@ -49,6 +50,7 @@ pub mod CopySteps
 pub mod InitOffsets
 pub mod Settling
 pub mod InitPassing
+pub mod ProcessRights
 pub mod InitRights
 pub mod InitSettled
 pub mod Opening

@@ -126,7 +126,7 @@ still_is machine.Ended h = refl
 still_is (machine.Faulted f) h = refl
 
 pub private_step_is_step : PrivateStepIsStep
-private_step_is_step program setup F p own s before o I told part = by (s.status p) refl
+private_step_is_step program setup F p own s before o I part = by (s.status p) refl
   where
     same : (x : Status) → s.status p ≡ x → private_status x ≡ status_of o.activity
     same x is = ap private_status (sym is) ∙ part.status
@@ -140,7 +140,7 @@ private_step_is_step program setup F p own s before o I told part = by (s.status
 
     ready : (ms : List ℕ) → marked_monitors (s.continuation p) ≡ ms → s.status p ≡ stage.Ready → Stepped (ground_of program setup F p own) s before o
     ready [] marks is =
-        ready_steps (ground_of program setup F p own) s before o F refl part I told (s.continuation p) refl is marks (running stage.Ready is tt)
+        ready_steps (ground_of program setup F p own) s before o F refl part I (s.continuation p) refl is marks (running stage.Ready is tt)
         (runs (ground_of program setup F p own) s before o part (running stage.Ready is tt))
     ready (m ∷ ms) marks is =
         neither (ground_of program setup F p own) s before o part (kernel_step (ground_of program setup F p own) s before o part m ms is marks)

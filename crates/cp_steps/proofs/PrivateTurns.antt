@@ -11,9 +11,9 @@ use Rattle.cp_steps.specs.PartOf.{PartOf}
 use Rattle.cp_steps.proofs.PrivateSteps.{private_step_is_step}
 
 pub private_turn_is_turn : PrivateTurnIsTurn
-private_turn_is_turn program setup F p own zero s before o I told part = part
-private_turn_is_turn program setup F p own (suc n) s before o I told part =
+private_turn_is_turn program setup F p own zero s before o I part = part
+private_turn_is_turn program setup F p own (suc n) s before o I part =
     subst (λ r. PartOf (ground_of program setup F p own) (meaning.private_turn setup n (meaning.private_step setup s p) p) before (private_steps program (realtime (record { round = suc r; tick = setup.tick })) n (private_step program (realtime (running_clock setup s)) o)))
     (private_turn_count setup 1 s p)
-    (private_turn_is_turn program setup F p own n (meaning.private_step setup s p) before (private_step program (realtime (running_clock setup s)) o) (private_step_keeps setup s p I) told
-    (private_step_is_step program setup F p own s before o I (told o.place) part))
+    (private_turn_is_turn program setup F p own n (meaning.private_step setup s p) before (private_step program (realtime (running_clock setup s)) o) (private_step_keeps setup s p I)
+    (private_step_is_step program setup F p own s before o I part))

@@ -19,17 +19,18 @@ use Rattle.cp_steps.specs.PrivateStates.{PrivateState, set_word}
 use Rattle.cp_steps.specs.Means.{CellMeans}
 use Rattle.cp_steps.specs.Addresses.{Activation, ClassLies, ComponentLies, Ground, MonitorLies, ProcessLies, activation_at, activations, lies, scope}
 use Rattle.cp_steps.specs.Left.{held_below, site}
-use Rattle.cp_steps.specs.PartOf.{ActivationMeans, ResultMeans, RunsOn}
+use Rattle.cp_steps.specs.PartOf.{ActivationMeans, ResultMeans, RunsOn, components}
 use Rattle.cp_steps.proofs.Apart.{InHead, cell_head}
 use Rattle.cp_steps.proofs.Finding.{some_is_not_none}
 use Rattle.cp_steps.proofs.Heres.{Top, found_here, top_is}
 use Rattle.cp_steps.proofs.Holding.{live_owner, put_apart, result_no_variable}
-use Rattle.cp_steps.proofs.Keeping.{activation_kept, activations_kept, data_kept, depth_of, local_named, right_place}
+use Rattle.cp_steps.proofs.Keeping.{KeepsData, activation_kept, activations_kept, data_kept, depth_of, keeps_given, local_named, right_place}
 use Rattle.cp_steps.proofs.Layouts.{same_some}
 use Rattle.cp_steps.proofs.RunningOn.{runs_room, runs_stacked}
 use Rattle.cp_steps.proofs.Separate.{OwnRight, cell_no_result, local_no_own_right, locals_apart, reference_inside, result_inside}
 use Rattle.cp_steps.proofs.Stacks.{Stacked, found_inside}
 use Rattle.cp_steps.proofs.Writing.{changed_other, location_itself}
+use Rattle.cp_steps.proofs.Given.{all_kept}
 
 abbrev pub name_of_path : Name → Path → Name
 name_of_path d (ByName x ∷ p) = x
@@ -51,15 +52,8 @@ runs_resulted G store o k R f t v runs is none differs = record {
   count = length-set o.words o.base v ∙ R.count;
   activations_mean = activations_kept G store after o.words new o.temps o.limit o.base (held_below R.live o.temps R.running.temp) R.running o.frames o.place R.running.unit.temps k R.left
       (λ rest g c owner there m. by rest g c owner there m (nat_eq (length rest) (length T.rest)) refl) R.activations_mean;
-  data_means = data_kept G store after o.words new xs record {
-    cells = λ l n u mine c h m.
-        subst (λ z. CellMeans u z (word new n)) (sym (put_apart L l (Ordinal v) store (λ e. some_is_not_none _ (sym h ∙ (ap (lies G xs) (sym e) ∙ no_variable)))))
-        (subst (λ z. CellMeans u (store l) z) (sym (changed_other o.words n o.base v (λ e. cell_no_result G xs top stack l n u 0 (length T.rest) z0 t mine (cell_head (scope G) u c) h there0 is (omega (arith, e))))) m);
-    rights = λ at s n m x w mine cl r no. (
-      put_apart L (under at (ByName x ∷ [])) (Ordinal v) store (λ e. owners at s n cl (sym (ap (λ (j : Location). j.owner) e) ∙ T.owner)),
-      changed_other o.words (n + m) o.base v (λ e. right_apart at s n m mine e (right_place G xs at s n m x w mine cl r)),
-    );
-  } R.data_means;
+  data_means = data_kept G store after o.words new xs keeps R.data_means;
+  given = all_kept G store after (keeps_given G store after o.words new xs keeps) (components o) R.given;
 }
   where
     xs : List Activation
@@ -104,6 +98,18 @@ runs_resulted G store o k R f t v runs is none differs = record {
         → OwnRight G (n + m) ⊎ ((lies G xs at ≡ Some (n, ComponentOf s (reported_members (scope G) s))) × InHead (scope G) (ComponentOf s (reported_members (scope G) s)) m × (1 ≤ m)) → ⊥
     right_apart at s n m mine e (inl r) = local_no_own_right G xs top stack (length T.rest) (n + m) z0 there0 (omega (arith, e)) r
     right_apart at s n m mine e (inr r) = cell_no_result G xs top stack at n (ComponentOf s (reported_members (scope G) s)) m (length T.rest) z0 t mine r.1 r.0 there0 is e
+
+    keeps : KeepsData G store after o.words new xs
+    keeps = record {
+      cells = λ l n u mine c h m.
+          subst (λ z. CellMeans u z (word new n)) (sym (put_apart L l (Ordinal v) store (λ e. some_is_not_none _ (sym h ∙ (ap (lies G xs) (sym e) ∙ no_variable)))))
+          (subst (λ z. CellMeans u (store l) z) (sym (changed_other o.words n o.base v (λ e. cell_no_result G xs top stack l n u 0 (length T.rest) z0 t mine (cell_head (scope G) u c) h there0 is (omega (arith, e))))) m);
+      rights = λ at s n m x w mine cl r no. (
+        put_apart L (under at (ByName x ∷ [])) (Ordinal v) store (λ e. owners at s n cl (sym (ap (λ (j : Location). j.owner) e) ∙ T.owner)),
+        changed_other o.words (n + m) o.base v (λ e. right_apart at s n m mine e (right_place G xs at s n m x w mine cl r)),
+      );
+      marks = λ at s n mine sort there. put_apart L at (Ordinal v) store (λ e. owners at s n (ClassLies sort there) (sym (ap (λ (j : Location). j.owner) e) ∙ T.owner));
+    }
 
     room : o.base < length o.words
     room = omega (arith, (found_inside G top (length T.rest) xs z0 stack there0).0, result_inside (scope G) f.routine t is, runs_room G store o k R)

@@ -1,6 +1,6 @@
 -- Whole private steps at the end of a routine: the caller goes on, with a function's value in the place of the call.
 use Rattle.std.proofs.Common.{◌≡◌, ℕ, ◌+◌, ◌≤◌, ℤ, List, [], ◌∷◌, length, Bool, true, false, Option, Some, None, refl, ap, sym, subst, ◌∙◌, arith}
-use Rattle.std.specs.Prelude.{if◌then◌else◌, slice_get, slice_set}
+use Rattle.std.specs.Prelude.{if◌then◌else◌, map, slice_get, slice_set}
 use Rattle.std.proofs.lemmas.List.{length-set}
 use Rattle.cp_model.specs.Abstract as a
 use Rattle.cp_model.specs.Abstract.{Name, System}
@@ -35,12 +35,13 @@ use Rattle.cp_steps.proofs.Doing.{acts_itself}
 use Rattle.cp_steps.proofs.Finding.{cons_is_not_nil, some_is_not_none}
 use Rattle.cp_steps.proofs.Heres.{depth_is, lies_behind}
 use Rattle.cp_steps.proofs.Holding.{SameLive, activation_below, data_below}
-use Rattle.cp_steps.proofs.Keeping.{activation_kept, activations_kept, data_kept}
+use Rattle.cp_steps.proofs.Keeping.{activation_kept, activations_kept, data_kept, keeps_given}
 use Rattle.cp_steps.proofs.Layouts.{same_some}
 use Rattle.cp_steps.proofs.LeftKept.{left_kept, left_raised}
 use Rattle.cp_steps.proofs.Stacks.{Stacked, stacked}
 use Rattle.cp_steps.proofs.Stepping.{Now, Stepped, both_step, faulted, went}
 use Rattle.cp_steps.proofs.Writing.{integer_is, owner_is}
+use Rattle.cp_steps.proofs.Given.{all_kept}
 
 -- ---- an activation less
 
@@ -48,6 +49,7 @@ pub data_behind : (G : Ground) (z : Activation) (xs : List Activation) (store : 
 data_behind G z xs store words D = record {
   cells = λ l n t mine h. D.cells l n t mine (lies_behind G z xs l (n, t) h);
   rights = D.rights;
+  given = D.given;
 }
 
 -- The store without an activation that isn't live.
@@ -147,6 +149,7 @@ module _ (G : Ground) (s : State) (before : List ℕ) (o : PrivateState) (f : ma
         data_means = marks (λ ys gs. DataMeans G ys (is_own G.p) after o.words)
             (data_kept G s.store after o.words o.words xs (data_below G xs top stack s.store after o.words o.words live_same (λ i q. refl))
             (data_behind G (record { base = o.base; routine = N.on.left.1.frame.routine }) xs s.store o.words (subst (λ e. DataMeans G (activation_of o.base e xs) (is_own G.p) s.store o.words) here N.on.data_means)));
+        given = all_kept G s.store after (keeps_given G s.store after o.words o.words xs (data_below G xs top stack s.store after o.words o.words live_same (λ i q. refl))) (f.component ∷ map (λ g. g.component) fs) N.on.given.1;
       }
 
   abbrev gone : Outcome Configuration → State

@@ -1,9 +1,11 @@
 -- What runs on: what its words mean, other places and tasks, and other words and stores.
 use Rattle.std.proofs.Common.{◌≡◌, ℕ, ◌+◌, ◌≤◌, ℤ, List, Some, length, refl, ap, sym, subst, ◌∙◌, arith}
 use Rattle.std.specs.Prelude.{slice_set, true}
+use Rattle.std.proofs.lemmas.Bool.{true≢false}
 use Rattle.std.proofs.lemmas.List.{length-set}
 use Rattle.cp_model.specs.Abstract as a
-use Rattle.cp_model.specs.Abstract.{BaseType}
+use Rattle.cp_model.specs.Abstract.{BaseType, Class, System}
+use Rattle.cp_model.specs.CallSteps.{is_initialised}
 use Rattle.cp_model.specs.Continuations.{Task, marked_monitors, push}
 use Rattle.cp_model.specs.Locations.{Location}
 use Rattle.cp_model.specs.Operators.{Clock, realtime}
@@ -17,13 +19,14 @@ use Rattle.cp_steps.specs.PrivateStates as machine
 use Rattle.cp_steps.specs.Steps.{alone}
 use Rattle.cp_steps.specs.Values.{View}
 use Rattle.cp_steps.specs.Means.{CellMeans, Here}
-use Rattle.cp_steps.specs.Addresses.{Ground, activations, lies, scope, seen}
+use Rattle.cp_steps.specs.Addresses.{Ground, HasRights, activations, component_type, lies, scope, seen}
 use Rattle.cp_steps.specs.Left.{Left, Running, held_below, innermost_gate, site}
-use Rattle.cp_steps.specs.PartOf.{ActivationsMean, DataMeans, RunsOn}
+use Rattle.cp_steps.specs.PartOf.{ActivationsMean, DataMeans, RunsOn, components}
 use Rattle.cp_steps.proofs.Apart.{IsCell, cell_head}
+use Rattle.cp_steps.proofs.Given.{all_kept}
 use Rattle.cp_steps.proofs.Heres.{Sees, here}
-use Rattle.cp_steps.proofs.Holding.{SameBelow, SameLive, activation_below, activation_written, data_below, data_written}
-use Rattle.cp_steps.proofs.Keeping.{activation_kept, activations_kept, data_kept}
+use Rattle.cp_steps.proofs.Holding.{SameBelow, SameLive, activation_below, activation_written, data_below, data_written, written_keeps}
+use Rattle.cp_steps.proofs.Keeping.{activation_kept, activations_kept, data_kept, keeps_given}
 use Rattle.cp_steps.proofs.LeftKept.{left_kept, left_raised}
 use Rattle.cp_steps.proofs.Pushing.{activations_push, marks_push, mean_push, push_left}
 use Rattle.cp_steps.proofs.Separate.{cell_below}
@@ -83,6 +86,7 @@ runs_moved G store o i j place low R same mean marks left fits = record {
   count = R.count;
   activations_mean = subst (λ (T : Type 0). T) (sym mean) R.activations_mean;
   data_means = subst (λ xs. DataMeans G xs (is_own G.p) store o.words) (sym same) R.data_means;
+  given = R.given;
 }
 
 -- A statement is in front of what is left.
@@ -96,11 +100,12 @@ runs_pushed G store o i k s place next low R same mean marks code left fits =
     (activations_push o.base o.frames s R.running.env k ∙ same) (mean_push G store o.words o.base o.frames s R.running.env k ∙ mean) (marks_push s R.running.env k ∙ marks)
     (push_left G o.temps o.limit R.running o.frames s place next low k code left) fits
 
--- A value of one word is stored.
+-- A value of one word is stored. Where it is a mark that is set, the class has its rights.
 abbrev pub runs_stored : (G : Ground) (store : Store) (o : PrivateState) (k : List Task) (R : RunsOn G store o k) (l : Location) (n : ℕ) (u : ResolvedType) (w : Value) (v : ℤ)
     → IsCell u → CellMeans u w v → is_own G.p l.owner ≡ true → lies G (activations o.base o.frames k) l ≡ Some (n, u)
+    → ((s : System) → s.sort ≡ Class → u ≡ component_type G s → is_initialised w ≡ true → HasRights G store l s)
     → RunsOn G (put l w store) (set_word o n v) k
-runs_stored G store o k R l n u w v cell means own is =
+runs_stored G store o k R l n u w v cell means own is fresh =
     let xs = activations o.base o.frames k in
     let top = o.base + (site G R.running).words in
     let stack = runs_stacked G store o k R in
@@ -120,14 +125,15 @@ runs_stored G store o k R l n u w v cell means own is =
           activations_kept G store (put l w store) o.words (slice_set o.words n v) o.temps o.limit o.base (held_below R.live o.temps R.running.temp) R.running o.frames o.place R.running.unit.temps k R.left
           (λ rest f c owner there. activation_kept G store (put l w store) o.words (slice_set o.words n v) rest c (length rest) f owner
           (activation_written G xs top stack store o.words l n u w v cell means own is (length rest) (record { base = c; routine = f.routine }) there)) R.activations_mean;
-      data_means = data_written G xs top stack store o.words l n u w v cell means own is (omega (arith, below, runs_room G store o k R)) R.data_means;
+      data_means = data_written G xs top stack store o.words l n u w v cell means own is (omega (arith, below, runs_room G store o k R)) fresh R.data_means;
+      given = all_kept G store (put l w store) (written_keeps G xs top stack store o.words l n u w v cell means own is) (components o) R.given;
     }
 
 -- A simple value is stored.
 abbrev pub runs_written : (G : Ground) (store : Store) (o : PrivateState) (k : List Task) (R : RunsOn G store o k) (l : Location) (n : ℕ) (b : BaseType) (low high start v : ℤ)
     → is_own G.p l.owner ≡ true → lies G (activations o.base o.frames k) l ≡ Some (n, Simple b low high start)
     → RunsOn G (put l (Ordinal v) store) (set_word o n v) k
-runs_written G store o k R l n b low high start v own is = runs_stored G store o k R l n (Simple b low high start) (Ordinal v) v tt refl own is
+runs_written G store o k R l n b low high start v own is = runs_stored G store o k R l n (Simple b low high start) (Ordinal v) v tt refl own is (λ s sort e set. absurd (true≢false (sym set)))
 
 -- The store and the words change beyond all activations.
 abbrev pub runs_over : (G : Ground) (store after : Store) (o : PrivateState) (new : List ℤ) (k : List Task) (R : RunsOn G store o k)
@@ -153,4 +159,5 @@ runs_over G store after o new k R live same count =
           (λ rest f c owner there. activation_kept G store after o.words new rest c (length rest) f owner
           (activation_below G xs top stack store after o.words new live same (length rest) (record { base = c; routine = f.routine }) there)) R.activations_mean;
       data_means = data_kept G store after o.words new xs (data_below G xs top stack store after o.words new live same) R.data_means;
+      given = all_kept G store after (keeps_given G store after o.words new xs (data_below G xs top stack store after o.words new live same)) (components o) R.given;
     }

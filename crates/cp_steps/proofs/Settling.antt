@@ -1,13 +1,13 @@
 -- The parameters of a class are stored in it, in the words after its mark.
-use Rattle.std.proofs.Common.{◌≡◌, ◌⊎◌, inl, inr, ℕ, suc, ◌+◌, ◌≤◌, ◌<◌, ℤ, List, [], ◌∷◌, ◌++◌, length, true, false, Some, None, refl, ap, sym, subst, ◌∙◌, arith}
+use Rattle.std.proofs.Common.{Bool, List, None, Some, [], ap, arith, false, inl, inr, length, refl, subst, suc, sym, true, ℕ, ℤ, ◌++◌, ◌+◌, ◌<◌, ◌∙◌, ◌∷◌, ◌≡◌, ◌≤◌, ◌⊎◌}
 use Rattle.cp_model.specs.Abstract.{Class, Name, System}
 use Rattle.cp_model.specs.Continuations.{Task}
 use Rattle.cp_model.specs.Declarations.{Variable, declarations, is_component}
 use Rattle.cp_model.specs.Environments.{permanent_variables}
-use Rattle.cp_model.specs.Locations.{ByName, Location, Path, under}
+use Rattle.cp_model.specs.Locations.{ByName, Location, Path, same_location, under}
 use Rattle.cp_model.specs.Parts.{is_own}
 use Rattle.cp_model.specs.Stores.{Store, Value}
-use Rattle.cp_model.specs.Types.{ComponentOf, ResolvedType}
+use Rattle.cp_model.specs.Types.{ResolvedType}
 use Rattle.cp_typing.specs.Declared.{Distinct}
 use Rattle.cp_typing.specs.StartValues.{IsIn}
 use Rattle.cp_typing.specs.Words.{words}
@@ -17,22 +17,25 @@ use Rattle.cp_code.specs.Layout.{Part, activation_words, component_words, member
 use Rattle.cp_code.specs.Starts.{word}
 use Rattle.cp_steps.specs.PrivateStates.{PrivateState}
 use Rattle.cp_steps.specs.Means.{CellMeans}
-use Rattle.cp_steps.specs.Addresses.{Activation, ClassLies, ComponentLies, Ground, MonitorLies, ProcessLies, RightMeans, activation_at, activations, component_type, lies, scope}
+use Rattle.cp_steps.specs.Addresses.{Activation, ClassLies, ComponentLies, Ground, HasRights, IsGiven, MonitorLies, ProcessLies, RightMeans, activation_at, activations, component_type, lies, scope}
 use Rattle.cp_steps.specs.Left.{held_below, site}
-use Rattle.cp_steps.specs.PartOf.{DataMeans, RunsOn}
+use Rattle.cp_steps.specs.PartOf.{DataMeans, RunsOn, components}
 use Rattle.cp_steps.proofs.Apart.{InHead, IsCell, IsClass, cell_head}
 use Rattle.cp_steps.proofs.Copying.{Inside, inside_or_not}
 use Rattle.cp_steps.proofs.Declared.{distinct_first}
 use Rattle.cp_steps.proofs.Finding.{some_is_not_none}
 use Rattle.cp_steps.proofs.Heres.{lies_any, member_lies}
 use Rattle.cp_steps.proofs.Holding.{live_owner}
-use Rattle.cp_steps.proofs.InitOffsets.{Offset, offset_at, offset_within, right_is, right_is_no_member, right_same}
+use Rattle.cp_steps.proofs.InitOffsets.{Offset, of_filter, offset_at, offset_within, right_is, right_is_no_member, right_same}
 use Rattle.cp_steps.proofs.Keeping.{KeepsActivation, activation_kept, activations_kept, local_named, right_kept, right_no_variable, right_place}
 use Rattle.cp_steps.proofs.Layouts.{same_some}
 use Rattle.cp_steps.proofs.RunningOn.{runs_stacked}
 use Rattle.cp_steps.proofs.Separate.{OwnRight, bottom_below, cell_below, cell_no_own_right, cell_no_reference, cell_no_result, reference_inside, result_inside, separate}
 use Rattle.cp_steps.proofs.Stacks.{Stacked, found_inside}
-use Rattle.cp_steps.proofs.Writing.{is_cell}
+use Rattle.cp_steps.proofs.Writing.{is_cell, location_is, location_itself}
+use Rattle.cp_steps.proofs.Given.{KeepsGiven, all_kept, rights_kept, system_in, system_same}
+use Rattle.std.proofs.lemmas.Bool.{true≢false}
+use Rattle.cp_model.specs.CallSteps.{is_initialised}
 
 -- Where a parameter of the component is stored.
 abbrev pub stored_at : Location → Name → Location
@@ -44,12 +47,9 @@ pub record Settled (G : Ground) (top : ℕ) (store after : Store) (old new : Lis
       → CellMeans p.1.type (after (stored_at at p.0)) (word new (c + k))
   pub rights : (p : Name × Variable) (k : ℕ) → IsIn p (declarations (scope G) s.parameters) → is_component p.1.type ≡ true → right (scope G) s p.0 ≡ Some (k, p.1)
       → RightMeans G p.1.type (after (stored_at at p.0)) (c + k) (word new (c + k))
+  pub given : (p : Name × Variable) (k : ℕ) → IsIn p (declarations (scope G) s.parameters) → is_component p.1.type ≡ true → right (scope G) s p.0 ≡ Some (k, p.1) → IsGiven p.1.type (after (stored_at at p.0))
   pub outside : (i : ℕ) → i < top → (i < c + 1) ⊎ (c + 1 + length (declarations (scope G) s.parameters) ≤ i) → word new i ≡ word old i
   pub unwritten : (l : Location) → ((p : Name × Variable) → IsIn p (declarations (scope G) s.parameters) → l ≡ stored_at at p.0 → ⊥) → after l ≡ store l
-
-abbrev system_in : System → ResolvedType → System
-system_in s (ComponentOf r inner) = r
-system_in s _ = s
 
 abbrev pub last_name : Path → Name
 last_name [] = []
@@ -198,10 +198,44 @@ module _ (G : Ground) (xs : List Activation) (top : ℕ) (stack : Stacked G top 
           (subst (λ l. RightMeans G p.1.type (after l) (n + m) (word new (n + m))) (sym (λ i. stored_at (same i) (found.0 i)))
           (subst (λ z. RightMeans G p.1.type (after (stored_at at p.0)) z (word new z)) (sym e) (S.rights p k there' h.0 h.1)))
 
+  -- The class has its rights, and each other one keeps those that it had.
+  pub has_settled : HasRights G after at s
+  has_settled m x v r none =
+      let i = of_filter (λ d. is_component d.1.type) (declarations (scope G) s.parameters) (x, v) (right_is 1 (rights (scope G) s) x m v r).2 in
+      S.given (x, v) m i.0 i.1 r
+
+  rights_there : (j : Location) (r : System) (n : ℕ) → is_own G.p j.owner ≡ true → r.sort ≡ Class → lies G [] j ≡ Some (n, component_type G r) → ((j ≡ at → ⊥) → HasRights G store j r) → HasRights G after j r
+  rights_there j r n mine class' there' h = by (same_location j at) refl
+    where
+      by : (b : Bool) → same_location j at ≡ b → HasRights G after j r
+      by true e =
+          let same : j ≡ at = location_is j at e in
+          let systems : r ≡ s = system_same G r s (ap (λ z. z.1) (same_some {A = Part} (n, component_type G r) (c, component_type G s) (sym there' ∙ (ap (lies G []) same ∙ is)))) in
+          subst (λ z. HasRights G after z r) (sym same) (subst (HasRights G after at) (sym systems) has_settled)
+      by false e =
+          let apart : j ≡ at → ⊥ = λ same. true≢false (sym (location_itself at) ∙ (ap (λ z. same_location z at) (sym same) ∙ e)) in
+          rights_kept G store after j r (λ m x v q none. S.unwritten (stored_at j x) (λ p i z.
+          apart (λ y. record { owner = (z y).owner; path = (snoc_same j.path at.path x p.0 (ap (λ (l : Location). l.path) z)).0 y }))) (h apart)
+
+  pub settled_keeps : KeepsGiven G store after
+  settled_keeps j r n mine class' there' h = rights_there j r n mine class' there' (λ apart. h)
+
+  -- No mark is stored.
+  mark_unwritten : (j : Location) (r : System) (n : ℕ) → lies G [] j ≡ Some (n, component_type G r) → after j ≡ store j
+  mark_unwritten j r n there' = S.unwritten j (λ p i e. by p i e (offsets p i))
+    where
+      by : (p : Name × Variable) → IsIn p (declarations (scope G) s.parameters) → j ≡ stored_at at p.0 → (k : ℕ) × Offset (scope G) s p k → ⊥
+      by p i e (k, inl h) = some_is_not_none _ (sym (lies_any G xs j _ there') ∙ (ap (lies G xs) e ∙ right_lies_not p i h.0))
+      by p i e (k, inr h) =
+          let type : component_type G r ≡ p.1.type =
+          ap (λ z. z.1) (same_some {A = Part} (n, component_type G r) (c + k, p.1.type) (sym (lies_any G xs j _ there') ∙ (ap (lies G xs) e ∙ value_lies p k h.1))) in
+          true≢false (ap is_component type ∙ h.0)
+
   pub data_settled : DataMeans G xs (is_own G.p) store old → DataMeans G xs (is_own G.p) after new
   data_settled D = record {
     cells = λ l i t mine lying. by l i t mine lying (is_cell t);
     rights = λ j r n m x v mine cl is' none. rights_settled j r n m x v mine cl is' none (D.rights j r n m x v mine cl is' none);
+    given = λ j r n mine class' there' set. settled_keeps j r n mine class' there' (D.given j r n mine class' there' (ap is_initialised (sym (mark_unwritten j r n there')) ∙ set));
   }
     where
       by : (l : Location) (i : ℕ) (t : ResolvedType) → is_own G.p l.owner ≡ true → lies G xs l ≡ Some (i, t) → IsCell t ⊎ ((v : Value) (z : ℤ) → CellMeans t v z) → CellMeans t (after l) (word new i)
@@ -260,4 +294,5 @@ runs_settled G store after o new k R at c s own sort is distinct one offsets S c
       (λ rest f b owner there. activation_kept G store after o.words new rest b (length rest) f owner
       (activation_settled G (activations o.base o.frames k) _ (runs_stacked G store o k R) store after o.words new at c s own sort is distinct one offsets S (length rest) (record { base = b; routine = f.routine }) there)) R.activations_mean;
   data_means = data_settled G (activations o.base o.frames k) _ (runs_stacked G store o k R) store after o.words new at c s own sort is distinct one offsets S R.data_means;
+  given = all_kept G store after (settled_keeps G (activations o.base o.frames k) _ (runs_stacked G store o k R) store after o.words new at c s own sort is distinct one offsets S) (components o) R.given;
 }

@@ -62,6 +62,7 @@ runs_beside G store o k x output consumed R = record {
   count = R.count;
   activations_mean = R.activations_mean;
   data_means = R.data_means;
+  given = R.given;
 }
 
 -- Where a state is reached that the process runs on in.

@@ -26,11 +26,12 @@ use Rattle.cp_steps.specs.PrivateStates.{PrivateState}
 use Rattle.cp_steps.specs.Passing.{Called, class_called, class_right, component_called}
 use Rattle.cp_steps.specs.Steps.{alone, is_monitor}
 use Rattle.cp_steps.specs.Means.{MarkMeans}
-use Rattle.cp_steps.specs.Addresses.{Activation, ClassLies, ComponentLies, Ground, MonitorLies, ProcessLies, RightMeans, RightOf, activations, component_type, lies, scope}
+use Rattle.cp_steps.specs.Addresses.{Activation, ClassHasRights, ClassLies, ComponentLies, Ground, MonitorLies, ProcessLies, RightMeans, RightOf, activations, component_type, lies, scope}
 use Rattle.cp_steps.specs.Left.{site}
 use Rattle.cp_steps.specs.PartOf.{DataMeans}
 use Rattle.cp_steps.proofs.Heres.{Sees, lies_any, member_lies}
 use Rattle.cp_steps.proofs.Apart.{InHead}
+use Rattle.cp_steps.proofs.Given.{class_has_rights}
 use Rattle.cp_steps.proofs.Invoking.{TargetIs}
 use Rattle.cp_steps.proofs.Keeping.{right_place}
 use Rattle.cp_steps.proofs.RunningOn.{runs_room, runs_stacked}
@@ -54,7 +55,7 @@ module _ (G : Ground) (s : State) (before : List ℕ) (o : PrivateState) (i : Ta
   -- The machine's class is where the meaning's lies.
   abbrev ClassTarget : Component → Location → Called → Type 0
   ClassTarget n at c =
-      TargetIs G (record { component = at; system = n.system; is_callable = is_initialised (s.store at); gate = None }) c n.system
+      TargetIs G s.store (record { component = at; system = n.system; is_callable = is_initialised (s.store at); gate = None }) c n.system
 
   -- A class that is a variable of the running component lies there.
   pub class_lies : (n : Component) (at : ℕ) → member here.globals here.system n.name ≡ Some (at, ComponentOf n.system (reported_members here.globals n.system))
@@ -95,6 +96,12 @@ module _ (G : Ground) (s : State) (before : List ℕ) (o : PrivateState) (i : Ta
       by (MonitorLies m where' is from) = absurd (true≢false (sym (ap (λ (at : Location). is_own G.p at.owner) (sym where') ∙ sees.component)))
       by (ClassLies sort is) = omega (arith, lies_below here.component N.on.running.component _ sees.component is, N.on.component)
 
+  -- A class that was initialised has its rights.
+  class_given : (j : Location) (n : ℕ) (y : System) → is_own G.p j.owner ≡ true → y.sort ≡ Class → lies G [] j ≡ Some (n, component_type G y) → is_initialised (s.store j) ≡ true
+      → ClassHasRights G (is_own G.p) s.store n
+  class_given j n y own sort is set =
+      class_has_rights G (activations o.base o.frames (i ∷ l)) (o.base + (site G N.on.running).words) (runs_stacked G s.store o (i ∷ l) N.on) j y n own sort is s.store (N.on.data_means.given j y n own sort is set)
+
   class_variable : (n : Component) (at : ℕ) → n.system.sort ≡ Class
       → member here.globals here.system n.name ≡ Some (at, ComponentOf n.system (reported_members here.globals n.system))
       → ClassTarget n (name_location here n) (class_called o (o.component + at))
@@ -103,26 +110,24 @@ module _ (G : Ground) (s : State) (before : List ℕ) (o : PrivateState) (i : Ta
     there = lies_below (name_location here n) (o.component + at) _ sees.component (class_lies n at h);
     system = refl;
     lies_there = λ callable. ClassLies sort (class_lies n at h);
+    given = λ callable. class_given (name_location here n) (o.component + at) n.system sees.component sort (class_lies n at h) callable;
     gate = refl;
     no_gate = refl;
   }
 
+  -- The word of a right means what is stored for it.
+  pub right_held : (n : Component) (at : ℕ) → RightTo here n at → RightOf G n.system n.system.sort (s.store (name_location here n)) (o.component + at) (word o.words (o.component + at))
+  right_held n at r =
+      subst (λ z. RightMeans G z (s.store (name_location here n)) (o.component + at) (word o.words (o.component + at))) r.type
+      (subst (λ k. RightMeans G r.variable.type (s.store (name_location here n)) (k + at) (word o.words (k + at))) (sym N.on.component)
+      (N.on.data_means.rights here.component here.system N.on.running.component at n.name r.variable sees.component N.on.runs.component
+      (ap (λ g. right g here.system n.name) (sym N.on.runs.globals) ∙ r.lies) (ap (λ g. member g here.system n.name) (sym N.on.runs.globals) ∙ r.no_member)))
+
   -- A class that a right of the running component names.
   class_by_right : (n : Component) (at : ℕ) → n.system.sort ≡ Class → RightTo here n at
       → ClassTarget n (class_or_here (name_location here n) (s.store (name_location here n))) (class_called o (class_right o at))
-  class_by_right n at sort r = by (s.store (name_location here n)) refl means
+  class_by_right n at sort r = by (s.store (name_location here n)) refl (subst (λ z. RightOf G n.system z (s.store (name_location here n)) (o.component + at) (word o.words (o.component + at))) sort (right_held n at r))
     where
-      held : RightMeans G r.variable.type (s.store (name_location here n)) (o.component + at) (word o.words (o.component + at))
-      held =
-          subst (λ k. RightMeans G r.variable.type (s.store (name_location here n)) (k + at) (word o.words (k + at))) (sym N.on.component)
-          (N.on.data_means.rights here.component here.system N.on.running.component at n.name r.variable sees.component N.on.runs.component
-          (ap (λ g. right g here.system n.name) (sym N.on.runs.globals) ∙ r.lies) (ap (λ g. member g here.system n.name) (sym N.on.runs.globals) ∙ r.no_member))
-
-      means : RightOf G n.system Class (s.store (name_location here n)) (o.component + at) (word o.words (o.component + at))
-      means =
-          subst (λ z. RightOf G n.system z (s.store (name_location here n)) (o.component + at) (word o.words (o.component + at))) sort
-          (subst (λ z. RightMeans G z (s.store (name_location here n)) (o.component + at) (word o.words (o.component + at))) r.type held)
-
       by : (v : Value) → s.store (name_location here n) ≡ v → RightOf G n.system Class v (o.component + at) (word o.words (o.component + at))
           → ClassTarget n (class_or_here (name_location here n) v) (class_called o (class_right o at))
       by (ClassRight j) is h = record {
@@ -131,6 +136,7 @@ module _ (G : Ground) (s : State) (before : List ℕ) (o : PrivateState) (i : Ta
         there = lies_below j (class_right o at) _ (ap (is_own G.p) (I.classes (name_location here n) j is) ∙ sees.component) h;
         system = refl;
         lies_there = λ callable. ClassLies sort h;
+        given = λ callable. class_given j (class_right o at) n.system (ap (is_own G.p) (I.classes (name_location here n) j is) ∙ sees.component) sort h callable;
         gate = refl;
         no_gate = refl;
       }
@@ -144,6 +150,7 @@ module _ (G : Ground) (s : State) (before : List ℕ) (o : PrivateState) (i : Ta
             there = omega (arith, itself, right_below n at r, runs_room G s.store o (i ∷ l) N.on, N.on.count);
             system = refl;
             lies_there = λ callable. absurd (true≢false (sym callable ∙ nothing));
+            given = λ callable. absurd (true≢false (sym callable ∙ nothing));
             gate = refl;
             no_gate = refl;
           }
@@ -151,21 +158,22 @@ module _ (G : Ground) (s : State) (before : List ℕ) (o : PrivateState) (i : Ta
 
   -- The target of a call that enters no monitor.
   pub target_is : (of : Option Component) (x : t.Target) → TargetFor here of x → is_monitor x ≡ false
-      → TargetIs G (target (context G.setup s G.p) s.store here of) (component_called G.program (alone (realtime (clock_of G s)) o) o x) (system_of_callee here of)
+      → TargetIs G s.store (target (context G.setup s G.p) s.store here of) (component_called G.program (alone (realtime (clock_of G s)) o) o x) (system_of_callee here of)
   target_is None x h private =
-      subst (λ z. TargetIs G (target (context G.setup s G.p) s.store here None) (component_called G.program (alone (realtime (clock_of G s)) o) o z) here.system) (sym h)
+      subst (λ z. TargetIs G s.store (target (context G.setup s G.p) s.store here None) (component_called G.program (alone (realtime (clock_of G s)) o) o z) here.system) (sym h)
       record {
         set_is = refl;
         there = component_below;
         system = refl;
         lies_there = λ callable. subst (ComponentLies G here.component here.system) (sym N.on.component) N.on.runs.component;
+        given = λ callable. N.on.given.0;
         gate = refl;
         no_gate = refl;
       }
   target_is (Some n) x h private = by n.system.sort n.is_parameter refl refl x h private
     where
       by : (z : Sort) (b : Bool) → n.system.sort ≡ z → n.is_parameter ≡ b → (x : t.Target) → TargetOf here n z b x → is_monitor x ≡ false
-          → TargetIs G (component_target (context G.setup s G.p) here s.store z n) (component_called G.program (alone (realtime (clock_of G s)) o) o x) n.system
+          → TargetIs G s.store (component_target (context G.setup s G.p) here s.store z n) (component_called G.program (alone (realtime (clock_of G s)) o) o x) n.system
       by a.Class false sort own (t.Class at) h private =
           subst (λ b. ClassTarget n (if b then class_or_here (name_location here n) (s.store (name_location here n)) else name_location here n) (class_called o (o.component + at))) (sym own)
           (class_variable n at sort h)

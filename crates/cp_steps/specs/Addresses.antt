@@ -1,15 +1,15 @@
 -- Where the variables of a process lie: the addresses of locations among its words and the shared ones behind them.
-use Rattle.std.specs.Prelude.{◌≡◌, ℕ, ◌+◌, ℤ, Bool, pos, ◌+ℤ◌, if◌then◌else◌, List, [], ◌∷◌, Option, Some, None, length, nat_eq}
+use Rattle.std.specs.Prelude.{◌≡◌, ℕ, ◌+◌, ℤ, Bool, true, pos, ◌+ℤ◌, if◌then◌else◌, List, [], ◌∷◌, Option, Some, None, length, nat_eq}
 use Rattle.cp_model.specs.Abstract.{Class, Monitor, Name, Process, Routine, Sort, System}
 use Rattle.cp_model.specs.Types.{ComponentOf, GlobalScope, ResolvedType}
 use Rattle.cp_model.specs.Declarations.{Variable, globals, reported_members}
 use Rattle.cp_model.specs.Environments.{Frame}
-use Rattle.cp_model.specs.Locations.{ByIndex, ByName, Location, OfActivation, OfMonitor, OfProcess, Owner, Path, root}
-use Rattle.cp_model.specs.Stores.{Absent, ClassRight, MonitorRight, Value}
+use Rattle.cp_model.specs.Locations.{ByIndex, ByName, Location, OfActivation, OfMonitor, OfProcess, Owner, Path, root, under}
+use Rattle.cp_model.specs.Stores.{Absent, ClassRight, MonitorRight, Store, Value}
 use Rattle.cp_model.specs.Continuations.{EndBody, EndCall, Task}
 use Rattle.cp_model.specs.States.{Setup}
 use Rattle.cp_code.specs.Programs.{Program}
-use Rattle.cp_code.specs.Layout.{Part, farther, head_words, local, member_part, natural, part}
+use Rattle.cp_code.specs.Layout.{Part, farther, head_words, local, member, member_part, natural, part, right}
 use Rattle.cp_code.specs.Sites.{UnitText}
 use Rattle.cp_code.specs.StandsFor.{system_of_monitor, system_of_process}
 use Rattle.cp_steps.specs.PrivateStates as machine
@@ -110,6 +110,34 @@ RightOf G s _ _ at n = ⊥
 abbrev pub RightMeans : Ground → ResolvedType → Value → ℕ → ℤ → Type 0
 RightMeans G (ComponentOf s inner) v at n = RightOf G s s.sort v at n
 RightMeans G t v at n = Unit {0}
+
+abbrev pub IsGivenTo : Sort → Value → Type 0
+IsGivenTo Class (ClassRight j) = Unit {0}
+IsGivenTo Class _ = ⊥
+IsGivenTo _ _ = Unit {0}
+
+-- Where it is a right to a class, it was given.
+abbrev pub IsGiven : ResolvedType → Value → Type 0
+IsGiven (ComponentOf s inner) v = IsGivenTo s.sort v
+IsGiven t v = Unit {0}
+
+-- The component at the location has all its rights to classes.
+abbrev pub HasRights : Ground → Store → Location → System → Type 0
+HasRights G store at s =
+    (m : ℕ) (x : Name) (v : Variable) → right (scope G) s x ≡ Some (m, v) → member (scope G) s x ≡ None
+    → IsGiven v.type (store (under at (ByName x ∷ [])))
+
+-- What is a class there, of an owner that passes the test, has them.
+abbrev pub ClassHasRights : Ground → (Owner → Bool) → Store → ℕ → Type 0
+ClassHasRights G mine store n =
+    (at : Location) (s : System) → mine at.owner ≡ true → s.sort ≡ Class → lies G [] at ≡ Some (n, component_type G s)
+    → HasRights G store at s
+
+abbrev pub AllHaveRights : Ground → (Owner → Bool) → Store → List ℕ → Type 0
+AllHaveRights G mine store [] = Unit {0}
+AllHaveRights G mine store (n ∷ ns) = ClassHasRights G mine store n × AllHaveRights G mine store ns
+
+-- ---- What is seen
 
 -- The same of the owners that pass the test.
 abbrev pub seen : (Owner → Bool) → Ground → List Activation → Location → Option Part

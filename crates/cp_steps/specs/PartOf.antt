@@ -1,13 +1,13 @@
 -- When a private state, as plain data, is the private state of its process in a state of the system.
-use Rattle.std.specs.Prelude.{◌≡◌, ◌≤◌, ℕ, ◌+◌, ℤ, Bool, true, List, [], ◌∷◌, ◌++◌, Option, Some, None, length}
-use Rattle.cp_model.specs.Abstract.{Name, System}
+use Rattle.std.specs.Prelude.{◌≡◌, ◌≤◌, ℕ, ◌+◌, ℤ, Bool, true, List, [], ◌∷◌, ◌++◌, Option, Some, None, length, map}
+use Rattle.cp_model.specs.Abstract.{Class, Name, System}
 use Rattle.cp_model.specs.Types.{ResolvedType}
 use Rattle.cp_model.specs.Declarations as declared
 use Rattle.cp_model.specs.Environments.{Frame}
 use Rattle.cp_model.specs.Locations.{ByName, Location, Owner, under}
 use Rattle.cp_model.specs.Stores.{Absent, Ordinal, Store, Value}
 use Rattle.cp_model.specs.Continuations.{EndBody, EndCall, Task, marked_monitors}
-use Rattle.cp_model.specs.CallSteps.{result_location}
+use Rattle.cp_model.specs.CallSteps.{is_initialised, result_location}
 use Rattle.cp_model.specs.Parts.{Failed, Finished, HasBegun, NotBegun, PrivateStatus, Running, Sleeping, is_own, private_status}
 use Rattle.cp_model.specs.States.{State}
 use Rattle.cp_model.specs.StateViews.{fault_number}
@@ -18,7 +18,7 @@ use Rattle.cp_code.specs.Starts.{unset, word}
 use Rattle.cp_steps.specs.PrivateStates as machine
 use Rattle.cp_steps.specs.PrivateStates.{Activity, PrivateState}
 use Rattle.cp_steps.specs.Means.{CellMeans, ReferenceMeans}
-use Rattle.cp_steps.specs.Addresses.{Activation, ComponentLies, Ground, RightMeans, activations, lies, scope}
+use Rattle.cp_steps.specs.Addresses.{Activation, AllHaveRights, ComponentLies, Ground, HasRights, RightMeans, activations, component_type, lies, scope}
 use Rattle.cp_steps.specs.Left as left
 use Rattle.cp_steps.specs.Left.{Left, Runs, held_below, innermost_gate}
 
@@ -56,13 +56,15 @@ ActivationsMean G store words base fs (_ ∷ k) = ActivationsMean G store words 
 
 -- ---- Variables and rights
 
--- Those of the owners that pass the test. A member of the name hides a right.
+-- Those of the owners that pass the test. A member of the name hides a right. A class that was initialised has its rights.
 pub record DataMeans (G : Ground) (xs : List Activation) (mine : Owner → Bool) (store : Store) (words : List ℤ) : Type 0 where
   pub cells : (l : Location) (n : ℕ) (t : ResolvedType) → mine l.owner ≡ true → lies G xs l ≡ Some (n, t)
       → CellMeans t (store l) (word words n)
   pub rights : (at : Location) (s : System) (n m : ℕ) (x : Name) (v : declared.Variable) → mine at.owner ≡ true
       → ComponentLies G at s n → right (scope G) s x ≡ Some (m, v) → member (scope G) s x ≡ None
       → RightMeans G v.type (store (under at (ByName x ∷ []))) (n + m) (word words (n + m))
+  pub given : (at : Location) (s : System) (n : ℕ) → mine at.owner ≡ true → s.sort ≡ Class
+      → lies G [] at ≡ Some (n, component_type G s) → is_initialised (store at) ≡ true → HasRights G store at s
 
 -- ---- The private state
 
@@ -71,7 +73,11 @@ abbrev pub CallsBehind : Ground → ℕ → ℕ → Type 0
 CallsBehind G live place =
     (call : Call) (into next : ℕ) → operation_at G.program place ≡ Some (Function call into next) → live ≤ into
 
--- What runs has what is left to do, and its variables.
+-- Where the components of the running routine and of its callers begin.
+abbrev pub components : PrivateState → List ℕ
+components o = o.component ∷ map (λ f. f.component) o.frames
+
+-- What runs has what is left to do, its variables, and its rights.
 pub record RunsOn (G : Ground) (store : Store) (o : PrivateState) (k : List Task) : Type 0 where
   pub running : left.Running
   pub runs : Runs G (length o.temps) o.limit running o.frames
@@ -85,6 +91,7 @@ pub record RunsOn (G : Ground) (store : Store) (o : PrivateState) (k : List Task
   pub count : length o.words ≡ G.own
   pub activations_mean : ActivationsMean G store o.words o.base o.frames k
   pub data_means : DataMeans G (activations o.base o.frames k) (is_own G.p) store o.words
+  pub given : AllHaveRights G (is_own G.p) store (components o)
 
 -- It runs, or will run again.
 abbrev pub GoesOn : Activity → Type 0

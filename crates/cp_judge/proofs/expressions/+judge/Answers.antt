@@ -14,7 +14,7 @@ use Rattle.cp_judge.specs.ExpressionParts as parts
 use Rattle.cp_judge.proofs.ExpressionsTold.{argument_parts, first_operand_again, judge_chain, more_step, first_told, count_expressions, wants_told, result_told}
 use Rattle.cp_judge.proofs.CalleesTold.{also_callee}
 use Rattle.cp_judge.proofs.Tells.{also_told}
-use Rattle.cp_judge.proofs.Views.{view_call, view_chain, view_operation, view_index}
+use Rattle.cp_model.proofs.Views.{view_call, view_chain, view_index, view_operation}
 use Rattle.cp_judge.proofs.expressions.+judge.Goals as goal
 
 pub argument-returns : goal.argument-returns

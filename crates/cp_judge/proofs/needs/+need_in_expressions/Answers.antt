@@ -2,7 +2,7 @@ use Rattle.std.proofs.Common.{◌≡◌, map, refl}
 use Rattle.cp_model.specs.Syntax.{chain_of}
 use Rattle.cp_model.specs.View.{expression, operation}
 use Rattle.cp_judge.proofs.NeedsOfChains.{need_chain}
-use Rattle.cp_judge.proofs.Views.{view_chain}
+use Rattle.cp_model.proofs.Views.{view_chain}
 use Rattle.cp_judge.proofs.needs.+need_in_expressions.Goals as goal
 
 pub need_of_expression-returns-in-Chain : goal.need_of_expression-returns-in-Chain

@@ -67,6 +67,8 @@ returns c =
             variable_names = λ x.
                 numbered_still t3 later (variables_of g vs) x to_later _ _
                 ((rw c.deref-4.ensures.value at c.in_ok-variable_names.ensures) (variables_of g vs) (variables t3 three.builds.grows) x);
+            parameter_types = c.in_ok-parameter_types.ensures;
+            variable_types = c.in_ok-variable_types.ensures;
             routines = four.stands g later scope_3 (builds_3.laid g scope laid) grows;
             routine_names = c.in_ok-routine_names.ensures;
           };

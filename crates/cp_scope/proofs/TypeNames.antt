@@ -1,0 +1,50 @@
+-- Names that are told with their types, one after another.
+use Rattle.std.proofs.Common.{◌≡◌, ◌∷◌, ◌∙◌, Bool, true, false, ℕ, List, [], Option, None, Some, Box, Vec, Global, ap, arith, if◌then◌else◌, length, map, refl, sym, ◌≤◌}
+use Rattle.std.specs.Borrow.{Bor}
+use Rattle.std.specs.Str.{bytes_eq}
+use Rattle.cp_model.specs.Abstract.{Group, Name}
+use Rattle.cp_model.specs.Erase as erase
+use Rattle.cp_model.specs.Names.{lookup}
+use Rattle.cp_model.specs.View as view
+use Rattle.cp_model.specs.declared.tree.Fields.{Fields}
+use Rattle.cp_model.specs.declared.tree.TypeExpression.{TypeExpression}
+use Rattle.cp_model.specs.declared.tree.TypeExpression.TheVariants as tree
+use Rattle.cp_code.specs.Scopes.{declared_type, is_among, type_name}
+use Rattle.cp_scope.specs.Tables.{Behind, or_last}
+use Rattle.cp_scope.specs.TypeNames.{NamesMore, name_or, typed_among}
+use Rattle.cp_scope.proofs.Written.{view_array, view_record}
+
+-- ---- Tables
+
+one_typed : (old : Option (Bor Name)) (same among : Bool) (of : Bor Name) (behind : Name)
+    → name_or (or_last old same of) (if among then of.now else behind) ≡ name_or old (if (if same then true else among) then of.now else behind)
+one_typed None true true of behind = refl
+one_typed None true false of behind = refl
+one_typed None false among of behind = refl
+one_typed (Some n) same among of behind = refl
+
+pub one_more : (old new : List (Name × Bor Name)) (y : Name) (of : Bor Name) (ys : List Name) (x behind : Name) → Behind y of old new
+    → name_or (lookup x new) (typed_among ys of.now x behind) ≡ name_or (lookup x old) (typed_among (y ∷ ys) of.now x behind)
+one_more old new y of ys x behind adds =
+    ap (λ (o : Option (Bor Name)). name_or o (typed_among ys of.now x behind)) (adds x)
+    ∙ one_typed (lookup x old) (bytes_eq x y) (is_among x ys) of behind
+
+-- A group in front of others.
+pub group_more : (old new : List (Name × Bor Name)) (d : Group) (ds : List Group) (x : Name) → NamesMore old new (typed_among d.names (type_name d.type))
+    → name_or (lookup x new) (declared_type x ds) ≡ name_or (lookup x old) (declared_type x (d ∷ ds))
+group_more old new d ds x more = more x (declared_type x ds)
+
+-- ---- Written types
+
+pub array_has_no_name : (at : ℕ) (indices : Vec TypeExpression Global) (element : Box TypeExpression Global) → 1 ≤ length indices.items
+    → [] ≡ type_name (erase.type_expression (view.type_expression (tree.Array at indices element)))
+array_has_no_name at indices element some =
+    go indices.items some ∙ ap (λ t. type_name (erase.type_expression t)) (sym (view_array at indices element))
+  where
+    go : (is : List TypeExpression) → 1 ≤ length is
+        → [] ≡ type_name (erase.arrays (erase.type_expressions (view.types_of (map view.type_expression is))) (erase.type_expression (view.type_expression element.value)))
+    go [] some = absurd (omega (arith, some))
+    go (i ∷ is) some = refl
+
+pub record_has_no_name : (at : ℕ) (groups : Vec Fields Global) → [] ≡ type_name (erase.type_expression (view.type_expression (tree.Record at groups)))
+record_has_no_name at groups = ap (λ t. type_name (erase.type_expression t)) (sym (view_record at groups))

@@ -1,0 +1,49 @@
+use Rattle.std.proofs.Common.{◌∙◌, ap, Option, subst, sym}
+use Rattle.cp_model.specs.Calls.{callee}
+use Rattle.cp_model.specs.Erase as erase
+use Rattle.cp_model.specs.View as view
+use Rattle.cp_code.specs.Scopes.{environment}
+use Rattle.cp_model.specs.Expressions.{name_of}
+use Rattle.cp_typing.specs.StaticTypes.{expression_type, standard_type}
+use Rattle.cp_scope.specs.declared.scope.Callee.{Callee}
+use Rattle.cp_scope.specs.Expressions.{SimpleIs}
+use Rattle.cp_scope.specs.Scopes.{CalleeIs}
+use Rattle.cp_scope.proofs.ValueTypes.{is_name, nothing_called, part_has_no_name, user_answers}
+use Rattle.cp_scope.proofs.Unrefused.{if_ok}
+use Rattle.cp_scope.proofs.scope.Scope.call_type.Goals as goal
+
+pub returns-in-Some : goal.returns-in-Some
+returns-in-Some c =
+    let d = erase.designator (view.designator c.args.d.now) in
+    if_ok c.answer_type.result
+    (λ of gives s e es i typed.
+    let found = callee (environment s) d in
+    user_answers c.args.self.now s c.in-Some.callee found of (standard_type (name_of d) (expression_type (environment s) (erase.expression e)))
+    (subst (λ (f : Option Callee). CalleeIs c.args.self.now s f found) c.in-Some.is (c.in_ok-callee.ensures s i)) (λ f is. gives s f i is))
+    c.answer_type.ensures
+
+pub returns-then-branch : goal.returns-then-branch
+returns-then-branch c =
+    let d = erase.designator (view.designator c.args.d.now) in
+    if_ok c.standard_type.result
+    (λ of gives s e es i typed.
+    let found = callee (environment s) d in
+    let t = expression_type (environment s) (erase.expression e) in
+    let none = part_has_no_name d (sym c.in_ok-is_part-in-None.ensures ∙ c.if-branch.true) in
+    nothing_called c.args.self.now s found of (standard_type (name_of d) t)
+    (subst (λ (f : Option Callee). CalleeIs c.args.self.now s f found) c.in-None.is (c.in_ok-callee.ensures s i))
+    (subst (λ x. SimpleIs of (standard_type x t)) (sym none) (gives t typed)))
+    c.standard_type.ensures
+
+pub returns-else-branch : goal.returns-else-branch
+returns-else-branch c =
+    let d = erase.designator (view.designator c.args.d.now) in
+    if_ok c.standard_type-else-branch.result
+    (λ of gives s e es i typed.
+    let found = callee (environment s) d in
+    let t = expression_type (environment s) (erase.expression e) in
+    let is = is_name c.args.d.now (sym c.in_ok-is_part-in-None.ensures ∙ c.if-branch.false) in
+    nothing_called c.args.self.now s found of (standard_type (name_of d) t)
+    (subst (λ (f : Option Callee). CalleeIs c.args.self.now s f found) c.in-None.is (c.in_ok-callee.ensures s i))
+    (subst (λ x. SimpleIs of (standard_type x t)) (c.as_bytes.ensures ∙ sym (ap name_of is)) (gives t typed)))
+    c.standard_type-else-branch.ensures

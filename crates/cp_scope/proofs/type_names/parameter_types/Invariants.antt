@@ -1,0 +1,14 @@
+use Rattle.std.proofs.Common.{◌≡◌, drop, map}
+use Rattle.cp_model.specs.Abstract.{Name}
+use Rattle.cp_model.specs.Erase as erase
+use Rattle.cp_model.specs.Names.{lookup}
+use Rattle.cp_model.specs.View as view
+use Rattle.cp_code.specs.Scopes.{declared_type}
+use Rattle.cp_scope.specs.TypeNames.{name_or}
+use Rattle.cp_scope.proofs.type_names.parameter_types.Given as goal
+
+-- with the groups that are left, all are told
+abbrev pub invariant-loop-group : goal.invariant-loop-group
+invariant-loop-group l =
+    (x : Name) → name_or (lookup x l.table) (declared_type x (map erase.parameter_group (map view.parameters (drop l.group-index l.groups))))
+    ≡ declared_type x (map erase.parameter_group (map view.parameters l.fn.groups))

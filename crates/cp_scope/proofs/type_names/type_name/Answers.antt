@@ -1,0 +1,11 @@
+use Rattle.std.proofs.Common.{◌∙◌, ap, sym}
+use Rattle.cp_model.specs.Erase as erase
+use Rattle.cp_model.specs.View as view
+use Rattle.cp_code.specs.Scopes.{type_name}
+use Rattle.cp_scope.proofs.TypeNames.{array_has_no_name}
+use Rattle.cp_scope.proofs.type_names.type_name.Goals as goal
+
+pub returns-in-len1-up : goal.returns-in-len1-up
+returns-in-len1-up c =
+    array_has_no_name c.in-Array.at c.in-Array.indices c.in-Array.element (rw c.as_slice.ensures.value at c.in-len1-up.len_at_least)
+    ∙ ap (λ t. type_name (erase.type_expression (view.type_expression t))) (sym c.in-Array.is)

@@ -1,0 +1,29 @@
+-- Of what types the values of expressions are.
+use Rattle.std.specs.Prelude.{◌≡◌, Bool, true, false, Option, None, Some}
+use Rattle.cp_model.specs.Abstract as a
+use Rattle.cp_model.specs.Erase as erase
+use Rattle.cp_model.specs.Syntax as syntax
+use Rattle.cp_model.specs.Types.{ResolvedType, Simple}
+use Rattle.cp_typing.specs.StaticTypes.{expression_type}
+use Rattle.cp_code.specs.Scopes as code
+use Rattle.cp_code.specs.Scopes.{environment}
+use Rattle.cp_scope.specs.declared.types.Simple as plain
+use Rattle.cp_scope.specs.Standing.{simple_of}
+
+abbrev pub is_simple : ResolvedType → Bool
+is_simple (Simple b low high start) = true
+is_simple t = false
+
+-- A type, if it is simple.
+abbrev pub SimpleIs : Option plain.Simple → ResolvedType → Type 0
+SimpleIs (Some s) t = simple_of s ≡ t
+SimpleIs None t = is_simple t ≡ false
+
+-- Of the value of an expression.
+abbrev pub ValueIs : code.Scope → Option plain.Simple → syntax.Expression → Type 0
+ValueIs s of e = SimpleIs of (expression_type (environment s) (erase.expression e))
+
+-- A designator that is more than a name.
+abbrev pub is_part : a.Designator → Bool
+is_part (a.Plain x) = false
+is_part d = true

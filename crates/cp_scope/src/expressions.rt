@@ -1,0 +1,246 @@
+//! Of what types the values of expressions are.
+
+ghost use Rattle.std.specs.Prelude.{◌≡◌, IfOk, map};
+ghost use Rattle.cp_model.specs.Abstract as a;
+ghost use Rattle.cp_model.specs.Calls as calls;
+ghost use Rattle.cp_model.specs.Environments.{meaning};
+ghost use Rattle.cp_model.specs.Erase as erase;
+ghost use Rattle.cp_model.specs.Expressions.{name_of};
+ghost use Rattle.cp_model.specs.Syntax as syntax;
+ghost use Rattle.cp_model.specs.Types as types;
+ghost use Rattle.cp_model.specs.Types.{ResolvedType};
+ghost use Rattle.cp_model.specs.View as view;
+ghost use Rattle.cp_typing.specs.StaticTypes as static;
+ghost use Rattle.cp_code.specs.Scopes as code;
+ghost use Rattle.cp_code.specs.Scopes.{environment};
+ghost use Rattle.cp_scope.specs.Expressions.{SimpleIs, ValueIs, is_part};
+ghost use Rattle.cp_scope.specs.Places.{TypeIs};
+ghost use Rattle.cp_scope.specs.Scopes.{IsCallee, IsScope};
+ghost use Rattle.cp_scope.specs.Standing.{base_of, simple_of};
+
+use crate::error::TableError;
+use crate::scope::{Callee, Meaning, Scope, refuse_no_index};
+use crate::types::{Base, Simple, TypeRow, Types};
+use cp_model::tree::{Designator, Expression, Operation, Operator, Sign};
+
+// The last ordinal of a base type.
+fn last_ordinal(base: Base) -> Result<i32, TableError>
+    ensures { IfOk result (λ n. n ≡ types.last_ordinal (base_of base.entry)) }
+{
+    match base {
+        Base::Integer => Ok(32767),
+        Base::Char => Ok(127),
+        Base::Boolean => Ok(1),
+        Base::Enumeration { last, .. } => {
+            i32::try_from(last).map_err(|_| TableError::Unaccepted)
+        }
+    }
+}
+
+// The type of all values of a base type, which starts at 0.
+fn full_range<'t>(base: Base<'t>) -> Result<Option<Simple<'t>>, TableError>
+    ensures { IfOk result (λ s. SimpleIs s (types.full_range (base_of base.entry))) }
+{
+    Ok(Some(Simple {
+        base,
+        low: if matches!(base, Base::Integer) {
+            -32768
+        } else {
+            0
+        },
+        high: last_ordinal(base)?,
+        start: 0,
+    }))
+}
+
+/// The base type of values of a type; that of all but simple types counts as the integers.
+pub fn base_type<'t>(of: Option<Simple<'t>>) -> Base<'t>
+    ensures { (t : ResolvedType) → SimpleIs of.entry t → base_of result ≡ types.base_of_type t }
+{
+    match of {
+        Some(simple) => simple.base,
+        None => Base::Integer,
+    }
+}
+
+fn operator_type<'t>(operator: Operator) -> Result<Option<Simple<'t>>, TableError>
+    ensures { IfOk result
+        (λ s. SimpleIs s (static.operator_type (erase.operator_of operator))) }
+{
+    full_range(match operator {
+        Operator::Add => Base::Integer,
+        Operator::Subtract => Base::Integer,
+        Operator::Multiply => Base::Integer,
+        Operator::Divide => Base::Integer,
+        Operator::Modulo => Base::Integer,
+        _ => Base::Boolean,
+    })
+}
+
+// The type of a chain of operands, of which the first has this type.
+fn chain_type<'t>(
+    first: Option<Simple<'t>>,
+    rest: &[Operation],
+) -> Result<Option<Simple<'t>>, TableError>
+    ensures { IfOk result (λ of. (s : code.Scope) (e : syntax.Expression) → ValueIs s first.entry e
+        → ValueIs s of (syntax.chain_of e (map view.operation rest.now))) }
+{
+    let mut of = first;
+    for operation in rest {
+        of = operator_type(operation.operator)?;
+    }
+    Ok(of)
+}
+
+// The type of what a standard function gives for an argument of this type; the last one is `chr`.
+fn standard_type<'t>(
+    name: &[u8],
+    argument: Option<Simple<'t>>,
+) -> Result<Option<Simple<'t>>, TableError>
+    ensures { IfOk result (λ s. (t : ResolvedType) → SimpleIs argument.entry t
+        → SimpleIs s (static.standard_type name.now t)) }
+{
+    if name == b"abs".as_slice() {
+        return full_range(Base::Integer);
+    }
+    if name == b"succ".as_slice() {
+        return full_range(base_type(argument));
+    }
+    if name == b"pred".as_slice() {
+        return full_range(base_type(argument));
+    }
+    if name == b"ord".as_slice() {
+        return full_range(Base::Integer);
+    }
+    if name == b"empty".as_slice() {
+        return full_range(Base::Boolean);
+    }
+    full_range(Base::Char)
+}
+
+// Whether a designator is more than a name.
+fn is_part(d: &Designator) -> Result<bool, TableError>
+    ensures { IfOk result (λ b. b ≡ is_part (erase.designator (view.designator d.now))) }
+{
+    match d.selectors.as_slice() {
+        [] => Ok(false),
+        [first, ..] => {
+            refuse_no_index(first)?;
+            Ok(true)
+        }
+    }
+}
+
+impl<'t> Types<'t> {
+    /// A type, if it is simple.
+    pub fn simple(&self, number: Option<usize>) -> Option<Simple<'t>>
+        ensures { (t : ResolvedType) → TypeIs self.now number t → SimpleIs result t }
+    {
+        match self.row(number?) {
+            Some(TypeRow::Simple(simple)) => Some(*simple),
+            _ => None,
+        }
+    }
+}
+
+impl<'s, 't> Scope<'s, 't> {
+    // The type of the value that a name has.
+    fn name_type(&self, name: &[u8]) -> Result<Option<Simple<'t>>, TableError>
+        ensures { IfOk result (λ of. (s : code.Scope) → IsScope self.now s
+            → SimpleIs of (static.named_value_type (environment s) name.now)) }
+    {
+        if name == b"realtime".as_slice() {
+            return full_range(Base::Integer);
+        }
+        match self.meaning(name) {
+            Meaning::Constant(value) => full_range(value.base),
+            Meaning::Variable(of) => Ok(self.tables.types.simple(Some(of))),
+            Meaning::Unknown => Ok(None),
+        }
+    }
+
+    // The type of the value that a designator has where it calls nothing.
+    fn own_type(&self, d: &Designator) -> Result<Option<Simple<'t>>, TableError>
+        ensures { IfOk result (λ of. (s : code.Scope) → IsScope self.now s → SimpleIs of
+            (static.own_value_type (environment s) (erase.designator (view.designator d.now)))) }
+    {
+        if is_part(d)? {
+            Ok(self.tables.types.simple(self.place_type(d)?))
+        } else {
+            self.name_type(d.root.name.as_bytes())
+        }
+    }
+
+    // The type of what a function gives.
+    fn answer_type(&self, callee: &Callee) -> Result<Option<Simple<'t>>, TableError>
+        ensures { IfOk result (λ of. (s : code.Scope) (c : calls.Callee) → IsScope self.now s
+            → IsCallee self.now s callee.now c
+            → SimpleIs of (static.answer_type s.globals c.routine.result)) }
+    {
+        match callee.routine.table.result {
+            None => Ok(None),
+            Some(of) => full_range(base_type(self.tables.types.simple(Some(of)))),
+        }
+    }
+
+    // The type of a designator that is used as a value.
+    fn use_type(&self, d: &Designator) -> Result<Option<Simple<'t>>, TableError>
+        ensures { IfOk result (λ of. (s : code.Scope) → IsScope self.now s → SimpleIs of
+            (static.expression_type (environment s)
+            (a.Use (erase.designator (view.designator d.now))))) }
+    {
+        match self.callee(d)? {
+            Some(callee) => self.answer_type(&callee),
+            None => self.own_type(d),
+        }
+    }
+
+    // The type of what a call with an argument of this type gives.
+    fn call_type(
+        &self,
+        d: &Designator,
+        argument: Option<Simple<'t>>,
+    ) -> Result<Option<Simple<'t>>, TableError>
+        ensures { IfOk result (λ of. (s : code.Scope) (e : syntax.Expression)
+            (es : syntax.Expressions) → IsScope self.now s → ValueIs s argument.entry e
+            → ValueIs s of (syntax.Call (view.designator d.now) (syntax.MoreExpressions e es))) }
+    {
+        match self.callee(d)? {
+            Some(callee) => self.answer_type(&callee),
+            None => {
+                if is_part(d)? {
+                    standard_type(&[], argument)
+                } else {
+                    standard_type(d.root.name.as_bytes(), argument)
+                }
+            }
+        }
+    }
+
+    /// The type of the value of an expression, if it is simple.
+    ///
+    /// # Errors
+    ///
+    /// `Unaccepted` where an index list is empty, or an enumeration has too many values: no accepted text has either.
+    pub fn expression_type(&self, e: &Expression) -> Result<Option<Simple<'t>>, TableError>
+        ensures { IfOk result (λ of. (s : code.Scope) → IsScope self.now s
+            → ValueIs s of (view.expression e.now)) }
+    {
+        match e {
+            Expression::Number { .. } => full_range(Base::Integer),
+            Expression::Character { .. } => full_range(Base::Char),
+            Expression::Designated(d) => self.use_type(d),
+            Expression::Call(d, arguments) => match arguments.as_slice() {
+                [] => self.use_type(d),
+                [first, ..] => self.call_type(d, self.expression_type(first)?),
+            },
+            Expression::Parenthesized { inner, .. } => self.expression_type(inner),
+            Expression::Not { .. } => full_range(Base::Boolean),
+            Expression::Signed { sign, operand, .. } => match sign {
+                Sign::Plus => self.expression_type(operand),
+                Sign::Minus => full_range(Base::Integer),
+            },
+            Expression::Chain { first, rest } => chain_type(self.expression_type(first)?, rest),
+        }
+    }
+}

@@ -1,0 +1,75 @@
+//! The names of the types with which parameters and variables are declared.
+
+ghost use Rattle.std.specs.Prelude.{◌≡◌, IfOk, OnOk, map};
+ghost use Rattle.cp_model.specs.Erase as erase;
+ghost use Rattle.cp_model.specs.View as view;
+ghost use Rattle.cp_code.specs.Scopes.{type_name};
+ghost use Rattle.cp_scope.specs.TypeNames.{AreTypeNames, NamesMore, typed_among};
+
+use crate::error::TableError;
+use crate::names::add_first;
+use cp_model::tree::{Fields, Identifier, Parameters, TypeExpression};
+use cp_names::NameTable;
+use std::alloc::Global;
+
+// The name of a written type, or an empty one where that isn't a name alone.
+fn type_name<'t>(of: &'t TypeExpression) -> Result<&'t [u8], TableError>
+    ensures { IfOk result (λ name.
+        name.now ≡ type_name (erase.type_expression (view.type_expression of.now))) }
+{
+    match of {
+        TypeExpression::Named(x) => Ok(x.name.as_bytes()),
+        TypeExpression::Array { indices, .. } => match indices.as_slice() {
+            [] => Err(TableError::Unaccepted),
+            [_, ..] => Ok(&[]),
+        },
+        TypeExpression::Subrange(_, _) => Ok(&[]),
+        TypeExpression::Record { .. } => Ok(&[]),
+    }
+}
+
+// Adds names that are declared with one type.
+fn add_names<'t>(
+    table: &mut NameTable<'t, &'t [u8]>,
+    names: &'t [Identifier],
+    of: &'t [u8],
+) -> Result<(), TableError>
+    ensures { OnOk result
+        (NamesMore table.old table.new (typed_among (map erase.name names.now) of.now)) }
+{
+    for x in names {
+        add_first(table, x.name.as_bytes(), of)?;
+    }
+    Ok(())
+}
+
+/// The name of the type of each parameter that these groups declare.
+pub fn parameter_types<'t>(
+    alloc: Global,
+    groups: &'t [Parameters],
+) -> Result<NameTable<'t, &'t [u8]>, TableError>
+    ensures { IfOk result (λ names.
+        AreTypeNames names (map erase.parameter_group (map view.parameters groups.now))) }
+{
+    let mut table = NameTable::new(alloc);
+    for group in groups {
+        add_names(&mut table, &group.names, group.of.name.as_bytes())?;
+    }
+    Ok(table)
+}
+
+/// The name of the type of each variable that these groups declare, empty where the type isn't a name alone.
+pub fn variable_types<'t>(
+    alloc: Global,
+    groups: &'t [Fields],
+) -> Result<NameTable<'t, &'t [u8]>, TableError>
+    ensures { IfOk result (λ names.
+        AreTypeNames names (map erase.variable_group (map view.variables groups.now))) }
+{
+    let mut table = NameTable::new(alloc);
+    for group in groups {
+        let of = type_name(&group.of)?;
+        add_names(&mut table, &group.names, of)?;
+    }
+    Ok(table)
+}

@@ -1,0 +1,72 @@
+//! The numbers of units, and the words of activations.
+//!
+//! Units have numbers in text order: the routines of a system type, then its body.
+
+ghost use Rattle.std.specs.Prelude.{◌≡◌, ◌+◌, IfOk};
+ghost use Rattle.cp_model.specs.Calls as calls;
+ghost use Rattle.cp_model.specs.Components as components;
+ghost use Rattle.cp_code.specs.Scopes as code;
+ghost use Rattle.cp_scope.specs.Scopes.{IsCallee, IsScope, Names};
+
+use crate::error::TableError;
+use crate::scope::{Callee, Scope};
+use crate::systems::Component;
+
+// The unit that comes so many after the first.
+fn unit_after(first: u32, count: usize) -> Result<u32, TableError>
+    ensures { IfOk result (λ n. n ≡ first + count) }
+{
+    let count = u32::try_from(count).map_err(|_| TableError::Unaccepted)?;
+    first.checked_add(count).ok_or(TableError::Unaccepted)
+}
+
+impl<'s, 't> Scope<'s, 't> {
+    /// The words of an activation; a body has none.
+    pub fn words(&self) -> Result<u32, TableError>
+        ensures { IfOk result (λ n. (s : code.Scope) → IsScope self.now s → n ≡ s.words) }
+    {
+        match self.routine {
+            None => Ok(0),
+            Some(routine) => routine.locals.words.ok_or(TableError::Unaccepted),
+        }
+    }
+
+    /// The first unit of a component's system type.
+    pub fn first_of(&self, c: &Component) -> u32
+        ensures { (s : code.Scope) (n : components.Component) → IsScope self.now s
+            → Names self.now s c.now n → result ≡ code.first_of s n }
+    {
+        let types = if c.is_parameter {
+            &self.system.parameter_types
+        } else {
+            &self.system.variable_types
+        };
+        let of = types.find(c.name).unwrap_or(&[]);
+        self.firsts.find(of).unwrap_or(0)
+    }
+
+    /// The unit of a component's body.
+    pub fn body_of(&self, c: &Component) -> Result<u32, TableError>
+        ensures { IfOk result (λ unit. (s : code.Scope) (n : components.Component)
+            → IsScope self.now s → Names self.now s c.now n → unit ≡ code.body_of s n) }
+    {
+        let of = self
+            .tables
+            .types
+            .system(c.system)
+            .ok_or(TableError::Unaccepted)?;
+        unit_after(self.first_of(c), of.routines.len())
+    }
+
+    /// The unit of a routine that is called.
+    pub fn unit_of(&self, callee: &Callee) -> Result<u32, TableError>
+        ensures { IfOk result (λ unit. (s : code.Scope) (c : calls.Callee)
+            → IsScope self.now s → IsCallee self.now s callee.now c → unit ≡ code.unit_of s c) }
+    {
+        let first = match &callee.of {
+            None => self.first,
+            Some(of) => self.first_of(of),
+        };
+        unit_after(first, callee.routine.index)
+    }
+}
