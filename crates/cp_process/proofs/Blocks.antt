@@ -167,6 +167,31 @@ copied_there ws to from count there is = by (leb_tells count there)
         let lt : there < count = e.1 in
         sym (clip there count to from ws ws (omega arith) (omega arith))
 
+-- One word more is copied from elsewhere.
+pub brought_more : (source ws : List ℤ) (to from i count : ℕ) → i < count
+    → paste (to + (i + 1)) (block source (from + (i + 1)) (count - (i + 1))) (slice_set ws (to + i) (word source (from + i)))
+    ≡ paste (to + i) (block source (from + i) (count - i)) ws
+brought_more source ws to from i count h =
+    let k = count - (i + 1) in
+    let a : to + (i + 1) ≡ suc (to + i) = omega arith in
+    let b : from + (i + 1) ≡ suc (from + i) = omega arith in
+    let left : suc k ≡ count - i = omega arith in
+    (λ j. paste (a j) (block source (b j) k) (slice_set ws (to + i) (word source (from + i))))
+    ∙ ap (λ n. paste (to + i) (block source (from + i) n) ws) left
+
+pub brought_all : (source ws : List ℤ) (to from i count : ℕ) → (i < min count (length ws - to) → ⊥)
+    → paste (to + i) (block source (from + i) (count - i)) ws ≡ ws
+brought_all source ws to from i count h = by (leb_tells count i)
+  where
+    by : ((leb count i ≡ true) × (count ≤ i)) ⊎ ((leb count i ≡ false) × (i < count)) → paste (to + i) (block source (from + i) (count - i)) ws ≡ ws
+    by (inl e) =
+        let le : count ≤ i = e.1 in
+        let none : count - i ≡ 0 = omega arith in
+        ap (λ n. paste (to + i) (block source (from + i) n) ws) none
+    by (inr e) =
+        let lt : i < count = e.1 in
+        paste_beyond (block source (from + i) (count - i)) (to + i) ws (omega arith)
+
 -- Places that are told as the greatest number are no places of words.
 pub copied_capped : (ws : List ℤ) (to from i j count : ℕ) → length ws < 2 ^ 32 → capped i ≡ to → capped j ≡ from
     → paste to (block ws from count) ws ≡ paste i (block ws j count) ws

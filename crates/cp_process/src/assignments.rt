@@ -85,7 +85,7 @@ impl Private {
         ensures output { self.new.output ≡ self.old.output }
     {
         let at = self.place(shared, outside, to)?;
-        let n = self.value(shared, outside, value)?;
+        let n = self.evaluate(shared, outside, value)?;
         self.set_within(shared, at, n, bounds, next)
     }
 
@@ -105,7 +105,7 @@ impl Private {
             (λ n. plain.set_within o bounds.low bounds.high o.base n next) }
         ensures output { self.new.output ≡ self.old.output }
     {
-        let n = self.value(shared, outside, value)?;
+        let n = self.evaluate(shared, outside, value)?;
         let at = self.base as usize;
         self.set_within(shared, at, n, bounds, next)
     }
@@ -151,7 +151,7 @@ impl Private {
             (λ n. private_outcome (go_to (if same_integer n (pos 1) then yes else no) o)) }
         ensures output { self.new.output ≡ self.old.output }
     {
-        let n = self.value(shared, outside, value)?;
+        let n = self.evaluate(shared, outside, value)?;
         self.place = if n == 1 { yes } else { no };
         Ok(Effect::None)
     }
@@ -171,7 +171,7 @@ impl Private {
             (λ n. plain.go_to_arm o (place_in (view.table table.now) n)) }
         ensures output { self.new.output ≡ self.old.output }
     {
-        let n = self.value(shared, outside, value)?;
+        let n = self.evaluate(shared, outside, value)?;
         match table.place(n) {
             Some(place) => {
                 self.place = place;

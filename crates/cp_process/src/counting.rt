@@ -76,8 +76,8 @@ impl Private {
             (λ m. plain.first_count w o (view.counting counting.now) n m)) }
         ensures output { self.new.output ≡ self.old.output }
     {
-        let n = self.value(shared, outside, first)?;
-        let last = self.value(shared, outside, last)?;
+        let n = self.evaluate(shared, outside, first)?;
+        let last = self.evaluate(shared, outside, last)?;
         if is_past(counting.down, n, last) {
             self.place = counting.next;
             return Ok(Effect::None);

@@ -101,7 +101,11 @@ impl Private {
     }
 
     /// The value that the running routine returns, if it is a function.
-    pub(crate) fn value_to_return(&self, shared: &[i32], function: bool) -> Result<Option<i32>, Fault>
+    pub(crate) fn value_to_return(
+        &self,
+        shared: &[i32],
+        function: bool,
+    ) -> Result<Option<i32>, Fault>
         requires { length shared.now < 2 ^ 30 }
         ensures { (input : List ℕ) → result ≡ value_to_return (joined self.now input shared.now)
             function }

@@ -10,6 +10,8 @@ pub mod counting;
 pub mod effect;
 pub mod frames;
 pub mod initialisation;
+pub mod kind;
+pub mod making;
 pub mod outside;
 pub mod passing;
 pub mod private;

@@ -41,7 +41,7 @@ impl Private {
             (λ n. plain.pass_value o at bounds.low bounds.high n) }
         ensures output { self.new.output ≡ self.old.output }
     {
-        let n = self.value(shared, outside, term)?;
+        let n = self.evaluate(shared, outside, term)?;
         if !bounds.contain(n) {
             return Err(Fault::Range);
         }

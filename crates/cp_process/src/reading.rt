@@ -46,7 +46,12 @@ impl Private {
 
     /// The value of a term.
     #[inline(always)]
-    pub(crate) fn value(&self, shared: &[i32], outside: &Outside, term: &Term) -> Result<i32, Fault>
+    pub(crate) fn evaluate(
+        &self,
+        shared: &[i32],
+        outside: &Outside,
+        term: &Term,
+    ) -> Result<i32, Fault>
         requires { length shared.now < 2 ^ 30 }
         ensures { (input : List ℕ) (own : ℕ) → result ≡ value_of
             (plain.view_of (outside_of outside.now own) (joined self.now input shared.now))

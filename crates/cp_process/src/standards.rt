@@ -75,7 +75,7 @@ impl Private {
             (view.term value.now) (λ n. plain.display o n as_byte next) }
         ensures room { KeepsRoom self.old self.new }
     {
-        let n = self.value(shared, outside, value)?;
+        let n = self.evaluate(shared, outside, value)?;
         if as_byte {
             self.write_out(&[byte(n)], next);
         } else {

@@ -40,14 +40,7 @@ impl Private {
                 high,
                 value,
                 next,
-            } => self.set(
-                shared,
-                outside,
-                to,
-                value,
-                Bounds::new(*low, *high),
-                *next,
-            ),
+            } => self.set(shared, outside, to, value, Bounds::new(*low, *high), *next),
             Operation::SetResult {
                 low,
                 high,
@@ -168,9 +161,9 @@ fn is_monitor(target: Target) -> bool
     matches!(target, Target::Monitor(_) | Target::MonitorRight(_))
 }
 
-// Whether the step of an operation is the kernel's wherever it is made.
+/// Whether the step of an operation is the kernel's wherever it is made.
 #[inline(always)]
-fn needs_kernel(operation: &Operation) -> bool
+pub(crate) fn needs_kernel(operation: &Operation) -> bool
     ensures { result ≡ plain.is_kernel_operation (view.operation operation.now) }
 {
     match operation {

@@ -104,7 +104,12 @@ impl Private {
         }
     }
 
-    pub(crate) fn monitor_called(&self, program: &Program, outside: &Outside, monitor: u32) -> Called
+    pub(crate) fn monitor_called(
+        &self,
+        program: &Program,
+        outside: &Outside,
+        monitor: u32,
+    ) -> Called
         ensures { called result ≡ plain.monitor_called (view.program program.now)
             (outside_of outside.now (length self.now.words.items)) monitor }
     {

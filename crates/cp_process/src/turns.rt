@@ -1,6 +1,7 @@
 //! Private turns.
 
 ghost use Rattle.std.specs.Prelude.{◌≡◌, ◌≤◌, ◌+◌, ◌*◌, ◌<◌, ◌^◌, length, vec_capacity, vec_len};
+ghost use Rattle.cp_process.specs.Promises.{MakesStep, MakesTurn};
 ghost use Rattle.cp_process.specs.Rooms.{HasRoomFor, KeepsRoom};
 ghost use Rattle.cp_process.specs.States.{IsAlone, private_of};
 ghost use Rattle.cp_steps.specs.Steps as plain;
@@ -9,6 +10,7 @@ ghost use Rattle.cp_threaded.specs.View as view;
 use crate::outside::Outside;
 use crate::private::Private;
 use crate::turn::Turn;
+use cp_steps::law;
 use cp_threaded::program::Program;
 
 // So many steps, while the next one is private.
@@ -33,25 +35,28 @@ pub fn private_step(program: &Program, private: &mut Private, input: &[u8], cloc
     requires room { HasRoomFor private.old 1 }
     ensures step { private_of private.new input.now ≡ plain.private_step (view.program program.now)
         clock (private_of private.old input.now) }
+    ensures meaning { MakesStep program.now private.old private.new input.now clock }
     ensures room { KeepsRoom private.old private.new }
 {
     private.private_step(program, &Outside::alone(input, clock));
+    law::private_steps();
 }
 
 /// As many steps as the turn has, while the next one is private. It takes no memory: `Private::reserve` makes the room. A step
 /// writes at most 11 bytes.
-pub fn private_turn(
-    program: &Program,
-    private: &mut Private,
-    input: &[u8],
-    clock: u64,
-    turn: Turn,
-)
+pub fn private_turn(program: &Program, private: &mut Private, input: &[u8], clock: u64, turn: Turn)
     requires room { HasRoomFor private.old turn.steps }
     ensures steps { private_of private.new input.now ≡ plain.private_steps
         (view.program program.now) clock turn.steps (private_of private.old input.now) }
+    ensures meaning { MakesTurn program.now turn.steps private.old private.new input.now clock }
     ensures length { vec_len private.new.output ≤ vec_len private.old.output + 11 * turn.steps }
     ensures capacity { vec_capacity private.old.output ≤ vec_capacity private.new.output }
 {
-    take_steps(program, private, &Outside::alone(input, clock), turn.steps());
+    take_steps(
+        program,
+        private,
+        &Outside::alone(input, clock),
+        turn.steps(),
+    );
+    law::private_steps();
 }

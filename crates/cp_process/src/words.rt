@@ -9,6 +9,16 @@ ghost use Rattle.cp_threaded.specs.View as view;
 
 use cp_threaded::program::Start;
 
+#[inline(always)]
+fn word(words: &[i32], at: usize) -> i32
+    ensures { result ≡ plain.word words.now at }
+{
+    match words.get(at) {
+        Some(n) => *n,
+        None => 0,
+    }
+}
+
 /// The word at a place.
 #[inline(always)]
 pub(crate) fn read(own: &[i32], shared: &[i32], at: usize) -> i32
@@ -19,10 +29,7 @@ pub(crate) fn read(own: &[i32], shared: &[i32], at: usize) -> i32
 {
     match own.get(at) {
         Some(n) => *n,
-        None => match shared.get(at.saturating_sub(own.len())) {
-            Some(n) => *n,
-            None => 0,
-        },
+        None => word(shared, at.saturating_sub(own.len())),
     }
 }
 
@@ -151,5 +158,16 @@ pub(crate) fn start(own: &mut [i32], shared: &mut [i32], base: usize, plan: &[St
 {
     for step in plan {
         start_by(own, shared, base, *step);
+    }
+}
+
+/// Copies so many words from elsewhere.
+pub(crate) fn bring(own: &mut [i32], to: usize, source: &[i32], from: usize, count: usize)
+    requires { from < 2 ^ 33 }
+    ensures { own.new ≡ plain.paste to (plain.block source.now from count) own.old }
+{
+    let there = count.min(own.len().saturating_sub(to));
+    for i in 0..there {
+        own[to + i] = word(source, from + i);
     }
 }

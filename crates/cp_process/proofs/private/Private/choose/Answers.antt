@@ -11,7 +11,7 @@ returns-in_err-n-clause-step c =
     let own = length c.args.self.now.words.items in
     let input = c.args.outside.now.input.now in
     let given : c.from_residual.result ≡ Err c.in_err-n.field-0.0 = search rules in
-    let is = sym c.in_err-n.was ∙ c.value.ensures input own in
+    let is = sym c.in_err-n.was ∙ c.evaluate.ensures input own in
     rw (given, ← is) refl
 
 pub returns-in-Some-clause-step : goal.returns-in-Some-clause-step
@@ -20,7 +20,7 @@ returns-in-Some-clause-step c =
     let input = c.args.outside.now.input.now in
     let table = view.table c.args.table.now in
     let o = joined c.args.self.now input c.args.shared.now in
-    let is = sym c.in_ok-n.was ∙ c.value.ensures input own in
+    let is = sym c.in_ok-n.was ∙ c.evaluate.ensures input own in
     let whole : to_z w32 (of_z w32 c.in_ok-n.n) ≡ c.in_ok-n.n = search rules in
     let leads = sym c.in-Some.is ∙ c.place.ensures ∙ ap (place_in table) whole in
     rw (← is) (ap (go_to_arm o) leads)
@@ -31,7 +31,7 @@ returns-in-None-clause-step c =
     let input = c.args.outside.now.input.now in
     let table = view.table c.args.table.now in
     let o = joined c.args.self.now input c.args.shared.now in
-    let is = sym c.in_ok-n.was ∙ c.value.ensures input own in
+    let is = sym c.in_ok-n.was ∙ c.evaluate.ensures input own in
     let whole : to_z w32 (of_z w32 c.in_ok-n.n) ≡ c.in_ok-n.n = search rules in
     let leads = sym c.in-None.is ∙ c.place.ensures ∙ ap (place_in table) whole in
     rw (← is) (ap (go_to_arm o) leads)

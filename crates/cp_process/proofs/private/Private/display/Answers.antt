@@ -15,7 +15,7 @@ returns-in_err-n-clause-step c =
     let own = length c.args.self.now.words.items in
     let input = c.args.outside.now.input.now in
     let given : c.from_residual.result ≡ Err c.in_err-n.field-0.0 = search rules in
-    let is = sym c.in_err-n.was ∙ c.value.ensures input own in
+    let is = sym c.in_err-n.was ∙ c.evaluate.ensures input own in
     rw (given, ← is) refl
 
 pub returns-then-as_byte-clause-step : goal.returns-then-as_byte-clause-step
@@ -24,7 +24,7 @@ returns-then-as_byte-clause-step c =
     let input = c.args.outside.now.input.now in
     let shared = c.args.shared.now in
     let o = joined c.args.self.now input shared in
-    let is = sym c.in_ok-n.was ∙ c.value.ensures input own in
+    let is = sym c.in_ok-n.was ∙ c.evaluate.ensures input own in
     let text : c.byte.result ∷ [] ≡ (if c.args.as_byte then byte c.in_ok-n.n ∷ [] else decimal c.in_ok-n.n) = search rules in
     rw (← is) (ap private_outcome (c.write_out.ensures.step input shared ∙ ap (λ t. go_to c.args.next (record o { output = o.output ++ t })) text))
 
@@ -34,7 +34,7 @@ returns-else-as_byte-clause-step c =
     let input = c.args.outside.now.input.now in
     let shared = c.args.shared.now in
     let o = joined c.args.self.now input shared in
-    let is = sym c.in_ok-n.was ∙ c.value.ensures input own in
+    let is = sym c.in_ok-n.was ∙ c.evaluate.ensures input own in
     let digits : c.as_bytes.result.now ≡ signed_decimal c.in_ok-n.n = search rules in
     let few : mag c.in_ok-n.n < 2 ^ 31 = search rules in
     let text : c.as_bytes.result.now ≡ (if c.args.as_byte then byte c.in_ok-n.n ∷ [] else decimal c.in_ok-n.n) =

@@ -9,7 +9,7 @@ abbrev pub invariant-loop-argument : goal.invariant-loop-argument
 invariant-loop-argument l = record {
   output : l.self.output ≡ l.fn.self.output;
   step : (own : ℕ) → pass_all (outside_of l.outside own) l.destination.to l.destination.home (map view.argument (drop l.argument-index l.arguments))
-    (joined l.self l.outside.input.now l.shared)
-    ≡ pass_all (outside_of l.fn.outside own) l.fn.destination.to l.fn.destination.home (map view.argument l.fn.arguments)
-    (joined l.fn.self l.fn.outside.input.now l.fn.shared);
+      (joined l.self l.outside.input.now l.shared)
+      ≡ pass_all (outside_of l.fn.outside own) l.fn.destination.to l.fn.destination.home (map view.argument l.fn.arguments)
+      (joined l.fn.self l.fn.outside.input.now l.fn.shared);
 }

@@ -17,7 +17,7 @@ returns-in_err-n-clause-step c =
     let input = c.args.outside.now.input.now in
     let given : c.from_residual-in_err-n.result ≡ Err c.in_err-n.field-0.0 = search rules in
     let found = placed _ _ (sym c.in_ok-at.was ∙ c.place.ensures input own) in
-    let is = sym c.in_err-n.was ∙ c.value.ensures input own in
+    let is = sym c.in_err-n.was ∙ c.evaluate.ensures input own in
     rw (given, found.1, ← is) refl
 
 pub returns-clause-step : goal.returns-clause-step
@@ -25,7 +25,7 @@ returns-clause-step c =
     let own = length c.args.self.now.words.items in
     let input = c.args.outside.now.input.now in
     let found = placed _ _ (sym c.in_ok-at.was ∙ c.place.ensures input own) in
-    let is = sym c.in_ok-n.was ∙ c.value.ensures input own in
+    let is = sym c.in_ok-n.was ∙ c.evaluate.ensures input own in
     let whole : to_z w32 (of_z w32 c.in_ok-n.n) ≡ c.in_ok-n.n = search rules in
     let done = c.set_within.ensures.step input found.0 found.2 in
     rw (found.1, ← is) (rw whole at done)

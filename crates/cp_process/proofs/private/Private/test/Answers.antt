@@ -10,14 +10,14 @@ returns-in_err-n-clause-step c =
     let own = length c.args.self.now.words.items in
     let input = c.args.outside.now.input.now in
     let given : c.from_residual.result ≡ Err c.in_err-n.field-0.0 = search rules in
-    let is = sym c.in_err-n.was ∙ c.value.ensures input own in
+    let is = sym c.in_err-n.was ∙ c.evaluate.ensures input own in
     rw (given, ← is) refl
 
 pub returns-clause-step : goal.returns-clause-step
 returns-clause-step c =
     let own = length c.args.self.now.words.items in
     let input = c.args.outside.now.input.now in
-    let is = sym c.in_ok-n.was ∙ c.value.ensures input own in
+    let is = sym c.in_ok-n.was ∙ c.evaluate.ensures input own in
     let o = joined c.args.self.now input c.args.shared.now in
     let goes : c.if-n-eq1.self ≡ (if same_integer c.in_ok-n.n (pos 1) then c.args.yes else c.args.no) = search rules in
     rw (← is) (ap (λ p. private_outcome (go_to p o)) goes)

@@ -24,4 +24,3 @@ returns-else-has_room-clause-unit c =
     let there : slice_get program.units call.routine ≡ Some (view.code_unit c.in_ok-unit.unit.now) = sym c.unit.ensures ∙ ap (option_map (λ u. view.code_unit u.now)) c.in_ok-unit.was in
     let tested : c.has_room.result ≡ false = search rules in
     unit_full program w o call c.args.component go (view.code_unit c.in_ok-unit.unit.now) there (sym (c.has_room.ensures.value w input own) ∙ tested)
-
