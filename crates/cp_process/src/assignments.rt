@@ -84,8 +84,9 @@ impl Private {
             (λ n. plain.set_within o bounds.low bounds.high at n next)) }
         ensures output { self.new.output ≡ self.old.output }
     {
-        let at = self.place(shared, outside, to)?;
-        let n = self.evaluate(shared, outside, value)?;
+        let reach = self.reach(shared, outside);
+        let at = to.place(&reach)?;
+        let n = value.value_here(&reach)?;
         self.set_within(shared, at, n, bounds, next)
     }
 

@@ -166,10 +166,20 @@ fn is_monitor(target: Target) -> bool
 pub(crate) fn needs_kernel(operation: &Operation) -> bool
     ensures { result ≡ plain.is_kernel_operation (view.operation operation.now) }
 {
+    // One test tells most operations apart.
+    if !matches!(
+        operation,
+        Operation::Procedure { .. }
+            | Operation::Function { .. }
+            | Operation::InitMonitor { .. }
+            | Operation::InitProcess { .. }
+    ) {
+        return false;
+    }
     match operation {
-        Operation::Procedure { call, .. } => is_monitor(call.target),
-        Operation::Function { call, .. } => is_monitor(call.target),
-        Operation::InitMonitor { .. } | Operation::InitProcess { .. } => true,
-        _ => false,
+        Operation::Procedure { call, .. } | Operation::Function { call, .. } => {
+            is_monitor(call.target)
+        }
+        _ => true,
     }
 }

@@ -297,6 +297,21 @@ impl Term {
     }
 }
 
+impl Term {
+    /// The same value, found without a call where the operands are numbers and words: for the operations that are most common.
+    ///
+    /// # Errors
+    ///
+    /// The first fault that is met from left to right.
+    #[inline(always)]
+    pub fn value_here(&self, reach: &Reach) -> Result<i32, Fault>
+        ensures { result ≡ values.value_of (view_of reach.now) (view.term self.now) }
+    {
+        let first = self.first.value(reach)?;
+        value_of_chain(first, &self.rest, reach)
+    }
+}
+
 // How far an index is from the lowest, in words.
 fn offset(i: &Index, n: i32) -> Result<usize, Fault>
     ensures { result ≡ offset_of (view.index i.now) n }
