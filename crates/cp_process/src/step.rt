@@ -14,6 +14,7 @@ use crate::private::{Activity, Private};
 use cp_model::state::Fault;
 use cp_threaded::operation::{Operation, Target};
 use cp_threaded::program::Program;
+use cp_threaded::term::{Spot, Term};
 
 impl Private {
     // The step of an operation. Where it faults, no more than what was passed to a call has changed.
@@ -128,6 +129,20 @@ impl Private {
         }
     }
 
+    // Makes a private step that assigns a value: the most common one, so it takes no way through all operations.
+    #[inline(always)]
+    fn assign(&mut self, outside: &Outside, to: &Spot, value: &Term, bounds: Bounds, next: u32)
+        ensures step { let input = outside.now.input.now in let o = joined self.old input [] in let
+            w = outside_of outside.now (length self.old.words.items) in joined self.new input []
+            ≡ (plain.with_place w o (view.spot to.now) (λ at. plain.with_value w o
+            (view.term value.now) (λ n. plain.set_within o bounds.low bounds.high at n next))).0 }
+        ensures output { self.new.output ≡ self.old.output }
+    {
+        if let Err(fault) = self.set(&mut [], outside, to, value, bounds, next) {
+            self.activity = Activity::Faulted(fault);
+        }
+    }
+
     /// One step, if the next one is private; else nothing. Tells whether it was.
     #[inline(always)]
     pub(crate) fn private_step(&mut self, program: &Program, outside: &Outside) -> bool
@@ -147,6 +162,17 @@ impl Private {
         let Some(operation) = program.operation(self.place) else {
             return false;
         };
+        if let Operation::Set {
+            to,
+            low,
+            high,
+            value,
+            next,
+        } = operation
+        {
+            self.assign(outside, to, value, Bounds::new(*low, *high), *next);
+            return true;
+        }
         if needs_kernel(operation) {
             return false;
         }
