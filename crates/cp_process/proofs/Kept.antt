@@ -54,8 +54,8 @@ all_kept (x ∷ xs) w to home o = by (pass_one w to home o x) (one_kept w to hom
 
 -- In the code's private state.
 pub record SameRegisters (x y : Private) : Type 0 where
-  pub base : y.base ≡ x.base
-  pub temp : y.temp ≡ x.temp
+  pub base : y.memory.base ≡ x.memory.base
+  pub temp : y.memory.temp ≡ x.memory.temp
   pub depth : y.depth ≡ x.depth
   pub frames : length y.frames.items ≡ length x.frames.items
 

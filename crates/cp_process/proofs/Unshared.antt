@@ -12,7 +12,7 @@ use Rattle.cp_process.specs.declared.outside.Outside.{Outside}
 use Rattle.cp_process.specs.declared.private.Private.{Private}
 
 pub private_joined : (x : Private) (input : List ℕ) → private_of x input ≡ joined x input []
-private_joined x input = λ i. record (joined x input []) { words = sym (append-nil x.words.items) i }
+private_joined x input = λ i. record (joined x input []) { words = sym (append-nil x.memory.words.items) i }
 
 none_set : (m : ℕ) → kernel.is_set (holder_of [] m) ≡ false
 none_set zero = refl
@@ -23,9 +23,9 @@ all_started zero = refl
 all_started (suc r) = refl
 
 pub outside_alone : (w : Outside) (x : Private) (input : List ℕ) → IsAlone w
-    → outside_of w (length x.words.items) ≡ alone w.clock (private_of x input)
+    → outside_of w (length x.memory.words.items) ≡ alone w.clock (private_of x input)
 outside_alone w x input A =
-    let own = length x.words.items in
+    let own = length x.memory.words.items in
     let unset : (m : ℕ) → kernel.is_set (holder_of w.holders.now m) ≡ false = λ m. ap (λ hs. kernel.is_set (holder_of hs m)) A.holders ∙ none_set m in
     let started : (r : ℕ) → kernel.is_started (stage_of w.stages.now r) ≡ true = λ r. ap (λ gs. kernel.is_started (stage_of gs r)) A.stages ∙ all_started r in
     λ i. record { clock = w.clock; own = own; is_set = λ m. unset m i; is_started = λ r. started r i }

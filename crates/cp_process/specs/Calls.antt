@@ -39,6 +39,6 @@ returning o f (Some n) = set_temp o (f.temp + f.into) n
 -- What is left for a unit that is called.
 pub record HasRoom (x : Private) (shared : List ℤ) (call : Call) (u : CodeUnit) (place : ℕ) : Type 0 where
   pub frames : x.depth < length x.frames.items
-  pub words : x.base + call.words + u.words ≤ length x.words.items
-  pub temps : x.temp + call.temps + u.temps ≤ length x.temps.items
-  pub component : place ≤ length x.words.items + length shared
+  pub words : x.memory.base + call.words + u.words ≤ length x.memory.words.items
+  pub temps : x.memory.temp + call.temps + u.temps ≤ length x.memory.temps.items
+  pub component : place ≤ length x.memory.words.items + length shared

@@ -55,12 +55,12 @@ joined x input shared = record {
   number = x.number;
   activity = activity x.activity;
   place = x.place;
-  base = x.base;
-  temp = x.temp;
-  component = x.component;
+  base = x.memory.base;
+  temp = x.memory.temp;
+  component = x.memory.component;
   gate = x.gate;
-  words = x.words.items ++ shared;
-  temps = x.temps.items;
+  words = x.memory.words.items ++ shared;
+  temps = x.memory.temps.items;
   frames = frames_in x.depth x.frames.items;
   limit = length x.frames.items;
   output = x.output.items;
@@ -69,7 +69,7 @@ joined x input shared = record {
 }
 
 abbrev pub private_of : Private → List ℕ → PrivateState
-private_of x input = record (joined x input []) { words = x.words.items }
+private_of x input = record (joined x input []) { words = x.memory.words.items }
 
 -- ---- Outside
 

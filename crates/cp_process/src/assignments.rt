@@ -78,7 +78,7 @@ impl Private {
     ) -> Result<Effect, Fault>
         requires { length shared.old < 2 ^ 30 }
         ensures step { let o = joined self.old outside.now.input.now shared.old in let w = outside_of
-            outside.now (length self.old.words.items) in outcome
+            outside.now (length self.old.memory.words.items) in outcome
             (joined self.new outside.now.input.now shared.new) result ≡ plain.with_place w o
             (view.spot to.now) (λ at. plain.with_value w o (view.term value.now)
             (λ n. plain.set_within o bounds.low bounds.high at n next)) }
@@ -100,14 +100,14 @@ impl Private {
     ) -> Result<Effect, Fault>
         requires { length shared.old < 2 ^ 30 }
         ensures step { let o = joined self.old outside.now.input.now shared.old in let w = outside_of
-            outside.now (length self.old.words.items) in outcome
+            outside.now (length self.old.memory.words.items) in outcome
             (joined self.new outside.now.input.now shared.new) result ≡ plain.with_value w o
             (view.term value.now)
             (λ n. plain.set_within o bounds.low bounds.high o.base n next) }
         ensures output { self.new.output ≡ self.old.output }
     {
         let n = self.evaluate(shared, outside, value)?;
-        let at = self.base as usize;
+        let at = self.memory.base as usize;
         self.set_within(shared, at, n, bounds, next)
     }
 
@@ -122,7 +122,7 @@ impl Private {
     ) -> Result<Effect, Fault>
         requires { length shared.old < 2 ^ 30 }
         ensures step { let o = joined self.old outside.now.input.now shared.old in let w = outside_of
-            outside.now (length self.old.words.items) in outcome
+            outside.now (length self.old.memory.words.items) in outcome
             (joined self.new outside.now.input.now shared.new) result ≡ plain.with_place w o
             (view.spot to.now) (λ at. plain.with_place w o (view.spot from.now)
             (λ b. plain.copy_words o at b size next)) }
@@ -146,7 +146,7 @@ impl Private {
     ) -> Result<Effect, Fault>
         requires { length shared.now < 2 ^ 30 }
         ensures step { let o = joined self.old outside.now.input.now shared.now in let w = outside_of
-            outside.now (length self.old.words.items) in outcome
+            outside.now (length self.old.memory.words.items) in outcome
             (joined self.new outside.now.input.now shared.now) result ≡ plain.with_value w o
             (view.term value.now)
             (λ n. private_outcome (go_to (if same_integer n (pos 1) then yes else no) o)) }
@@ -166,7 +166,7 @@ impl Private {
     ) -> Result<Effect, Fault>
         requires { length shared.now < 2 ^ 30 }
         ensures step { let o = joined self.old outside.now.input.now shared.now in let w = outside_of
-            outside.now (length self.old.words.items) in outcome
+            outside.now (length self.old.memory.words.items) in outcome
             (joined self.new outside.now.input.now shared.now) result ≡ plain.with_value w o
             (view.term value.now)
             (λ n. plain.go_to_arm o (place_in (view.table table.now) n)) }

@@ -29,7 +29,7 @@ impl Private {
     // Whether own words, temps and a frame are left for the unit, and its component is there.
     fn has_room(&self, shared: &[i32], call: &Call, unit: &CodeUnit, component: usize) -> bool
         requires { length shared.now < 2 ^ 30 }
-        ensures value { (w : states.Outside) (input : List ℕ) → w.own ≡ length self.now.words.items
+        ensures value { (w : states.Outside) (input : List ℕ) → w.own ≡ length self.now.memory.words.items
             → result ≡ plain.has_room w (joined self.now input shared.now) (view.call call.now)
             (view.code_unit unit.now) component }
         ensures room { result ≡ true → HasRoom self.now shared.now call.now unit.now component }
@@ -37,13 +37,23 @@ impl Private {
         if self.frames.len() <= self.depth {
             return false;
         }
-        if !fits(self.base, call.words, unit.words, self.words.len()) {
+        if !fits(
+            self.memory.base,
+            call.words,
+            unit.words,
+            self.memory.words.len(),
+        ) {
             return false;
         }
-        if !fits(self.temp, call.temps, unit.temps, self.temps.len()) {
+        if !fits(
+            self.memory.temp,
+            call.temps,
+            unit.temps,
+            self.memory.temps.len(),
+        ) {
             return false;
         }
-        component <= self.words.len() + shared.len()
+        component <= self.memory.words.len() + shared.len()
     }
 
     /// The unit of a call, if there is one and room for it.
@@ -55,7 +65,7 @@ impl Private {
         component: usize,
     ) -> Option<&'a CodeUnit>
         requires { length shared.now < 2 ^ 30 }
-        ensures unit { (w : states.Outside) (input : List ℕ) → w.own ≡ length self.now.words.items
+        ensures unit { (w : states.Outside) (input : List ℕ) → w.own ≡ length self.now.memory.words.items
             → let o = joined self.now input shared.now in MatchOption result
             ((go : PlainUnit → states.Acting) → plain.with_unit (view.program program.now) w o
             (view.call call.now) component go ≡ states.private_outcome o)
@@ -82,7 +92,7 @@ impl Private {
     ) -> Result<Effect, Fault>
         requires { length shared.old < 2 ^ 30 }
         ensures step { let o = joined self.old outside.now.input.now shared.old in let w = outside_of
-            outside.now (length self.old.words.items) in outcome
+            outside.now (length self.old.memory.words.items) in outcome
             (joined self.new outside.now.input.now shared.new) result ≡ plain.call_step
             (view.program program.now) w o (view.call call.now) (back link) }
         ensures output { self.new.output ≡ self.old.output }
@@ -94,7 +104,7 @@ impl Private {
         if !callee.is_set {
             return Err(Fault::NotInitialised);
         }
-        let to = self.base as usize + call.words as usize;
+        let to = self.memory.base as usize + call.words as usize;
         let destination = Destination { to, home: to };
         self.pass_all(shared, outside, destination, &call.arguments)?;
         self.start_words(shared, to, &unit.starts);

@@ -21,7 +21,7 @@ impl Private {
             place n }
         ensures output { self.new.output ≡ self.old.output }
     {
-        words::write(&mut self.words, shared, at, n);
+        words::write(&mut self.memory.words, shared, at, n);
     }
 
     /// Writes the temp at a place. Nothing is written where it is missing.
@@ -30,8 +30,8 @@ impl Private {
             (joined self.old input shared) at n }
         ensures output { self.new.output ≡ self.old.output }
     {
-        if at < self.temps.len() {
-            self.temps[at] = n;
+        if at < self.memory.temps.len() {
+            self.memory.temps[at] = n;
         }
     }
 
@@ -43,7 +43,7 @@ impl Private {
             ≡ record o { words = paste i (block o.words j count) o.words } }
         ensures output { self.new.output ≡ self.old.output }
     {
-        words::copy(&mut self.words, shared, to, from, count);
+        words::copy(&mut self.memory.words, shared, to, from, count);
     }
 
     /// Makes words start as a plan says, which counts from a base.
@@ -55,6 +55,6 @@ impl Private {
             ≡ record o { words = started base (map view.start plan.now) o.words } }
         ensures output { self.new.output ≡ self.old.output }
     {
-        words::start(&mut self.words, shared, base, plan);
+        words::start(&mut self.memory.words, shared, base, plan);
     }
 }

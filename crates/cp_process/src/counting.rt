@@ -19,9 +19,9 @@ use cp_threaded::term::Term;
 impl Private {
     // The temp at a place, or 0 where it is missing.
     fn temp_at(&self, at: usize) -> i32
-        ensures { result ≡ word self.now.temps.items at }
+        ensures { result ≡ word self.now.memory.temps.items at }
     {
-        match self.temps.get(at) {
+        match self.memory.temps.get(at) {
             Some(n) => *n,
             None => 0,
         }
@@ -38,7 +38,7 @@ impl Private {
     ) -> Result<Effect, Fault>
         requires { length shared.old < 2 ^ 30 }
         ensures step { let o = joined self.old outside.now.input.now shared.old in let w = outside_of
-            outside.now (length self.old.words.items) in outcome
+            outside.now (length self.old.memory.words.items) in outcome
             (joined self.new outside.now.input.now shared.new) result ≡ plain.count_to w o
             (view.counting counting.now) n last }
         ensures output { self.new.output ≡ self.old.output }
@@ -51,7 +51,7 @@ impl Private {
             return Err(Fault::Range);
         }
         let at = self.reach(shared, outside).root_place(counting.variable);
-        let temp = self.temp as usize + counting.temp as usize;
+        let temp = self.memory.temp as usize + counting.temp as usize;
         self.set_word(shared, at, n);
         self.set_temp(temp, n);
         self.set_temp(temp + 1, last);
@@ -70,7 +70,7 @@ impl Private {
     ) -> Result<Effect, Fault>
         requires { length shared.old < 2 ^ 30 }
         ensures step { let o = joined self.old outside.now.input.now shared.old in let w = outside_of
-            outside.now (length self.old.words.items) in outcome
+            outside.now (length self.old.memory.words.items) in outcome
             (joined self.new outside.now.input.now shared.new) result ≡ plain.with_value w o
             (view.term first.now) (λ n. plain.with_value w o (view.term last.now)
             (λ m. plain.first_count w o (view.counting counting.now) n m)) }
@@ -94,13 +94,13 @@ impl Private {
     ) -> Result<Effect, Fault>
         requires { length shared.old < 2 ^ 30 }
         ensures step { let o = joined self.old outside.now.input.now shared.old in let w = outside_of
-            outside.now (length self.old.words.items) in outcome
+            outside.now (length self.old.memory.words.items) in outcome
             (joined self.new outside.now.input.now shared.new) result ≡ plain.next_count w o
             (view.counting counting.now) (word o.temps (o.temp + counting.now.temp))
             (word o.temps (o.temp + counting.now.temp + 1)) }
         ensures output { self.new.output ≡ self.old.output }
     {
-        let temp = self.temp as usize + counting.temp as usize;
+        let temp = self.memory.temp as usize + counting.temp as usize;
         let n = self.temp_at(temp);
         let last = self.temp_at(temp + 1);
         if n == last {

@@ -75,8 +75,8 @@ impl Private {
     /// The unit runs in the component that is called, and its frame keeps what the caller needs.
     pub(crate) fn enter(&mut self, callee: Called, unit: &CodeUnit, call: &Call, link: Back)
         requires frame { self.old.depth < length self.old.frames.items }
-        requires base { self.old.base + call.now.words < 2 ^ 32 }
-        requires temp { self.old.temp + call.now.temps < 2 ^ 32 }
+        requires base { self.old.memory.base + call.now.words < 2 ^ 32 }
+        requires temp { self.old.memory.temp + call.now.temps < 2 ^ 32 }
         requires component { callee.component < 2 ^ 32 }
         ensures step { (input : List ℕ) (shared : List ℤ) → joined self.new input shared ≡ plain.enter
             (joined self.old input shared) (called callee) (view.code_unit unit.now)
@@ -85,17 +85,17 @@ impl Private {
     {
         let frame = Frame {
             place: link.place,
-            base: self.base,
-            temp: self.temp,
-            component: self.component,
+            base: self.memory.base,
+            temp: self.memory.temp,
+            component: self.memory.component,
             into: link.into,
             gate: callee.gate,
             held: self.gate,
         };
         self.place = unit.start;
-        self.base += call.words;
-        self.temp += call.temps;
-        self.component = callee.component as u32;
+        self.memory.base += call.words;
+        self.memory.temp += call.temps;
+        self.memory.component = callee.component as u32;
         self.gate = innermost_gate(callee.gate, self.gate);
         self.keep(frame);
     }
@@ -113,7 +113,7 @@ impl Private {
         if !function {
             return Ok(None);
         }
-        let value = self.word(shared, self.base as usize);
+        let value = self.word(shared, self.memory.base as usize);
         if value == UNSET {
             return Err(Fault::NoResult);
         }
@@ -130,9 +130,9 @@ impl Private {
     {
         self.depth -= 1;
         self.place = caller.place;
-        self.base = caller.base;
-        self.temp = caller.temp;
-        self.component = caller.component;
+        self.memory.base = caller.base;
+        self.memory.temp = caller.temp;
+        self.memory.component = caller.component;
         self.gate = caller.held;
         if let Some(value) = value {
             self.set_temp(caller.temp as usize + caller.into as usize, value);

@@ -49,7 +49,7 @@ impl Private {
     ) -> Result<Effect, Fault>
         requires { length shared.old < 2 ^ 30 }
         ensures step { let o = joined self.old outside.now.input.now shared.old in let w = outside_of
-            outside.now (length self.old.words.items) in let program = view.program program.now in outcome
+            outside.now (length self.old.memory.words.items) in let program = view.program program.now in outcome
             (joined self.new outside.now.input.now shared.new) result ≡ plain.init_class program w o
             (view.call call.now) (component_called program w o (view.target call.now.target)).component
             next }
@@ -62,7 +62,7 @@ impl Private {
         if self.word(shared, at) != 0 {
             return Err(Fault::InitialisedTwice);
         }
-        let from = self.base as usize + call.words as usize;
+        let from = self.memory.base as usize + call.words as usize;
         let destination = Destination { to: from, home: at };
         self.pass_all(shared, outside, destination, &call.arguments)?;
         self.settle(shared, from, at, call.arguments.len());
@@ -91,7 +91,7 @@ impl Private {
     ) -> Result<Effect, Fault>
         requires { length shared.old < 2 ^ 30 }
         ensures step { let o = joined self.old outside.now.input.now shared.old in let w = outside_of
-            outside.now (length self.old.words.items) in let program = view.program program.now in outcome
+            outside.now (length self.old.memory.words.items) in let program = view.program program.now in outcome
             (joined self.new outside.now.input.now shared.new) result ≡ plain.init_monitor program w
             o (view.call call.now) (component_called program w o (view.target call.now.target)).gate
             next }
@@ -106,7 +106,7 @@ impl Private {
         if monitor.is_set {
             return Err(Fault::InitialisedTwice);
         }
-        let from = self.base as usize + call.words as usize;
+        let from = self.memory.base as usize + call.words as usize;
         let destination = Destination { to: from, home: at };
         self.pass_all(shared, outside, destination, &call.arguments)?;
         self.settle(shared, from, at, call.arguments.len());
@@ -131,7 +131,7 @@ impl Private {
     ) -> Result<Effect, Fault>
         requires { length shared.old < 2 ^ 30 }
         ensures step { let o = joined self.old outside.now.input.now shared.old in let w = outside_of
-            outside.now (length self.old.words.items) in outcome
+            outside.now (length self.old.memory.words.items) in outcome
             (joined self.new outside.now.input.now shared.new) result ≡ plain.init_process
             (view.program program.now) w o process (map view.argument arguments.now) words next }
         ensures output { self.new.output ≡ self.old.output }
@@ -139,8 +139,8 @@ impl Private {
         if outside.is_started(process) {
             return Err(Fault::InitialisedTwice);
         }
-        let from = self.base as usize + words as usize;
-        let to = self.words.len() + parameters_start(program, process) as usize;
+        let from = self.memory.base as usize + words as usize;
+        let to = self.memory.words.len() + parameters_start(program, process) as usize;
         let destination = Destination { to: from, home: to };
         self.pass_all(shared, outside, destination, arguments)?;
         self.settle(shared, from, to, arguments.len());

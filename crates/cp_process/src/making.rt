@@ -13,6 +13,7 @@ use crate::private::{Activity, Frame, Private};
 use crate::turn::Turn;
 use crate::words;
 use cp_threaded::program::{Process, Program};
+use cp_threaded::reach::Memory;
 use smallvec::SmallVec;
 use std::alloc::{AllocError, Global};
 
@@ -101,12 +102,14 @@ impl Private {
                 Activity::NotBegun
             },
             place: needs.start,
-            base: process.words,
-            temp: 0,
-            component: 0,
             gate: 0,
-            words: first_words(alloc, program, process, count)?,
-            temps: Vec::from_elem(alloc, 0, temps)?,
+            memory: Memory {
+                words: first_words(alloc, program, process, count)?,
+                temps: Vec::from_elem(alloc, 0, temps)?,
+                base: process.words,
+                temp: 0,
+                component: 0,
+            },
             frames: SmallVec::from_elem(alloc, Frame::default(), needs.frames as usize)?,
             depth: 0,
             output: Vec::new(alloc),
@@ -127,12 +130,14 @@ impl Private {
             number: self.number,
             activity: self.activity,
             place: self.place,
-            base: self.base,
-            temp: self.temp,
-            component: self.component,
             gate: self.gate,
-            words: Vec::from_slice(alloc, &self.words)?,
-            temps: Vec::from_slice(alloc, &self.temps)?,
+            memory: Memory {
+                words: Vec::from_slice(alloc, &self.memory.words)?,
+                temps: Vec::from_slice(alloc, &self.memory.temps)?,
+                base: self.memory.base,
+                temp: self.memory.temp,
+                component: self.memory.component,
+            },
             frames: SmallVec::from_slice(alloc, self.frames.as_slice())?,
             depth: self.depth,
             output: Vec::from_slice(alloc, &self.output)?,
@@ -156,7 +161,7 @@ impl Private {
     pub fn value(&self, at: usize) -> i32
         ensures { (input : List ℕ) → result ≡ word (private_of self.now input).words at }
     {
-        words::read(&self.words, &[], at)
+        words::read(&self.memory.words, &[], at)
     }
 
     /// Its output that isn't yet in its transcript.
@@ -193,7 +198,7 @@ impl Private {
         if let Some(process) = program.process(self.number) {
             let from = process.parameters as usize + 1;
             let count = process.waiting.saturating_sub(1) as usize;
-            words::bring(&mut self.words, 1, shared, from, count);
+            words::bring(&mut self.memory.words, 1, shared, from, count);
             self.activity = Activity::Running;
         }
     }

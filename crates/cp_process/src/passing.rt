@@ -76,7 +76,7 @@ impl Private {
         ensures { (input : List ℕ) (place : ℕ) → capped place ≡ at → result ≡ plain.reference_word
             (joined self.now input shared.now) place }
     {
-        if at <= self.words.len() + shared.len() {
+        if at <= self.memory.words.len() + shared.len() {
             at as i32
         } else {
             0

@@ -3,6 +3,7 @@
 ghost use Rattle.std.specs.Prelude.{◌≤◌, ◌<◌, ◌^◌, length};
 
 use cp_model::state::Fault;
+use cp_threaded::reach::Memory;
 use smallvec::SmallVec;
 
 /// Whether a process runs.
@@ -41,18 +42,10 @@ pub struct Private {
     pub(crate) activity: Activity,
     /// The place of its next operation.
     pub(crate) place: u32,
-    /// The first word of the running activation.
-    pub(crate) base: u32,
-    /// The first temp of the running activation.
-    pub(crate) temp: u32,
-    /// The first word of the running component.
-    pub(crate) component: u32,
     /// The innermost gate that it holds, or 0.
     pub(crate) gate: u32,
-    /// Its component, and behind it the activations that are running.
-    pub(crate) words: Vec<i32>,
-    /// What statements keep: the values of calls, and the counters of `for`.
-    pub(crate) temps: Vec<i32>,
+    /// Its component, and behind it the activations that are running; the values of calls, and the counters of `for`.
+    pub(crate) memory: Memory,
     /// Room for all frames, of which the first `depth` are in use.
     pub(crate) frames: SmallVec<Frame, 4>,
     pub(crate) depth: usize,
@@ -60,6 +53,6 @@ pub struct Private {
     pub(crate) output: Vec<u8>,
     /// How many bytes of its input it has taken.
     pub(crate) consumed: usize,
-    ghost facts: { (number < 2 ^ 31) × (length words.items < 2 ^ 30) × (length temps.items < 2 ^ 31)
+    ghost facts: { (number < 2 ^ 31) × (length memory.words.items < 2 ^ 30) × (length memory.temps.items < 2 ^ 31)
         × (depth ≤ length frames.items) },
 }

@@ -24,12 +24,8 @@ impl Private {
             (outside_of outside.now own) (joined self.now input shared.now) }
     {
         Reach {
-            own: &self.words,
+            memory: &self.memory,
             shared,
-            temps: &self.temps,
-            base: self.base,
-            temp: self.temp,
-            component: self.component,
             clock: outside.clock,
         }
     }
@@ -41,7 +37,7 @@ impl Private {
         ensures { (input : List ℕ) (place : ℕ) → capped place ≡ at → result ≡ word
             (joined self.now input shared.now).words place }
     {
-        words::read(&self.words, shared, at)
+        words::read(&self.memory.words, shared, at)
     }
 
     /// The value of a term.

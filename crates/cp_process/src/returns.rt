@@ -61,7 +61,7 @@ impl Private {
     ) -> Result<Effect, Fault>
         requires { length shared.old < 2 ^ 30 }
         ensures step { let o = joined self.old outside.now.input.now shared.old in let w = outside_of
-            outside.now (length self.old.words.items) in outcome
+            outside.now (length self.old.memory.words.items) in outcome
             (joined self.new outside.now.input.now shared.new) result ≡ plain.with_place w o
             (view.spot queue.now) (λ at. plain.continue o at function) }
         ensures output { self.new.output ≡ self.old.output }

@@ -70,7 +70,7 @@ impl Private {
         requires shared { length shared.now < 2 ^ 30 }
         requires room { HasRoomFor self.old 1 }
         ensures step { let o = joined self.old outside.now.input.now shared.now in let w = outside_of
-            outside.now (length self.old.words.items) in outcome
+            outside.now (length self.old.memory.words.items) in outcome
             (joined self.new outside.now.input.now shared.now) result ≡ plain.with_value w o
             (view.term value.now) (λ n. plain.display o n as_byte next) }
         ensures room { KeepsRoom self.old self.new }
@@ -95,7 +95,7 @@ impl Private {
     ) -> Result<Effect, Fault>
         requires { length shared.old < 2 ^ 30 }
         ensures step { let o = joined self.old outside.now.input.now shared.old in let w = outside_of
-            outside.now (length self.old.words.items) in outcome
+            outside.now (length self.old.memory.words.items) in outcome
             (joined self.new outside.now.input.now shared.new) result ≡ plain.with_place w o
             (view.spot to.now) (λ at. plain.accept o at bounds.low bounds.high next) }
         ensures output { self.new.output ≡ self.old.output }
@@ -121,7 +121,7 @@ impl Private {
     ) -> Result<Effect, Fault>
         requires { length shared.old < 2 ^ 30 }
         ensures step { let o = joined self.old outside.now.input.now shared.old in let w = outside_of
-            outside.now (length self.old.words.items) in outcome
+            outside.now (length self.old.memory.words.items) in outcome
             (joined self.new outside.now.input.now shared.new) result ≡ plain.with_place w o
             (view.spot queue.now) (λ at. plain.delay o at next) }
         ensures output { self.new.output ≡ self.old.output }
@@ -131,7 +131,7 @@ impl Private {
         if monitor == 0 {
             return Ok(Effect::None);
         }
-        if self.words.len() + shared.len() <= at {
+        if self.memory.words.len() + shared.len() <= at {
             return Ok(Effect::None);
         }
         if self.word(shared, at) > 0 {

@@ -28,7 +28,7 @@ impl Private {
     ) -> Result<Effect, Fault>
         requires shared { length shared.old < 2 ^ 30 }
         requires room { HasRoomFor self.old 1 }
-        ensures step { let w = outside_of outside.now (length self.old.words.items) in outcome
+        ensures step { let w = outside_of outside.now (length self.old.memory.words.items) in outcome
             (joined self.new outside.now.input.now shared.new) result ≡ plain.act
             (view.program program.now) w (joined self.old outside.now.input.now shared.old)
             (view.operation operation.now) }
@@ -114,7 +114,7 @@ impl Private {
     ) -> Effect
         requires shared { length shared.old < 2 ^ 30 }
         requires room { HasRoomFor self.old 1 }
-        ensures step { let w = outside_of outside.now (length self.old.words.items) in
+        ensures step { let w = outside_of outside.now (length self.old.memory.words.items) in
             (joined self.new outside.now.input.now shared.new, effect result) ≡ plain.act
             (view.program program.now) w (joined self.old outside.now.input.now shared.old)
             (view.operation operation.now) }
@@ -133,7 +133,7 @@ impl Private {
     #[inline(always)]
     fn assign(&mut self, outside: &Outside, to: &Spot, value: &Term, bounds: Bounds, next: u32)
         ensures step { let input = outside.now.input.now in let o = joined self.old input [] in let
-            w = outside_of outside.now (length self.old.words.items) in joined self.new input []
+            w = outside_of outside.now (length self.old.memory.words.items) in joined self.new input []
             ≡ (plain.with_place w o (view.spot to.now) (λ at. plain.with_value w o
             (view.term value.now) (λ n. plain.set_within o bounds.low bounds.high at n next))).0 }
         ensures output { self.new.output ≡ self.old.output }

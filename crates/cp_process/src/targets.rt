@@ -75,10 +75,10 @@ fn monitor_start(program: &Program, monitor: u32) -> u32
 
 impl Private {
     fn member(&self, at: u32) -> usize
-        ensures place { result ≡ self.now.component + at }
+        ensures place { result ≡ self.now.memory.component + at }
         ensures small { result < 2 ^ 33 }
     {
-        self.component as usize + at as usize
+        self.memory.component as usize + at as usize
     }
 
     // The place of the class to which a word of the component holds a right.
@@ -111,10 +111,10 @@ impl Private {
         monitor: u32,
     ) -> Called
         ensures { called result ≡ plain.monitor_called (view.program program.now)
-            (outside_of outside.now (length self.now.words.items)) monitor }
+            (outside_of outside.now (length self.now.memory.words.items)) monitor }
     {
         Called {
-            component: self.words.len() + monitor_start(program, monitor) as usize,
+            component: self.memory.words.len() + monitor_start(program, monitor) as usize,
             is_set: outside.is_set(monitor),
             gate: monitor,
         }
@@ -130,12 +130,12 @@ impl Private {
     ) -> Called
         requires { length shared.now < 2 ^ 30 }
         ensures { (input : List ℕ) → called result ≡ plain.component_called
-            (view.program program.now) (outside_of outside.now (length self.now.words.items))
+            (view.program program.now) (outside_of outside.now (length self.now.memory.words.items))
             (joined self.now input shared.now) (view.target target) }
     {
         match target {
             Target::Own => Called {
-                component: self.component as usize,
+                component: self.memory.component as usize,
                 is_set: true,
                 gate: 0,
             },
@@ -155,7 +155,7 @@ impl Private {
         ensures { (input : List ℕ) → result ≡ plain.distance_word
             (joined self.now input shared.now) at from }
     {
-        let all = self.words.len() + shared.len();
+        let all = self.memory.words.len() + shared.len();
         if at <= all && from <= all {
             at as i32 - from as i32
         } else {

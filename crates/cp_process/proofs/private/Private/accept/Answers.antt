@@ -9,7 +9,7 @@ use Rattle.cp_process.proofs.private.Private.accept.Goals as goal
 
 pub returns-in_err-at-clause-step : goal.returns-in_err-at-clause-step
 returns-in_err-at-clause-step c =
-    let own = length c.args.self.now.words.items in
+    let own = length c.args.self.now.memory.words.items in
     let input = c.args.outside.now.input.now in
     let given : c.from_residual.result ≡ Err c.in_err-at.field-0.0 = search rules in
     let is = unplaced _ _ (sym c.in_err-at.was ∙ c.place.ensures input own) in
@@ -17,7 +17,7 @@ returns-in_err-at-clause-step c =
 
 pub returns-then-not-contain-clause-step : goal.returns-then-not-contain-clause-step
 returns-then-not-contain-clause-step c =
-    let own = length c.args.self.now.words.items in
+    let own = length c.args.self.now.memory.words.items in
     let input = c.args.outside.now.input.now in
     let to = placed _ _ (sym c.in_ok-at.was ∙ c.place.ensures input own) in
     let outside : within c.args.bounds.low c.args.bounds.high (next_input input c.args.self.now.consumed) ≡ false = search rules in
@@ -25,7 +25,7 @@ returns-then-not-contain-clause-step c =
 
 pub returns-clause-step : goal.returns-clause-step
 returns-clause-step c =
-    let own = length c.args.self.now.words.items in
+    let own = length c.args.self.now.memory.words.items in
     let input = c.args.outside.now.input.now in
     let consumed = c.args.self.now.consumed in
     let to = placed _ _ (sym c.in_ok-at.was ∙ c.place.ensures input own) in

@@ -15,7 +15,7 @@ pub returns-in_default-clause-step : goal.returns-in_default-clause-step
 returns-in_default-clause-step c =
     let x = c.args.self.now in
     let input = c.args.outside.now.input.now in
-    let own = length x.words.items in
+    let own = length x.memory.words.items in
     let w = outside_of c.args.outside.now own in
     let o = joined x input c.args.shared.now in
     let program = view.program c.args.program.now in
@@ -29,7 +29,7 @@ pub returns-then-not-callee-clause-step : goal.returns-then-not-callee-clause-st
 returns-then-not-callee-clause-step c =
     let x = c.args.self.now in
     let input = c.args.outside.now.input.now in
-    let own = length x.words.items in
+    let own = length x.memory.words.items in
     let w = outside_of c.args.outside.now own in
     let o = joined x input c.args.shared.now in
     let program = view.program c.args.program.now in
@@ -47,7 +47,7 @@ pub returns-in_err-pass_all-clause-step : goal.returns-in_err-pass_all-clause-st
 returns-in_err-pass_all-clause-step c =
     let x = c.args.self.now in
     let input = c.args.outside.now.input.now in
-    let own = length x.words.items in
+    let own = length x.memory.words.items in
     let w = outside_of c.args.outside.now own in
     let o = joined x input c.args.shared.now in
     let program = view.program c.args.program.now in
@@ -71,7 +71,7 @@ pub enter-requires-clause-frame : goal.enter-requires-clause-frame
 enter-requires-clause-frame c =
     let x = c.args.self.now in
     let input = c.args.outside.now.input.now in
-    let own = length x.words.items in
+    let own = length x.memory.words.items in
     let w = outside_of c.args.outside.now own in
     let o = joined x input c.args.shared.now in
     let program = view.program c.args.program.now in
@@ -92,7 +92,7 @@ pub enter-requires-clause-base : goal.enter-requires-clause-base
 enter-requires-clause-base c =
     let x = c.args.self.now in
     let input = c.args.outside.now.input.now in
-    let own = length x.words.items in
+    let own = length x.memory.words.items in
     let w = outside_of c.args.outside.now own in
     let o = joined x input c.args.shared.now in
     let program = view.program c.args.program.now in
@@ -113,7 +113,7 @@ pub enter-requires-clause-temp : goal.enter-requires-clause-temp
 enter-requires-clause-temp c =
     let x = c.args.self.now in
     let input = c.args.outside.now.input.now in
-    let own = length x.words.items in
+    let own = length x.memory.words.items in
     let w = outside_of c.args.outside.now own in
     let o = joined x input c.args.shared.now in
     let program = view.program c.args.program.now in
@@ -134,7 +134,7 @@ pub returns-clause-step : goal.returns-clause-step
 returns-clause-step c =
     let x = c.args.self.now in
     let input = c.args.outside.now.input.now in
-    let own = length x.words.items in
+    let own = length x.memory.words.items in
     let w = outside_of c.args.outside.now own in
     let o = joined x input c.args.shared.now in
     let program = view.program c.args.program.now in

@@ -26,7 +26,7 @@ pub returns-in-MonitorRight : goal.returns-in-MonitorRight
 returns-in-MonitorRight c =
     λ input.
     let o = joined c.args.self.now input c.args.shared.now in
-    let w = outside_of c.args.outside.now (length c.args.self.now.words.items) in
+    let w = outside_of c.args.outside.now (length c.args.self.now.memory.words.items) in
     let place = o.component + c.in-MonitorRight.at in
     let told : capped place ≡ c.member-in-MonitorRight.result =
     omega (arith, c.member-in-MonitorRight.ensures.place, c.member-in-MonitorRight.ensures.small) in

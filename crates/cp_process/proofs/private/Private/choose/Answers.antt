@@ -8,7 +8,7 @@ use Rattle.cp_process.proofs.private.Private.choose.Goals as goal
 
 pub returns-in_err-n-clause-step : goal.returns-in_err-n-clause-step
 returns-in_err-n-clause-step c =
-    let own = length c.args.self.now.words.items in
+    let own = length c.args.self.now.memory.words.items in
     let input = c.args.outside.now.input.now in
     let given : c.from_residual.result ≡ Err c.in_err-n.field-0.0 = search rules in
     let is = sym c.in_err-n.was ∙ c.evaluate.ensures input own in
@@ -16,7 +16,7 @@ returns-in_err-n-clause-step c =
 
 pub returns-in-Some-clause-step : goal.returns-in-Some-clause-step
 returns-in-Some-clause-step c =
-    let own = length c.args.self.now.words.items in
+    let own = length c.args.self.now.memory.words.items in
     let input = c.args.outside.now.input.now in
     let table = view.table c.args.table.now in
     let o = joined c.args.self.now input c.args.shared.now in
@@ -27,7 +27,7 @@ returns-in-Some-clause-step c =
 
 pub returns-in-None-clause-step : goal.returns-in-None-clause-step
 returns-in-None-clause-step c =
-    let own = length c.args.self.now.words.items in
+    let own = length c.args.self.now.memory.words.items in
     let input = c.args.outside.now.input.now in
     let table = view.table c.args.table.now in
     let o = joined c.args.self.now input c.args.shared.now in

@@ -4,7 +4,7 @@ use Rattle.cp_process.proofs.private.Private.count_from.Goals as goal
 
 pub returns-in_err-n-clause-step : goal.returns-in_err-n-clause-step
 returns-in_err-n-clause-step c =
-    let own = length c.args.self.now.words.items in
+    let own = length c.args.self.now.memory.words.items in
     let input = c.args.outside.now.input.now in
     let given : c.from_residual.result ≡ Err c.in_err-n.field-0.0 = search rules in
     let is = sym c.in_err-n.was ∙ c.evaluate.ensures input own in
@@ -12,7 +12,7 @@ returns-in_err-n-clause-step c =
 
 pub returns-in_err-last-clause-step : goal.returns-in_err-last-clause-step
 returns-in_err-last-clause-step c =
-    let own = length c.args.self.now.words.items in
+    let own = length c.args.self.now.memory.words.items in
     let input = c.args.outside.now.input.now in
     let given : c.from_residual-in_err-last.result ≡ Err c.in_err-last.field-0.0 = search rules in
     let first = sym c.in_ok-n.was ∙ c.evaluate.ensures input own in
@@ -21,7 +21,7 @@ returns-in_err-last-clause-step c =
 
 pub returns-then-is_past-clause-step : goal.returns-then-is_past-clause-step
 returns-then-is_past-clause-step c =
-    let own = length c.args.self.now.words.items in
+    let own = length c.args.self.now.memory.words.items in
     let input = c.args.outside.now.input.now in
     let first = sym c.in_ok-n.was ∙ c.evaluate.ensures input own in
     let last = sym c.in_ok-last.was ∙ c.evaluate-2.ensures input own in
@@ -29,7 +29,7 @@ returns-then-is_past-clause-step c =
 
 pub returns-clause-step : goal.returns-clause-step
 returns-clause-step c =
-    let own = length c.args.self.now.words.items in
+    let own = length c.args.self.now.memory.words.items in
     let input = c.args.outside.now.input.now in
     let first = sym c.in_ok-n.was ∙ c.evaluate.ensures input own in
     let last = sym c.in_ok-last.was ∙ c.evaluate-2.ensures input own in

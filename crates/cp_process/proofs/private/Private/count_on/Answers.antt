@@ -7,8 +7,8 @@ use Rattle.cp_process.proofs.private.Private.count_on.Goals as goal
 
 pub returns-in-Some-clause-step : goal.returns-in-Some-clause-step
 returns-in-Some-clause-step c =
-    let temps = c.args.self.now.temps.items in
-    let t = c.args.self.now.temp + c.args.counting.now.temp in
+    let temps = c.args.self.now.memory.temps.items in
+    let t = c.args.self.now.memory.temp + c.args.counting.now.temp in
     let n = word temps t in
     let last = word temps (t + 1) in
     let apart : same_integer n last ≡ false = search rules in

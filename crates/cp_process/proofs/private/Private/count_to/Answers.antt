@@ -10,7 +10,7 @@ use Rattle.cp_process.proofs.private.Private.count_to.Goals as goal
 
 pub returns-clause-step : goal.returns-clause-step
 returns-clause-step c =
-    let own = length c.args.self.now.words.items in
+    let own = length c.args.self.now.memory.words.items in
     let input = c.args.outside.now.input.now in
     let counting = c.args.counting.now in
     let o = joined c.args.self.now input c.args.shared.now in

@@ -11,7 +11,7 @@ use Rattle.cp_process.proofs.private.Private.delay.Goals as goal
 
 pub returns-in_err-at-clause-step : goal.returns-in_err-at-clause-step
 returns-in_err-at-clause-step c =
-    let own = length c.args.self.now.words.items in
+    let own = length c.args.self.now.memory.words.items in
     let input = c.args.outside.now.input.now in
     let given : c.from_residual.result ≡ Err c.in_err-at.field-0.0 = search rules in
     let is = unplaced _ _ (sym c.in_err-at.was ∙ c.place.ensures input own) in
@@ -19,32 +19,32 @@ returns-in_err-at-clause-step c =
 
 pub returns-then-monitor-eq0-clause-step : goal.returns-then-monitor-eq0-clause-step
 returns-then-monitor-eq0-clause-step c =
-    let own = length c.args.self.now.words.items in
+    let own = length c.args.self.now.memory.words.items in
     let input = c.args.outside.now.input.now in
-    let ws = c.args.self.now.words.items ++ c.args.shared.now in
+    let ws = c.args.self.now.memory.words.items ++ c.args.shared.now in
     let to = placed _ _ (sym c.in_ok-at.was ∙ c.place.ensures input own) in
     let none : c.args.self.now.gate ≡ 0 = omega arith in
     rw (to.1, held_none c.args.self.now.gate none) refl
 
 pub returns-then-len-shared-clause-step : goal.returns-then-len-shared-clause-step
 returns-then-len-shared-clause-step c =
-    let own = length c.args.self.now.words.items in
+    let own = length c.args.self.now.memory.words.items in
     let input = c.args.outside.now.input.now in
-    let ws = c.args.self.now.words.items ++ c.args.shared.now in
+    let ws = c.args.self.now.memory.words.items ++ c.args.shared.now in
     let to = placed _ _ (sym c.in_ok-at.was ∙ c.place.ensures input own) in
     let held = held_some c.args.self.now.gate (omega arith) in
-    let all = length-append c.args.self.now.words.items c.args.shared.now in
+    let all = length-append c.args.self.now.memory.words.items c.args.shared.now in
     let beyond = le-ltb to.0 (length ws) (omega (arith, all, to.2)) in
     rw (to.1, held, beyond) refl
 
 pub returns-then-word-gt0-clause-step : goal.returns-then-word-gt0-clause-step
 returns-then-word-gt0-clause-step c =
-    let own = length c.args.self.now.words.items in
+    let own = length c.args.self.now.memory.words.items in
     let input = c.args.outside.now.input.now in
-    let ws = c.args.self.now.words.items ++ c.args.shared.now in
+    let ws = c.args.self.now.memory.words.items ++ c.args.shared.now in
     let to = placed _ _ (sym c.in_ok-at.was ∙ c.place.ensures input own) in
     let held = held_some c.args.self.now.gate (omega arith) in
-    let all = length-append c.args.self.now.words.items c.args.shared.now in
+    let all = length-append c.args.self.now.memory.words.items c.args.shared.now in
     let there = lt-ltb to.0 (length ws) (omega (arith, all, to.2)) in
     let over : int_le c.word.result (pos 0) ≡ false = search rules in
     let taken = rw (c.word.ensures input to.0 to.2) at over in
@@ -52,12 +52,12 @@ returns-then-word-gt0-clause-step c =
 
 pub returns-clause-step : goal.returns-clause-step
 returns-clause-step c =
-    let own = length c.args.self.now.words.items in
+    let own = length c.args.self.now.memory.words.items in
     let input = c.args.outside.now.input.now in
-    let ws = c.args.self.now.words.items ++ c.args.shared.now in
+    let ws = c.args.self.now.memory.words.items ++ c.args.shared.now in
     let to = placed _ _ (sym c.in_ok-at.was ∙ c.place.ensures input own) in
     let held = held_some c.args.self.now.gate (omega arith) in
-    let all = length-append c.args.self.now.words.items c.args.shared.now in
+    let all = length-append c.args.self.now.memory.words.items c.args.shared.now in
     let there = lt-ltb to.0 (length ws) (omega (arith, all, to.2)) in
     let under : int_le c.word.result (pos 0) ≡ true = search rules in
     let free = rw (c.word.ensures input to.0 to.2) at under in

@@ -12,7 +12,7 @@ use Rattle.cp_process.proofs.private.Private.display.Goals as goal
 
 pub returns-in_err-n-clause-step : goal.returns-in_err-n-clause-step
 returns-in_err-n-clause-step c =
-    let own = length c.args.self.now.words.items in
+    let own = length c.args.self.now.memory.words.items in
     let input = c.args.outside.now.input.now in
     let given : c.from_residual.result ≡ Err c.in_err-n.field-0.0 = search rules in
     let is = sym c.in_err-n.was ∙ c.evaluate.ensures input own in
@@ -20,7 +20,7 @@ returns-in_err-n-clause-step c =
 
 pub returns-then-as_byte-clause-step : goal.returns-then-as_byte-clause-step
 returns-then-as_byte-clause-step c =
-    let own = length c.args.self.now.words.items in
+    let own = length c.args.self.now.memory.words.items in
     let input = c.args.outside.now.input.now in
     let shared = c.args.shared.now in
     let o = joined c.args.self.now input shared in
@@ -30,7 +30,7 @@ returns-then-as_byte-clause-step c =
 
 pub returns-else-as_byte-clause-step : goal.returns-else-as_byte-clause-step
 returns-else-as_byte-clause-step c =
-    let own = length c.args.self.now.words.items in
+    let own = length c.args.self.now.memory.words.items in
     let input = c.args.outside.now.input.now in
     let shared = c.args.shared.now in
     let o = joined c.args.self.now input shared in

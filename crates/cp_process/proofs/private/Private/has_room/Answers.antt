@@ -22,8 +22,8 @@ returns-clause-value c =
     let call = c.args.call.now in
     let unit = c.args.unit.now in
     let free = ap (λ n. nat_lt n (length fs)) (length-frames x.depth fs) ∙ lt-ltb x.depth (length fs) (omega (arith, c.len.ensures.value)) in
-    let words : nat_le (x.base + call.words + unit.words) (length x.words.items) ≡ true = search rules in
-    let temps : nat_le (x.temp + call.temps + unit.temps) (length x.temps.items) ≡ true = search rules in
-    let all : c.len-4.result + length c.args.shared.now ≡ length (x.words.items ++ c.args.shared.now) =
-    omega (arith, length-append x.words.items c.args.shared.now) in
+    let words : nat_le (x.memory.base + call.words + unit.words) (length x.memory.words.items) ≡ true = search rules in
+    let temps : nat_le (x.memory.temp + call.temps + unit.temps) (length x.memory.temps.items) ≡ true = search rules in
+    let all : c.len-4.result + length c.args.shared.now ≡ length (x.memory.words.items ++ c.args.shared.now) =
+    omega (arith, length-append x.memory.words.items c.args.shared.now) in
     rw (free, own, words, temps) (ap (nat_le c.args.component) all)

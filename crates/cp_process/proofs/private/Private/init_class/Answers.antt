@@ -19,7 +19,7 @@ pub returns-in_default-clause-step : goal.returns-in_default-clause-step
 returns-in_default-clause-step c =
     let x = c.args.self.now in
     let input = c.args.outside.now.input.now in
-    let own = length x.words.items in
+    let own = length x.memory.words.items in
     let w = outside_of c.args.outside.now own in
     let o = joined x input c.args.shared.now in
     let program = view.program c.args.program.now in
@@ -34,7 +34,7 @@ pub returns-then-word-ne0-clause-step : goal.returns-then-word-ne0-clause-step
 returns-then-word-ne0-clause-step c =
     let x = c.args.self.now in
     let input = c.args.outside.now.input.now in
-    let own = length x.words.items in
+    let own = length x.memory.words.items in
     let w = outside_of c.args.outside.now own in
     let o = joined x input c.args.shared.now in
     let program = view.program c.args.program.now in
@@ -56,7 +56,7 @@ pub returns-in_err-pass_all-clause-step : goal.returns-in_err-pass_all-clause-st
 returns-in_err-pass_all-clause-step c =
     let x = c.args.self.now in
     let input = c.args.outside.now.input.now in
-    let own = length x.words.items in
+    let own = length x.memory.words.items in
     let w = outside_of c.args.outside.now own in
     let o = joined x input c.args.shared.now in
     let program = view.program c.args.program.now in
@@ -84,7 +84,7 @@ pub enter-requires-clause-frame : goal.enter-requires-clause-frame
 enter-requires-clause-frame c =
     let x = c.args.self.now in
     let input = c.args.outside.now.input.now in
-    let own = length x.words.items in
+    let own = length x.memory.words.items in
     let w = outside_of c.args.outside.now own in
     let o = joined x input c.args.shared.now in
     let program = view.program c.args.program.now in
@@ -109,7 +109,7 @@ pub enter-requires-clause-base : goal.enter-requires-clause-base
 enter-requires-clause-base c =
     let x = c.args.self.now in
     let input = c.args.outside.now.input.now in
-    let own = length x.words.items in
+    let own = length x.memory.words.items in
     let w = outside_of c.args.outside.now own in
     let o = joined x input c.args.shared.now in
     let program = view.program c.args.program.now in
@@ -134,7 +134,7 @@ pub enter-requires-clause-temp : goal.enter-requires-clause-temp
 enter-requires-clause-temp c =
     let x = c.args.self.now in
     let input = c.args.outside.now.input.now in
-    let own = length x.words.items in
+    let own = length x.memory.words.items in
     let w = outside_of c.args.outside.now own in
     let o = joined x input c.args.shared.now in
     let program = view.program c.args.program.now in
@@ -159,7 +159,7 @@ pub returns-clause-step : goal.returns-clause-step
 returns-clause-step c =
     let x = c.args.self.now in
     let input = c.args.outside.now.input.now in
-    let own = length x.words.items in
+    let own = length x.memory.words.items in
     let w = outside_of c.args.outside.now own in
     let o = joined x input c.args.shared.now in
     let program = view.program c.args.program.now in

@@ -18,7 +18,7 @@ pub returns-clause-step : goal.returns-clause-step
 returns-clause-step c =
     let x = c.args.self.now in
     let input = c.args.outside.now.input.now in
-    let own = length x.words.items in
+    let own = length x.memory.words.items in
     let w = outside_of c.args.outside.now own in
     let o = joined x input c.args.shared.now in
     let program = view.program c.args.program.now in

@@ -11,7 +11,7 @@ use Rattle.cp_process.proofs.private.Private.let_go.Goals as goal
 
 pub returns-in_err-at-clause-step : goal.returns-in_err-at-clause-step
 returns-in_err-at-clause-step c =
-    let own = length c.args.self.now.words.items in
+    let own = length c.args.self.now.memory.words.items in
     let given : c.from_residual.result ≡ Err c.in_err-at.field-0.0 = search rules in
     let is = unplaced _ _ (sym c.in_err-at.was ∙ c.place.ensures c.args.outside.now.input.now own) in
     rw (given, is) refl
@@ -21,7 +21,7 @@ returns-then-self-eq0-clause-step c =
     let input = c.args.outside.now.input.now in
     let shared = c.args.shared.now in
     let o = joined c.args.self.now input shared in
-    let own = length c.args.self.now.words.items in
+    let own = length c.args.self.now.memory.words.items in
     let at = placed _ _ (sym c.in_ok-at.was ∙ c.place.ensures input own) in
     let none : c.args.self.now.gate ≡ 0 = omega arith in
     rw (at.1, held_none c.args.self.now.gate none) refl
@@ -31,7 +31,7 @@ returns-in_default-clause-step c =
     let input = c.args.outside.now.input.now in
     let shared = c.args.shared.now in
     let o = joined c.args.self.now input shared in
-    let own = length c.args.self.now.words.items in
+    let own = length c.args.self.now.memory.words.items in
     let at = placed _ _ (sym c.in_ok-at.was ∙ c.place.ensures input own) in
     let held = held_some c.args.self.now.gate (omega arith) in
     let go = λ (g : Frame) (gs : List Frame). return_with o (set_word o at.0 (pos 0)) g gs c.args.function (Continues g.gate (word o.words at.0)) in
@@ -43,7 +43,7 @@ returns-in_err-value-clause-step c =
     let input = c.args.outside.now.input.now in
     let shared = c.args.shared.now in
     let o = joined c.args.self.now input shared in
-    let own = length c.args.self.now.words.items in
+    let own = length c.args.self.now.memory.words.items in
     let at = placed _ _ (sym c.in_ok-at.was ∙ c.place.ensures input own) in
     let f = frame c.in-Some.frame in
     let fs = frames_in c.in-Some.ensures.0 c.args.self.now.frames.items in
@@ -61,7 +61,7 @@ returns-clause-step c =
     let input = c.args.outside.now.input.now in
     let shared = c.args.shared.now in
     let o = joined c.args.self.now input shared in
-    let own = length c.args.self.now.words.items in
+    let own = length c.args.self.now.memory.words.items in
     let at = placed _ _ (sym c.in_ok-at.was ∙ c.place.ensures input own) in
     let f = frame c.in-Some.frame in
     let fs = frames_in c.in-Some.ensures.0 c.args.self.now.frames.items in

@@ -22,6 +22,6 @@ returns-clause-step c =
     let private : is_private o (Some x) ≡ true = search rules in
     let none : c.make.new.shared ≡ [] = nil_from_length c.make.new.shared (search rules) in
     let made = ap (λ (a : Acting). a.0) c.make.ensures.step in
-    let here : (act program (outside_of c.args.outside.now (length old.words.items)) (joined old input []) x).0 ≡ (act program (alone clock o) o x).0 =
+    let here : (act program (outside_of c.args.outside.now (length old.memory.words.items)) (joined old input []) x).0 ≡ (act program (alone clock o) o x).0 =
     λ i. (act program (outside_alone c.args.outside.now old input c.requires.alone i) (sym (private_joined old input) i) x).0 in
     private_joined new input ∙ (ap (joined new input) (sym none) ∙ (made ∙ (here ∙ sym (stepped program clock o x there running private))))

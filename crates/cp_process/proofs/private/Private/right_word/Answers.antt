@@ -28,7 +28,7 @@ returns-in-ClassRight c =
 pub returns-in-MonitorRight : goal.returns-in-MonitorRight
 returns-in-MonitorRight c =
     λ input.
-    let place = c.args.self.now.component + c.in-MonitorRight.at in
+    let place = c.args.self.now.memory.component + c.in-MonitorRight.at in
     let told : capped place ≡ c.member-in-MonitorRight.result =
     omega (arith, c.member-in-MonitorRight.ensures.place, c.member-in-MonitorRight.ensures.small) in
     let whole : to_z w32 (of_z w32 c.word.result) ≡ c.word.result = search rules in

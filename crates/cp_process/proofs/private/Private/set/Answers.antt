@@ -8,7 +8,7 @@ use Rattle.cp_process.proofs.private.Private.set.Goals as goal
 
 pub returns-in_err-at-clause-step : goal.returns-in_err-at-clause-step
 returns-in_err-at-clause-step c =
-    let own = length c.args.self.now.words.items in
+    let own = length c.args.self.now.memory.words.items in
     let input = c.args.outside.now.input.now in
     let place = c.place.ensures ∙ ap (λ v. capped_result (place_of v (view.spot c.args.to.now))) (c.reach-reach.ensures input own) in
     let given : c.from_residual.result ≡ Err c.in_err-at.field-0.0 = search rules in
@@ -17,7 +17,7 @@ returns-in_err-at-clause-step c =
 
 pub returns-in_err-n-clause-step : goal.returns-in_err-n-clause-step
 returns-in_err-n-clause-step c =
-    let own = length c.args.self.now.words.items in
+    let own = length c.args.self.now.memory.words.items in
     let input = c.args.outside.now.input.now in
     let place = c.place.ensures ∙ ap (λ v. capped_result (place_of v (view.spot c.args.to.now))) (c.reach-reach.ensures input own) in
     let given : c.from_residual-in_err-n.result ≡ Err c.in_err-n.field-0.0 = search rules in
@@ -27,7 +27,7 @@ returns-in_err-n-clause-step c =
 
 pub returns-clause-step : goal.returns-clause-step
 returns-clause-step c =
-    let own = length c.args.self.now.words.items in
+    let own = length c.args.self.now.memory.words.items in
     let input = c.args.outside.now.input.now in
     let place = c.place.ensures ∙ ap (λ v. capped_result (place_of v (view.spot c.args.to.now))) (c.reach-reach.ensures input own) in
     let found = placed _ _ (sym c.in_ok-at.was ∙ place) in
