@@ -1,5 +1,5 @@
 -- Calls and `init`, once it is known what is called and that the unit is there.
-use Rattle.std.proofs.Common.{◌≡◌, ℕ, ◌+◌, List, None, Some, true, false, length, ap, ◌∙◌}
+use Rattle.std.proofs.Common.{◌≡◌, ℕ, ◌+◌, None, Some, true, false, length, ap, ◌∙◌}
 use Rattle.std.specs.Prelude.{if◌then◌else◌, not, pos, slice_get}
 use Rattle.cp_model.specs.Integers.{same_integer}
 use Rattle.cp_model.specs.declared.state.Fault.TheVariants as fault

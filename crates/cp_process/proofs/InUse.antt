@@ -3,7 +3,7 @@ use Rattle.std.proofs.Common.{◌≡◌, ℕ, zero, suc, ◌≤◌, ◌<◌, Lis
 use Rattle.std.specs.Prelude.{slice_get, slice_index_or}
 use Rattle.std.specs.List.{refill}
 use Rattle.std.proofs.Math.Seq.{take-append_seam}
-use Rattle.cp_process.specs.States.{frame, frame_or_none, frames_in, no_frame}
+use Rattle.cp_process.specs.States.{frame, frame_or_none, frames_in}
 use Rattle.cp_process.specs.declared.private.Frame.{Frame}
 
 -- What stands in an unused place.

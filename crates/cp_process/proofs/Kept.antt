@@ -1,5 +1,5 @@
 -- What stays as it is where words are written: registers, temps and frames.
-use Rattle.std.proofs.Common.{◌≡◌, ℕ, ℤ, ◌+◌, ◌≤◌, ◌<◌, ◌++◌, List, [], ◌∷◌, Option, None, Some, Result, Ok, Err, Bool, true, false, length, refl, ap, sym, ◌∙◌}
+use Rattle.std.proofs.Common.{◌≡◌, ℕ, ℤ, ◌+◌, List, [], ◌∷◌, Option, None, Some, Result, Ok, Err, Bool, true, false, length, refl, ap, sym, ◌∙◌}
 use Rattle.std.specs.Prelude.{if◌then◌else◌}
 use Rattle.cp_model.specs.Places.{within}
 use Rattle.cp_model.specs.declared.state.Fault.{Fault}
@@ -8,7 +8,7 @@ use Rattle.cp_code.specs.Terms.{Argument, Copy, Reference, Right, Value}
 use Rattle.cp_steps.specs.Values.{place_of, value_of}
 use Rattle.cp_steps.specs.PrivateStates.{Outside, PrivateState, view_of}
 use Rattle.cp_steps.specs.Passing.{Passing, pass_all, pass_copy, pass_one, pass_result, pass_value, pass_word, reference_word, unless_fault}
-use Rattle.cp_process.specs.States.{frames_in, joined}
+use Rattle.cp_process.specs.States.{joined}
 use Rattle.cp_process.specs.declared.private.Private.{Private}
 use Rattle.cp_process.proofs.InUse.{length-frames}
 

@@ -1,11 +1,11 @@
 -- What a routine returns.
-use Rattle.std.proofs.Common.{◌≡◌, ℕ, ℤ, Bool, true, false, List, Option, None, Some, Result, Ok, Err, refl, ap, sym}
+use Rattle.std.proofs.Common.{◌≡◌, ℕ, ℤ, Bool, true, false, List, Option, None, Some, Ok, Err, refl, ap, sym}
 use Rattle.std.specs.Prelude.{if◌then◌else◌}
 use Rattle.cp_model.specs.Integers.{same_integer}
 use Rattle.cp_model.specs.declared.state.Fault.{Fault}
 use Rattle.cp_model.specs.declared.state.Fault.TheVariants as fault
 use Rattle.cp_code.specs.Starts.{unset, word}
-use Rattle.cp_steps.specs.PrivateStates.{Acting, Effect, Frame, PrivateState, fault_in, set_temp, set_word}
+use Rattle.cp_steps.specs.PrivateStates.{Acting, Effect, Frame, PrivateState, fault_in, set_word}
 use Rattle.cp_steps.specs.Calling.{leave, return_with}
 use Rattle.cp_process.specs.Calls.{returning, value_to_return}
 

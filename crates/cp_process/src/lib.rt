@@ -1,25 +1,35 @@
-//! The private state of a process, and its steps.
+//! The private state of a process of the whole language, and its steps.
+//!
+//! For any program and any private state a step is the function on plain data that cp_steps defines (`specs/States.antt` says of what
+//! data), over the process's own words and the shared ones after them, so that private and kernel steps are one function. Over the
+//! law of cp_steps, private steps and turns are the meaning's (`specs/Promises.antt`).
+//!
+//! - `private`, `making`: the private state; how it is made, copied and read.
+//! - `outside`, `effect`: what a step reads beside, and what it leaves to the kernel.
+//! - `words`, `changing`, `reading`, `frames`: words, temps and frames.
+//! - `assignments`, `counting`, `standards`, `targets`, `passing`, `calls`, `returns`, `initialisation`: the steps of operations.
+//! - `step`, `turns`, `kind`: a step of any operation, turns, and whose the next step is.
 #![tactic(auto)]
 
 mod alone;
-pub mod assignments;
+mod assignments;
 mod called;
-pub mod calls;
-pub mod changing;
-pub mod counting;
+mod calls;
+mod changing;
+mod counting;
 pub mod effect;
-pub mod frames;
-pub mod initialisation;
+mod frames;
+mod initialisation;
 pub mod kind;
-pub mod making;
+mod making;
 pub mod outside;
-pub mod passing;
+mod passing;
 pub mod private;
-pub mod reading;
-pub mod returns;
-pub mod standards;
-pub mod step;
-pub mod targets;
+mod reading;
+mod returns;
+mod standards;
+mod step;
+mod targets;
 pub mod turn;
 pub mod turns;
-pub mod words;
+mod words;

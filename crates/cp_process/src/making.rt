@@ -4,7 +4,7 @@ ghost use Rattle.std.specs.Prelude.{◌≡◌, ◌<◌, ◌≤◌, ◌-◌, ◌^
 ghost use Rattle.cp_code.specs.Programs as code;
 ghost use Rattle.cp_code.specs.Starts.{started, word};
 ghost use Rattle.cp_process.specs.Rooms.{HasRoomFor};
-ghost use Rattle.cp_process.specs.States.{private_of};
+ghost use Rattle.cp_process.specs.States.{activity, private_of};
 ghost use Rattle.cp_steps.specs.KernelSteps.{Kernel};
 ghost use Rattle.cp_steps.specs.Machines as plain;
 ghost use Rattle.cp_threaded.specs.View as view;
@@ -155,6 +155,20 @@ impl Private {
         ensures content { (input : List ℕ) → private_of self.new input ≡ private_of self.old input }
     {
         self.output.reserve(11 * turn.steps() as usize)
+    }
+
+    /// Its number, from 1.
+    pub fn number(&self) -> usize
+        ensures { (input : List ℕ) → result ≡ (private_of self.now input).number }
+    {
+        self.number
+    }
+
+    /// Whether it runs.
+    pub fn activity(&self) -> Activity
+        ensures { (input : List ℕ) → activity result ≡ (private_of self.now input).activity }
+    {
+        self.activity
     }
 
     /// The word at a place. A missing one reads as 0.

@@ -103,9 +103,9 @@ impl Private {
         }
     }
 
-    // Makes the step of an operation. A fault ends the process.
+    /// Makes the step of an operation. A fault ends the process.
     #[inline(always)]
-    fn make(
+    pub(crate) fn make(
         &mut self,
         operation: &Operation,
         program: &Program,

@@ -3,10 +3,11 @@
 ghost use Rattle.std.specs.Prelude.{◌≡◌, ◌≤◌, ◌+◌, ◌*◌, ◌<◌, ◌^◌, length, vec_capacity, vec_len};
 ghost use Rattle.cp_process.specs.Promises.{MakesStep, MakesTurn};
 ghost use Rattle.cp_process.specs.Rooms.{HasRoomFor, KeepsRoom};
-ghost use Rattle.cp_process.specs.States.{IsAlone, private_of};
+ghost use Rattle.cp_process.specs.States.{IsAlone, effect, joined, outside_of, private_of};
 ghost use Rattle.cp_steps.specs.Steps as plain;
 ghost use Rattle.cp_threaded.specs.View as view;
 
+use crate::effect::Effect;
 use crate::outside::Outside;
 use crate::private::Private;
 use crate::turn::Turn;
@@ -59,4 +60,24 @@ pub fn private_turn(program: &Program, private: &mut Private, input: &[u8], cloc
         turn.steps(),
     );
     law::private_steps();
+}
+
+/// One step of a running process, of any kind: what it leaves to the kernel is answered. It takes no memory.
+pub fn step(
+    program: &Program,
+    private: &mut Private,
+    shared: &mut [i32],
+    outside: &Outside,
+) -> Effect
+    requires shared { length shared.old < 2 ^ 30 }
+    requires room { HasRoomFor private.old 1 }
+    ensures step { let w = outside_of outside.now (length private.old.memory.words.items) in
+        (joined private.new outside.now.input.now shared.new, effect result) ≡ plain.step_with
+        (view.program program.now) w (joined private.old outside.now.input.now shared.old) }
+    ensures room { KeepsRoom private.old private.new }
+{
+    match program.operation(private.place) {
+        Some(operation) => private.make(operation, program, shared, outside),
+        None => Effect::None,
+    }
 }

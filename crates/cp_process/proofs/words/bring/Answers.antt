@@ -1,7 +1,7 @@
 use Rattle.std.proofs.Common.{rules, arith, ◌≡◌, ◌+◌, ◌-◌, ◌<◌, length, to_z, of_z, ap, sym, ◌∙◌}
 use Rattle.std.specs.Prelude.{min, slice_set}
 use Rattle.std.specs.Int.{w32}
-use Rattle.cp_code.specs.Starts.{block, paste, word}
+use Rattle.cp_code.specs.Starts.{block, paste}
 use Rattle.cp_process.proofs.Blocks.{brought_all, brought_more}
 use Rattle.cp_process.proofs.words.bring.Goals as goal
 

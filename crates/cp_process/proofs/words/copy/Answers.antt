@@ -1,7 +1,6 @@
-use Rattle.std.proofs.Common.{◌≡◌, ◌+◌, ◌-◌, ◌++◌, length, ap, sym, ◌∙◌, arith}
+use Rattle.std.proofs.Common.{◌≡◌, ◌-◌, ◌++◌, length, ◌∙◌, arith}
 use Rattle.std.specs.Prelude.{min}
 use Rattle.std.proofs.lemmas.List.{length-append}
-use Rattle.cp_code.specs.Starts.{block, paste}
 use Rattle.cp_process.proofs.Blocks.{copied_there}
 use Rattle.cp_process.proofs.words.copy.Goals as goal
 

@@ -1,9 +1,8 @@
-use Rattle.std.proofs.Common.{rules, arith, ◌≡◌, ◌+◌, ◌<◌, ◌^◌, ◌++◌, true, false, Ok, Err, length, refl, to_z, of_z, ap, sym, ◌∙◌}
+use Rattle.std.proofs.Common.{rules, ◌≡◌, true, false, Err, length, refl, to_z, of_z, sym, ◌∙◌}
 use Rattle.std.specs.Int.{w32}
 use Rattle.cp_model.specs.Places.{within}
-use Rattle.cp_model.specs.StandardCalls.{next_input, next_place}
+use Rattle.cp_model.specs.StandardCalls.{next_input}
 use Rattle.cp_steps.specs.PrivateStates.{go_to, private_outcome}
-use Rattle.cp_process.specs.States.{joined}
 use Rattle.cp_process.proofs.Results.{placed, unplaced}
 use Rattle.cp_process.proofs.private.Private.accept.Goals as goal
 

@@ -1,8 +1,8 @@
-use Rattle.std.proofs.Common.{rules, arith, ◌≡◌, ◌+◌, ◌<◌, ◌^◌, map, true, false, Ok, Err, length, refl, ap, sym, ◌∙◌}
+use Rattle.std.proofs.Common.{rules, arith, ◌≡◌, ◌+◌, map, true, false, Err, length, refl, ap, sym, ◌∙◌}
 use Rattle.cp_model.specs.declared.state.Fault.TheVariants as fault
-use Rattle.cp_steps.specs.PrivateStates.{Enters, PrivateState, fault_in, provided}
-use Rattle.cp_steps.specs.Calling.{enter, gate_effect, start_words}
-use Rattle.cp_steps.specs.Passing.{Called, pass_all, when_passed}
+use Rattle.cp_steps.specs.PrivateStates.{PrivateState, provided}
+use Rattle.cp_steps.specs.Calling.{enter}
+use Rattle.cp_steps.specs.Passing.{when_passed}
 use Rattle.cp_code.specs.Starts.{started}
 use Rattle.cp_threaded.specs.View as view
 use Rattle.cp_process.specs.Calls.{back, called, passed}

@@ -1,9 +1,6 @@
-use Rattle.std.proofs.Common.{rules, arith, ◌≡◌, ◌+◌, ◌+ℤ◌, pos, length, to_z, of_z, ap, sym, ◌∙◌}
-use Rattle.std.specs.Prelude.{nat_eq, not}
+use Rattle.std.proofs.Common.{rules, arith, ◌≡◌, ◌+◌, length, to_z, of_z, ap, ◌∙◌}
 use Rattle.std.specs.Int.{w32}
-use Rattle.cp_model.specs.Integers.{same_integer}
 use Rattle.cp_code.specs.Layout.{natural}
-use Rattle.cp_code.specs.Starts.{word}
 use Rattle.cp_steps.specs.Passing as plain
 use Rattle.cp_threaded.specs.Reaches.{capped}
 use Rattle.cp_threaded.specs.View as view

@@ -1,4 +1,4 @@
-use Rattle.std.proofs.Common.{rules, ◌≡◌, Ok, Err, length, to_z, of_z, ap, refl, sym, ◌∙◌}
+use Rattle.std.proofs.Common.{rules, ◌≡◌, Err, length, to_z, of_z, ap, refl, sym, ◌∙◌}
 use Rattle.std.specs.Int.{w32}
 use Rattle.cp_code.specs.Tables.{place_in}
 use Rattle.cp_steps.specs.Steps.{go_to_arm}

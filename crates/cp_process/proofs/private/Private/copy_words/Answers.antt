@@ -1,4 +1,4 @@
-use Rattle.std.proofs.Common.{rules, ◌≡◌, Ok, Err, length, refl, ap, sym, ◌∙◌}
+use Rattle.std.proofs.Common.{rules, ◌≡◌, Err, length, refl, ap, sym, ◌∙◌}
 use Rattle.cp_steps.specs.PrivateStates.{go_to, private_outcome}
 use Rattle.cp_process.proofs.Results.{placed, unplaced}
 use Rattle.cp_process.proofs.private.Private.copy_words.Goals as goal

@@ -1,5 +1,4 @@
-use Rattle.std.proofs.Common.{rules, arith, ◌≡◌, ◌+◌, Ok, Err, length, refl, to_z, of_z, ap, sym, ◌∙◌}
-use Rattle.std.specs.Int.{w32}
+use Rattle.std.proofs.Common.{rules, ◌≡◌, Err, length, refl, sym, ◌∙◌}
 use Rattle.cp_process.proofs.private.Private.count_from.Goals as goal
 
 pub returns-in_err-n-clause-step : goal.returns-in_err-n-clause-step

@@ -1,4 +1,4 @@
-use Rattle.std.proofs.Common.{rules, arith, ◌≡◌, ◌+◌, true, length, to_z, of_z, ap, sym, ◌∙◌}
+use Rattle.std.proofs.Common.{rules, arith, ◌≡◌, ◌+◌, true, length, to_z, of_z, ap, ◌∙◌}
 use Rattle.std.specs.Int.{w32}
 use Rattle.cp_model.specs.Places.{within}
 use Rattle.cp_steps.specs.PrivateStates.{go_to, private_outcome, set_temp, view_of}

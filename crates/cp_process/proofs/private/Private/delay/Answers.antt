@@ -1,11 +1,9 @@
-use Rattle.std.proofs.Common.{rules, arith, ◌≡◌, ◌+◌, ◌<◌, ◌^◌, ◌++◌, true, false, Ok, Err, length, refl, to_z, of_z, ap, sym, ◌∙◌}
+use Rattle.std.proofs.Common.{rules, arith, ◌≡◌, ◌++◌, true, false, Err, length, refl, to_z, sym, ◌∙◌}
 use Rattle.std.specs.Int.{w32}
-use Rattle.std.specs.Prelude.{nat_lt, int_le, pos}
+use Rattle.std.specs.Prelude.{int_le, pos}
 use Rattle.std.proofs.lemmas.Bool.{le-ltb, lt-ltb}
 use Rattle.std.proofs.lemmas.List.{length-append}
-use Rattle.cp_code.specs.Starts.{word}
-use Rattle.cp_steps.specs.PrivateStates.{Delays, go_to, private_outcome}
-use Rattle.cp_process.specs.States.{joined}
+use Rattle.cp_steps.specs.PrivateStates.{Delays, go_to}
 use Rattle.cp_process.proofs.Results.{held_none, held_some, placed, unplaced}
 use Rattle.cp_process.proofs.private.Private.delay.Goals as goal
 

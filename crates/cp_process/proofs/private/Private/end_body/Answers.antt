@@ -1,11 +1,6 @@
-use Rattle.std.proofs.Common.{rules, arith, ◌≡◌, ◌-◌, ◌+◌, [], pos, Ok, Err, length, refl, ap, sym, to_z, of_z, ◌∙◌}
-use Rattle.cp_code.specs.Starts.{word}
-use Rattle.cp_steps.specs.PrivateStates.{Continues, Leaves, set_word}
-use Rattle.cp_steps.specs.Calling.{gate_effect, leave, with_frame}
-use Rattle.cp_process.specs.Calls.{returning}
+use Rattle.std.proofs.Common.{arith, ◌≡◌, ◌-◌, ap, ◌∙◌}
+use Rattle.cp_steps.specs.Calling.{leave}
 use Rattle.cp_process.specs.States.{frame, frames_in, joined}
-use Rattle.cp_process.proofs.Results.{held_none, held_some, placed, unplaced}
-use Rattle.cp_process.proofs.Returning.{returned, unreturned, written_after}
 use Rattle.cp_process.proofs.private.Private.end_body.Goals as goal
 
 pub returns-clause-step : goal.returns-clause-step

@@ -1,4 +1,4 @@
-use Rattle.std.proofs.Common.{◌≡◌, ◌∙◌}
+use Rattle.std.proofs.Common.{◌∙◌}
 use Rattle.cp_steps.specs.Calling.{enter}
 use Rattle.cp_threaded.specs.View as view
 use Rattle.cp_process.specs.Calls.{back, called}

@@ -1,11 +1,9 @@
-use Rattle.std.proofs.Common.{rules, arith, ◌≡◌, ◌-◌, List, pos, Ok, Err, length, refl, ap, sym, to_z, of_z, ◌∙◌}
-use Rattle.cp_code.specs.Starts.{word}
+use Rattle.std.proofs.Common.{rules, arith, ◌≡◌, ◌-◌, List, Err, ap, sym, ◌∙◌}
 use Rattle.cp_steps.specs.PrivateStates.{Frame, Leaves}
 use Rattle.cp_steps.specs.Calling.{gate_effect, leave, return_with, with_frame}
 use Rattle.cp_process.specs.Calls.{returning}
 use Rattle.cp_process.specs.States.{frame, frames_in, joined}
-use Rattle.cp_process.proofs.Results.{held_none, held_some, placed, unplaced}
-use Rattle.cp_process.proofs.Returning.{returned, unreturned, written_after}
+use Rattle.cp_process.proofs.Returning.{returned, unreturned}
 use Rattle.cp_process.proofs.private.Private.give_back.Goals as goal
 
 pub returns-in_err-value-clause-step : goal.returns-in_err-value-clause-step

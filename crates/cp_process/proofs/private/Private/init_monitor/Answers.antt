@@ -1,13 +1,10 @@
-use Rattle.std.proofs.Common.{rules, arith, ◌≡◌, ◌+◌, ◌<◌, ◌^◌, pos, map, true, false, Ok, Err, length, refl, ap, sym, ◌∙◌}
+use Rattle.std.proofs.Common.{rules, arith, ◌≡◌, ◌+◌, map, true, false, Err, length, refl, ap, sym, ◌∙◌}
 use Rattle.std.proofs.lemmas.List.{length-map}
 use Rattle.std.specs.Prelude.{not}
-use Rattle.cp_model.specs.Integers.{same_integer}
 use Rattle.cp_model.specs.declared.state.Fault.TheVariants as fault
-use Rattle.cp_code.specs.Starts.{block, paste, word}
-use Rattle.cp_steps.specs.PrivateStates.{Opens, PrivateState, Starts, go_to, fault_in, private_outcome, provided, set_word}
+use Rattle.cp_steps.specs.PrivateStates.{Opens, PrivateState, provided}
 use Rattle.cp_steps.specs.Calling.{Back, enter, init_monitor, settle}
-use Rattle.cp_steps.specs.Passing.{monitor_called, pass_all, when_passed}
-use Rattle.cp_threaded.specs.Reaches.{capped}
+use Rattle.cp_steps.specs.Passing.{when_passed}
 use Rattle.cp_threaded.specs.View as view
 use Rattle.cp_process.specs.Calls.{called, passed}
 use Rattle.cp_process.specs.States.{joined, outcome, outside_of}

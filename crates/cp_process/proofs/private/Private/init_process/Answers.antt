@@ -1,17 +1,13 @@
-use Rattle.std.proofs.Common.{rules, arith, ◌≡◌, ◌+◌, ◌<◌, ◌^◌, pos, map, true, false, Ok, Err, length, refl, ap, sym, ◌∙◌}
+use Rattle.std.proofs.Common.{rules, arith, ◌≡◌, ◌+◌, map, true, length, ap, sym, ◌∙◌}
 use Rattle.std.proofs.lemmas.List.{length-map}
 use Rattle.std.specs.Prelude.{not}
-use Rattle.cp_model.specs.Integers.{same_integer}
 use Rattle.cp_model.specs.declared.state.Fault.TheVariants as fault
-use Rattle.cp_code.specs.Starts.{block, paste, word}
-use Rattle.cp_steps.specs.PrivateStates.{Acting, Opens, PrivateState, Starts, go_to, fault_in, private_outcome, provided, set_word}
+use Rattle.cp_steps.specs.PrivateStates.{Acting, PrivateState, Starts, go_to, provided}
 use Rattle.cp_steps.specs.Calling.{parameters_start, settle}
 use Rattle.cp_steps.specs.Passing.{Passing, pass_all, when_passed}
-use Rattle.cp_threaded.specs.Reaches.{capped}
 use Rattle.cp_threaded.specs.View as view
-use Rattle.cp_process.specs.Calls.{called, passed}
-use Rattle.cp_process.specs.States.{joined, outcome, outside_of}
-use Rattle.cp_process.proofs.Kept.{all_kept, same_registers}
+use Rattle.cp_process.specs.Calls.{passed}
+use Rattle.cp_process.specs.States.{joined, outside_of}
 use Rattle.cp_process.proofs.private.Private.init_process.Goals as goal
 
 pub returns-clause-step : goal.returns-clause-step

@@ -1,7 +1,7 @@
-use Rattle.std.proofs.Common.{◌≡◌, suc, ◌+◌, ◌∷◌, length, slice_set, ap, sym, ◌∙◌, arith}
+use Rattle.std.proofs.Common.{◌≡◌, suc, ◌+◌, length, slice_set, ap, ◌∙◌, arith}
 use Rattle.std.specs.List.{refill}
 use Rattle.std.proofs.lemmas.List.{length-set}
-use Rattle.cp_process.specs.States.{frame, frames_in, joined}
+use Rattle.cp_process.specs.States.{frames_in, joined}
 use Rattle.cp_process.proofs.InUse.{frames_more, refilled}
 use Rattle.cp_process.proofs.private.Private.keep.Goals as goal
 

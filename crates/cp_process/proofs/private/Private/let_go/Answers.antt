@@ -1,4 +1,4 @@
-use Rattle.std.proofs.Common.{rules, arith, ◌≡◌, ◌-◌, List, pos, Ok, Err, length, refl, ap, sym, to_z, of_z, ◌∙◌}
+use Rattle.std.proofs.Common.{rules, arith, ◌≡◌, ◌-◌, List, pos, Err, length, refl, ap, sym, to_z, of_z, ◌∙◌}
 use Rattle.std.specs.Int.{w32}
 use Rattle.cp_code.specs.Starts.{word}
 use Rattle.cp_steps.specs.PrivateStates.{Continues, Frame, set_word}

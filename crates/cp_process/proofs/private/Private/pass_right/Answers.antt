@@ -1,9 +1,5 @@
-use Rattle.std.proofs.Common.{rules, arith, ◌≡◌, ◌+◌, ◌<◌, ◌^◌, ◌++◌, true, false, Ok, Err, None, Some, length, refl, to_z, of_z, ap, sym, ◌∙◌}
+use Rattle.std.proofs.Common.{rules, arith, ◌≡◌, None, to_z, of_z, sym, ◌∙◌}
 use Rattle.std.specs.Int.{w32}
-use Rattle.cp_model.specs.Places.{within}
-use Rattle.cp_steps.specs.Passing as plain
-use Rattle.cp_process.specs.States.{joined}
-use Rattle.cp_process.proofs.Results.{placed, unplaced}
 use Rattle.cp_process.proofs.private.Private.pass_right.Goals as goal
 
 pub returns-clause-step : goal.returns-clause-step

@@ -1,4 +1,4 @@
-use Rattle.std.proofs.Common.{◌≡◌, ap, ◌∙◌}
+use Rattle.std.proofs.Common.{ap, ◌∙◌}
 use Rattle.cp_steps.specs.Values.{place_of}
 use Rattle.cp_threaded.specs.Reaches.{capped_result}
 use Rattle.cp_threaded.specs.View as view

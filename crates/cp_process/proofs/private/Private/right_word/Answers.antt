@@ -1,13 +1,8 @@
-use Rattle.std.proofs.Common.{rules, arith, ◌≡◌, ◌+◌, ◌+ℤ◌, pos, length, to_z, of_z, ap, sym, ◌∙◌}
-use Rattle.std.specs.Prelude.{nat_eq, not}
+use Rattle.std.proofs.Common.{rules, arith, ◌≡◌, ◌+◌, to_z, of_z, ap, ◌∙◌}
 use Rattle.std.specs.Int.{w32}
-use Rattle.cp_model.specs.Integers.{same_integer}
-use Rattle.cp_code.specs.Layout.{natural}
-use Rattle.cp_code.specs.Starts.{word}
 use Rattle.cp_steps.specs.Passing as plain
 use Rattle.cp_threaded.specs.Reaches.{capped}
-use Rattle.cp_threaded.specs.View as view
-use Rattle.cp_process.specs.States.{joined, outside_of}
+use Rattle.cp_process.specs.States.{joined}
 use Rattle.cp_process.proofs.private.Private.right_word.Goals as goal
 
 pub returns-in-Class : goal.returns-in-Class

@@ -1,4 +1,4 @@
-use Rattle.std.proofs.Common.{rules, ◌≡◌, to_z, of_z, Ok, Err, length, refl, ap, sym, ◌∙◌}
+use Rattle.std.proofs.Common.{rules, ◌≡◌, to_z, of_z, Err, length, refl, ap, sym, ◌∙◌}
 use Rattle.std.specs.Int.{w32}
 use Rattle.cp_steps.specs.Values.{place_of, value_of}
 use Rattle.cp_threaded.specs.Reaches.{capped_result}

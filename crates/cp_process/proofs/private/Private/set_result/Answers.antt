@@ -1,4 +1,4 @@
-use Rattle.std.proofs.Common.{rules, arith, ◌≡◌, to_z, of_z, Ok, Err, length, refl, sym, ◌∙◌}
+use Rattle.std.proofs.Common.{rules, arith, ◌≡◌, to_z, of_z, Err, length, refl, sym, ◌∙◌}
 use Rattle.std.specs.Int.{w32}
 use Rattle.cp_process.proofs.private.Private.set_result.Goals as goal
 

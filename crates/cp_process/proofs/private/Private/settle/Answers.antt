@@ -1,4 +1,4 @@
-use Rattle.std.proofs.Common.{◌≡◌, ◌+◌, arith}
+use Rattle.std.proofs.Common.{◌+◌, arith}
 use Rattle.cp_process.proofs.private.Private.settle.Goals as goal
 
 pub returns-clause-step : goal.returns-clause-step

@@ -1,4 +1,4 @@
-use Rattle.std.proofs.Common.{rules, ◌≡◌, Ok, Err, length, refl, ap, sym, ◌∙◌}
+use Rattle.std.proofs.Common.{rules, ◌≡◌, Err, length, refl, ap, sym, ◌∙◌}
 use Rattle.std.specs.Prelude.{pos, if◌then◌else◌}
 use Rattle.cp_model.specs.Integers.{same_integer}
 use Rattle.cp_steps.specs.PrivateStates.{go_to, private_outcome}

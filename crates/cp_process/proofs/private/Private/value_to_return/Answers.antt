@@ -1,4 +1,4 @@
-use Rattle.std.proofs.Common.{rules, arith, ◌≡◌, to_z, of_z, true, false, Ok, Some, refl, ap, sym, ◌∙◌}
+use Rattle.std.proofs.Common.{rules, arith, ◌≡◌, to_z, of_z, true, false, Ok, Some, refl, ap, ◌∙◌}
 use Rattle.std.specs.Int.{w32}
 use Rattle.cp_model.specs.Integers.{same_integer}
 use Rattle.cp_code.specs.Starts.{unset}

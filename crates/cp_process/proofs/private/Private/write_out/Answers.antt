@@ -1,5 +1,4 @@
-use Rattle.std.proofs.Common.{rules, arith, ◌≡◌, ◌+◌, ◌<◌, ◌^◌, ◌++◌, true, false, Ok, Err, length, refl, to_z, of_z, ap, sym, ◌∙◌}
-use Rattle.std.specs.Int.{w32}
+use Rattle.std.proofs.Common.{rules, ◌≡◌, ◌++◌, ap}
 use Rattle.cp_steps.specs.PrivateStates.{go_to}
 use Rattle.cp_process.specs.States.{joined}
 use Rattle.cp_process.proofs.private.Private.write_out.Goals as goal
