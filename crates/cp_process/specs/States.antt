@@ -130,3 +130,8 @@ effect (effect_case.Continues monitor resumed) = plain.Continues monitor resumed
 abbrev pub outcome : PrivateState → Result Effect Fault → Acting
 outcome o (Ok e) = (o, effect e)
 outcome o (Err f) = fault_in o f
+
+-- The step leads from one state and its shared words to the other as the function of what is outside and of the state says.
+abbrev pub IsStep : Private → List ℤ → Outside → Private → List ℤ → Result Effect Fault → (plain.Outside → PrivateState → Acting) → Type 0
+IsStep x shared w y after result go =
+    outcome (joined y w.input.now after) result ≡ go (outside_of w (length x.memory.words.items)) (joined x w.input.now shared)

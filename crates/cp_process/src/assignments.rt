@@ -6,7 +6,7 @@ ghost use Rattle.cp_model.specs.Integers.{same_integer};
 ghost use Rattle.cp_model.specs.Places.{within};
 ghost use Rattle.cp_steps.specs.Steps as plain;
 ghost use Rattle.cp_steps.specs.PrivateStates.{go_to, private_outcome};
-ghost use Rattle.cp_process.specs.States.{joined, outcome, outside_of};
+ghost use Rattle.cp_process.specs.States.{IsStep, joined, outcome};
 ghost use Rattle.cp_threaded.specs.Reaches.{capped};
 ghost use Rattle.cp_threaded.specs.View as view;
 
@@ -77,11 +77,10 @@ impl Private {
         next: u32,
     ) -> Result<Effect, Fault>
         requires { length shared.old < 2 ^ 30 }
-        ensures step { let o = joined self.old outside.now.input.now shared.old in let w = outside_of
-            outside.now (length self.old.memory.words.items) in outcome
-            (joined self.new outside.now.input.now shared.new) result ≡ plain.with_place w o
-            (view.spot to.now) (λ at. plain.with_value w o (view.term value.now)
-            (λ n. plain.set_within o bounds.low bounds.high at n next)) }
+        ensures step { IsStep self.old shared.old outside.now self.new shared.new result
+            (λ w o. plain.with_place w o (view.spot to.now) (λ at. plain.with_value w o
+            (view.term value.now) (λ n. plain.set_within o bounds.low bounds.high at n
+            next))) }
         ensures output { self.new.output ≡ self.old.output }
     {
         let reach = self.reach(shared, outside);
@@ -99,11 +98,9 @@ impl Private {
         next: u32,
     ) -> Result<Effect, Fault>
         requires { length shared.old < 2 ^ 30 }
-        ensures step { let o = joined self.old outside.now.input.now shared.old in let w = outside_of
-            outside.now (length self.old.memory.words.items) in outcome
-            (joined self.new outside.now.input.now shared.new) result ≡ plain.with_value w o
-            (view.term value.now)
-            (λ n. plain.set_within o bounds.low bounds.high o.base n next) }
+        ensures step { IsStep self.old shared.old outside.now self.new shared.new result
+            (λ w o. plain.with_value w o (view.term value.now) (λ n. plain.set_within o
+            bounds.low bounds.high o.base n next)) }
         ensures output { self.new.output ≡ self.old.output }
     {
         let n = self.evaluate(shared, outside, value)?;
@@ -121,11 +118,9 @@ impl Private {
         next: u32,
     ) -> Result<Effect, Fault>
         requires { length shared.old < 2 ^ 30 }
-        ensures step { let o = joined self.old outside.now.input.now shared.old in let w = outside_of
-            outside.now (length self.old.memory.words.items) in outcome
-            (joined self.new outside.now.input.now shared.new) result ≡ plain.with_place w o
-            (view.spot to.now) (λ at. plain.with_place w o (view.spot from.now)
-            (λ b. plain.copy_words o at b size next)) }
+        ensures step { IsStep self.old shared.old outside.now self.new shared.new result
+            (λ w o. plain.with_place w o (view.spot to.now) (λ at. plain.with_place w o
+            (view.spot from.now) (λ b. plain.copy_words o at b size next))) }
         ensures output { self.new.output ≡ self.old.output }
     {
         let at = self.place(shared, outside, to)?;
@@ -145,11 +140,9 @@ impl Private {
         no: u32,
     ) -> Result<Effect, Fault>
         requires { length shared.now < 2 ^ 30 }
-        ensures step { let o = joined self.old outside.now.input.now shared.now in let w = outside_of
-            outside.now (length self.old.memory.words.items) in outcome
-            (joined self.new outside.now.input.now shared.now) result ≡ plain.with_value w o
-            (view.term value.now)
-            (λ n. private_outcome (go_to (if same_integer n (pos 1) then yes else no) o)) }
+        ensures step { IsStep self.old shared.now outside.now self.new shared.now result
+            (λ w o. plain.with_value w o (view.term value.now) (λ n. private_outcome (go_to (if
+            same_integer n (pos 1) then yes else no) o))) }
         ensures output { self.new.output ≡ self.old.output }
     {
         let n = self.evaluate(shared, outside, value)?;
@@ -165,11 +158,9 @@ impl Private {
         table: &Table,
     ) -> Result<Effect, Fault>
         requires { length shared.now < 2 ^ 30 }
-        ensures step { let o = joined self.old outside.now.input.now shared.now in let w = outside_of
-            outside.now (length self.old.memory.words.items) in outcome
-            (joined self.new outside.now.input.now shared.now) result ≡ plain.with_value w o
-            (view.term value.now)
-            (λ n. plain.go_to_arm o (place_in (view.table table.now) n)) }
+        ensures step { IsStep self.old shared.now outside.now self.new shared.now result
+            (λ w o. plain.with_value w o (view.term value.now) (λ n. plain.go_to_arm o (place_in
+            (view.table table.now) n))) }
         ensures output { self.new.output ≡ self.old.output }
     {
         let n = self.evaluate(shared, outside, value)?;
@@ -190,9 +181,8 @@ impl Private {
         outside: &Outside,
         place: u32,
     ) -> Result<Effect, Fault>
-        ensures step { let o = joined self.old outside.now.input.now shared.now in outcome
-            (joined self.new outside.now.input.now shared.now) result ≡ private_outcome
-            (go_to place o) }
+        ensures step { IsStep self.old shared.now outside.now self.new shared.now result
+            (λ w o. private_outcome (go_to place o)) }
         ensures output { self.new.output ≡ self.old.output }
     {
         self.place = place;

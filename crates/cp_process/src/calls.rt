@@ -3,7 +3,7 @@
 ghost use Rattle.std.specs.Prelude.{◌≡◌, ◌+◌, ◌<◌, ◌≤◌, ◌^◌, true, ℕ, List, IfSome, MatchOption, length, nat_le};
 ghost use Rattle.cp_code.specs.Programs.{CodeUnit as PlainUnit};
 ghost use Rattle.cp_process.specs.Calls.{HasRoom, back};
-ghost use Rattle.cp_process.specs.States.{joined, outcome, outside_of};
+ghost use Rattle.cp_process.specs.States.{IsStep, joined};
 ghost use Rattle.cp_steps.specs.Calling as plain;
 ghost use Rattle.cp_steps.specs.PrivateStates as states;
 ghost use Rattle.cp_threaded.specs.View as view;
@@ -29,7 +29,8 @@ impl Private {
     // Whether own words, temps and a frame are left for the unit, and its component is there.
     fn has_room(&self, shared: &[i32], call: &Call, unit: &CodeUnit, component: usize) -> bool
         requires { length shared.now < 2 ^ 30 }
-        ensures value { (w : states.Outside) (input : List ℕ) → w.own ≡ length self.now.memory.words.items
+        ensures value { (w : states.Outside) (input : List ℕ)
+            → w.own ≡ length self.now.memory.words.items
             → result ≡ plain.has_room w (joined self.now input shared.now) (view.call call.now)
             (view.code_unit unit.now) component }
         ensures room { result ≡ true → HasRoom self.now shared.now call.now unit.now component }
@@ -65,7 +66,8 @@ impl Private {
         component: usize,
     ) -> Option<&'a CodeUnit>
         requires { length shared.now < 2 ^ 30 }
-        ensures unit { (w : states.Outside) (input : List ℕ) → w.own ≡ length self.now.memory.words.items
+        ensures unit { (w : states.Outside) (input : List ℕ)
+            → w.own ≡ length self.now.memory.words.items
             → let o = joined self.now input shared.now in MatchOption result
             ((go : PlainUnit → states.Acting) → plain.with_unit (view.program program.now) w o
             (view.call call.now) component go ≡ states.private_outcome o)
@@ -91,10 +93,9 @@ impl Private {
         link: Back,
     ) -> Result<Effect, Fault>
         requires { length shared.old < 2 ^ 30 }
-        ensures step { let o = joined self.old outside.now.input.now shared.old in let w = outside_of
-            outside.now (length self.old.memory.words.items) in outcome
-            (joined self.new outside.now.input.now shared.new) result ≡ plain.call_step
-            (view.program program.now) w o (view.call call.now) (back link) }
+        ensures step { IsStep self.old shared.old outside.now self.new shared.new result
+            (λ w o. plain.call_step (view.program program.now) w o (view.call call.now) (back
+            link)) }
         ensures output { self.new.output ≡ self.old.output }
     {
         let callee = self.called(program, shared, outside, call.target);

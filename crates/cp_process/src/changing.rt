@@ -26,7 +26,8 @@ impl Private {
 
     /// Writes the temp at a place. Nothing is written where it is missing.
     pub(crate) fn set_temp(&mut self, at: usize, n: i32)
-        ensures step { (input : List ℕ) (shared : List ℤ) → joined self.new input shared ≡ plain.set_temp
+        ensures step { (input : List ℕ) (shared : List ℤ)
+            → joined self.new input shared ≡ plain.set_temp
             (joined self.old input shared) at n }
         ensures output { self.new.output ≡ self.old.output }
     {

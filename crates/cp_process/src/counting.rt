@@ -4,7 +4,7 @@ ghost use Rattle.std.specs.Prelude.{◌≡◌, ◌+◌, ◌<◌, ◌^◌, MatchO
 ghost use Rattle.std.specs.Int.{w32};
 ghost use Rattle.cp_model.specs.StatementSteps as statements;
 ghost use Rattle.cp_code.specs.Starts.{word};
-ghost use Rattle.cp_process.specs.States.{joined, outcome, outside_of};
+ghost use Rattle.cp_process.specs.States.{IsStep};
 ghost use Rattle.cp_steps.specs.Steps as plain;
 ghost use Rattle.cp_threaded.specs.View as view;
 
@@ -37,10 +37,8 @@ impl Private {
         last: i32,
     ) -> Result<Effect, Fault>
         requires { length shared.old < 2 ^ 30 }
-        ensures step { let o = joined self.old outside.now.input.now shared.old in let w = outside_of
-            outside.now (length self.old.memory.words.items) in outcome
-            (joined self.new outside.now.input.now shared.new) result ≡ plain.count_to w o
-            (view.counting counting.now) n last }
+        ensures step { IsStep self.old shared.old outside.now self.new shared.new result
+            (λ w o. plain.count_to w o (view.counting counting.now) n last) }
         ensures output { self.new.output ≡ self.old.output }
     {
         let bounds = Bounds {
@@ -69,11 +67,10 @@ impl Private {
         last: &Term,
     ) -> Result<Effect, Fault>
         requires { length shared.old < 2 ^ 30 }
-        ensures step { let o = joined self.old outside.now.input.now shared.old in let w = outside_of
-            outside.now (length self.old.memory.words.items) in outcome
-            (joined self.new outside.now.input.now shared.new) result ≡ plain.with_value w o
-            (view.term first.now) (λ n. plain.with_value w o (view.term last.now)
-            (λ m. plain.first_count w o (view.counting counting.now) n m)) }
+        ensures step { IsStep self.old shared.old outside.now self.new shared.new result
+            (λ w o. plain.with_value w o (view.term first.now) (λ n. plain.with_value w o
+            (view.term last.now) (λ m. plain.first_count w o (view.counting
+            counting.now) n m))) }
         ensures output { self.new.output ≡ self.old.output }
     {
         let n = self.evaluate(shared, outside, first)?;
@@ -93,11 +90,9 @@ impl Private {
         counting: &Counting,
     ) -> Result<Effect, Fault>
         requires { length shared.old < 2 ^ 30 }
-        ensures step { let o = joined self.old outside.now.input.now shared.old in let w = outside_of
-            outside.now (length self.old.memory.words.items) in outcome
-            (joined self.new outside.now.input.now shared.new) result ≡ plain.next_count w o
-            (view.counting counting.now) (word o.temps (o.temp + counting.now.temp))
-            (word o.temps (o.temp + counting.now.temp + 1)) }
+        ensures step { IsStep self.old shared.old outside.now self.new shared.new result
+            (λ w o. plain.next_count w o (view.counting counting.now) (word o.temps (o.temp +
+            counting.now.temp)) (word o.temps (o.temp + counting.now.temp + 1))) }
         ensures output { self.new.output ≡ self.old.output }
     {
         let temp = self.memory.temp as usize + counting.temp as usize;

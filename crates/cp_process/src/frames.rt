@@ -63,8 +63,8 @@ impl Private {
 
     fn keep(&mut self, frame: Frame)
         requires { self.old.depth < length self.old.frames.items }
-        ensures step { (input : List ℕ) (shared : List ℤ) → let o = joined self.old input shared in joined
-            self.new input shared ≡ record o { frames = view_frame frame ∷ o.frames } }
+        ensures step { (input : List ℕ) (shared : List ℤ) → let o = joined self.old input shared in
+            joined self.new input shared ≡ record o { frames = view_frame frame ∷ o.frames } }
         ensures output { self.new.output ≡ self.old.output }
     {
         let depth = self.depth;
@@ -78,7 +78,8 @@ impl Private {
         requires base { self.old.memory.base + call.now.words < 2 ^ 32 }
         requires temp { self.old.memory.temp + call.now.temps < 2 ^ 32 }
         requires component { callee.component < 2 ^ 32 }
-        ensures step { (input : List ℕ) (shared : List ℤ) → joined self.new input shared ≡ plain.enter
+        ensures step { (input : List ℕ) (shared : List ℤ)
+            → joined self.new input shared ≡ plain.enter
             (joined self.old input shared) (called callee) (view.code_unit unit.now)
             (view.call call.now) (back link) }
         ensures output { self.new.output ≡ self.old.output }
@@ -123,7 +124,8 @@ impl Private {
     /// Back in the caller, which gets the value.
     pub(crate) fn return_to(&mut self, caller: Frame, value: Option<i32>)
         requires { 0 < self.old.depth }
-        ensures step { (input : List ℕ) (shared : List ℤ) → joined self.new input shared ≡ plain.leave
+        ensures step { (input : List ℕ) (shared : List ℤ)
+            → joined self.new input shared ≡ plain.leave
             (returning (joined self.old input shared) (view_frame caller) value) (view_frame caller)
             (frames_in (self.old.depth - 1) self.old.frames.items) }
         ensures output { self.new.output ≡ self.old.output }

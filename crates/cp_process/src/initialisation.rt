@@ -1,7 +1,7 @@
 //! The steps of `init`.
 
 ghost use Rattle.std.specs.Prelude.{◌≡◌, ◌<◌, ◌^◌, ℕ, List, length, map};
-ghost use Rattle.cp_process.specs.States.{joined, outcome, outside_of};
+ghost use Rattle.cp_process.specs.States.{IsStep, joined};
 ghost use Rattle.cp_steps.specs.Calling as plain;
 ghost use Rattle.cp_steps.specs.Passing.{component_called};
 ghost use Rattle.cp_threaded.specs.View as view;
@@ -48,11 +48,10 @@ impl Private {
         next: u32,
     ) -> Result<Effect, Fault>
         requires { length shared.old < 2 ^ 30 }
-        ensures step { let o = joined self.old outside.now.input.now shared.old in let w = outside_of
-            outside.now (length self.old.memory.words.items) in let program = view.program program.now in outcome
-            (joined self.new outside.now.input.now shared.new) result ≡ plain.init_class program w o
-            (view.call call.now) (component_called program w o (view.target call.now.target)).component
-            next }
+        ensures step { IsStep self.old shared.old outside.now self.new shared.new result
+            (λ w o. let program = view.program program.now in
+            plain.init_class program w o (view.call call.now) (component_called program
+            w o (view.target call.now.target)).component next) }
         ensures output { self.new.output ≡ self.old.output }
     {
         let at = self.called(program, shared, outside, call.target).component;
@@ -90,11 +89,10 @@ impl Private {
         next: u32,
     ) -> Result<Effect, Fault>
         requires { length shared.old < 2 ^ 30 }
-        ensures step { let o = joined self.old outside.now.input.now shared.old in let w = outside_of
-            outside.now (length self.old.memory.words.items) in let program = view.program program.now in outcome
-            (joined self.new outside.now.input.now shared.new) result ≡ plain.init_monitor program w
-            o (view.call call.now) (component_called program w o (view.target call.now.target)).gate
-            next }
+        ensures step { IsStep self.old shared.old outside.now self.new shared.new result
+            (λ w o. let program = view.program program.now in
+            plain.init_monitor program w o (view.call call.now) (component_called
+            program w o (view.target call.now.target)).gate next) }
         ensures output { self.new.output ≡ self.old.output }
     {
         let number = self.called(program, shared, outside, call.target).gate;
@@ -130,10 +128,9 @@ impl Private {
         next: u32,
     ) -> Result<Effect, Fault>
         requires { length shared.old < 2 ^ 30 }
-        ensures step { let o = joined self.old outside.now.input.now shared.old in let w = outside_of
-            outside.now (length self.old.memory.words.items) in outcome
-            (joined self.new outside.now.input.now shared.new) result ≡ plain.init_process
-            (view.program program.now) w o process (map view.argument arguments.now) words next }
+        ensures step { IsStep self.old shared.old outside.now self.new shared.new result
+            (λ w o. plain.init_process (view.program program.now) w o process (map view.argument
+            arguments.now) words next) }
         ensures output { self.new.output ≡ self.old.output }
     {
         if outside.is_started(process) {

@@ -62,7 +62,8 @@ fn first_words(
     count: usize,
 ) -> Result<Vec<i32>, AllocError>
     requires { count < 2 ^ 30 }
-    ensures words { IfOk result (λ ws. ws.items ≡ started 0 (view.plan_at (view.plans_of program.now)
+    ensures words { IfOk result (λ ws. ws.items ≡ started 0
+        (view.plan_at (view.plans_of program.now)
         process.now.plan) (replicate count (pos 0))) }
     ensures count { IfOk result (λ ws. length ws.items ≡ count) }
 {

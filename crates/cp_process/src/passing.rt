@@ -35,8 +35,8 @@ impl Private {
     ) -> Result<(), Fault>
         requires shared { length shared.old < 2 ^ 30 }
         requires at { at < 2 ^ 36 }
-        ensures step { (own : ℕ) → let o = joined self.old outside.now.input.now shared.old in passed
-            (joined self.new outside.now.input.now shared.new) result ≡ plain.pass_result o
+        ensures step { (own : ℕ) → let o = joined self.old outside.now.input.now shared.old in
+            passed (joined self.new outside.now.input.now shared.new) result ≡ plain.pass_result o
             (value_of (view_of (outside_of outside.now own) o) (view.term term.now))
             (λ n. plain.pass_value o at bounds.low bounds.high n) }
         ensures output { self.new.output ≡ self.old.output }
@@ -59,8 +59,8 @@ impl Private {
     ) -> Result<(), Fault>
         requires shared { length shared.old < 2 ^ 30 }
         requires at { at < 2 ^ 36 }
-        ensures step { (own : ℕ) → let o = joined self.old outside.now.input.now shared.old in passed
-            (joined self.new outside.now.input.now shared.new) result ≡ plain.pass_result o
+        ensures step { (own : ℕ) → let o = joined self.old outside.now.input.now shared.old in
+            passed (joined self.new outside.now.input.now shared.new) result ≡ plain.pass_result o
             (place_of (view_of (outside_of outside.now own) o) (view.spot from.now))
             (λ a. plain.pass_copy o at size a) }
         ensures output { self.new.output ≡ self.old.output }
@@ -92,8 +92,8 @@ impl Private {
     ) -> Result<(), Fault>
         requires shared { length shared.old < 2 ^ 30 }
         requires at { at < 2 ^ 36 }
-        ensures step { (own : ℕ) → let o = joined self.old outside.now.input.now shared.old in passed
-            (joined self.new outside.now.input.now shared.new) result ≡ plain.pass_result o
+        ensures step { (own : ℕ) → let o = joined self.old outside.now.input.now shared.old in
+            passed (joined self.new outside.now.input.now shared.new) result ≡ plain.pass_result o
             (place_of (view_of (outside_of outside.now own) o) (view.spot to.now))
             (λ a. plain.pass_word o at (plain.reference_word o a)) }
         ensures output { self.new.output ≡ self.old.output }
@@ -107,8 +107,8 @@ impl Private {
     fn pass_right(&mut self, shared: &mut [i32], at: usize, home: usize, of: Target)
         requires shared { length shared.old < 2 ^ 30 }
         requires at { at < 2 ^ 36 }
-        ensures step { (input : List ℕ) → let o = joined self.old input shared.old in plain.pass_word o
-            at (plain.right_word o home (view.target of))
+        ensures step { (input : List ℕ) → let o = joined self.old input shared.old in
+            plain.pass_word o at (plain.right_word o home (view.target of))
             ≡ record { own = joined self.new input shared.new; fault = None } }
         ensures output { self.new.output ≡ self.old.output }
     {

@@ -53,6 +53,6 @@ pub struct Private {
     pub(crate) output: Vec<u8>,
     /// How many bytes of its input it has taken.
     pub(crate) consumed: usize,
-    ghost facts: { (number < 2 ^ 31) × (length memory.words.items < 2 ^ 30) × (length memory.temps.items < 2 ^ 31)
-        × (depth ≤ length frames.items) },
+    ghost facts: { (number < 2 ^ 31) × (length memory.words.items < 2 ^ 30)
+        × (length memory.temps.items < 2 ^ 31) × (depth ≤ length frames.items) },
 }

@@ -1,7 +1,7 @@
 //! Returns from routines and bodies, and `continue`, which returns.
 
 ghost use Rattle.std.specs.Prelude.{◌≡◌, ◌<◌, ◌^◌, ℕ, length};
-ghost use Rattle.cp_process.specs.States.{joined, outcome, outside_of};
+ghost use Rattle.cp_process.specs.States.{IsStep};
 ghost use Rattle.cp_steps.specs.Calling as calling;
 ghost use Rattle.cp_steps.specs.PrivateStates.{Leaves};
 ghost use Rattle.cp_steps.specs.Steps as plain;
@@ -23,9 +23,9 @@ impl Private {
         function: bool,
     ) -> Result<Effect, Fault>
         requires { length shared.now < 2 ^ 30 }
-        ensures step { let o = joined self.old outside.now.input.now shared.now in outcome
-            (joined self.new outside.now.input.now shared.now) result ≡ calling.with_frame o o.frames
-            (λ f fs. calling.return_with o o f fs function (calling.gate_effect f.gate Leaves)) }
+        ensures step { IsStep self.old shared.now outside.now self.new shared.now result
+            (λ w o. calling.with_frame o o.frames (λ f fs. calling.return_with o o f fs function
+            (calling.gate_effect f.gate Leaves))) }
         ensures output { self.new.output ≡ self.old.output }
     {
         let Some(frame) = self.innermost() else {
@@ -39,9 +39,11 @@ impl Private {
     /// Ends the body of a component.
     pub(crate) fn end_body(&mut self, shared: &[i32], outside: &Outside) -> Result<Effect, Fault>
         requires { length shared.now < 2 ^ 30 }
-        ensures step { let o = joined self.old outside.now.input.now shared.now in outcome
-            (joined self.new outside.now.input.now shared.now) result ≡ calling.with_frame o o.frames
-            (λ f fs. (calling.leave o f fs, calling.gate_effect f.gate Leaves)) }
+        ensures step { IsStep self.old shared.now outside.now self.new shared.now result
+            (λ w o. calling.with_frame o o.frames (λ f fs. (
+              calling.leave o f fs,
+              calling.gate_effect f.gate Leaves,
+            ))) }
         ensures output { self.new.output ≡ self.old.output }
     {
         let Some(frame) = self.innermost() else {
@@ -60,10 +62,9 @@ impl Private {
         function: bool,
     ) -> Result<Effect, Fault>
         requires { length shared.old < 2 ^ 30 }
-        ensures step { let o = joined self.old outside.now.input.now shared.old in let w = outside_of
-            outside.now (length self.old.memory.words.items) in outcome
-            (joined self.new outside.now.input.now shared.new) result ≡ plain.with_place w o
-            (view.spot queue.now) (λ at. plain.continue o at function) }
+        ensures step { IsStep self.old shared.old outside.now self.new shared.new result
+            (λ w o. plain.with_place w o (view.spot queue.now) (λ at. plain.continue o at
+            function)) }
         ensures output { self.new.output ≡ self.old.output }
     {
         let at = self.place(shared, outside, queue)?;

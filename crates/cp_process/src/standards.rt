@@ -2,7 +2,7 @@
 
 ghost use Rattle.std.specs.Prelude.{◌≡◌, ◌+◌, ◌*◌, ◌≤◌, ◌<◌, ◌^◌, ◌++◌, ℕ, ℤ, List, length, vec_capacity, vec_len};
 ghost use Rattle.cp_process.specs.Rooms.{HasRoomFor, KeepsRoom};
-ghost use Rattle.cp_process.specs.States.{joined, outcome, outside_of};
+ghost use Rattle.cp_process.specs.States.{IsStep, joined};
 ghost use Rattle.cp_model.specs.StandardCalls as standard;
 ghost use Rattle.cp_steps.specs.PrivateStates as states;
 ghost use Rattle.cp_steps.specs.PrivateStates.{go_to, private_outcome};
@@ -50,7 +50,8 @@ impl Private {
         requires few { length bytes.now ≤ 11 }
         requires room { HasRoomFor self.old 1 }
         ensures step { (input : List ℕ) (shared : List ℤ)
-            → let o = joined self.old input shared in joined self.new input shared
+            → let o = joined self.old input shared in
+            joined self.new input shared
             ≡ go_to next (record o { output = o.output ++ bytes.now }) }
         ensures room { KeepsRoom self.old self.new }
     {
@@ -69,10 +70,9 @@ impl Private {
     ) -> Result<Effect, Fault>
         requires shared { length shared.now < 2 ^ 30 }
         requires room { HasRoomFor self.old 1 }
-        ensures step { let o = joined self.old outside.now.input.now shared.now in let w = outside_of
-            outside.now (length self.old.memory.words.items) in outcome
-            (joined self.new outside.now.input.now shared.now) result ≡ plain.with_value w o
-            (view.term value.now) (λ n. plain.display o n as_byte next) }
+        ensures step { IsStep self.old shared.now outside.now self.new shared.now result
+            (λ w o. plain.with_value w o (view.term value.now) (λ n. plain.display o n as_byte
+            next)) }
         ensures room { KeepsRoom self.old self.new }
     {
         let n = self.evaluate(shared, outside, value)?;
@@ -94,10 +94,9 @@ impl Private {
         next: u32,
     ) -> Result<Effect, Fault>
         requires { length shared.old < 2 ^ 30 }
-        ensures step { let o = joined self.old outside.now.input.now shared.old in let w = outside_of
-            outside.now (length self.old.memory.words.items) in outcome
-            (joined self.new outside.now.input.now shared.new) result ≡ plain.with_place w o
-            (view.spot to.now) (λ at. plain.accept o at bounds.low bounds.high next) }
+        ensures step { IsStep self.old shared.old outside.now self.new shared.new result
+            (λ w o. plain.with_place w o (view.spot to.now) (λ at. plain.accept o at bounds.low
+            bounds.high next)) }
         ensures output { self.new.output ≡ self.old.output }
     {
         let at = self.place(shared, outside, to)?;
@@ -120,10 +119,8 @@ impl Private {
         next: u32,
     ) -> Result<Effect, Fault>
         requires { length shared.old < 2 ^ 30 }
-        ensures step { let o = joined self.old outside.now.input.now shared.old in let w = outside_of
-            outside.now (length self.old.memory.words.items) in outcome
-            (joined self.new outside.now.input.now shared.new) result ≡ plain.with_place w o
-            (view.spot queue.now) (λ at. plain.delay o at next) }
+        ensures step { IsStep self.old shared.old outside.now self.new shared.new result
+            (λ w o. plain.with_place w o (view.spot queue.now) (λ at. plain.delay o at next)) }
         ensures output { self.new.output ≡ self.old.output }
     {
         let at = self.place(shared, outside, queue)?;
@@ -153,9 +150,8 @@ impl Private {
         outside: &Outside,
         next: u32,
     ) -> Result<Effect, Fault>
-        ensures step { let o = joined self.old outside.now.input.now shared.now in outcome
-            (joined self.new outside.now.input.now shared.now) result ≡ private_outcome
-            (go_to next (record o { activity = states.Waiting })) }
+        ensures step { IsStep self.old shared.now outside.now self.new shared.now result
+            (λ w o. private_outcome (go_to next (record o { activity = states.Waiting }))) }
         ensures output { self.new.output ≡ self.old.output }
     {
         self.activity = Activity::Waiting;
@@ -165,9 +161,8 @@ impl Private {
 
     /// Has no more to do.
     pub(crate) fn end(&mut self, shared: &[i32], outside: &Outside) -> Result<Effect, Fault>
-        ensures step { let o = joined self.old outside.now.input.now shared.now in outcome
-            (joined self.new outside.now.input.now shared.now) result ≡ private_outcome
-            (record o { activity = states.Ended }) }
+        ensures step { IsStep self.old shared.now outside.now self.new shared.now result
+            (λ w o. private_outcome (record o { activity = states.Ended })) }
         ensures output { self.new.output ≡ self.old.output }
     {
         self.activity = Activity::Ended;

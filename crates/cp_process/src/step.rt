@@ -2,7 +2,7 @@
 
 ghost use Rattle.std.specs.Prelude.{◌≡◌, ◌<◌, ◌^◌, false, ℕ, [], Some, length};
 ghost use Rattle.cp_process.specs.Rooms.{HasRoomFor, KeepsRoom};
-ghost use Rattle.cp_process.specs.States.{IsAlone, effect, joined, outcome, outside_of, private_of};
+ghost use Rattle.cp_process.specs.States.{IsAlone, IsStep, effect, joined, outside_of, private_of};
 ghost use Rattle.cp_steps.specs.Steps as plain;
 ghost use Rattle.cp_threaded.specs.View as view;
 
@@ -28,10 +28,8 @@ impl Private {
     ) -> Result<Effect, Fault>
         requires shared { length shared.old < 2 ^ 30 }
         requires room { HasRoomFor self.old 1 }
-        ensures step { let w = outside_of outside.now (length self.old.memory.words.items) in outcome
-            (joined self.new outside.now.input.now shared.new) result ≡ plain.act
-            (view.program program.now) w (joined self.old outside.now.input.now shared.old)
-            (view.operation operation.now) }
+        ensures step { IsStep self.old shared.old outside.now self.new shared.new result
+            (λ w o. plain.act (view.program program.now) w o (view.operation operation.now)) }
         ensures room { KeepsRoom self.old self.new }
     {
         match operation {
@@ -132,8 +130,9 @@ impl Private {
     // Makes a private step that assigns a value: the most common one, so it takes no way through all operations.
     #[inline(always)]
     fn assign(&mut self, outside: &Outside, to: &Spot, value: &Term, bounds: Bounds, next: u32)
-        ensures step { let input = outside.now.input.now in let o = joined self.old input [] in let
-            w = outside_of outside.now (length self.old.memory.words.items) in joined self.new input []
+        ensures step { let input = outside.now.input.now in let o = joined self.old input [] in
+            let w = outside_of outside.now (length self.old.memory.words.items) in
+            joined self.new input []
             ≡ (plain.with_place w o (view.spot to.now) (λ at. plain.with_value w o
             (view.term value.now) (λ n. plain.set_within o bounds.low bounds.high at n next))).0 }
         ensures output { self.new.output ≡ self.old.output }
