@@ -25,7 +25,7 @@ pub outside_alone : (w : Outside) (x : Private) (input : List ℕ) → IsAlone w
     → outside_of w (length x.memory.words.items) ≡ alone w.clock (private_of x input)
 outside_alone w x input A =
     let own = length x.memory.words.items in
-    let unset : (m : ℕ) → kernel.is_set (holder_of w.holders.now m) ≡ false = λ m. ap (λ hs. kernel.is_set (holder_of hs m)) A.holders ∙ none_set m in
+    let unset : (m : ℕ) → kernel.is_set (holder_of w.gates.now m) ≡ false = λ m. ap (λ gs. kernel.is_set (holder_of gs m)) A.gates ∙ none_set m in
     let started : (r : ℕ) → kernel.is_started (stage_of w.stages.now r) ≡ true = λ r. ap (λ gs. kernel.is_started (stage_of gs r)) A.stages ∙ all_started r in
     λ i. record { clock = w.clock; own = own; is_set = λ m. unset m i; is_started = λ r. started r i }
 

@@ -11,6 +11,7 @@ use Rattle.cp_process.specs.declared.outside.Holder.{Holder}
 use Rattle.cp_process.specs.declared.outside.Holder.TheVariants as holder_case
 use Rattle.cp_process.specs.declared.outside.Stage.{Stage}
 use Rattle.cp_process.specs.declared.outside.Stage.TheVariants as stage_case
+use Rattle.cp_process.specs.declared.outside.Gate.{Gate}
 use Rattle.cp_process.specs.declared.outside.Outside.{Outside}
 use Rattle.cp_process.specs.declared.private.Activity.{Activity}
 use Rattle.cp_process.specs.declared.private.Activity.TheVariants as activity_case
@@ -78,6 +79,9 @@ holder holder_case.Unset = model.Unset
 holder holder_case.Free = model.Free
 holder (holder_case.Process p) = model.HeldBy p
 
+abbrev pub gate : Gate → model.Gate
+gate g = record { holder = holder g.holder; askers = g.askers.items }
+
 abbrev pub stage : Stage → kernel.Stage
 stage stage_case.Unstarted = kernel.Unstarted
 stage stage_case.Fresh = kernel.Fresh
@@ -86,13 +90,13 @@ stage (stage_case.Asking m) = kernel.Asking m
 stage (stage_case.Delayed monitor queue) = kernel.Delayed monitor queue
 
 -- Monitors and processes are numbered from 1. One that isn't there is unset, or has begun.
-abbrev pub holder_or_none : Option Holder → model.Holder
+abbrev pub holder_or_none : Option Gate → model.Holder
 holder_or_none None = model.Unset
-holder_or_none (Some h) = holder h
+holder_or_none (Some g) = holder g.holder
 
-abbrev pub holder_of : List Holder → ℕ → model.Holder
-holder_of hs zero = model.Unset
-holder_of hs (suc m) = holder_or_none (slice_get hs m)
+abbrev pub holder_of : List Gate → ℕ → model.Holder
+holder_of gs zero = model.Unset
+holder_of gs (suc m) = holder_or_none (slice_get gs m)
 
 abbrev pub stage_or_none : Option Stage → kernel.Stage
 stage_or_none None = kernel.Begun
@@ -106,13 +110,13 @@ abbrev pub outside_of : Outside → ℕ → plain.Outside
 outside_of w own = record {
   clock = w.clock;
   own = own;
-  is_set = λ m. kernel.is_set (holder_of w.holders.now m);
+  is_set = λ m. kernel.is_set (holder_of w.gates.now m);
   is_started = λ r. kernel.is_started (stage_of w.stages.now r);
 }
 
 -- Nothing of the kernel is told.
 pub record IsAlone (w : Outside) : Type 0 where
-  pub holders : w.holders.now ≡ []
+  pub gates : w.gates.now ≡ []
   pub stages : w.stages.now ≡ []
 
 -- ---- Effects and outcomes

@@ -14,7 +14,7 @@ impl<'a> Outside<'a> {
         Outside {
             clock,
             input,
-            holders: &[],
+            gates: &[],
             stages: &[],
         }
     }

@@ -57,6 +57,8 @@ impl Private {
             → outcome (joined self.new input shared.new) result ≡ plain.set_within
             (joined self.old input shared.old) bounds.low bounds.high place n next }
         ensures output { self.new.output ≡ self.old.output }
+        ensures own { length self.new.memory.words.items ≡ length self.old.memory.words.items }
+        ensures shared { length shared.new ≡ length shared.old }
     {
         if !bounds.contain(n) {
             return Err(Fault::Range);
@@ -82,6 +84,8 @@ impl Private {
             (view.term value.now) (λ n. plain.set_within o bounds.low bounds.high at n
             next))) }
         ensures output { self.new.output ≡ self.old.output }
+        ensures own { length self.new.memory.words.items ≡ length self.old.memory.words.items }
+        ensures shared { length shared.new ≡ length shared.old }
     {
         let reach = self.reach(shared, outside);
         let at = to.place(&reach)?;
@@ -102,6 +106,8 @@ impl Private {
             (λ w o. plain.with_value w o (view.term value.now) (λ n. plain.set_within o
             bounds.low bounds.high o.base n next)) }
         ensures output { self.new.output ≡ self.old.output }
+        ensures own { length self.new.memory.words.items ≡ length self.old.memory.words.items }
+        ensures shared { length shared.new ≡ length shared.old }
     {
         let n = self.evaluate(shared, outside, value)?;
         let at = self.memory.base as usize;
@@ -122,6 +128,8 @@ impl Private {
             (λ w o. plain.with_place w o (view.spot to.now) (λ at. plain.with_place w o
             (view.spot from.now) (λ b. plain.copy_words o at b size next))) }
         ensures output { self.new.output ≡ self.old.output }
+        ensures own { length self.new.memory.words.items ≡ length self.old.memory.words.items }
+        ensures shared { length shared.new ≡ length shared.old }
     {
         let at = self.place(shared, outside, to)?;
         let from = self.place(shared, outside, from)?;
@@ -144,6 +152,7 @@ impl Private {
             (λ w o. plain.with_value w o (view.term value.now) (λ n. private_outcome (go_to (if
             same_integer n (pos 1) then yes else no) o))) }
         ensures output { self.new.output ≡ self.old.output }
+        ensures own { length self.new.memory.words.items ≡ length self.old.memory.words.items }
     {
         let n = self.evaluate(shared, outside, value)?;
         self.place = if n == 1 { yes } else { no };
@@ -162,6 +171,7 @@ impl Private {
             (λ w o. plain.with_value w o (view.term value.now) (λ n. plain.go_to_arm o (place_in
             (view.table table.now) n))) }
         ensures output { self.new.output ≡ self.old.output }
+        ensures own { length self.new.memory.words.items ≡ length self.old.memory.words.items }
     {
         let n = self.evaluate(shared, outside, value)?;
         match table.place(n) {
@@ -184,6 +194,7 @@ impl Private {
         ensures step { IsStep self.old shared.now outside.now self.new shared.now result
             (λ w o. private_outcome (go_to place o)) }
         ensures output { self.new.output ≡ self.old.output }
+        ensures own { length self.new.memory.words.items ≡ length self.old.memory.words.items }
     {
         self.place = place;
         Ok(Effect::None)

@@ -97,6 +97,8 @@ impl Private {
             (λ w o. plain.call_step (view.program program.now) w o (view.call call.now) (back
             link)) }
         ensures output { self.new.output ≡ self.old.output }
+        ensures own { length self.new.memory.words.items ≡ length self.old.memory.words.items }
+        ensures shared { length shared.new ≡ length shared.old }
     {
         let callee = self.called(program, shared, outside, call.target);
         let Some(unit) = self.unit_with_room(program, shared, call, callee.component) else {

@@ -20,6 +20,8 @@ impl Private {
             → joined self.new input shared.new ≡ plain.set_word (joined self.old input shared.old)
             place n }
         ensures output { self.new.output ≡ self.old.output }
+        ensures own { length self.new.memory.words.items ≡ length self.old.memory.words.items }
+        ensures shared { length shared.new ≡ length shared.old }
     {
         words::write(&mut self.memory.words, shared, at, n);
     }
@@ -30,6 +32,7 @@ impl Private {
             → joined self.new input shared ≡ plain.set_temp
             (joined self.old input shared) at n }
         ensures output { self.new.output ≡ self.old.output }
+        ensures own { length self.new.memory.words.items ≡ length self.old.memory.words.items }
     {
         if at < self.memory.temps.len() {
             self.memory.temps[at] = n;
@@ -43,6 +46,8 @@ impl Private {
             → let o = joined self.old input shared.old in joined self.new input shared.new
             ≡ record o { words = paste i (block o.words j count) o.words } }
         ensures output { self.new.output ≡ self.old.output }
+        ensures own { length self.new.memory.words.items ≡ length self.old.memory.words.items }
+        ensures shared { length shared.new ≡ length shared.old }
     {
         words::copy(&mut self.memory.words, shared, to, from, count);
     }
@@ -55,6 +60,8 @@ impl Private {
             → let o = joined self.old input shared.old in joined self.new input shared.new
             ≡ record o { words = started base (map view.start plan.now) o.words } }
         ensures output { self.new.output ≡ self.old.output }
+        ensures own { length self.new.memory.words.items ≡ length self.old.memory.words.items }
+        ensures shared { length shared.new ≡ length shared.old }
     {
         words::start(&mut self.memory.words, shared, base, plan);
     }

@@ -40,6 +40,8 @@ impl Private {
         ensures step { IsStep self.old shared.old outside.now self.new shared.new result
             (λ w o. plain.count_to w o (view.counting counting.now) n last) }
         ensures output { self.new.output ≡ self.old.output }
+        ensures own { length self.new.memory.words.items ≡ length self.old.memory.words.items }
+        ensures shared { length shared.new ≡ length shared.old }
     {
         let bounds = Bounds {
             low: counting.low,
@@ -72,6 +74,8 @@ impl Private {
             (view.term last.now) (λ m. plain.first_count w o (view.counting
             counting.now) n m))) }
         ensures output { self.new.output ≡ self.old.output }
+        ensures own { length self.new.memory.words.items ≡ length self.old.memory.words.items }
+        ensures shared { length shared.new ≡ length shared.old }
     {
         let n = self.evaluate(shared, outside, first)?;
         let last = self.evaluate(shared, outside, last)?;
@@ -94,6 +98,8 @@ impl Private {
             (λ w o. plain.next_count w o (view.counting counting.now) (word o.temps (o.temp +
             counting.now.temp)) (word o.temps (o.temp + counting.now.temp + 1))) }
         ensures output { self.new.output ≡ self.old.output }
+        ensures own { length self.new.memory.words.items ≡ length self.old.memory.words.items }
+        ensures shared { length shared.new ≡ length shared.old }
     {
         let temp = self.memory.temp as usize + counting.temp as usize;
         let n = self.temp_at(temp);

@@ -66,6 +66,7 @@ impl Private {
         ensures step { (input : List ℕ) (shared : List ℤ) → let o = joined self.old input shared in
             joined self.new input shared ≡ record o { frames = view_frame frame ∷ o.frames } }
         ensures output { self.new.output ≡ self.old.output }
+        ensures own { length self.new.memory.words.items ≡ length self.old.memory.words.items }
     {
         let depth = self.depth;
         self.frames.as_mut_slice()[depth] = frame;
@@ -83,6 +84,7 @@ impl Private {
             (joined self.old input shared) (called callee) (view.code_unit unit.now)
             (view.call call.now) (back link) }
         ensures output { self.new.output ≡ self.old.output }
+        ensures own { length self.new.memory.words.items ≡ length self.old.memory.words.items }
     {
         let frame = Frame {
             place: link.place,
@@ -129,6 +131,7 @@ impl Private {
             (returning (joined self.old input shared) (view_frame caller) value) (view_frame caller)
             (frames_in (self.old.depth - 1) self.old.frames.items) }
         ensures output { self.new.output ≡ self.old.output }
+        ensures own { length self.new.memory.words.items ≡ length self.old.memory.words.items }
     {
         self.depth -= 1;
         self.place = caller.place;

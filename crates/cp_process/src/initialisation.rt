@@ -34,6 +34,8 @@ impl Private {
         ensures step { (input : List ℕ) → joined self.new input shared.new ≡ plain.settle
             (joined self.old input shared.old) from to count }
         ensures output { self.new.output ≡ self.old.output }
+        ensures own { length self.new.memory.words.items ≡ length self.old.memory.words.items }
+        ensures shared { length shared.new ≡ length shared.old }
     {
         self.move_words(shared, to + 1, from + 1, count);
     }
@@ -53,6 +55,8 @@ impl Private {
             plain.init_class program w o (view.call call.now) (component_called program
             w o (view.target call.now.target)).component next) }
         ensures output { self.new.output ≡ self.old.output }
+        ensures own { length self.new.memory.words.items ≡ length self.old.memory.words.items }
+        ensures shared { length shared.new ≡ length shared.old }
     {
         let at = self.called(program, shared, outside, call.target).component;
         let Some(unit) = self.unit_with_room(program, shared, call, at) else {
@@ -94,6 +98,8 @@ impl Private {
             plain.init_monitor program w o (view.call call.now) (component_called
             program w o (view.target call.now.target)).gate next) }
         ensures output { self.new.output ≡ self.old.output }
+        ensures own { length self.new.memory.words.items ≡ length self.old.memory.words.items }
+        ensures shared { length shared.new ≡ length shared.old }
     {
         let number = self.called(program, shared, outside, call.target).gate;
         let monitor = self.monitor_called(program, outside, number);
@@ -132,6 +138,8 @@ impl Private {
             (λ w o. plain.init_process (view.program program.now) w o process (map view.argument
             arguments.now) words next) }
         ensures output { self.new.output ≡ self.old.output }
+        ensures own { length self.new.memory.words.items ≡ length self.old.memory.words.items }
+        ensures shared { length shared.new ≡ length shared.old }
     {
         if outside.is_started(process) {
             return Err(Fault::InitialisedTwice);

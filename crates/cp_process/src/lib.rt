@@ -6,7 +6,7 @@
 //!
 //! - `private`, `making`: the private state; how it is made, copied and read.
 //! - `outside`, `effect`: what a step reads beside, and what it leaves to the kernel.
-//! - `words`, `changing`, `reading`, `frames`: words, temps and frames.
+//! - `words`, `changing`, `reading`, `frames`, `starting`: words, temps and frames.
 //! - `assignments`, `counting`, `standards`, `targets`, `passing`, `calls`, `returns`, `initialisation`: the steps of operations.
 //! - `step`, `turns`, `kind`: a step of any operation, turns, and whose the next step is.
 #![tactic(auto)]
@@ -28,6 +28,7 @@ pub mod private;
 mod reading;
 mod returns;
 mod standards;
+pub mod starting;
 mod step;
 mod targets;
 pub mod turn;

@@ -160,9 +160,18 @@ impl Private {
 
     /// Its number, from 1.
     pub fn number(&self) -> usize
-        ensures { (input : List ℕ) → result ≡ (private_of self.now input).number }
+        ensures number { (input : List ℕ) → result ≡ (private_of self.now input).number }
+        ensures small { result < 2 ^ 31 }
     {
         self.number
+    }
+
+    /// How many words it has of its own.
+    pub fn words(&self) -> usize
+        ensures words { (input : List ℕ) → result ≡ length (private_of self.now input).words }
+        ensures few { result < 2 ^ 30 }
+    {
+        self.memory.words.len()
     }
 
     /// Whether it runs.

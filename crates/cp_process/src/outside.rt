@@ -10,6 +10,13 @@ pub enum Holder {
     Process(u32),
 }
 
+/// The gate of a monitor: who holds it, and by their numbers who asks for it, in the order in which they asked.
+#[derive(Debug, Drop)]
+pub struct Gate {
+    pub holder: Holder,
+    pub askers: Vec<u32>,
+}
+
 /// What the kernel knows of a process.
 #[derive(Clone, Copy, Debug, PartialEq, Eq)]
 pub enum Stage {
@@ -29,8 +36,8 @@ pub struct Outside<'a> {
     /// The seconds since the start.
     pub clock: u64,
     pub input: &'a [u8],
-    /// By number, from 1: who holds the gates of monitors.
-    pub holders: &'a [Holder],
+    /// By number, from 1: the gates of monitors.
+    pub gates: &'a [Gate],
     /// By number, from 1: what is known of processes.
     pub stages: &'a [Stage],
 }

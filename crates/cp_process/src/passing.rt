@@ -40,6 +40,8 @@ impl Private {
             (value_of (view_of (outside_of outside.now own) o) (view.term term.now))
             (λ n. plain.pass_value o at bounds.low bounds.high n) }
         ensures output { self.new.output ≡ self.old.output }
+        ensures own { length self.new.memory.words.items ≡ length self.old.memory.words.items }
+        ensures shared { length shared.new ≡ length shared.old }
     {
         let n = self.evaluate(shared, outside, term)?;
         if !bounds.contain(n) {
@@ -64,6 +66,8 @@ impl Private {
             (place_of (view_of (outside_of outside.now own) o) (view.spot from.now))
             (λ a. plain.pass_copy o at size a) }
         ensures output { self.new.output ≡ self.old.output }
+        ensures own { length self.new.memory.words.items ≡ length self.old.memory.words.items }
+        ensures shared { length shared.new ≡ length shared.old }
     {
         let from = self.place(shared, outside, from)?;
         self.move_words(shared, at, from, size as usize);
@@ -97,6 +101,8 @@ impl Private {
             (place_of (view_of (outside_of outside.now own) o) (view.spot to.now))
             (λ a. plain.pass_word o at (plain.reference_word o a)) }
         ensures output { self.new.output ≡ self.old.output }
+        ensures own { length self.new.memory.words.items ≡ length self.old.memory.words.items }
+        ensures shared { length shared.new ≡ length shared.old }
     {
         let place = self.place(shared, outside, to)?;
         let word = self.reference_word(shared, place);
@@ -111,6 +117,8 @@ impl Private {
             plain.pass_word o at (plain.right_word o home (view.target of))
             ≡ record { own = joined self.new input shared.new; fault = None } }
         ensures output { self.new.output ≡ self.old.output }
+        ensures own { length self.new.memory.words.items ≡ length self.old.memory.words.items }
+        ensures shared { length shared.new ≡ length shared.old }
     {
         let word = self.right_word(shared, home, of);
         self.set_word(shared, at, word);
@@ -128,6 +136,8 @@ impl Private {
             ≡ plain.pass_one (outside_of outside.now own) destination.to destination.home
             (joined self.old outside.now.input.now shared.old) (view.argument argument.now) }
         ensures output { self.new.output ≡ self.old.output }
+        ensures own { length self.new.memory.words.items ≡ length self.old.memory.words.items }
+        ensures shared { length shared.new ≡ length shared.old }
     {
         let Destination { to, home } = destination;
         match argument {
@@ -171,6 +181,8 @@ impl Private {
             (map view.argument arguments.now)
             (joined self.old outside.now.input.now shared.old) }
         ensures output { self.new.output ≡ self.old.output }
+        ensures own { length self.new.memory.words.items ≡ length self.old.memory.words.items }
+        ensures shared { length shared.new ≡ length shared.old }
     {
         for argument in arguments {
             self.pass_one(shared, outside, destination, argument)?;

@@ -27,6 +27,7 @@ impl Private {
             (λ w o. calling.with_frame o o.frames (λ f fs. calling.return_with o o f fs function
             (calling.gate_effect f.gate Leaves))) }
         ensures output { self.new.output ≡ self.old.output }
+        ensures own { length self.new.memory.words.items ≡ length self.old.memory.words.items }
     {
         let Some(frame) = self.innermost() else {
             return Ok(Effect::None);
@@ -45,6 +46,7 @@ impl Private {
               calling.gate_effect f.gate Leaves,
             ))) }
         ensures output { self.new.output ≡ self.old.output }
+        ensures own { length self.new.memory.words.items ≡ length self.old.memory.words.items }
     {
         let Some(frame) = self.innermost() else {
             return Ok(Effect::None);
@@ -66,6 +68,8 @@ impl Private {
             (λ w o. plain.with_place w o (view.spot queue.now) (λ at. plain.continue o at
             function)) }
         ensures output { self.new.output ≡ self.old.output }
+        ensures own { length self.new.memory.words.items ≡ length self.old.memory.words.items }
+        ensures shared { length shared.new ≡ length shared.old }
     {
         let at = self.place(shared, outside, queue)?;
         if self.gate == 0 {

@@ -54,6 +54,7 @@ impl Private {
             joined self.new input shared
             ≡ go_to next (record o { output = o.output ++ bytes.now }) }
         ensures room { KeepsRoom self.old self.new }
+        ensures own { length self.new.memory.words.items ≡ length self.old.memory.words.items }
     {
         let appended = self.output.extend_from_slice(bytes);
         prove!(appended.is_ok());
@@ -74,6 +75,7 @@ impl Private {
             (λ w o. plain.with_value w o (view.term value.now) (λ n. plain.display o n as_byte
             next)) }
         ensures room { KeepsRoom self.old self.new }
+        ensures own { length self.new.memory.words.items ≡ length self.old.memory.words.items }
     {
         let n = self.evaluate(shared, outside, value)?;
         if as_byte {
@@ -98,6 +100,8 @@ impl Private {
             (λ w o. plain.with_place w o (view.spot to.now) (λ at. plain.accept o at bounds.low
             bounds.high next)) }
         ensures output { self.new.output ≡ self.old.output }
+        ensures own { length self.new.memory.words.items ≡ length self.old.memory.words.items }
+        ensures shared { length shared.new ≡ length shared.old }
     {
         let at = self.place(shared, outside, to)?;
         let n = next_input(outside.input, self.consumed);
@@ -122,6 +126,8 @@ impl Private {
         ensures step { IsStep self.old shared.old outside.now self.new shared.new result
             (λ w o. plain.with_place w o (view.spot queue.now) (λ at. plain.delay o at next)) }
         ensures output { self.new.output ≡ self.old.output }
+        ensures own { length self.new.memory.words.items ≡ length self.old.memory.words.items }
+        ensures shared { length shared.new ≡ length shared.old }
     {
         let at = self.place(shared, outside, queue)?;
         let monitor = self.gate;
@@ -153,6 +159,7 @@ impl Private {
         ensures step { IsStep self.old shared.now outside.now self.new shared.now result
             (λ w o. private_outcome (go_to next (record o { activity = states.Waiting }))) }
         ensures output { self.new.output ≡ self.old.output }
+        ensures own { length self.new.memory.words.items ≡ length self.old.memory.words.items }
     {
         self.activity = Activity::Waiting;
         self.place = next;
@@ -164,6 +171,7 @@ impl Private {
         ensures step { IsStep self.old shared.now outside.now self.new shared.now result
             (λ w o. private_outcome (record o { activity = states.Ended })) }
         ensures output { self.new.output ≡ self.old.output }
+        ensures own { length self.new.memory.words.items ≡ length self.old.memory.words.items }
     {
         self.activity = Activity::Ended;
         Ok(Effect::None)

@@ -31,6 +31,8 @@ impl Private {
         ensures step { IsStep self.old shared.old outside.now self.new shared.new result
             (λ w o. plain.act (view.program program.now) w o (view.operation operation.now)) }
         ensures room { KeepsRoom self.old self.new }
+        ensures own { length self.new.memory.words.items ≡ length self.old.memory.words.items }
+        ensures shared { length shared.new ≡ length shared.old }
     {
         match operation {
             Operation::Set {
@@ -117,6 +119,8 @@ impl Private {
             (view.program program.now) w (joined self.old outside.now.input.now shared.old)
             (view.operation operation.now) }
         ensures room { KeepsRoom self.old self.new }
+        ensures own { length self.new.memory.words.items ≡ length self.old.memory.words.items }
+        ensures shared { length shared.new ≡ length shared.old }
     {
         match self.act(operation, program, shared, outside) {
             Ok(effect) => effect,

@@ -18,14 +18,14 @@ use cp_threaded::program::Program;
 impl<'a> Outside<'a> {
     // Whether the monitor was initialised.
     fn is_set(&self, monitor: u32) -> bool
-        ensures { result ≡ kernel.is_set (holder_of self.now.holders.now monitor) }
+        ensures { result ≡ kernel.is_set (holder_of self.now.gates.now monitor) }
     {
         if monitor == 0 {
             return false;
         }
-        match self.holders.get(monitor as usize - 1) {
-            None | Some(Holder::Unset) => false,
-            Some(_) => true,
+        match self.gates.get(monitor as usize - 1) {
+            Some(gate) => !matches!(gate.holder, Holder::Unset),
+            None => false,
         }
     }
 

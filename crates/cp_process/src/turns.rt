@@ -75,6 +75,8 @@ pub fn step(
         (joined private.new outside.now.input.now shared.new, effect result) ≡ plain.step_with
         (view.program program.now) w (joined private.old outside.now.input.now shared.old) }
     ensures room { KeepsRoom private.old private.new }
+    ensures own { length private.new.memory.words.items ≡ length private.old.memory.words.items }
+    ensures shared { length shared.new ≡ length shared.old }
 {
     match program.operation(private.place) {
         Some(operation) => private.make(operation, program, shared, outside),

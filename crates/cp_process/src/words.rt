@@ -41,6 +41,8 @@ pub(crate) fn write(own: &mut [i32], shared: &mut [i32], at: usize, n: i32)
     ensures word { own.new ++ shared.new ≡ slice_set (own.old ++ shared.old) at n }
     ensures capped { (place : ℕ) → capped place ≡ at
         → own.new ++ shared.new ≡ slice_set (own.old ++ shared.old) place n }
+    ensures own { length own.new ≡ length own.old }
+    ensures shared { length shared.new ≡ length shared.old }
 {
     let count = own.len();
     if at < count {
@@ -56,7 +58,9 @@ pub(crate) fn write(own: &mut [i32], shared: &mut [i32], at: usize, n: i32)
 /// Sets so many words to one value.
 pub(crate) fn fill(own: &mut [i32], shared: &mut [i32], at: usize, count: usize, n: i32)
     requires { length own.old + length shared.old < 2 ^ 32 }
-    ensures { own.new ++ shared.new ≡ plain.fill at count n (own.old ++ shared.old) }
+    ensures words { own.new ++ shared.new ≡ plain.fill at count n (own.old ++ shared.old) }
+    ensures own { length own.new ≡ length own.old }
+    ensures shared { length shared.new ≡ length shared.old }
 {
     let all = own.len() + shared.len();
     let there = count.min(all.saturating_sub(at));
@@ -70,8 +74,10 @@ fn copy_down(own: &mut [i32], shared: &mut [i32], to: usize, from: usize, count:
     requires words { length own.old + length shared.old < 2 ^ 32 }
     requires there { to + count ≤ length own.old + length shared.old }
     requires down { to ≤ from }
-    ensures { own.new ++ shared.new ≡ plain.paste to
+    ensures words { own.new ++ shared.new ≡ plain.paste to
         (plain.block (own.old ++ shared.old) from count) (own.old ++ shared.old) }
+    ensures own { length own.new ≡ length own.old }
+    ensures shared { length shared.new ≡ length shared.old }
 {
     for i in 0..count {
         let n = read(own, shared, from.saturating_add(i));
@@ -84,8 +90,10 @@ fn copy_up(own: &mut [i32], shared: &mut [i32], to: usize, from: usize, count: u
     requires words { length own.old + length shared.old < 2 ^ 32 }
     requires there { to + count ≤ length own.old + length shared.old }
     requires up { from ≤ to }
-    ensures { own.new ++ shared.new ≡ plain.paste to
+    ensures words { own.new ++ shared.new ≡ plain.paste to
         (plain.block (own.old ++ shared.old) from count) (own.old ++ shared.old) }
+    ensures own { length own.new ≡ length own.old }
+    ensures shared { length shared.new ≡ length shared.old }
 {
     for i in (0..count).rev() {
         let n = read(own, shared, from + i);
@@ -96,8 +104,10 @@ fn copy_up(own: &mut [i32], shared: &mut [i32], to: usize, from: usize, count: u
 /// Copies so many words, which are all read before the first one is written.
 pub(crate) fn copy(own: &mut [i32], shared: &mut [i32], to: usize, from: usize, count: usize)
     requires { length own.old + length shared.old < 2 ^ 32 }
-    ensures { own.new ++ shared.new ≡ plain.paste to
+    ensures words { own.new ++ shared.new ≡ plain.paste to
         (plain.block (own.old ++ shared.old) from count) (own.old ++ shared.old) }
+    ensures own { length own.new ≡ length own.old }
+    ensures shared { length shared.new ≡ length shared.old }
 {
     let all = own.len() + shared.len();
     let there = count.min(all.saturating_sub(to));
@@ -116,7 +126,9 @@ fn repeat(own: &mut [i32], shared: &mut [i32], at: usize, size: usize, count: us
     requires words { length own.old + length shared.old < 2 ^ 32 }
     requires at { at < 2 ^ 34 }
     requires size { size < 2 ^ 32 }
-    ensures { own.new ++ shared.new ≡ plain.repeated at size count (own.old ++ shared.old) }
+    ensures words { own.new ++ shared.new ≡ plain.repeated at size count (own.old ++ shared.old) }
+    ensures own { length own.new ≡ length own.old }
+    ensures shared { length shared.new ≡ length shared.old }
 {
     if size == 0 {
         return;
@@ -135,8 +147,10 @@ fn repeat(own: &mut [i32], shared: &mut [i32], at: usize, size: usize, count: us
 fn start_by(own: &mut [i32], shared: &mut [i32], base: usize, start: Start)
     requires words { length own.old + length shared.old < 2 ^ 32 }
     requires base { base < 2 ^ 33 }
-    ensures { own.new ++ shared.new ≡ plain.started_by base (view.start start)
+    ensures words { own.new ++ shared.new ≡ plain.started_by base (view.start start)
         (own.old ++ shared.old) }
+    ensures own { length own.new ≡ length own.old }
+    ensures shared { length shared.new ≡ length shared.old }
 {
     match start {
         Start::Fill { at, count, value } => {
@@ -153,8 +167,10 @@ fn start_by(own: &mut [i32], shared: &mut [i32], base: usize, start: Start)
 pub(crate) fn start(own: &mut [i32], shared: &mut [i32], base: usize, plan: &[Start])
     requires words { length own.old + length shared.old < 2 ^ 32 }
     requires base { base < 2 ^ 33 }
-    ensures { own.new ++ shared.new ≡ plain.started base (map view.start plan.now)
+    ensures words { own.new ++ shared.new ≡ plain.started base (map view.start plan.now)
         (own.old ++ shared.old) }
+    ensures own { length own.new ≡ length own.old }
+    ensures shared { length shared.new ≡ length shared.old }
 {
     for step in plan {
         start_by(own, shared, base, *step);

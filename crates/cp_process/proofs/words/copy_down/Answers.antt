@@ -16,6 +16,11 @@ loop-i-preserved c =
     let whole = to_z-of_z w32 c.read-n.result (record { sfits = c.read-n.type_inv }) in
     let written : c.write.new.own ++ c.write.new.shared ≡ slice_set ws (c.args.to + i) (word ws (from + i)) =
     c.write.ensures.word ∙ ap (slice_set ws (c.args.to + i)) (whole ∙ c.read-n.ensures.capped (from + i) read_there) in
-    ap (λ us. paste (c.args.to + (i + 1)) (block us (from + (i + 1)) (c.args.count - (i + 1))) us) written
-    ∙ (copied_down ws c.args.to from i c.args.count (omega arith) c.requires.down
-    ∙ c.loop-i.invariant)
+    record {
+      words =
+          ap (λ us. paste (c.args.to + (i + 1)) (block us (from + (i + 1)) (c.args.count - (i + 1))) us) written
+          ∙ (copied_down ws c.args.to from i c.args.count (omega arith) c.requires.down
+          ∙ c.loop-i.invariant.words);
+      own = c.write.ensures.own ∙ c.loop-i.invariant.own;
+      shared = c.write.ensures.shared ∙ c.loop-i.invariant.shared;
+    }

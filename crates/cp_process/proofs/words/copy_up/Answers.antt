@@ -15,7 +15,12 @@ loop-i-preserved c =
     let written : c.write.new.own ++ c.write.new.shared ≡ slice_set ws (c.args.to + i) (word ws (from + i)) =
     c.write.ensures.word ∙ ap (slice_set ws (c.args.to + i)) (whole ∙ c.read-n.ensures.word) in
     let more : i + 1 ≡ c.loop-i.i = omega arith in
-    ap (λ us. paste c.args.to (block us from i) us) written
-    ∙ (copied_up ws c.args.to from i c.requires.up
-    ∙ (ap (λ n. paste c.args.to (block ws from n) ws) more
-    ∙ c.loop-i.invariant))
+    record {
+      words =
+          ap (λ us. paste c.args.to (block us from i) us) written
+          ∙ (copied_up ws c.args.to from i c.requires.up
+          ∙ (ap (λ n. paste c.args.to (block ws from n) ws) more
+          ∙ c.loop-i.invariant.words));
+      own = c.write.ensures.own ∙ c.loop-i.invariant.own;
+      shared = c.write.ensures.shared ∙ c.loop-i.invariant.shared;
+    }

@@ -14,4 +14,4 @@ returns-clause-step c =
     λ input i j toward away.
     ap (λ us. record (joined old input shared) { words = us })
     (ap (λ us. us ++ c.copy.new.shared) (with_items_is old.memory.words c.copy.new.own same)
-    ∙ (rw c.deref_mut.ensures.value at c.copy.ensures ∙ copied_capped ws c.args.to c.args.from i j c.args.count small toward away))
+    ∙ (rw c.deref_mut.ensures.value at c.copy.ensures.words ∙ copied_capped ws c.args.to c.args.from i j c.args.count small toward away))

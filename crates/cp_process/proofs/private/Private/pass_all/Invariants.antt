@@ -1,4 +1,4 @@
-use Rattle.std.proofs.Common.{◌≡◌, ℕ, map, drop}
+use Rattle.std.proofs.Common.{◌≡◌, ℕ, map, drop, length}
 use Rattle.cp_steps.specs.Passing.{pass_all}
 use Rattle.cp_threaded.specs.View as view
 use Rattle.cp_process.specs.States.{joined, outside_of}
@@ -12,4 +12,6 @@ invariant-loop-argument l = record {
       (joined l.self l.outside.input.now l.shared)
       ≡ pass_all (outside_of l.fn.outside own) l.fn.destination.to l.fn.destination.home (map view.argument l.fn.arguments)
       (joined l.fn.self l.fn.outside.input.now l.fn.shared);
+  own : length l.self.memory.words.items ≡ length l.fn.self.memory.words.items;
+  shared : length l.shared ≡ length l.fn.shared;
 }
