@@ -55,7 +55,7 @@ impl Private {
         Ok(leaves(frame.gate))
     }
 
-    /// Lets go whoever stands in a queue, and returns. Outside all monitors nothing is done.
+    /// Lets go whoever stands in a queue, and returns. Where the running routine has entered no monitor, nothing is done.
     pub(crate) fn let_go(
         &mut self,
         shared: &mut [i32],
@@ -72,12 +72,12 @@ impl Private {
         ensures shared { length shared.new ≡ length shared.old }
     {
         let at = self.place(shared, outside, queue)?;
-        if self.gate == 0 {
-            return Ok(Effect::None);
-        }
         let Some(frame) = self.innermost() else {
             return Ok(Effect::None);
         };
+        if frame.gate == 0 {
+            return Ok(Effect::None);
+        }
         let value = self.value_to_return(shared, function)?;
         let resumed = self.word(shared, at);
         self.return_to(frame, value);
