@@ -5,7 +5,7 @@ mod NamesStand
 mod Temps
 mod Fits
 mod StandardStand
-mod CallsStand
+pub mod CallsStand
 mod SpotsStand
 mod TermsStand
 mod InitStand
@@ -23,7 +23,7 @@ mod DefinitionsStand
 mod RowsStand
 mod UnitTexts
 mod TextsStand
-mod KnownStand
+pub mod KnownStand
 mod FactsStand
 mod OperationsStand
 mod AssignmentsStand

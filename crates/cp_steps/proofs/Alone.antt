@@ -1,5 +1,5 @@
 -- A step of a process that holds no gate: it is private, in the meaning and in the machine, or it is the kernel's in both.
-use Rattle.std.proofs.Common.{◌≡◌, refl, ℕ, List, [], ◌∷◌, Bool, true, false, Some, ap, sym, subst, ◌∙◌}
+use Rattle.std.proofs.Common.{inl, ◌≡◌, refl, ℕ, List, [], ◌∷◌, Bool, true, false, Some, ap, sym, subst, ◌∙◌}
 use Rattle.std.specs.Prelude.{◌||◌, if◌then◌else◌, not}
 use Rattle.cp_model.specs.Actions.{Action, action, is_kernel_action}
 use Rattle.cp_model.specs.Configurations.{Ready}
@@ -58,7 +58,7 @@ steps_alone G s before o part ready marks running gate S = by (steps.is_kernel_o
     by false own =
         subst (λ (u : State). PartOf G u before (steps.private_step G.program (realtime (clock_of G s)) o))
         (sym (meaning_steps G.setup s G.p (s.continuation G.p) (action (s.continuation G.p)) refl ready marks refl (S.same_kind ∙ own)))
-        (subst (PartOf G (acted G s) before) (sym (machine_steps G (realtime (clock_of G s)) o S.operation running gate S.there own)) (S.part own))
+        (subst (PartOf G (acted G s) before) (sym (machine_steps G (realtime (clock_of G s)) o S.operation running gate S.there own)) (S.part (inl own)))
     by true own =
         subst (λ (u : State). PartOf G u before (steps.private_step G.program (realtime (clock_of G s)) o)) (sym meaning_rests)
         (subst (PartOf G s before) (sym machine_rests) part)

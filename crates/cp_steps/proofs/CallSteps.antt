@@ -9,6 +9,8 @@ use Rattle.cp_model.specs.Actions as actions
 use Rattle.cp_model.specs.Actions.{Action, Acts, action, is_kernel_action}
 use Rattle.cp_model.specs.Assignments.{starting_writes}
 use Rattle.cp_model.specs.Calls.{Callee, UserCall, call_in_arguments, call_in_task, in_context, is_monitor_call, procedure_call}
+use Rattle.cp_model.specs.CallSteps as calls
+use Rattle.cp_model.specs.CallSteps.{target}
 use Rattle.cp_model.specs.Components.{Component, same_sort}
 use Rattle.cp_model.specs.Continuations.{Do, Task, depth}
 use Rattle.cp_model.specs.Declarations as declared
@@ -17,12 +19,13 @@ use Rattle.cp_model.specs.Environments.{Environment, local_variables, permanent_
 use Rattle.cp_model.specs.Invariant.{StoreInvariant}
 use Rattle.cp_model.specs.Locations.{OfActivation, root}
 use Rattle.cp_model.specs.Names.{lookup}
-use Rattle.cp_model.specs.States.{State}
+use Rattle.cp_model.specs.States.{State, configuration, context}
+use Rattle.cp_model.specs.Turns.{after_step}
 use Rattle.cp_model.specs.Stores.{Store, forget, put_all}
 use Rattle.cp_model.specs.Types.{GlobalScope}
 use Rattle.cp_typing.specs.Declared.{Distinct}
 use Rattle.cp_typing.specs.Needs.{result_words}
-use Rattle.cp_code.specs.Terms as target
+use Rattle.cp_code.specs.Terms as terms
 use Rattle.cp_code.specs.Terms.{Argument, Copy, Reference, Value}
 use Rattle.cp_code.specs.Programs as op
 use Rattle.cp_code.specs.Programs.{Call, CodeUnit}
@@ -36,23 +39,26 @@ use Rattle.cp_code.specs.TermsFor.{ArgumentsFor, Knowns, nothing_known}
 use Rattle.cp_steps.specs.PrivateStates.{Outside, PrivateState}
 use Rattle.cp_steps.specs.Passing.{component_called}
 use Rattle.cp_steps.specs.Calling.{Back, frame_of}
-use Rattle.cp_steps.specs.Steps.{is_monitor}
+use Rattle.cp_steps.specs.PartOf.{PartOf}
+use Rattle.cp_steps.specs.Steps.{act, is_monitor}
 use Rattle.cp_steps.specs.Addresses.{Ground, activations, in_sight, lies, scope, seen}
 use Rattle.cp_steps.specs.Left.{CallerAt, Left, held_below, kept_below, site}
 use Rattle.cp_steps.proofs.Declared.{distinct_first}
+use Rattle.cp_code.proofs.CallsStand.{callee_of}
+use Rattle.cp_steps.proofs.Declares.{Declares}
 use Rattle.cp_steps.proofs.Doing.{Ready, known}
 use Rattle.cp_steps.proofs.Entering.{Opened, Waits, owner_of_call}
 use Rattle.cp_steps.proofs.Finding.{in_context_none, some_is_not_none}
 use Rattle.cp_steps.proofs.Heres.{Sees, depth_is, seen_mine}
-use Rattle.cp_steps.proofs.Invoking.{Opens, invoked}
+use Rattle.cp_steps.proofs.Invoking.{Opens, TargetIs, invoked}
 use Rattle.cp_steps.proofs.Layouts.{same_some}
 use Rattle.cp_steps.proofs.LeftKept.{left_kept}
 use Rattle.cp_steps.proofs.NextCalls.{CallReady}
 use Rattle.cp_steps.proofs.Opening.{HoldsValues, opened}
 use Rattle.cp_steps.proofs.Passing.{Has, ParameterHas, parameter_at}
 use Rattle.cp_steps.proofs.StartLeaves.{IsSimple}
-use Rattle.cp_steps.proofs.Stepping.{Now, Stepped, both_step, kernel_rests}
-use Rattle.cp_steps.proofs.Targets.{target_is}
+use Rattle.cp_steps.proofs.Stepping.{Now, Stepped, both_step, kernel_step}
+use Rattle.cp_steps.proofs.Targets.{monitor_is, target_is}
 use Rattle.cp_steps.proofs.Stacks.{own_in_whole}
 
 -- ---- parameters
@@ -85,17 +91,17 @@ parameters_plain site K _ _ _ at from last low high h g n x k d e by_value = abs
 -- ---- kinds
 
 -- The meaning enters a monitor where the machine does.
-kinds_agree : (env : Environment) (c : Callee) (x : target.Target) → TargetFor env c.of x → is_monitor_call c ≡ is_monitor x
+kinds_agree : (env : Environment) (c : Callee) (x : terms.Target) → TargetFor env c.of x → is_monitor_call c ≡ is_monitor x
 kinds_agree env c x h = by c.of x h
   where
-    inner : (n : Component) (z : Sort) (b : Bool) (x : target.Target) → TargetOf env n z b x → same_sort a.Monitor z ≡ is_monitor x
-    inner n a.Class false (target.Class at) h = refl
-    inner n a.Class true (target.ClassRight at) h = refl
-    inner n a.Monitor false (target.Monitor m) h = refl
-    inner n a.Monitor true (target.MonitorRight at) h = refl
+    inner : (n : Component) (z : Sort) (b : Bool) (x : terms.Target) → TargetOf env n z b x → same_sort a.Monitor z ≡ is_monitor x
+    inner n a.Class false (terms.Class at) h = refl
+    inner n a.Class true (terms.ClassRight at) h = refl
+    inner n a.Monitor false (terms.Monitor m) h = refl
+    inner n a.Monitor true (terms.MonitorRight at) h = refl
     inner n _ _ _ h = absurd h
 
-    by : (of : Option Component) (x : target.Target) → TargetFor env of x → (elim of [ None ↦ false | Some n ↦ same_sort a.Monitor n.system.sort ]) ≡ is_monitor x
+    by : (of : Option Component) (x : terms.Target) → TargetFor env of x → (elim of [ None ↦ false | Some n ↦ same_sort a.Monitor n.system.sort ]) ≡ is_monitor x
     by None x h = ap is_monitor (sym h)
     by (Some n) x h = inner n n.system.sort n.is_parameter x h
 
@@ -158,9 +164,9 @@ parameters_distinct G g c y same h =
 -- A function that a task calls.
 pub function_steps : (G : Ground) (s : State) (w : Outside) (before : List ℕ) (o : PrivateState) (i : Task) (l : List Task) (N : Now G s w before o i l) → Sees G (in_sight G) s.store N.on.running.env → StoreInvariant s.store → UnitsStand G
     → (v : UserCall) (temp after : ℕ) (base : BaseType) (C : CallReady (site G N.on.running) (held_below N.on.live o.temps N.on.running.temp) v o.place temp after base) (j : Task) → call_in_task (a.Literal 0) i ≡ Some (v, j)
-    → Left G o.temps o.limit (kept_below C.low N.on.live o.temps N.on.running.temp) N.on.running o.frames o.place C.low (i ∷ l)
+    → Left G o.temps o.limit (kept_below C.low N.on.live o.temps N.on.running.temp) N.on.running o.frames o.place C.low (i ∷ l) → Declares G N.on.running.env
     → Stepped G s w before o
-function_steps G s w before o i l N sees I units v temp after base C j found left = by (is_monitor C.call.target) refl
+function_steps G s w before o i l N sees I units v temp after base C j found left declares = by (is_monitor C.call.target) refl
   where
     acts : action (i ∷ l) ≡ actions.Calls v (i ∷ l)
     acts = λ z. elim (found z) as (λ x. Action) [
@@ -171,14 +177,16 @@ function_steps G s w before o i l N sees I units v temp after base C j found lef
     kinds : is_monitor_call v.callee ≡ is_monitor C.call.target
     kinds = kinds_agree N.on.running.env v.callee C.call.target C.calls.target
 
-    by : (b : Bool) → is_monitor C.call.target ≡ b → Stepped G s w before o
-    by true e = kernel_rests G s w before o i l N (actions.Calls v (i ∷ l)) (op.Function C.call temp after) acts (kinds ∙ e) C.op e
-    by false e =
+    target_here : calls.Target
+    target_here = target (context G.setup s G.p) s.store N.on.running.env v.callee.of
+
+    called : TargetIs G s.store target_here (component_called G.program w o C.call.target) (system_of_callee N.on.running.env v.callee.of)
+        → PartOf G (after_step s G.p (calls.call (context G.setup s G.p) (configuration s G.p) v (i ∷ l))) before (act G.program w o (op.Function C.call temp after)).0
+    called T =
         let back : Back = record { place = after; into = temp } in
         let W : Waits G o (i ∷ l) (i ∷ l) N.on.running o.place C.low N.on.live = record { same = refl; means = λ store words. refl; marks = refl; left = left; kept_fit = omega (arith, C.calls.runs.fits.temps) } in
         let stands = units C.call.routine C.calls.runs.unit (RoutineOf (system_of_callee N.on.running.env v.callee.of) v.callee.routine) C.calls.runs.there C.calls.runs.text in
-        both_step G s w before o i l N (actions.Calls v (i ∷ l)) (op.Function C.call temp after) acts (kinds ∙ e) C.op e
-        (invoked G s w before o i l N sees (i ∷ l) v C.call back o.place C.low N.on.live C.from o.place C.low C.high
+        invoked G s w before o i l N sees (i ∷ l) v C.call back o.place C.low N.on.live C.from o.place C.low C.high
         record {
           waits = W;
           runs = C.calls.runs;
@@ -187,18 +195,26 @@ function_steps G s w before o i l N sees I units v temp after base C j found lef
           made = C.made;
           where_is = C.where_is;
           distinct = parameters_distinct G N.on.running.env.globals v.callee (system_of_callee N.on.running.env v.callee.of) N.on.runs.globals stands.2;
-          target_is = target_is G s w before o i l N sees I v.callee.of C.call.target C.calls.target e;
+          target_is = T;
           caller = subst (λ z. CallerAt G C.call.routine C.low N.on.live z (frame_of o (component_called G.program w o C.call.target) back) o.place) (sym C.answers.1)
               (C.call, temp, refl, C.calls.runs.temps, N.on.next_value C.call temp after C.op, C.op, refl);
           opens = opens G s w before o i l N sees (i ∷ l) v C.call back o.place C.low N.on.live W C.calls.runs stands C.from o.place C.low C.high C.arguments;
-        })
+        }
+
+    by : (b : Bool) → is_monitor C.call.target ≡ b → Stepped G s w before o
+    by true e =
+        kernel_step G s w before o i l N (actions.Calls v (i ∷ l)) (op.Function C.call temp after) acts (kinds ∙ e) C.op e
+        (λ K. called (monitor_is G s w before o i l N sees I K declares v.callee.of C.call.target C.calls.target (λ n is. callee_of N.on.running.env C.named v.callee n C.calls.means is) e))
+    by false e =
+        both_step G s w before o i l N (actions.Calls v (i ∷ l)) (op.Function C.call temp after) acts (kinds ∙ e) C.op e
+        (called (target_is G s w before o i l N sees I v.callee.of C.call.target C.calls.target e))
 
 -- A procedure statement, of which no call is left in the arguments.
 pub procedure_steps : (G : Ground) (s : State) (w : Outside) (before : List ℕ) (o : PrivateState) (d : a.Designator) (es : a.Expressions) (env : Environment) (k : List Task) → StoreInvariant s.store → UnitsStand G
     → (Y : Ready G s w before o (a.Perform d es) env k) (call : Call) (n : ℕ) → operation_at G.program o.place ≡ Some (op.Procedure call n)
     → PerformsBy (site G Y.now.on.running) (known G s w before o (Do (a.Perform d es) env) k Y.now) d es (op.Procedure call n) o.place Y.now.on.left.2.3.0 Y.now.on.left.2.0 Y.now.on.left.2.1
-    → Stepped G s w before o
-procedure_steps G s w before o d es env k I units Y call n there h = by (is_monitor call.target) refl
+    → Declares G Y.now.on.running.env → Stepped G s w before o
+procedure_steps G s w before o d es env k I units Y call n there h declares = by (is_monitor call.target) refl
   where
     here : Environment
     here = Y.now.on.running.env
@@ -221,9 +237,9 @@ procedure_steps G s w before o d es env k I units Y call n there h = by (is_moni
     kinds : is_monitor_call h.0 ≡ is_monitor call.target
     kinds = kinds_agree Y.now.on.running.env h.0 call.target h.2.target
 
-    by : (b : Bool) → is_monitor call.target ≡ b → Stepped G s w before o
-    by true e = kernel_rests G s w before o (Do (a.Perform d es) env) k Y.now (actions.Calls v k) (op.Procedure call n) acts (kinds ∙ e) there e
-    by false e =
+    called : TargetIs G s.store (target (context G.setup s G.p) s.store here h.0.of) (component_called G.program w o call.target) (system_of_callee here h.0.of)
+        → PartOf G (after_step s G.p (calls.call (context G.setup s G.p) (configuration s G.p) v k)) before (act G.program w o (op.Procedure call n)).0
+    called T =
         let N = Y.now in
         let i = Do (a.Perform d es) env in
         let left = N.on.left.2 in
@@ -231,8 +247,7 @@ procedure_steps G s w before o d es env k I units Y call n there h = by (is_moni
         let rest = left_kept G o.temps o.temps o.limit refl nothing_known (kept_below left.1 0 o.temps N.on.running.temp) N.on.running o.frames left.0 left.1 k (λ m q z. absurd z) (λ m q. refl) left.4 in
         let W : Waits G o (i ∷ k) k N.on.running left.0 left.1 0 = record { same = refl; means = λ store words. refl; marks = refl; left = rest; kept_fit = left.2 } in
         let stands = units call.routine h.2.runs.unit (RoutineOf (system_of_callee N.on.running.env h.0.of) h.0.routine) h.2.runs.there h.2.runs.text in
-        both_step G s w before o i k N (actions.Calls v k) (op.Procedure call n) acts (kinds ∙ e) there e
-        (invoked G s w before o i k N N.sees k v call back left.0 left.1 0 o.place left.3.0 left.1 h.1
+        invoked G s w before o i k N N.sees k v call back left.0 left.1 0 o.place left.3.0 left.1 h.1
         record {
           waits = W;
           runs = h.2.runs;
@@ -241,8 +256,16 @@ procedure_steps G s w before o d es env k I units Y call n there h = by (is_moni
           made = in_context_none (a.Perform d) (call_in_arguments here (a.Literal 0) es) Y.none;
           where_is = refl;
           distinct = parameters_distinct G N.on.running.env.globals h.0 (system_of_callee N.on.running.env h.0.of) N.on.runs.globals stands.2;
-          target_is = target_is G s w before o i k N N.sees I h.0.of call.target h.2.target e;
+          target_is = T;
           caller = subst (λ z. CallerAt G call.routine left.1 0 z (frame_of o (component_called G.program w o call.target) back) left.0) (sym h.3)
               (sym h.4, refl);
           opens = opens G s w before o i k N N.sees k v call back left.0 left.1 0 W h.2.runs stands o.place left.3.0 left.1 h.1 h.6;
-        })
+        }
+
+    by : (b : Bool) → is_monitor call.target ≡ b → Stepped G s w before o
+    by true e =
+        kernel_step G s w before o (Do (a.Perform d es) env) k Y.now (actions.Calls v k) (op.Procedure call n) acts (kinds ∙ e) there e
+        (λ K. called (monitor_is G s w before o (Do (a.Perform d es) env) k Y.now Y.now.sees I K declares h.0.of call.target h.2.target (λ m is. callee_of here d h.0 m h.2.means is) e))
+    by false e =
+        both_step G s w before o (Do (a.Perform d es) env) k Y.now (actions.Calls v k) (op.Procedure call n) acts (kinds ∙ e) there e
+        (called (target_is G s w before o (Do (a.Perform d es) env) k Y.now Y.now.sees I h.0.of call.target h.2.target e))

@@ -13,7 +13,9 @@ use Rattle.cp_model.specs.Environments.{Environment, Frame}
 use Rattle.cp_model.specs.Invariant.{EnvironmentIn, Invariant, TaskIn, TasksInReach}
 use Rattle.cp_model.specs.Locations.{OfActivation, Owner}
 use Rattle.cp_model.specs.Reach.{in_reach}
-use Rattle.cp_model.specs.States.{State}
+use Rattle.cp_model.specs.States.{State, configuration, context}
+use Rattle.cp_model.specs.StatementSteps.{execute}
+use Rattle.cp_model.specs.Turns.{after_step}
 use Rattle.cp_model.proofs.StoreInvariants.{references_in_reach}
 use Rattle.cp_code.specs.Programs as op
 use Rattle.cp_code.specs.Programs.{Operation}
@@ -24,7 +26,7 @@ use Rattle.cp_code.specs.TermsFor.{Knowns}
 use Rattle.cp_code.specs.StatementsFor.{AssignsBy, InitsBy, PerformsBy}
 use Rattle.cp_steps.specs.PrivateStates as machine
 use Rattle.cp_steps.specs.PrivateStates.{Outside, PrivateState}
-use Rattle.cp_steps.specs.Steps.{is_kernel_operation}
+use Rattle.cp_steps.specs.Steps.{act, is_kernel_operation}
 use Rattle.cp_steps.specs.Addresses.{Ground, in_sight, scope}
 use Rattle.cp_steps.specs.Left.{Left, Running, Runs, held_below, innermost_gate, kept_below, site}
 use Rattle.cp_steps.specs.PartOf.{PartOf, RunsOn}
@@ -36,6 +38,7 @@ use Rattle.cp_steps.proofs.ContinueSteps.{continue_steps}
 use Rattle.cp_steps.proofs.CopySteps.{copy_steps}
 use Rattle.cp_steps.proofs.Counting.{for_next_steps, for_steps}
 use Rattle.cp_steps.proofs.Declared.{no_local_result}
+use Rattle.cp_steps.proofs.Declares.{Declares, runs_declares}
 use Rattle.cp_steps.proofs.Delaying.{delay_in_monitor}
 use Rattle.cp_steps.proofs.Doing.{Ready, acts_itself, known}
 use Rattle.cp_steps.proofs.Ending.{body_ends, process_ends}
@@ -50,7 +53,7 @@ use Rattle.cp_steps.proofs.ResultSteps.{result_steps}
 use Rattle.cp_steps.proofs.Returning.{return_steps, text_is}
 use Rattle.cp_steps.proofs.Standards.{By, accept_steps, delay_steps, display_steps, one, wait_steps}
 use Rattle.cp_steps.proofs.StatementCalls.{own_place, statement_next}
-use Rattle.cp_steps.proofs.Stepping.{Around, IfPlaced, Now, Stepped, kernel_rests}
+use Rattle.cp_steps.proofs.Stepping.{Around, AroundAll, IfPlaced, Now, Stepped, kernel_step}
 use Rattle.cp_steps.proofs.Testing.{cycle_steps, if_steps, repeat_steps, while_steps}
 use Rattle.cp_code.specs.Terms.{Spot}
 
@@ -73,8 +76,16 @@ other_sort z y e h = subst (SameSort z) e h
 abbrev pub Reaches : Ground → State → Type 0
 Reaches G s = (o : Owner) → in_reach G.p (marked_monitors (s.continuation G.p)) o ≡ true → in_sight G o ≡ true
 
+-- What the `init` of a monitor or a process makes of a private state, with all words in reach.
+abbrev pub InitsByKernel : Ground → State → Outside → List ℕ → PrivateState → Type 0
+InitsByKernel G s w before o =
+    AroundAll G s w → (x : Name) (es : a.Expressions) (env : Environment) (k : List Task) (Y : Ready G s w before o (a.Init x es) env k) (y : Operation)
+    → operation_at G.program o.place ≡ Some y → is_kernel_operation y ≡ true
+    → InitsBy (site G Y.now.on.running) (known G s w before o (Do (a.Init x es) env) k Y.now) Y.now.on.left.2.3.2 es y o.place Y.now.on.left.2.3.0 Y.now.on.left.2.0 Y.now.on.left.2.1
+    → PartOf G (after_step s G.p (execute (context G.setup s G.p) (configuration s G.p) Y.now.on.running.env k (a.Init x es))) before (act G.program w o y).0
+
 module _ (G : Ground) (s : State) (w : Outside) (before : List ℕ) (o : PrivateState) (F : StandsFor G.program G.setup) (texts : F.texts ≡ G.texts) (part : PartOf G s before o) (I : Invariant s)
-    (around : Around G s w) (reaches : Reaches G s) where
+    (around : Around G s w) (reaches : Reaches G s) (kernel_inits : InitsByKernel G s w before o) where
   units : UnitsStand G
   units n u t unit text =
       subst (λ ts. UnitStands G.program ts (scope G) u t) texts (F.units n u t unit (ap (λ ts. slice_get ts n) texts ∙ text))
@@ -90,6 +101,9 @@ module _ (G : Ground) (s : State) (w : Outside) (before : List ℕ) (o : Private
       let y = text_is R.text R.env.frame f is runs.frame in
       let stands = subst (UnitStands G.program G.texts (scope G) R.unit) y.1 (units R.number R.unit R.text runs.unit runs.text) in
       no_local_result (scope G) y.0 f.routine t stands.2 result
+
+  declares_here : (R : Running) → Runs G (length o.temps) o.limit R o.frames → Declares G R.env
+  declares_here R runs = runs_declares G F texts (length o.temps) o.limit R o.frames runs
 
   -- ---- statements
 
@@ -113,7 +127,7 @@ module _ (G : Ground) (s : State) (w : Outside) (before : List ℕ) (o : Private
   performs : (d : a.Designator) (es : a.Expressions) (env : Environment) (k : List Task) (Y : Ready G s w before o (a.Perform d es) env k) (x : Operation) → operation_at G.program o.place ≡ Some x
       → PerformsBy (site G Y.now.on.running) (known G s w before o (Do (a.Perform d es) env) k Y.now) d es x o.place Y.now.on.left.2.3.0 Y.now.on.left.2.0 Y.now.on.left.2.1
       → Stepped G s w before o
-  performs d es env k Y (op.Procedure call n) there h = procedure_steps G s w before o d es env k I.store units Y call n there h
+  performs d es env k Y (op.Procedure call n) there h = procedure_steps G s w before o d es env k I.store units Y call n there h (declares_here Y.now.on.running Y.now.on.runs)
   performs (a.Plain x) (a.MoreExpressions e a.NoExpression) env k Y (op.Display c as_byte n) there h = display_steps G s w before o x env k e Y c as_byte n (there, h)
   performs (a.Plain x) (a.MoreExpressions (a.Use d) a.NoExpression) env k Y (op.Accept to lower upper n) there h = accept_steps G s w before o x env k d Y to lower upper n (there, h)
   performs (a.Plain x) (a.MoreExpressions (a.Use d) a.NoExpression) env k Y (op.Delay queue n) there h = delays x env k d Y queue n (there, h)
@@ -123,12 +137,14 @@ module _ (G : Ground) (s : State) (w : Outside) (before : List ℕ) (o : Private
 
   -- The `init` of a monitor or a process is the kernel's.
   inits_by_kernel : (x : Name) (es : a.Expressions) (env : Environment) (k : List Task) (Y : Ready G s w before o (a.Init x es) env k) (y : Operation) → operation_at G.program o.place ≡ Some y
-      → is_kernel_operation y ≡ true → (Y.now.on.left.2.3.2.system.sort ≡ a.Class → ⊥) → Stepped G s w before o
-  inits_by_kernel x es env k Y y there own no_class =
-      kernel_rests G s w before o (Do (a.Init x es) env) k Y.now (Acts (Do (a.Init x es) here) k) y
+      → is_kernel_operation y ≡ true → (Y.now.on.left.2.3.2.system.sort ≡ a.Class → ⊥)
+      → InitsBy (site G Y.now.on.running) (known G s w before o (Do (a.Init x es) env) k Y.now) Y.now.on.left.2.3.2 es y o.place Y.now.on.left.2.3.0 Y.now.on.left.2.0 Y.now.on.left.2.1
+      → Stepped G s w before o
+  inits_by_kernel x es env k Y y there own no_class h =
+      kernel_step G s w before o (Do (a.Init x es) env) k Y.now (Acts (Do (a.Init x es) here) k) y
       (ap (λ e. action (Do (a.Init x es) e ∷ k)) Y.now.on.left.0 ∙ acts_itself (Do (a.Init x es) here) k (ap (in_context (λ z. Do z here)) Y.none) refl)
       (ap (λ (z : Option Component). not (elim z as (λ y. Bool) [ None ↦ true | Some c ↦ same_sort a.Class c.system.sort ])) Y.now.on.left.2.3.4 ∙ by Y.now.on.left.2.3.2.system.sort no_class)
-      there own
+      there own (λ K. kernel_inits K x es env k Y y there own h)
     where
       here : Environment
       here = Y.now.on.running.env
@@ -141,9 +157,9 @@ module _ (G : Ground) (s : State) (w : Outside) (before : List ℕ) (o : Private
   inits : (x : Name) (es : a.Expressions) (env : Environment) (k : List Task) (Y : Ready G s w before o (a.Init x es) env k) (y : Operation) → operation_at G.program o.place ≡ Some y
       → InitsBy (site G Y.now.on.running) (known G s w before o (Do (a.Init x es) env) k Y.now) Y.now.on.left.2.3.2 es y o.place Y.now.on.left.2.3.0 Y.now.on.left.2.0 Y.now.on.left.2.1
       → Stepped G s w before o
-  inits x es env k Y (op.InitClass call m) there h = init_steps G s w before o x es env k I.store units Y call m there h (no_class_rights G F.typed)
-  inits x es env k Y (op.InitMonitor call m) there h = inits_by_kernel x es env k Y (op.InitMonitor call m) there refl (λ e. other_sort a.Class a.Monitor (sym e ∙ h.0) tt)
-  inits x es env k Y (op.InitProcess r xs count m) there h = inits_by_kernel x es env k Y (op.InitProcess r xs count m) there refl (λ e. other_sort a.Class a.Process (sym e ∙ h.0) tt)
+  inits x es env k Y (op.InitClass call m) there h = init_steps G s w before o x es env k I.store units Y call m there h (no_class_rights G F.typed) (declares_here Y.now.on.running Y.now.on.runs)
+  inits x es env k Y (op.InitMonitor call m) there h = inits_by_kernel x es env k Y (op.InitMonitor call m) there refl (λ e. other_sort a.Class a.Monitor (sym e ∙ h.0) tt) h
+  inits x es env k Y (op.InitProcess r xs count m) there h = inits_by_kernel x es env k Y (op.InitProcess r xs count m) there refl (λ e. other_sort a.Class a.Process (sym e ∙ h.0) tt) h
   inits x es env k Y _ there h = absurd h
 
   statement_steps : (st : a.Statement) (env : Environment) (k : List Task) → Ready G s w before o st env k → Stepped G s w before o
@@ -175,7 +191,7 @@ module _ (G : Ground) (s : State) (w : Outside) (before : List ℕ) (o : Private
           (ap (λ e. in_context (λ y. Do y env) (call_in_statement e (a.Literal 0) st)) N.on.left.0 ∙ ap (in_context (λ y. Do y env)) (C.found (a.Literal 0)))
           (let h = N.on.left in
           left_kept G o.temps o.temps o.limit refl (known G s w before o (Do st env) k N) (kept_below C.ready.low N.on.live o.temps N.on.running.temp) N.on.running o.frames o.place C.ready.low (Do st env ∷ k)
-          (held_within o.temps N.on.running.temp C.ready.low N.on.live) (λ n q. refl) (h.0, h.1, (h.2.0, h.2.1, C.keeps, h.2.3, h.2.4)))
+          (held_within o.temps N.on.running.temp C.ready.low N.on.live) (λ n q. refl) (h.0, h.1, (h.2.0, h.2.1, C.keeps, h.2.3, h.2.4))) (declares_here N.on.running N.on.runs)
 
   while_does : (now e : a.Expression) (st : a.Statement) (env : Environment) (k : List Task) → Now G s w before o (WhileTest now e st env) k → Stepped G s w before o
   while_does now e st env k N =
@@ -189,7 +205,7 @@ module _ (G : Ground) (s : State) (w : Outside) (before : List ℕ) (o : Private
           (ap (λ z. in_context (λ y. WhileTest y e st env) (first_call z (a.Literal 0) now)) N.on.left.0 ∙ ap (in_context (λ y. WhileTest y e st env)) (C.found (a.Literal 0)))
           (let h = N.on.left in
           left_kept G o.temps o.temps o.limit refl (known G s w before o (WhileTest now e st env) k N) (kept_below C.ready.low N.on.live o.temps N.on.running.temp) N.on.running o.frames o.place C.ready.low (WhileTest now e st env ∷ k)
-          (held_within o.temps N.on.running.temp C.ready.low N.on.live) (λ n q. refl) (h.0, (h.1.0, h.1.1, C.keeps, h.1.3, h.1.4)))
+          (held_within o.temps N.on.running.temp C.ready.low N.on.live) (λ n q. refl) (h.0, (h.1.0, h.1.1, C.keeps, h.1.3, h.1.4))) (declares_here N.on.running N.on.runs)
 
   repeat_does : (now : a.Expression) (st : a.Statement) (e : a.Expression) (env : Environment) (k : List Task) → Now G s w before o (RepeatTest now st e env) k → Stepped G s w before o
   repeat_does now st e env k N =
@@ -203,7 +219,7 @@ module _ (G : Ground) (s : State) (w : Outside) (before : List ℕ) (o : Private
           (ap (λ z. in_context (λ y. RepeatTest y st e env) (first_call z (a.Literal 0) now)) N.on.left.0 ∙ ap (in_context (λ y. RepeatTest y st e env)) (C.found (a.Literal 0)))
           (let h = N.on.left in
           left_kept G o.temps o.temps o.limit refl (known G s w before o (RepeatTest now st e env) k N) (kept_below C.ready.low N.on.live o.temps N.on.running.temp) N.on.running o.frames o.place C.ready.low (RepeatTest now st e env ∷ k)
-          (held_within o.temps N.on.running.temp C.ready.low N.on.live) (λ n q. refl) (h.0, (h.1.0, h.1.1, C.keeps, h.1.3, h.1.4)))
+          (held_within o.temps N.on.running.temp C.ready.low N.on.live) (λ n q. refl) (h.0, (h.1.0, h.1.1, C.keeps, h.1.3, h.1.4))) (declares_here N.on.running N.on.runs)
 
   -- ---- tasks
 

@@ -1,5 +1,5 @@
 -- A routine is entered: the caller's frame is pushed, and the body is left in front of its end mark.
-use Rattle.std.proofs.Common.{◌≡◌, ◌⊎◌, inl, inr, ℕ, ◌+◌, ◌≤◌, ℤ, List, [], ◌∷◌, length, Bool, true, false, Some, None, refl, ap, sym, subst, ◌∙◌, arith}
+use Rattle.std.proofs.Common.{◌≡◌, ◌⊎◌, inl, inr, ℕ, zero, suc, ◌+◌, ◌≤◌, ℤ, List, [], ◌∷◌, length, Bool, true, false, Option, Some, None, refl, ap, sym, subst, ◌∙◌, arith}
 use Rattle.std.specs.Prelude.{if◌then◌else◌, nat_eq}
 use Rattle.std.proofs.lemmas.Bool.{eqb-true}
 use Rattle.cp_model.specs.Abstract.{Name, Routine, System}
@@ -20,9 +20,10 @@ use Rattle.cp_steps.specs.Passing.{Called}
 use Rattle.cp_steps.specs.Calling.{Back, enter, frame_of, innermost}
 use Rattle.cp_steps.specs.Means.{CellMeans}
 use Rattle.cp_steps.specs.Addresses.{Activation, ClassHasRights, ComponentLies, Ground, activation_at, activations, in_sight, lies, part_at, part_of_activation, scope}
-use Rattle.cp_steps.specs.Left.{CallerAt, Left, Running, Runs, innermost_gate, kept_below, site}
+use Rattle.cp_steps.specs.Left.{CallerAt, IsGate, Left, Running, Runs, gate_number, innermost_gate, kept_below, site}
 use Rattle.cp_steps.specs.PartOf.{ActivationMeans, ActivationsMean, DataMeans, RunsOn, components}
 use Rattle.cp_steps.proofs.Apart.{IsCell}
+use Rattle.cp_steps.proofs.GatesHeld.{monitor_numbered}
 use Rattle.cp_steps.proofs.Holding.{SameBelow, SameLive, data_below}
 use Rattle.cp_steps.proofs.Pushing.{activations_push, marks_push, mean_push, push_left}
 use Rattle.cp_steps.proofs.RunningOn.{left_afresh, runs_over, runs_stacked}
@@ -85,12 +86,13 @@ pub record Waits (G : Ground) (o : PrivateState) (i k : List Task) (C : Running)
   pub left : Left G o.temps o.limit (kept_below kept live o.temps C.temp) C o.frames place kept k
   pub kept_fit : kept ≤ C.unit.temps
 
--- The routine that is entered runs in a component that lies there.
-pub record Entered (G : Ground) (C : Running) (call : Call) (kept : ℕ) (s : System) (r : Routine) (at : Location) (c : Called) : Type 0 where
+-- The routine that is entered runs in a component that lies there, and enters this gate.
+pub record Entered (G : Ground) (C : Running) (call : Call) (kept : ℕ) (s : System) (r : Routine) (at : Location) (c : Called) (gate : Option ℕ) : Type 0 where
   pub runs : sites.Runs (site G C) (RoutineOf s r) kept call
   pub stands : UnitStands G.program G.texts (scope G) runs.unit (RoutineOf s r)
   pub lies_there : ComponentLies G at s c.component
-  pub gate : c.gate ≡ 0
+  pub same_gate : c.gate ≡ gate_number gate
+  pub is_gate : IsGate G gate
 
 abbrev pub owner_of_call : Ground → List Task → Owner
 owner_of_call G k = OfActivation G.p (depth k)
@@ -100,25 +102,25 @@ environment_of_call G k s r at = routine_environment (scope G) s r at (owner_of_
 
 -- The process runs on in the routine, where the store and the words are as they were at what is live, and the new activation is opened.
 pub entered_on : (G : Ground) (store after : Store) (o : PrivateState) (ws : List ℤ) (i k : List Task) (R : RunsOn G store o i) (call : Call) (back : Back) (s : System) (r : Routine) (at : Location) (c : Called)
-    (place kept live : ℕ) → Waits G o i k R.running place kept live → (E : Entered G R.running call kept s r at c)
+    (gate : Option ℕ) (place kept live : ℕ) → Waits G o i k R.running place kept live → (E : Entered G R.running call kept s r at c gate)
     → CallerAt G call.routine kept live r.result (frame_of o c back) place → ClassHasRights G store c.component
     → SameLive G (activations o.base o.frames i) store after → SameBelow G (o.base + (site G R.running).words) o.words ws → length ws ≡ length o.words
     → Opened G (activations o.base o.frames k) after ws (o.base + call.words) (record { owner = owner_of_call G k; routine = r })
     → RunsOn G after (enter (record o { words = ws }) c E.runs.unit call back)
-    (push r.body (environment_of_call G k s r at) (EndCall (environment_of_call G k s r at) None ∷ k))
-entered_on G store after o ws i k R call back s r at c place kept live W E caller has same_live below len opened = record {
+    (push r.body (environment_of_call G k s r at) (EndCall (environment_of_call G k s r at) gate ∷ k))
+entered_on G store after o ws i k R call back s r at c gate place kept live W E caller has same_live below len opened = record {
   running = N;
   runs = new_runs;
   base = omega (arith, R.base);
   temp = omega (arith, R.temp);
   component = refl;
-  gate = ap (λ g. innermost g o.gate) E.gate ∙ (held ∙ ap innermost_gate (sym (marks_push r.body env (EndCall env None ∷ k))));
+  gate = ap (λ g. innermost g o.gate) E.same_gate ∙ (entered gate E.is_gate ∙ ap innermost_gate (sym (marks_push r.body env (EndCall env gate ∷ k))));
   live = 0;
-  left = left_afresh G o.temps o.limit 0 N (f ∷ o.frames) E.runs.unit.start 0 (push r.body env (EndCall env None ∷ k)) (omega arith)
-      (push_left G o.temps o.limit N (f ∷ o.frames) r.body E.runs.unit.start (E.stands.4 at (owner_of_call G k)).0 0 (EndCall env None ∷ k) (E.stands.4 at (owner_of_call G k)).2 (
+  left = left_afresh G o.temps o.limit 0 N (f ∷ o.frames) E.runs.unit.start 0 (push r.body env (EndCall env gate ∷ k)) (omega arith)
+      (push_left G o.temps o.limit N (f ∷ o.frames) r.body E.runs.unit.start (E.stands.4 at (owner_of_call G k)).0 0 (EndCall env gate ∷ k) (E.stands.4 at (owner_of_call G k)).2 (
         refl,
         record { frame = record { owner = owner_of_call G k; routine = r }; runs = refl; owner = refl; return = (E.stands.4 at (owner_of_call G k)).1 },
-        (E.gate, held, tt),
+        (E.same_gate, held, E.is_gate),
         (
           R.running,
           place,
@@ -139,9 +141,9 @@ entered_on G store after o ws i k R call back s r at c place kept live W E calle
       ));
   next_value = λ d n m e. omega arith;
   count = len ∙ R.count;
-  activations_mean = subst (λ (T : Type 0). T) (sym (mean_push G after ws (o.base + call.words) (f ∷ o.frames) r.body env (EndCall env None ∷ k)))
+  activations_mean = subst (λ (T : Type 0). T) (sym (mean_push G after ws (o.base + call.words) (f ∷ o.frames) r.body env (EndCall env gate ∷ k)))
       (opened.frame, subst (λ (T : Type 0). T) (sym (W.means after ws)) over.activations_mean);
-  data_means = subst (λ ys. DataMeans G ys (in_sight G) after ws) (sym (activations_push (o.base + call.words) (f ∷ o.frames) r.body env (EndCall env None ∷ k)))
+  data_means = subst (λ ys. DataMeans G ys (in_sight G) after ws) (sym (activations_push (o.base + call.words) (f ∷ o.frames) r.body env (EndCall env gate ∷ k)))
       (data_opened G ys after ws (o.base + call.words) (record { owner = owner_of_call G k; routine = r }) opened (subst (λ ys. DataMeans G ys (in_sight G) after ws) (sym W.same) over.data_means));
   given = all_kept G store after
       (keeps_given G store after o.words ws (activations o.base o.frames i) (data_below G (activations o.base o.frames i) (o.base + (site G R.running).words) (runs_stacked G store o i R) store after o.words ws same_live below))
@@ -173,6 +175,15 @@ entered_on G store after o ws i k R call back s r at c place kept live W E calle
 
     held : o.gate ≡ innermost_gate (marked_monitors k)
     held = R.gate ∙ ap innermost_gate (sym W.marks)
+
+    -- The gate that is entered is the innermost one then.
+    entered : (g : Option ℕ) → IsGate G g → innermost (gate_number g) o.gate ≡ innermost_gate (marked_monitors (EndCall env g ∷ k))
+    entered None h = held
+    entered (Some m) h = by m (monitor_numbered G m h)
+      where
+        by : (m : ℕ) → 1 ≤ m → innermost m o.gate ≡ m
+        by zero h = absurd (omega (arith, h))
+        by (suc m) h = refl
 
     new_runs : Runs G (length o.temps) o.limit N (f ∷ o.frames)
     new_runs = record {

@@ -8,7 +8,7 @@ use Rattle.cp_model.specs.Abstract.{BaseType, Name, Sort, System}
 use Rattle.cp_model.specs.Arguments.{bind, init_argument_writes, named_right_writes, right_writes}
 use Rattle.cp_model.specs.Assignments.{writes_of}
 use Rattle.cp_model.specs.Calls.{call_in_arguments, first_call, in_context}
-use Rattle.cp_model.specs.Components.{Component}
+use Rattle.cp_model.specs.Components.{Component, component_named}
 use Rattle.cp_model.specs.Declarations.{Variable, declarations, is_component}
 use Rattle.cp_model.specs.Expressions.{value}
 use Rattle.cp_model.specs.Locations.{Location}
@@ -153,7 +153,7 @@ module _ (G : Ground) (sys : System) (at : Location) (c from : ℕ) (distinct : 
 
   module _ (site : Site) (clock : Clock) (store : Store) (w : Outside) (K : Knowns) (lies : Location → Option Part) (o : PrivateState) (stays : Stays site.env clock store w K lies from o)
       (globals : site.env.globals ≡ scope G)
-      (given : (n : Component) (t : Target) → TargetFor site.env (Some n) t → (ws : List ℤ) → SameOutside from w.own o.words ws → length ws ≡ length o.words → (k : ℕ) (inner : Members) (l : Location)
+      (given : (n : Component) (t : Target) → TargetFor site.env (Some n) t → (named : Name) → component_named site.env named ≡ Some n → (ws : List ℤ) → SameOutside from w.own o.words ws → length ws ≡ length o.words → (k : ℕ) (inner : Members) (l : Location)
       → c + k ≤ length o.words → (v : StoreValue) × (right_writes site.env store sys.sort l n.system.sort n ≡ (l, v) ∷ []) × RightMeans G (ComponentOf n.system inner) v (c + k) (right_word (record o { words = ws }) (c + k) t) × IsGiven (ComponentOf n.system inner) v)
       (there : c + length (declarations (scope G) sys.parameters) ≤ length o.words) where
     abbrev pub Inits : List (Name × Variable) → List ℤ → Outcome Writes → Passing → Type 0
@@ -232,7 +232,7 @@ module _ (G : Ground) (sys : System) (at : Location) (c from : ℕ) (distinct : 
         let component : is_component p.1.type ≡ true = ap is_component h.4 in
         let off : Offset (scope G) sys p to = inl (component, lying) in
         let here : from + to < w.own = omega (arith, room, (offset_within (scope G) sys distinct one p to (all p (inl refl)) off).1) in
-        let r = given h.0 t h.6 ws same len to h.1 (stored_at at p.0) (omega (arith, there, (offset_within (scope G) sys distinct one p to (all p (inl refl)) off).1)) in
+        let r = given h.0 t h.6 x h.5 ws same len to h.1 (stored_at at p.0) (omega (arith, there, (offset_within (scope G) sys distinct one p to (all p (inl refl)) off).1)) in
         let m = right_word (record o { words = ws }) (c + to) t in
         subst (λ y. Inits (p ∷ ps) ws
         (and_then (init_argument_writes sys.sort clock site.env store (stored_at at p.0) y (a.Use (a.Plain x))) (λ us. and_then (bind (λ l v e. init_argument_writes sys.sort clock site.env store l v.type e) at ps es) (λ vs. Gives (us ++ vs))))

@@ -1,11 +1,11 @@
 -- Rights that are passed to a class.
-use Rattle.std.proofs.Common.{◌≡◌, ℕ, ◌+◌, ◌≤◌, ℤ, pos, List, [], ◌∷◌, length, Bool, true, false, Some, refl, ap, sym, subst, ◌∙◌, arith}
+use Rattle.std.proofs.Common.{◌≡◌, inl, inr, ℕ, ◌+◌, ◌≤◌, ℤ, pos, List, [], ◌∷◌, length, Bool, true, false, Some, refl, ap, sym, subst, ◌∙◌, arith}
 use Rattle.std.specs.Prelude.{if◌then◌else◌, ◌+ℤ◌, ◌-ℤ◌}
 use Rattle.std.proofs.lemmas.Int.{ints}
 use Rattle.cp_model.specs.Abstract as a
-use Rattle.cp_model.specs.Abstract.{Class, Sort, System}
+use Rattle.cp_model.specs.Abstract.{Class, Name, Sort, System}
 use Rattle.cp_model.specs.Arguments.{right_writes}
-use Rattle.cp_model.specs.Components.{Component, class_or_here, declared_monitor, monitor_right, name_location}
+use Rattle.cp_model.specs.Components.{Component, class_or_here, component_named, declared_monitor, monitor_right, name_location}
 use Rattle.cp_model.specs.Continuations.{Task}
 use Rattle.cp_model.specs.Environments.{Environment}
 use Rattle.cp_model.specs.Invariant.{StoreInvariant}
@@ -19,8 +19,10 @@ use Rattle.cp_code.specs.Sites.{RightTo, TargetFor, TargetOf}
 use Rattle.cp_code.specs.Starts.{word}
 use Rattle.cp_steps.specs.PrivateStates.{Outside, PrivateState}
 use Rattle.cp_steps.specs.Passing.{class_right, distance_word, monitor_word, right_word}
-use Rattle.cp_steps.specs.Addresses.{ClassLies, ComponentLies, Ground, IsGiven, IsGivenTo, MonitorLies, ProcessLies, RightMeans, RightOf, component_type, in_sight, lies, scope}
+use Rattle.cp_steps.specs.Addresses.{ClassLies, ComponentLies, Ground, IsGiven, IsGivenTo, IsMonitor, MonitorLies, ProcessLies, RightMeans, RightOf, component_type, in_sight, lies, scope}
 use Rattle.cp_steps.specs.Left.{site}
+use Rattle.cp_code.specs.StandsFor.{system_of_monitor}
+use Rattle.cp_steps.proofs.Declares.{Declares}
 use Rattle.cp_steps.proofs.Heres.{Sees}
 use Rattle.cp_steps.proofs.ProcessRights.{NoClassRights}
 use Rattle.cp_steps.proofs.Rooms.{far}
@@ -36,14 +38,10 @@ module _ (G : Ground) (s : State) (w : Outside) (before : List ℕ) (o : Private
   here = N.on.running.env
 
   -- What a right to a monitor holds.
-  monitor_held : (n : Component) (off : ℕ) → n.system.sort ≡ a.Monitor → RightTo here n off → word o.words (o.component + off) ≡ monitor_word (monitor_right (s.store (name_location here n)))
+  monitor_held : (n : Component) (off : ℕ) → n.system.sort ≡ a.Monitor → RightTo here n off
+      → RightOf G n.system a.Monitor (s.store (name_location here n)) (o.component + off) (word o.words (o.component + off))
   monitor_held n off sort r =
-      by (s.store (name_location here n)) (subst (λ z. RightOf G n.system z (s.store (name_location here n)) (o.component + off) (word o.words (o.component + off))) sort (right_held G s w before o i l N sees I n off r))
-    where
-      by : (v : Value) → RightOf G n.system a.Monitor v (o.component + off) (word o.words (o.component + off)) → word o.words (o.component + off) ≡ monitor_word (monitor_right v)
-      by (MonitorRight m) h = h
-      by Absent h = h
-      by _ h = absurd h
+      subst (λ z. RightOf G n.system z (s.store (name_location here n)) (o.component + off) (word o.words (o.component + off))) sort (right_held G s w before o i l N sees I n off r)
 
   -- A right to a class that the running component has was set.
   class_set : NoClassRights G → (n : Component) (off : ℕ) → n.system.sort ≡ Class → RightTo here n off → IsGivenTo Class (s.store (name_location here n))
@@ -60,12 +58,12 @@ module _ (G : Ground) (s : State) (w : Outside) (before : List ℕ) (o : Private
       by (MonitorLies m where' is from) = absurd (none.1 m here.system is off n.name r.variable n.system r.inner lying r.type sort)
 
   -- A right as the meaning and the machine pass it.
-  pub given : NoClassRights G → (y : System) (c : ℕ) → y.sort ≡ Class → (n : Component) (x : t.Target) → TargetFor here (Some n) x → (ws : List ℤ)
+  pub given : NoClassRights G → Declares G here → (y : System) (c : ℕ) → y.sort ≡ Class → (n : Component) (x : t.Target) → TargetFor here (Some n) x → (named : Name) → component_named here named ≡ Some n → (ws : List ℤ)
       → SameBelow G (o.base + (site G N.on.running).words) o.words ws → length ws ≡ length o.words → (k : ℕ) (inner : Members) (at : Location)
       → c + k ≤ length o.words
       → (v : Value) × (right_writes here s.store y.sort at n.system.sort n ≡ (at, v) ∷ []) × RightMeans G (ComponentOf n.system inner) v (c + k) (right_word (record o { words = ws }) (c + k) x)
       × IsGiven (ComponentOf n.system inner) v
-  given none y c class n x h ws same len k inner at room =
+  given none declares y c class n x h named found ws same len k inner at room =
       subst (λ q. (v : Value) × (right_writes here s.store q at n.system.sort n ≡ (at, v) ∷ []) × RightOf G n.system n.system.sort v (c + k) (right_word (record o { words = ws }) (c + k) x) × IsGivenTo n.system.sort v) (sym class)
       (by n.system.sort n.is_parameter refl refl x h)
     where
@@ -104,13 +102,20 @@ module _ (G : Ground) (s : State) (w : Outside) (before : List ℕ) (o : Private
       by a.Monitor false sort own (t.Monitor m) h = (
         MonitorRight m,
         (λ j. (at, MonitorRight (if own j then monitor_right (s.store (name_location here n)) else h j)) ∷ []),
-        refl,
+        (refl, inr (ap (system_of_monitor G.setup) (sym h) ∙ declares.monitors named n found own sort)),
         tt,
       )
       by a.Monitor true sort own (t.MonitorRight off) h = (
         MonitorRight (monitor_right (s.store (name_location here n))),
         (λ j. (at, MonitorRight (if own j then monitor_right (s.store (name_location here n)) else declared_monitor here n)) ∷ []),
-        same (o.component + off) (right_below G s w before o i l N sees I n off h) ∙ monitor_held n off sort h,
+        subst (λ z. (z ≡ monitor_word (monitor_right (s.store (name_location here n)))) × IsMonitor G (monitor_right (s.store (name_location here n))) n.system)
+            (sym (same (o.component + off) (right_below G s w before o i l N sees I n off h))) (held (s.store (name_location here n)) (monitor_held n off sort h)),
         tt,
       )
+        where
+          held : (v : Value) → RightOf G n.system a.Monitor v (o.component + off) (word o.words (o.component + off))
+              → (word o.words (o.component + off) ≡ monitor_word (monitor_right v)) × IsMonitor G (monitor_right v) n.system
+          held (MonitorRight m) r = r
+          held Absent r = (r, inl refl)
+          held _ r = absurd r
       by _ _ sort own _ h = absurd h

@@ -51,6 +51,7 @@ use Rattle.cp_steps.proofs.Holding.{written_keeps}
 use Rattle.cp_steps.proofs.Pushing.{activations_push, marks_push, mean_push, push_left}
 use Rattle.cp_steps.proofs.Copying.{copied_length}
 use Rattle.cp_steps.proofs.Declared.{distinct_first}
+use Rattle.cp_steps.proofs.Declares.{Declares}
 use Rattle.cp_steps.proofs.Finding.{in_context_none}
 use Rattle.cp_steps.proofs.InitOffsets.{Offset}
 use Rattle.cp_steps.proofs.InitPassing.{InitAgrees, InitBound, passes_init}
@@ -171,8 +172,8 @@ body_entered G store o i k R call back s at n kept C stands sort own there has s
 pub init_steps : (G : Ground) (s : State) (w : Outside) (before : List ℕ) (o : PrivateState) (x : Name) (es : a.Expressions) (env : Environment) (k : List Task) → StoreInvariant s.store → UnitsStand G
     → (Y : Ready G s w before o (a.Init x es) env k) (call : Call) (next : ℕ) → operation_at G.program o.place ≡ Some (op.InitClass call next)
     → InitsBy (site G Y.now.on.running) (known G s w before o (Do (a.Init x es) env) k Y.now) Y.now.on.left.2.3.2 es (op.InitClass call next) o.place Y.now.on.left.2.3.0 Y.now.on.left.2.0 Y.now.on.left.2.1
-    → NoClassRights G → Stepped G s w before o
-init_steps G s w before o x es env k I units Y call next there h none =
+    → NoClassRights G → Declares G Y.now.on.running.env → Stepped G s w before o
+init_steps G s w before o x es env k I units Y call next there h none declares =
     statement_steps G s w before o (a.Init x es) env k Y (op.InitClass call next) refl private there refl
     (subst (λ (z : Option Component). PartOf G (after_step s G.p (elim z as (λ y. StepResult) [ None ↦ own_step (with_continuation (configuration s G.p) k) | Some m ↦ init_component m.system.sort (context G.setup s G.p) (configuration s G.p) here k es m ])) before computed)
     (sym Y.now.on.left.2.3.4)
@@ -273,7 +274,7 @@ init_steps G s w before o x es env k I units Y call next there h none =
         (passes_init G n.system (name_location here n) c top names one (site G Y.now.on.running) (clock_of G s) s.store w known_here lying' o
         (λ ws len same. runs_here G s.store w (record o { words = ws }) (first ∷ k) (clock_of G s) Y.now.around.clock (runs_over G s.store s.store o ws (first ∷ k) Y.now.on (λ at q. refl) (λ j q. same j (beyond G s w Y.now.around top j q)) len) Y.now.sees)
         Y.now.on.runs.globals
-        (λ m t f ws same len j inner l room. given G s w before o first k Y.now Y.now.sees I none n.system c h.0 m t f ws (λ z q. same z (beyond G s w Y.now.around top z q)) len j inner l room)
+        (λ m t f y named ws same len j inner l room. given G s w before o first k Y.now Y.now.sees I none declares n.system c h.0 m t f y named ws (λ z q. same z (beyond G s w Y.now.around top z q)) len j inner l room)
         there
         passed es call.arguments o.place Y.now.on.left.2.3.0 Y.now.on.left.2.1 Y.now.on.running.unit.temps o.words arguments
         (in_context_none (a.Init x) (call_in_arguments here (a.Literal 0) es) Y.none) names (λ p i. i)

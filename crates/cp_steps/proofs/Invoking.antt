@@ -37,7 +37,7 @@ use Rattle.cp_steps.specs.PrivateStates.{Acting, Enters, Outside, PrivateState, 
 use Rattle.cp_steps.specs.Passing.{Called, Passing, component_called, pass_all, when_passed}
 use Rattle.cp_steps.specs.Calling.{Back, call_step, enter, frame_of, gate_effect, has_room, start_words}
 use Rattle.cp_steps.specs.Addresses.{ClassHasRights, ComponentLies, Ground, activations, in_sight, scope, seen, whole}
-use Rattle.cp_steps.specs.Left.{CallerAt, held_below, kept_below, site}
+use Rattle.cp_steps.specs.Left.{CallerAt, IsGate, gate_number, held_below, kept_below, site}
 use Rattle.cp_steps.specs.PartOf.{DataMeans, PartOf, RunsOn}
 use Rattle.cp_steps.proofs.Entering.{Opened, Waits, entered_on, environment_of_call, owner_of_call}
 use Rattle.cp_steps.proofs.Heres.{Sees, depth_is, seen_is, seen_mine}
@@ -49,7 +49,7 @@ use Rattle.cp_steps.proofs.Rooms.{room_for}
 use Rattle.cp_steps.proofs.RunningOn.{runs_here, runs_over, runs_stacked}
 use Rattle.cp_steps.proofs.Owned.{result_inside}
 use Rattle.cp_steps.proofs.Separate.{part_below}
-use Rattle.cp_steps.proofs.Stepping.{Now, beyond, clock_of, faulted, stopped, went}
+use Rattle.cp_steps.proofs.Stepping.{Now, beyond, clock_of, faulted, gate_entered, stopped, went}
 use Rattle.cp_steps.proofs.Writing.{location_is, owner_is, same_owner_itself}
 use Rattle.cp_steps.proofs.Stacks.{own_in_whole}
 
@@ -79,15 +79,15 @@ locals_two g (x ∷ xs) ys = let e = locals_two g xs ys in omega (arith, e)
 
 -- ---- targets
 
--- The machine calls where the meaning does, and no gate is entered.
+-- The machine calls where the meaning does, and the same gate is entered.
 pub record TargetIs (G : Ground) (store : Store) (t : calls.Target) (c : Called) (s : System) : Type 0 where
   pub set_is : c.is_set ≡ t.is_callable
   pub there : c.component ≤ whole G
   pub system : t.system ≡ s
   pub lies_there : t.is_callable ≡ true → ComponentLies G t.component s c.component
   pub given : t.is_callable ≡ true → ClassHasRights G store c.component
-  pub gate : c.gate ≡ 0
-  pub no_gate : t.gate ≡ None
+  pub gate : c.gate ≡ gate_number t.gate
+  pub is_gate : t.is_callable ≡ true → IsGate G t.gate
 
 -- ---- calls
 
@@ -222,17 +222,14 @@ module _ (G : Ground) (s : State) (w : Outside) (before : List ℕ) (o : Private
           → PartOf G (after_step s G.p (Gives (called_configuration (configuration s G.p) (record v { environment = N.on.running.env }) k t owner ws))) before
           (enter (record o { words = started (o.base + call.words) I.runs.unit.starts new }) c I.runs.unit call back)
       entered ws new inside B callable =
-          subst (λ g. PartOf G (after_step s G.p (Gives (record (configuration s G.p) { store = opened_store ws; continuation = push v.callee.routine.body here (EndCall here g ∷ k) }, entering g))) before after) (sym I.target_is.no_gate)
-          (subst (λ e. PartOf G (after_step s G.p (Gives (record (configuration s G.p) { store = opened_store ws; continuation = push v.callee.routine.body e (EndCall e None ∷ k) }, entering None))) before after) (sym env_is)
-          (went G s before o N.part (opened_store ws) after (push v.callee.routine.body env (EndCall env None ∷ k))
-          (entered_on G s.store (opened_store ws) o new_words (i ∷ l) k N.on call back callee_system v.callee.routine t.component c place kept live I.waits
-          (record { runs = I.runs; stands = I.stands; lies_there = I.target_is.lies_there callable; gate = I.target_is.gate })
+          subst (λ e. PartOf G (after_step s G.p (Gives (record (configuration s G.p) { store = opened_store ws; continuation = push v.callee.routine.body e (EndCall e t.gate ∷ k) }, entering t.gate))) before after) (sym env_is)
+          (gate_entered G s before t.gate after _ N.ready
+          (went G s before o N.part (opened_store ws) after (push v.callee.routine.body env (EndCall env t.gate ∷ k))
+          (entered_on G s.store (opened_store ws) o new_words (i ∷ l) k N.on call back callee_system v.callee.routine t.component c t.gate place kept live I.waits
+          (record { runs = I.runs; stands = I.stands; lies_there = I.target_is.lies_there callable; same_gate = I.target_is.gate; is_gate = I.target_is.is_gate callable })
           I.caller (I.target_is.given callable) (live_same ws inside) below (I.stands.0.length_is (o.base + call.words) new ∙ B.length_is) (I.opens ws new B.length_is B))
           record { number = refl; input = refl; consumed = refl; output = refl; activity = refl }))
         where
-          here : Environment
-          here = activation_environment (record v { environment = N.on.running.env }) t owner
-
           new_words : List ℤ
           new_words = started (o.base + call.words) I.runs.unit.starts new
 

@@ -67,6 +67,7 @@ pub mod PartLeaves
 pub mod Naming
 pub mod StartStores
 pub mod Starting
+pub mod Declares
 pub mod InitRights
 pub mod InitSettled
 pub mod Opening

@@ -6,7 +6,7 @@ use Rattle.cp_model.specs.Continuations.{EndBody, EndProcess, Task, marked_monit
 use Rattle.cp_model.specs.Operators.{Clock, realtime}
 use Rattle.cp_model.specs.Outcomes.{Fault, Gives, Outcome, and_then}
 use Rattle.cp_model.specs.Parts.{HasBegun, private_status}
-use Rattle.cp_model.specs.States.{State, configuration, context, running_clock, with_at, with_configuration}
+use Rattle.cp_model.specs.States.{Free, HeldBy, Holder, State, Unset, configuration, context, is_set, is_started, running_clock, with_at, with_configuration}
 use Rattle.cp_model.specs.StateViews.{fault_number}
 use Rattle.cp_model.specs.Step.{take_action}
 use Rattle.cp_model.specs.Stores.{Store}
@@ -15,16 +15,19 @@ use Rattle.cp_model.specs.declared.state.Fault as fault
 use Rattle.cp_model.proofs.StateMaps.{with_at_here}
 use Rattle.cp_code.specs.Programs.{Operation}
 use Rattle.cp_code.specs.Sites.{operation_at}
+use Rattle.cp_code.specs.StandsFor.{system_of_monitor, system_of_process}
+use Rattle.cp_steps.specs.Passing.{monitor_start}
+use Rattle.cp_model.specs.Abstract.{System}
 use Rattle.cp_steps.specs.PrivateStates as machine
 use Rattle.cp_steps.specs.PrivateStates.{Outside, PrivateState}
 use Rattle.cp_steps.specs.Steps as steps
 use Rattle.cp_steps.specs.Steps.{act, act_on, alone}
-use Rattle.cp_steps.specs.Addresses.{Ground, activations, in_sight, whole}
+use Rattle.cp_steps.specs.Addresses.{AllWords, Ground, activations, in_sight, whole}
 use Rattle.cp_steps.specs.PartOf.{DataMeans, PartOf, RunsOn, status_of}
 use Rattle.cp_steps.proofs.Heres.{Sees}
 use Rattle.std.proofs.lemmas.Bool.{eqb-true, true≢false}
-use Rattle.cp_model.specs.Gates.{made_ready, pass_to}
-use Rattle.cp_model.specs.CallSteps.{leaving}
+use Rattle.cp_model.specs.Gates.{enter, made_ready, pass_to}
+use Rattle.cp_model.specs.CallSteps.{entering, leaving}
 use Rattle.std.specs.Prelude.{nat_eq, if◌then◌else◌, Option, None}
 
 -- What is said of tasks that stand in an environment.
@@ -40,6 +43,15 @@ clock_of G s = running_clock G.setup s
 pub record Around (G : Ground) (s : State) (w : Outside) : Type 0 where
   pub clock : w.clock ≡ realtime (clock_of G s)
   pub own : w.own ≡ G.own
+
+-- All words are in reach, and what is read of gates and stages is the kernel's. 0 is no monitor.
+pub record AroundAll (G : Ground) (s : State) (w : Outside) : Type 0 where
+  pub sight : G.sight ≡ AllWords
+  pub starts : (m : ℕ) → monitor_start G.program m ≤ G.program.shared
+  pub few : (m : ℕ) (y : System) → system_of_monitor G.setup m ≡ Some y → m ≤ 255
+  pub set_is : (m : ℕ) → w.is_set m ≡ is_set (s.gates m).holder
+  pub none_set : w.is_set 0 ≡ false
+  pub started_is : (r : ℕ) (y : System) → system_of_process G.setup r ≡ Some y → w.is_started r ≡ is_started (s.status r)
 
 pub beyond : (G : Ground) (s : State) (w : Outside) → Around G s w → (top i : ℕ) → (i < top) ⊎ (G.own ≤ i) → (i < top) ⊎ (w.own ≤ i)
 beyond G s w A top i (inl h) = inl h
@@ -62,13 +74,13 @@ IsFree G s o = (marked_monitors (s.continuation G.p) ≡ []) × (o.gate ≡ 0)
 abbrev pub acted : Ground → State → State
 acted G s = after_step s G.p (take_action (context G.setup s G.p) (configuration s G.p) (action (s.continuation G.p)))
 
--- The machine's operation and the meaning's action are both the kernel's, or neither is. Where neither is, the private state after the
--- machine's step is that of the process after the meaning's.
+-- The machine's operation and the meaning's action are both the kernel's, or neither is. Where neither is, or all words are in reach, the
+-- private state after the machine's step is that of the process after the meaning's.
 pub record Stepped (G : Ground) (s : State) (w : Outside) (before : List ℕ) (o : PrivateState) : Type 0 where
   pub operation : Operation
   pub there : operation_at G.program o.place ≡ Some operation
   pub same_kind : is_kernel_action (action (s.continuation G.p)) ≡ steps.is_kernel_operation operation
-  pub part : steps.is_kernel_operation operation ≡ false → PartOf G (acted G s) before (act G.program w o operation).0
+  pub part : (steps.is_kernel_operation operation ≡ false) ⊎ AroundAll G s w → PartOf G (acted G s) before (act G.program w o operation).0
 
 -- ---- what comes of them
 
@@ -156,6 +168,26 @@ pub gate_left : (G : Ground) (s : State) (before : List ℕ) (gate : Option ℕ)
 gate_left G s before None after config P = P
 gate_left G s before (Some m) after config P = gate_passed G before after m (s.gates m).askers (with_configuration s G.p config) P
 
+-- A gate that is entered, or asked for, is none either: who asks runs on in private.
+pub gate_entered : (G : Ground) (s : State) (before : List ℕ) (gate : Option ℕ) (after : PrivateState) (config : Configuration) → s.status G.p ≡ Ready
+    → PartOf G (after_step s G.p (own_step config)) before after → PartOf G (after_step s G.p (Gives (config, entering gate))) before after
+gate_entered G s before None after config ready P = P
+gate_entered G s before (Some m) after config ready P = by (s.gates m).holder
+  where
+    by : (h : Holder) → PartOf G (enter G.p m h (with_configuration s G.p config)) before after
+    by (HeldBy q) = record {
+      number = P.number;
+      input = P.input;
+      consumed = P.consumed;
+      transcript = P.transcript;
+      status = ap private_status (with_at_here G.p (Asking m) s.status) ∙ (ap private_status (sym ready) ∙ P.status);
+      count = P.count;
+      data_means = λ begun. P.data_means (subst (λ z. HasBegun (private_status z)) (sym ready) tt);
+      runs_on = P.runs_on;
+    }
+    by Free = record { number = P.number; input = P.input; consumed = P.consumed; transcript = P.transcript; status = P.status; count = P.count; data_means = P.data_means; runs_on = P.runs_on }
+    by Unset = record { number = P.number; input = P.input; consumed = P.consumed; transcript = P.transcript; status = P.status; count = P.count; data_means = P.data_means; runs_on = P.runs_on }
+
 pub gates_left : (G : Ground) (s : State) (before : List ℕ) (gate : Option ℕ) (O : Outcome Configuration) (after : PrivateState)
     → PartOf G (after_step s G.p (and_then O own_step)) before after → PartOf G (after_step s G.p (and_then O (λ config. Gives (config, leaving gate)))) before after
 gates_left G s before gate (Gives config) after P = gate_left G s before gate after config P
@@ -183,12 +215,20 @@ module _ (G : Ground) (s : State) (w : Outside) (before : List ℕ) (o : Private
       acts_here : action (s.continuation G.p) ≡ x
       acts_here = ap action N.left ∙ acts
 
-  -- The next step is the kernel's.
-  pub kernel_rests : (x : Action) (y : Operation) → action (i ∷ k) ≡ x → is_kernel_action x ≡ true
-      → operation_at G.program o.place ≡ Some y → steps.is_kernel_operation y ≡ true → Stepped G s w before o
-  kernel_rests x y acts kernel there own = record {
+  -- A step of the kernel, with all words in reach.
+  pub kernel_step : (x : Action) (y : Operation) → action (i ∷ k) ≡ x → is_kernel_action x ≡ true
+      → operation_at G.program o.place ≡ Some y → steps.is_kernel_operation y ≡ true
+      → (AroundAll G s w → PartOf G (after_step s G.p (take_action (context G.setup s G.p) (configuration s G.p) x)) before (act G.program w o y).0)
+      → Stepped G s w before o
+  kernel_step x y acts kernel there own P = record {
     operation = y;
     there = there;
-    same_kind = ap is_kernel_action (ap action N.left ∙ acts) ∙ (kernel ∙ sym own);
-    part = λ e. absurd (true≢false (sym own ∙ e));
+    same_kind = ap is_kernel_action acts_here ∙ (kernel ∙ sym own);
+    part = λ e. elim e [
+      | inl other ↦ absurd (true≢false (sym own ∙ other))
+      | inr all ↦ subst (λ z. PartOf G (after_step s G.p (take_action (context G.setup s G.p) (configuration s G.p) z)) before (act G.program w o y).0) (sym acts_here) (P all)
+    ];
   }
+    where
+      acts_here : action (s.continuation G.p) ≡ x
+      acts_here = ap action N.left ∙ acts

@@ -1,41 +1,45 @@
--- The component that a call goes to: where it begins, and whether it was initialised.
+-- The component that a call goes to: where it begins, whether it was initialised, and which gate is entered.
 use Rattle.std.proofs.Common.{◌≡◌, ◌⊎◌, inl, inr, ℕ, ◌+◌, ◌≤◌, ◌<◌, ℤ, pos, List, [], ◌∷◌, Bool, true, false, Option, Some, None, refl, ap, sym, subst, ◌∙◌, arith}
-use Rattle.std.specs.Prelude.{if◌then◌else◌, not, ◌+ℤ◌}
-use Rattle.std.proofs.lemmas.Bool.{true≢false}
+use Rattle.std.specs.Prelude.{if◌then◌else◌, nat_eq, not, ◌+ℤ◌}
+use Rattle.std.proofs.lemmas.Bool.{eq-eqb, lt-ltb, true≢false}
 use Rattle.std.proofs.lemmas.Int.{ints}
 use Rattle.cp_model.specs.Abstract as a
 use Rattle.cp_model.specs.Abstract.{Class, Sort, System}
 use Rattle.cp_model.specs.CallSteps.{component_target, is_initialised, target}
-use Rattle.cp_model.specs.Components.{Component, class_or_here, name_location}
+use Rattle.cp_model.specs.Components.{Component, class_or_here, component_named, declared_monitor, monitor_location, monitor_right, name_location}
 use Rattle.cp_model.specs.Continuations.{Task}
 use Rattle.cp_model.specs.Declarations.{reported_members}
 use Rattle.cp_model.specs.Environments.{Environment}
 use Rattle.cp_model.specs.Integers.{same_integer}
 use Rattle.cp_model.specs.Invariant.{StoreInvariant}
-use Rattle.cp_model.specs.Locations.{Location}
-use Rattle.cp_model.specs.States.{State, context}
-use Rattle.cp_model.specs.Stores.{Absent, ClassRight, Store, Value}
+use Rattle.cp_model.specs.Locations.{ByIndex, ByName, Location, OfActivation, OfMonitor, OfProcess, Owner, Path}
+use Rattle.cp_model.specs.States.{State, context, is_set}
+use Rattle.cp_model.specs.Stores.{Absent, ClassRight, MonitorRight, Store, Value}
 use Rattle.cp_model.specs.Types.{ComponentOf, ResolvedType}
 use Rattle.cp_code.specs.Terms as t
-use Rattle.cp_code.specs.Layout.{member, natural, right}
+use Rattle.cp_code.specs.Layout.{Part, member, natural, right}
 use Rattle.cp_code.specs.Sites.{RightTo, TargetFor, TargetOf, system_of_callee}
+use Rattle.cp_code.specs.StandsFor.{system_of_monitor}
 use Rattle.cp_code.specs.Starts.{word}
 use Rattle.cp_steps.specs.PrivateStates.{Outside, PrivateState}
-use Rattle.cp_steps.specs.Passing.{Called, class_called, class_right, component_called}
+use Rattle.cp_steps.specs.Passing.{Called, class_called, class_right, component_called, monitor_called, monitor_start, monitor_word}
 use Rattle.cp_steps.specs.Steps.{is_monitor}
 use Rattle.cp_steps.specs.Means.{MarkMeans}
-use Rattle.cp_steps.specs.Addresses.{Activation, ClassHasRights, ClassLies, ComponentLies, Ground, MonitorLies, ProcessLies, RightMeans, RightOf, activations, component_type, in_sight, lies, scope, whole}
+use Rattle.cp_steps.specs.Addresses as addresses
+use Rattle.cp_steps.specs.Addresses.{Activation, AllWords, ClassHasRights, ClassLies, ComponentLies, Ground, IsMonitor, MonitorLies, ProcessLies, RightMeans, RightOf, activations, component_type, in_sight, lies, part_at, scope, whole, words_seen}
 use Rattle.cp_steps.specs.Left.{site}
 use Rattle.cp_steps.specs.PartOf.{DataMeans}
 use Rattle.cp_steps.proofs.Heres.{Sees, lies_any, member_lies}
 use Rattle.cp_steps.proofs.Apart.{InHead}
-use Rattle.cp_steps.proofs.Given.{class_has_rights}
+use Rattle.cp_steps.proofs.Declares.{Declares}
+use Rattle.cp_steps.proofs.Finding.{some_is_not_none}
+use Rattle.cp_steps.proofs.Given.{class_has_rights, class_head}
 use Rattle.cp_steps.proofs.Invoking.{TargetIs}
 use Rattle.cp_steps.proofs.Keeping.{right_place}
 use Rattle.cp_steps.proofs.RunningOn.{runs_stacked}
-use Rattle.cp_steps.proofs.Owned.{OwnRight}
-use Rattle.cp_steps.proofs.Separate.{cell_below, cell_inside, own_right_below, own_right_inside, part_below}
-use Rattle.cp_steps.proofs.Stepping.{Now}
+use Rattle.cp_steps.proofs.Owned.{OwnRight, component_part}
+use Rattle.cp_steps.proofs.Separate.{cell_below, cell_inside, cell_no_own_right, own_right_below, own_right_inside, part_below}
+use Rattle.cp_steps.proofs.Stepping.{AroundAll, Now}
 use Rattle.cp_steps.proofs.Stacks.{monitor_seen}
 
 -- The mark of a class tells whether it was initialised.
@@ -128,7 +132,7 @@ module _ (G : Ground) (s : State) (w : Outside) (before : List ℕ) (o : Private
     lies_there = λ callable. ClassLies sort (class_lies n at h);
     given = λ callable. class_given (name_location here n) (o.component + at) n.system sees.component sort (class_lies n at h) callable;
     gate = refl;
-    no_gate = refl;
+    is_gate = λ callable. tt;
   }
 
   -- The word of a right means what is stored for it.
@@ -154,7 +158,7 @@ module _ (G : Ground) (s : State) (w : Outside) (before : List ℕ) (o : Private
         lies_there = λ callable. ClassLies sort h;
         given = λ callable. class_given j (class_right o at) n.system (ap (in_sight G) (I.classes (name_location here n) j is) ∙ sees.component) sort h callable;
         gate = refl;
-        no_gate = refl;
+        is_gate = λ callable. tt;
       }
       by Absent is h =
           let itself : class_right o at ≡ o.component + at = ap (λ z. natural (pos (o.component + at) +ℤ z)) h ∙ natural_same (o.component + at) in
@@ -168,7 +172,7 @@ module _ (G : Ground) (s : State) (w : Outside) (before : List ℕ) (o : Private
             lies_there = λ callable. absurd (true≢false (sym callable ∙ nothing));
             given = λ callable. absurd (true≢false (sym callable ∙ nothing));
             gate = refl;
-            no_gate = refl;
+            is_gate = λ callable. tt;
           }
       by _ is h = absurd h
 
@@ -184,7 +188,7 @@ module _ (G : Ground) (s : State) (w : Outside) (before : List ℕ) (o : Private
         lies_there = λ callable. subst (ComponentLies G here.component here.system) (sym N.on.component) N.on.runs.component;
         given = λ callable. N.on.given.0;
         gate = refl;
-        no_gate = refl;
+        is_gate = λ callable. tt;
       }
   target_is (Some n) x h private = by n.system.sort n.is_parameter refl refl x h private
     where
@@ -199,3 +203,81 @@ module _ (G : Ground) (s : State) (w : Outside) (before : List ℕ) (o : Private
       by a.Monitor false sort own (t.Monitor m) h private = absurd (true≢false private)
       by a.Monitor true sort own (t.MonitorRight at) h private = absurd (true≢false private)
       by _ _ sort own _ h private = absurd h
+
+  -- ---- monitors
+
+  module _ (K : AroundAll G s w) where
+    seen_all : (j : Location) (v : Part) → lies G [] j ≡ Some v → in_sight G j.owner ≡ true
+    seen_all j v h = subst (λ z. addresses.sees z G.p j.owner ≡ true) (sym K.sight) (by j.owner j.path h)
+      where
+        nowhere : (b : Bool) (x : Option Part) → x ≡ None → (if b then x else None) ≡ Some v → ⊥
+        nowhere true x none e = some_is_not_none v (sym e ∙ none)
+        nowhere false x none e = some_is_not_none v (sym e)
+
+        by : (q : Owner) (path : Path) → part_at G [] q path ≡ Some v → addresses.sees AllWords G.p q ≡ true
+        by q [] h = absurd (some_is_not_none v (sym h))
+        by q (ByIndex z ∷ path) h = absurd (some_is_not_none v (sym h))
+        by (OfProcess r) (ByName x ∷ path) h = eq-eqb G.p r (component_part G [] r x path v.0 v.1 h).0
+        by (OfActivation r d) (ByName x ∷ path) h = absurd (nowhere (nat_eq G.p r) None refl h)
+        by (OfMonitor m) (ByName x ∷ path) h = refl
+
+    -- No class lies where a monitor begins.
+    no_class_begins : (m : ℕ) (y : System) → system_of_monitor G.setup m ≡ Some y → ClassHasRights G s.store (w.own + monitor_start G.program m)
+    no_class_begins m y is at r class' h =
+        absurd (cell_no_own_right G (activations o.base o.frames (i ∷ l)) _ (runs_stacked G s.store o (i ∷ l) N.on) at (w.own + monitor_start G.program m) (G.own + monitor_start G.program m + 0)
+        (component_type G r) 0 (seen_all at _ h) (class_head G r class') (lies_any G (activations o.base o.frames (i ∷ l)) at _ h)
+        (inr (m, y, 0, ap (λ v. addresses.sees v G.p (OfMonitor m)) K.sight, is, omega arith, refl)) (omega (arith, N.around.own)))
+
+    abbrev MonitorTarget : Component → ℕ → Called → Type 0
+    MonitorTarget n m c = TargetIs G s.store (record { component = monitor_location m; system = n.system; is_callable = is_set (s.gates m).holder; gate = Some m }) c n.system
+
+    monitor_target : (n : Component) (m : ℕ) → IsMonitor G m n.system → MonitorTarget n m (monitor_called G.program w m)
+    monitor_target n m is = record {
+      set_is = K.set_is m;
+      there = omega (arith, N.around.own, K.starts m, ap (λ v. words_seen v G.program G.own) K.sight);
+      system = refl;
+      lies_there = λ callable. MonitorLies m refl (there callable) (omega (arith, N.around.own));
+      given = λ callable. no_class_begins m n.system (there callable);
+      gate = refl;
+      is_gate = λ callable. (n.system, there callable);
+    }
+      where
+        there : is_set (s.gates m).holder ≡ true → system_of_monitor G.setup m ≡ Some n.system
+        there callable = by is
+          where
+            by : IsMonitor G m n.system → system_of_monitor G.setup m ≡ Some n.system
+            by (inl zero') = absurd (true≢false (sym callable ∙ (sym (K.set_is m) ∙ (ap w.is_set zero' ∙ K.none_set))))
+            by (inr e) = e
+
+    -- The number of a monitor is a word.
+    numbered : (m : ℕ) (y : System) → IsMonitor G m y → natural (monitor_word m) ≡ m
+    numbered m y h = ap (λ b. natural (if b then pos m else pos 0)) (lt-ltb m 2147483648 (by h))
+      where
+        by : IsMonitor G m y → m < 2147483648
+        by (inl e) = omega (arith, e)
+        by (inr e) = omega (arith, K.few m y e)
+
+    -- The target of a call that enters a monitor.
+    pub monitor_is : Declares G here → (of : Option Component) (x : t.Target) → TargetFor here of x → ((n : Component) → of ≡ Some n → component_named here n.name ≡ Some n) → is_monitor x ≡ true
+        → TargetIs G s.store (target (context G.setup s G.p) s.store here of) (component_called G.program w o x) (system_of_callee here of)
+    monitor_is D None x h named enters = absurd (true≢false (sym enters ∙ ap is_monitor h))
+    monitor_is D (Some n) x h named enters = by n.system.sort n.is_parameter refl refl x h enters
+      where
+        by : (z : Sort) (b : Bool) → n.system.sort ≡ z → n.is_parameter ≡ b → (x : t.Target) → TargetOf here n z b x → is_monitor x ≡ true
+            → TargetIs G s.store (component_target (context G.setup s G.p) here s.store z n) (component_called G.program w o x) n.system
+        by a.Class false sort own (t.Class at) h enters = absurd (true≢false (sym enters))
+        by a.Class true sort own (t.ClassRight at) h enters = absurd (true≢false (sym enters))
+        by a.Monitor false sort own (t.Monitor m) h enters =
+            subst (λ z. MonitorTarget n z (monitor_called G.program w m)) (sym (ap (λ b. if b then monitor_right (s.store (name_location here n)) else declared_monitor here n) own ∙ h))
+            (monitor_target n m (inr (ap (system_of_monitor G.setup) (sym h) ∙ D.monitors n.name n (named n refl) own sort)))
+        by a.Monitor true sort own (t.MonitorRight at) h enters =
+            subst (λ b. MonitorTarget n (if b then monitor_right (s.store (name_location here n)) else declared_monitor here n) (monitor_called G.program w (natural (word o.words (o.component + at))))) (sym own)
+            (held (s.store (name_location here n)) (subst (λ y. RightOf G n.system y (s.store (name_location here n)) (o.component + at) (word o.words (o.component + at))) sort (right_held n at h)))
+          where
+            held : (v : Value) → RightOf G n.system a.Monitor v (o.component + at) (word o.words (o.component + at))
+                → MonitorTarget n (monitor_right v) (monitor_called G.program w (natural (word o.words (o.component + at))))
+            held (MonitorRight m) r =
+                subst (λ z. MonitorTarget n m (monitor_called G.program w z)) (sym (ap natural r.0 ∙ numbered m n.system r.1)) (monitor_target n m r.1)
+            held Absent r = subst (λ z. MonitorTarget n 0 (monitor_called G.program w (natural z))) (sym r) (monitor_target n 0 (inl refl))
+            held _ r = absurd r
+        by _ _ sort own _ h enters = absurd h

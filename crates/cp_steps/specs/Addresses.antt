@@ -1,5 +1,5 @@
 -- Where the variables of a process lie: the addresses of locations among its words and the shared ones behind them.
-use Rattle.std.specs.Prelude.{◌≡◌, ◌≤◌, ℕ, ◌+◌, ℤ, Bool, true, pos, ◌+ℤ◌, if◌then◌else◌, List, [], ◌∷◌, Option, Some, None, length, nat_eq}
+use Rattle.std.specs.Prelude.{◌≡◌, ◌≤◌, ◌⊎◌, ℕ, ◌+◌, ℤ, Bool, true, pos, ◌+ℤ◌, if◌then◌else◌, List, [], ◌∷◌, Option, Some, None, length, nat_eq}
 use Rattle.cp_model.specs.Abstract.{Class, Monitor, Name, Process, Routine, Sort, System}
 use Rattle.cp_model.specs.Types.{ComponentOf, GlobalScope, ResolvedType}
 use Rattle.cp_model.specs.Declarations.{Variable, globals, reported_members}
@@ -135,8 +135,12 @@ pub data ComponentLies (G : Ground) (at : Location) (s : System) (n : ℕ) : Typ
 
 -- ---- Rights
 
+-- No monitor is 0.
+abbrev pub IsMonitor : Ground → ℕ → System → Type 0
+IsMonitor G m s = (m ≡ 0) ⊎ (system_of_monitor G.setup m ≡ Some s)
+
 abbrev pub RightOf : Ground → System → Sort → Value → ℕ → ℤ → Type 0
-RightOf G s Monitor (MonitorRight m) at n = n ≡ monitor_word m
+RightOf G s Monitor (MonitorRight m) at n = (n ≡ monitor_word m) × IsMonitor G m s
 RightOf G s Monitor Absent at n = n ≡ pos 0
 RightOf G s Class (ClassRight j) at n = lies G [] j ≡ Some (natural (pos at +ℤ n), component_type G s)
 RightOf G s Class Absent at n = n ≡ pos 0
