@@ -1,0 +1,9 @@
+use Rattle.std.proofs.Common.{◌≡◌, ◌+◌, ◌-◌, ◌++◌}
+use Rattle.cp_code.specs.Starts.{block, paste}
+use Rattle.cp_process.proofs.words.copy_down.Given as goal
+
+-- What is left leads to the words of all.
+abbrev pub invariant-loop-i : goal.invariant-loop-i
+invariant-loop-i l =
+    paste (l.to + l.i) (block (l.own ++ l.shared) (l.from + l.i) (l.count - l.i)) (l.own ++ l.shared)
+    ≡ paste l.fn.to (block (l.fn.own ++ l.fn.shared) l.fn.from l.fn.count) (l.fn.own ++ l.fn.shared)
