@@ -21,6 +21,7 @@ mod ScopesStand
 mod SystemsStand
 mod DefinitionsStand
 mod RowsStand
+mod UnitTexts
 mod TextsStand
 mod KnownStand
 mod FactsStand

@@ -1,5 +1,5 @@
 -- The rows of monitors and processes: each has its own shared words.
-use Rattle.std.proofs.Common.{◌≡◌, ◌≤◌, inl, inr, ℕ, zero, suc, ◌+◌, List, [], ◌∷◌, Option, Some, None, refl, ap, subst, slice_get, arith}
+use Rattle.std.proofs.Common.{◌≡◌, ◌≤◌, inl, inr, ℕ, zero, suc, ◌+◌, List, [], ◌∷◌, Option, Some, None, refl, ap, subst, slice_get, length, arith}
 use Rattle.cp_model.specs.Types.{GlobalScope}
 use Rattle.cp_code.specs.Programs as code
 use Rattle.cp_code.specs.Layout.{component_words}
@@ -24,6 +24,10 @@ module _ (g : GlobalScope) where
       size_in z (Some w) = component_words g w.system
   monitor_there (y ∷ ys) at (suc i) x h =
       let k = monitor_there ys (at + component_words g y.system) i x h in (k.0, k.1, omega (arith, k.2))
+
+  pub monitors_counted : (xs : List Owner) (at : ℕ) → length (monitors_at g at xs) ≡ length xs
+  monitors_counted [] at = refl
+  monitors_counted (y ∷ ys) at = ap suc (monitors_counted ys (at + component_words g y.system))
 
   abbrev MonitorWithin : ℕ → ℕ → code.Monitor → Type 0
   MonitorWithin low high r = (low ≤ r.start) × (r.start + r.words ≤ high)
@@ -76,6 +80,10 @@ module _ (g : GlobalScope) where
       size_in z (Some w) = waiting_words g w.system
   process_there (y ∷ ys) at (suc i) x h =
       let k = process_there ys (at + waiting_words g y.system) i x h in (k.0, k.1, omega (arith, k.2))
+
+  pub processes_counted : (xs : List Owner) (at : ℕ) → length (processes_at g at xs) ≡ length xs
+  processes_counted [] at = refl
+  processes_counted (y ∷ ys) at = ap suc (processes_counted ys (at + waiting_words g y.system))
 
   pub process_within : (xs : List Owner) (at i : ℕ) (r : code.Process) → slice_get (processes_at g at xs) i ≡ Some r → at ≤ r.parameters
   process_within [] at i r h = absurd (cc)

@@ -21,10 +21,11 @@ use Rattle.cp_code.specs.Compile.{Compiled, CompiledTypes, Owner, compile, nothi
 use Rattle.cp_code.specs.Known.{TextKnown}
 use Rattle.cp_code.proofs.DefinitionsStand.{Stand, definitions_stand, system_first, system_here}
 use Rattle.cp_code.proofs.InitStand.{all_found}
-use Rattle.cp_code.proofs.RowsStand.{monitor_row, monitor_there, monitor_within, monitors_apart, process_row, process_there, process_within, processes_apart}
+use Rattle.cp_code.proofs.RowsStand.{monitor_row, monitor_there, monitor_within, monitors_apart, monitors_counted, process_row, process_there, process_within, processes_apart, processes_counted}
 use Rattle.cp_code.proofs.ScopesStand.{UnitsThere}
 use Rattle.cp_code.proofs.StartsStand.{component_starts}
 use Rattle.cp_code.proofs.SystemsStand.{After, Within, begins_same, get_some, system_stands, system_there, units_later}
+use Rattle.cp_code.proofs.UnitTexts.{in_text}
 
 -- ---- Components of a sort
 
@@ -104,6 +105,12 @@ owner_at firsts groups (w ∷ vs) h (suc k) v s inner is type =
     let t = component_type w.1.type h.0 in
     ap (λ l. slice_get l (suc k)) (owner_is firsts groups w.0 w.1.by_reference w.1.type t.0 t.1.0 (owners_of firsts groups vs) t.1.1)
     ∙ owner_at firsts groups vs h.1 k v s inner is type
+
+owners_counted : (firsts : List (Name × ℕ)) (groups : List Group) (vs : List (Name × Variable)) → AllComponents vs → length (owners_of firsts groups vs) ≡ length vs
+owners_counted firsts groups [] h = refl
+owners_counted firsts groups (v ∷ vs) h =
+    let t = component_type v.1.type h.0 in
+    ap length (owner_is firsts groups v.0 v.1.by_reference v.1.type t.0 t.1.0 (owners_of firsts groups vs) t.1.1) ∙ ap suc (owners_counted firsts groups vs h.1)
 
 component_there : (vs : List (Name × Variable)) (k : ℕ) (v : Name × Variable) → slice_get vs k ≡ Some v → component_at vs k ≡ component_in v.1.type
 component_there [] k v h = absurd (cc)
@@ -308,6 +315,9 @@ module _ (setup : Setup) where
           body = h.units.body.text;
         }
 
+    sorted_owners : (s : Sort) → length (owners_of types.firsts tree.initial.variables (of_sort s variables)) ≡ count_components s variables
+    sorted_owners s = owners_counted types.firsts tree.initial.variables (of_sort s variables) (all_components s variables) ∙ sorted_count s variables
+
     -- ---- Apart
 
     index_apart : (m k : ℕ) → 1 ≤ m → 1 ≤ k → (m ≡ k → ⊥) → m - 1 ≡ k - 1 → ⊥
@@ -327,6 +337,9 @@ module _ (setup : Setup) where
       set_apart = known.set_apart;
       texts = texts;
       units = after.good;
+      systems = in_text setup;
+      process_rows = processes_counted g owners start ∙ ap suc (sorted_owners Process);
+      monitor_rows = monitors_counted g monitors 0 ∙ sorted_owners Monitor;
       processes = processes_stand;
       monitors = monitors_stand;
       monitors_apart = λ m k M N ne.

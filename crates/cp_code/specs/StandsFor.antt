@@ -9,7 +9,7 @@ use Rattle.cp_model.specs.Locations.{Location, Owner}
 use Rattle.cp_model.specs.Report.{components_of}
 use Rattle.cp_model.specs.States.{Setup, monitor_count, process_count}
 use Rattle.cp_typing.specs.Declared.{Distinct, Each, RoutineVariable}
-use Rattle.cp_typing.specs.WellTyped.{WellTyped}
+use Rattle.cp_typing.specs.WellTyped.{WellTyped, text_systems}
 use Rattle.cp_code.specs.Programs as code
 use Rattle.cp_code.specs.Programs.{CodeUnit, EndBody, End, Operation, Program, Return}
 use Rattle.cp_code.specs.Layout.{activation_words, component_words}
@@ -26,6 +26,14 @@ routine_environment g s r at o =
 
 abbrev pub body_environment : GlobalScope → System → Location → Environment
 body_environment g s at = record { globals = g; system = s; component = at; frame = None }
+
+abbrev pub system_of_unit : UnitText → System
+system_of_unit (RoutineOf s r) = s
+system_of_unit (BodyOf s) = s
+
+-- The initial process, or one of the system types.
+abbrev pub IsInText : Setup → System → Type 0
+IsInText setup s = (s ≡ setup.tree.initial) ⊎ ((i : ℕ) × (slice_get (text_systems setup) i ≡ Some s))
 
 -- The words of one activation. A body has none.
 abbrev pub own_words : GlobalScope → UnitText → ℕ
@@ -102,7 +110,7 @@ Apart a n b m = (a + n ≤ b) ⊎ (b + m ≤ a)
 -- ---- The whole
 
 -- The text is well typed, and no value of a type that a name means is the mark of a result that isn't set. `texts` tells what each unit is
--- the code of. The blocks of shared words are apart from one another, and the members of a component
+-- the code of. There are as many processes and monitors as in the text. The blocks of shared words are apart from one another, and the members of a component
 -- are the same wherever its type is named.
 pub record StandsFor (program : Program) (setup : Setup) : Type 0 where
   pub typed : WellTyped setup
@@ -111,6 +119,9 @@ pub record StandsFor (program : Program) (setup : Setup) : Type 0 where
   pub texts : List UnitText
   pub units : (n : ℕ) (u : CodeUnit) (t : UnitText) → slice_get program.units n ≡ Some u → slice_get texts n ≡ Some t
       → UnitStands program texts (globals setup.tree) u t
+  pub systems : (n : ℕ) (t : UnitText) → slice_get texts n ≡ Some t → IsInText setup (system_of_unit t)
+  pub process_rows : length program.processes ≡ process_count setup
+  pub monitor_rows : length program.monitors ≡ monitor_count setup
   pub processes : (p : ℕ) → 1 ≤ p → p ≤ process_count setup → ProcessStands program texts setup p
   pub monitors : (m : ℕ) → 1 ≤ m → m ≤ monitor_count setup → MonitorStands program texts setup m
   pub monitors_apart : (m k : ℕ) (M : MonitorStands program texts setup m) (N : MonitorStands program texts setup k) → (m ≡ k → ⊥)

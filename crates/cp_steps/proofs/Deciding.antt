@@ -1,6 +1,6 @@
 -- Which private step comes next, and that it is the meaning's: each kind of task and of operation.
 use Rattle.std.proofs.Common.{Bool, List, None, Option, Some, [], ap, refl, subst, sym, true, ℕ, ℤ, ◌∙◌, ◌∷◌, ◌≡◌}
-use Rattle.std.specs.Prelude.{not, slice_get}
+use Rattle.std.specs.Prelude.{length, not, slice_get}
 use Rattle.std.proofs.lemmas.Bool.{eq-eqb}
 use Rattle.cp_model.specs.Abstract as a
 use Rattle.cp_model.specs.Abstract.{Name}
@@ -18,7 +18,7 @@ use Rattle.cp_model.proofs.StoreInvariants.{references_in_reach}
 use Rattle.cp_code.specs.Programs as op
 use Rattle.cp_code.specs.Programs.{Operation}
 use Rattle.cp_code.specs.Layout.{local}
-use Rattle.cp_code.specs.Sites.{RoutineOf, operation_at}
+use Rattle.cp_code.specs.Sites.{operation_at}
 use Rattle.cp_code.specs.StandsFor.{StandsFor, UnitStands}
 use Rattle.cp_code.specs.TermsFor.{Knowns}
 use Rattle.cp_code.specs.StatementsFor.{AssignsBy, InitsBy, PerformsBy}
@@ -26,18 +26,21 @@ use Rattle.cp_steps.specs.PrivateStates as machine
 use Rattle.cp_steps.specs.PrivateStates.{Outside, PrivateState}
 use Rattle.cp_steps.specs.Steps.{is_kernel_operation}
 use Rattle.cp_steps.specs.Addresses.{Ground, in_sight, scope}
-use Rattle.cp_steps.specs.Left.{Left, Running, held_below, kept_below, site}
+use Rattle.cp_steps.specs.Left.{Left, Running, Runs, held_below, innermost_gate, kept_below, site}
 use Rattle.cp_steps.specs.PartOf.{PartOf, RunsOn}
 use Rattle.cp_steps.proofs.AssignCalls.{StatementAdvances}
 use Rattle.cp_steps.proofs.Assigning.{set_steps}
 use Rattle.cp_steps.proofs.CallSteps.{UnitsStand, function_steps, procedure_steps}
 use Rattle.cp_steps.proofs.Choosing.{case_steps}
+use Rattle.cp_steps.proofs.ContinueSteps.{continue_steps}
 use Rattle.cp_steps.proofs.CopySteps.{copy_steps}
 use Rattle.cp_steps.proofs.Counting.{for_next_steps, for_steps}
 use Rattle.cp_steps.proofs.Declared.{no_local_result}
+use Rattle.cp_steps.proofs.Delaying.{delay_in_monitor}
 use Rattle.cp_steps.proofs.Doing.{Ready, acts_itself, known}
 use Rattle.cp_steps.proofs.Ending.{body_ends, process_ends}
 use Rattle.cp_steps.proofs.FirstCalls.{TermAdvances, term_next}
+use Rattle.cp_steps.proofs.GatesHeld.{gate_is_held}
 use Rattle.cp_steps.proofs.Heres.{Sees}
 use Rattle.cp_steps.proofs.InitSteps.{init_steps}
 use Rattle.cp_steps.proofs.LeftKept.{held_within, left_kept}
@@ -45,7 +48,7 @@ use Rattle.cp_steps.proofs.NextCalls.{AllMade, Calling}
 use Rattle.cp_steps.proofs.ProcessRights.{no_class_rights}
 use Rattle.cp_steps.proofs.ResultSteps.{result_steps}
 use Rattle.cp_steps.proofs.Returning.{return_steps, text_is}
-use Rattle.cp_steps.proofs.Standards.{By, accept_steps, display_steps, one, wait_steps}
+use Rattle.cp_steps.proofs.Standards.{By, accept_steps, delay_steps, display_steps, one, wait_steps}
 use Rattle.cp_steps.proofs.StatementCalls.{own_place, statement_next}
 use Rattle.cp_steps.proofs.Stepping.{Around, IfPlaced, Now, Stepped, kernel_rests}
 use Rattle.cp_steps.proofs.Testing.{cycle_steps, if_steps, repeat_steps, while_steps}
@@ -70,15 +73,8 @@ other_sort z y e h = subst (SameSort z) e h
 abbrev pub Reaches : Ground → State → Type 0
 Reaches G s = (o : Owner) → in_reach G.p (marked_monitors (s.continuation G.p)) o ≡ true → in_sight G o ≡ true
 
--- The steps that a process takes where `delay` and `continue` stand.
-pub record AtGates (G : Ground) (s : State) (w : Outside) (before : List ℕ) (o : PrivateState) : Type 0 where
-  pub delays : (x : Name) (env : Environment) (k : List Task) (d : a.Designator) (Y : Ready G s w before o (a.Perform (a.Plain x) (one (a.Use d))) env k) (queue : Spot) (n : ℕ)
-      → By G s w before o x env k (one (a.Use d)) Y (op.Delay queue n) → Stepped G s w before o
-  pub continues : (x : Name) (env : Environment) (k : List Task) (d : a.Designator) (Y : Ready G s w before o (a.Perform (a.Plain x) (one (a.Use d))) env k) (queue : Spot) (function : Bool)
-      → By G s w before o x env k (one (a.Use d)) Y (op.Continue queue function) → Stepped G s w before o
-
 module _ (G : Ground) (s : State) (w : Outside) (before : List ℕ) (o : PrivateState) (F : StandsFor G.program G.setup) (texts : F.texts ≡ G.texts) (part : PartOf G s before o) (I : Invariant s)
-    (around : Around G s w) (reaches : Reaches G s) (gates : AtGates G s w before o) where
+    (around : Around G s w) (reaches : Reaches G s) where
   units : UnitsStand G
   units n u t unit text =
       subst (λ ts. UnitStands G.program ts (scope G) u t) texts (F.units n u t unit (ap (λ ts. slice_get ts n) texts ∙ text))
@@ -87,7 +83,24 @@ module _ (G : Ground) (s : State) (w : Outside) (before : List ℕ) (o : Private
       → IfPlaced i (Sees G (in_sight G) s.store R.running.env) → Now G s w before o i k
   now_of i k R left ready sees = record { part = part; on = R; left = left; ready = ready; around = around; sees = sees }
 
+  -- A function's name is no parameter or variable of it.
+  names : (R : Running) → Runs G (length o.temps) o.limit R o.frames → (f : Frame) (t : Name) → R.env.frame ≡ Some f → f.routine.result ≡ Some t
+      → local (scope G) f.routine f.routine.name ≡ None
+  names R runs f t is result =
+      let y = text_is R.text R.env.frame f is runs.frame in
+      let stands = subst (UnitStands G.program G.texts (scope G) R.unit) y.1 (units R.number R.unit R.text runs.unit runs.text) in
+      no_local_result (scope G) y.0 f.routine t stands.2 result
+
   -- ---- statements
+
+  -- `delay` does nothing outside all monitors.
+  delays : (x : Name) (env : Environment) (k : List Task) (d : a.Designator) (Y : Ready G s w before o (a.Perform (a.Plain x) (one (a.Use d))) env k) (queue : Spot) (n : ℕ)
+      → By G s w before o x env k (one (a.Use d)) Y (op.Delay queue n) → Stepped G s w before o
+  delays x env k d Y queue n h = by (marked_monitors k) refl
+    where
+      by : (ms : List ℕ) → marked_monitors k ≡ ms → Stepped G s w before o
+      by [] e = delay_steps G s w before o x env k (ap marked_monitors Y.now.left ∙ e, Y.now.on.gate ∙ ap innermost_gate e) d Y queue n h
+      by (m ∷ ms) e = delay_in_monitor G s w before o x env k m ms (gate_is_held G s.store o (Do (a.Perform (a.Plain x) (one (a.Use d))) env ∷ k) m ms Y.now.on e) e d Y queue n h
 
   assigns : (d : a.Designator) (e : a.Expression) (env : Environment) (k : List Task) (Y : Ready G s w before o (a.Assign d e) env k) (x : Operation) → operation_at G.program o.place ≡ Some x
       → AssignsBy (site G Y.now.on.running) (known G s w before o (Do (a.Assign d e) env) k Y.now) d e x o.place Y.now.on.left.2.3.0 Y.now.on.left.2.0 Y.now.on.left.2.1
@@ -103,8 +116,8 @@ module _ (G : Ground) (s : State) (w : Outside) (before : List ℕ) (o : Private
   performs d es env k Y (op.Procedure call n) there h = procedure_steps G s w before o d es env k I.store units Y call n there h
   performs (a.Plain x) (a.MoreExpressions e a.NoExpression) env k Y (op.Display c as_byte n) there h = display_steps G s w before o x env k e Y c as_byte n (there, h)
   performs (a.Plain x) (a.MoreExpressions (a.Use d) a.NoExpression) env k Y (op.Accept to lower upper n) there h = accept_steps G s w before o x env k d Y to lower upper n (there, h)
-  performs (a.Plain x) (a.MoreExpressions (a.Use d) a.NoExpression) env k Y (op.Delay queue n) there h = gates.delays x env k d Y queue n (there, h)
-  performs (a.Plain x) (a.MoreExpressions (a.Use d) a.NoExpression) env k Y (op.Continue queue function) there h = gates.continues x env k d Y queue function (there, h)
+  performs (a.Plain x) (a.MoreExpressions (a.Use d) a.NoExpression) env k Y (op.Delay queue n) there h = delays x env k d Y queue n (there, h)
+  performs (a.Plain x) (a.MoreExpressions (a.Use d) a.NoExpression) env k Y (op.Continue queue function) there h = continue_steps G s w before o x env k d Y queue function (there, h) (names Y.now.on.running Y.now.on.runs)
   performs (a.Plain x) a.NoExpression env k Y (op.Wait n) there h = wait_steps G s w before o x env k Y n (there, h)
   performs d es env k Y _ there h = absurd h
 
@@ -196,16 +209,10 @@ module _ (G : Ground) (s : State) (w : Outside) (before : List ℕ) (o : Private
 
   return_does : (env : Environment) (gate : Option ℕ) (k : List Task) → Now G s w before o (EndCall env gate) k → Stepped G s w before o
   return_does env gate k N =
-      return_steps G s w before o env gate k N
-      (λ f t is result. names f t (text_is N.on.running.text N.on.running.env.frame f (ap (λ (y : Environment). y.frame) (sym here) ∙ is) N.on.runs.frame) result)
+      return_steps G s w before o env gate k N (λ f t is result. names N.on.running N.on.runs f t (ap (λ (y : Environment). y.frame) (sym here) ∙ is) result)
     where
       here : env ≡ N.on.running.env
       here = end_environment G o.temps o.limit (held_below N.on.live o.temps N.on.running.temp) N.on.running o.frames o.place N.on.running.unit.temps env gate k N.on.left
-
-      names : (f : Frame) (t : Name) → (y : a.System) × (N.on.running.text ≡ RoutineOf y f.routine) → f.routine.result ≡ Some t → local (scope G) f.routine f.routine.name ≡ None
-      names f t y result =
-          let stands = subst (UnitStands G.program G.texts (scope G) N.on.running.unit) y.1 (units N.on.running.number N.on.running.unit N.on.running.text N.on.runs.unit N.on.runs.text) in
-          no_local_result (scope G) y.0 f.routine t stands.2 result
 
   -- What the process may see, where the task stands.
   sees_in : (R : Running) (env : Environment) (k : List Task) → env ≡ R.env → s.continuation G.p ≡ k → EnvironmentIn (in_reach G.p (marked_monitors k)) env → Sees G (in_sight G) s.store R.env

@@ -40,7 +40,9 @@ pub mod Assigning
 pub mod Counting
 pub mod Standards
 pub mod Delaying
+pub mod GatesHeld
 pub mod Continuing
+pub mod ContinueSteps
 pub mod GatesKept
 pub mod StagesKept
 pub mod Ending

@@ -1,11 +1,11 @@
 -- The private step of the machine is the meaning's, also where neither has one.
-use Rattle.std.proofs.Common.{◌≡◌, ℕ, suc, zero, ◌≤◌, ℤ, List, [], ◌∷◌, Bool, true, false, Option, Some, None, refl, ap, sym, subst, ◌∙◌, arith}
+use Rattle.std.proofs.Common.{◌≡◌, ℕ, List, [], ◌∷◌, Bool, true, false, Option, Some, None, refl, ap, sym, subst, ◌∙◌}
 use Rattle.std.specs.Prelude.{◌||◌, if◌then◌else◌, not}
 use Rattle.std.proofs.lemmas.Bool.{true≢false}
 use Rattle.cp_model.specs.Actions.{action, is_kernel_action}
 use Rattle.cp_model.specs.Configurations as stage
 use Rattle.cp_model.specs.Configurations.{Status}
-use Rattle.cp_model.specs.Continuations.{Do, EndBody, EndCall, EndProcess, ForNext, RepeatTest, Task, WhileTest, is_in_monitor, marked_monitors}
+use Rattle.cp_model.specs.Continuations.{is_in_monitor, marked_monitors}
 use Rattle.cp_model.specs.Invariant.{Invariant, IsBlocked}
 use Rattle.cp_model.specs.Operators.{realtime}
 use Rattle.cp_model.specs.Parts as parts
@@ -14,52 +14,21 @@ use Rattle.cp_model.specs.States.{State}
 use Rattle.cp_model.specs.Turns.{Kernel, NoStep, Private, if_private, kind_of, private_step, step}
 use Rattle.cp_code.specs.Programs.{Operation}
 use Rattle.cp_code.specs.Sites.{operation_at}
-use Rattle.cp_code.specs.TermsFor.{Knowns, nothing_known}
 use Rattle.cp_steps.specs.PrivateStates as machine
 use Rattle.cp_steps.specs.PrivateStates.{Activity, Outside, PrivateState}
 use Rattle.cp_steps.specs.Steps as steps
 use Rattle.cp_steps.specs.Steps.{act_on, alone}
 use Rattle.cp_steps.specs.Addresses.{Ground, OwnWords, sees, words_seen}
 use Rattle.cp_steps.specs.Laws.{PrivateStepIsStep, ground_of}
-use Rattle.cp_steps.specs.Left.{IsGate, Left, Running, innermost_gate, kept_below}
+use Rattle.cp_steps.specs.Left.{innermost_gate}
 use Rattle.cp_steps.specs.PartOf.{GoesOn, PartOf, RunsOn, status_of}
-use Rattle.cp_steps.proofs.Deciding.{AtGates, Reaches, ready_steps}
-use Rattle.cp_steps.proofs.Finding.{cons_is_not_nil, some_is_not_none}
+use Rattle.cp_steps.proofs.Deciding.{Reaches, ready_steps}
+use Rattle.cp_steps.proofs.GatesHeld.{gate_is_held}
 use Rattle.cp_steps.proofs.Alone.{StepsAlone, steps_alone}
-use Rattle.cp_steps.proofs.Stepping.{IsFree, clock_of}
+use Rattle.cp_steps.proofs.Stepping.{clock_of}
 use Rattle.cp_model.specs.Locations.{OfActivation, OfMonitor, OfProcess, Owner}
 use Rattle.cp_model.specs.Reach.{in_reach}
 use Rattle.cp_code.specs.StandsFor.{StandsFor}
-use Rattle.cp_steps.proofs.Standards.{continue_steps, delay_steps}
-
--- ---- gates that are held
-
--- There is no monitor 0.
-monitor_numbered : (G : Ground) (m : ℕ) → IsGate G (Some m) → 1 ≤ m
-monitor_numbered G zero h = absurd (some_is_not_none h.0 (sym h.1))
-monitor_numbered G (suc m) h = omega arith
-
--- What is left names no monitor 0.
-gates_numbered : (G : Ground) (temps : List ℤ) (limit : ℕ) (K : Knowns) (R : Running) (fs : List machine.Frame) (place low : ℕ) (k : List Task) (m : ℕ) (ms : List ℕ)
-    → Left G temps limit K R fs place low k → marked_monitors k ≡ m ∷ ms → 1 ≤ m
-gates_numbered G temps limit K R fs place low [] m ms h e = absurd h
-gates_numbered G temps limit K R fs place low (Do s env ∷ k) m ms h e = gates_numbered G temps limit nothing_known R fs h.2.0 h.2.1 k m ms h.2.4 e
-gates_numbered G temps limit K R fs place low (WhileTest now x s env ∷ k) m ms h e = gates_numbered G temps limit nothing_known R fs h.1.0 h.1.1 k m ms h.1.4 e
-gates_numbered G temps limit K R fs place low (RepeatTest now s x env ∷ k) m ms h e = gates_numbered G temps limit nothing_known R fs h.1.0 h.1.1 k m ms h.1.4 e
-gates_numbered G temps limit K R fs place low (ForNext x down n last s env ∷ k) m ms h e = gates_numbered G temps limit nothing_known R fs h.1.0 h.1.1 k m ms h.1.4 e
-gates_numbered G temps limit K R (f ∷ fs) place low (EndCall env None ∷ k) m ms h e =
-    let c = h.3 in gates_numbered G temps limit (kept_below c.2 c.3 temps c.0.temp) c.0 fs c.1 c.2 k m ms c.7 e
-gates_numbered G temps limit K R (f ∷ fs) place low (EndCall env (Some n) ∷ k) m ms h e = subst (λ z. 1 ≤ z) (ap innermost_gate e) (monitor_numbered G n h.2.2)
-gates_numbered G temps limit K R (f ∷ fs) place low (EndBody None ∷ k) m ms h e =
-    let c = h.3 in gates_numbered G temps limit nothing_known c.0 fs f.place c.1 k m ms c.4 e
-gates_numbered G temps limit K R (f ∷ fs) place low (EndBody (Some n) ∷ k) m ms h e = subst (λ z. 1 ≤ z) (ap innermost_gate e) (monitor_numbered G n h.2.2)
-gates_numbered G temps limit K R fs place low (EndProcess ∷ k) m ms h e = absurd (cons_is_not_nil m ms (sym e ∙ ap marked_monitors h.1))
-gates_numbered G temps limit K R [] place low (EndCall env gate ∷ k) m ms h e = absurd h
-gates_numbered G temps limit K R [] place low (EndBody gate ∷ k) m ms h e = absurd h
-
-is_held_at_least : (g : ℕ) → 1 ≤ g → steps.is_held g ≡ true
-is_held_at_least zero h = absurd (omega (arith, h))
-is_held_at_least (suc g) h = refl
 
 module _ (G : Ground) (s : State) (before : List ℕ) (o : PrivateState) (part : PartOf G s before o) where
   -- Neither steps.
@@ -84,12 +53,6 @@ module _ (G : Ground) (s : State) (before : List ℕ) (o : PrivateState) (part :
       by x true = inner x
       by x false = refl
 
-  holds_gate : (m : ℕ) (ms : List ℕ) → RunsOn G s.store o (s.continuation G.p) → marked_monitors (s.continuation G.p) ≡ m ∷ ms → steps.is_held o.gate ≡ true
-  holds_gate m ms R marks =
-      is_held_at_least o.gate
-      (subst (λ z. 1 ≤ z) (sym (R.gate ∙ ap innermost_gate marks))
-      (gates_numbered G o.temps o.limit _ R.running o.frames o.place R.running.unit.temps (s.continuation G.p) m ms R.left marks))
-
   -- The meaning does nothing.
   no_step : (x : Status) → s.status G.p ≡ x → kind_of x (s.continuation G.p) ≡ NoStep → private_step G.setup s G.p ≡ s
   no_step x is none = ap (λ z. if_private z (step G.setup s G.p) s) (ap (λ z. kind_of z (s.continuation G.p)) is ∙ none)
@@ -111,7 +74,7 @@ module _ (G : Ground) (s : State) (before : List ℕ) (o : PrivateState) (part :
     where
       by : (ms : List ℕ) → marked_monitors (s.continuation G.p) ≡ ms → (elim ms as (λ y. Bool) [ [] ↦ false | n ∷ ns ↦ true ]) ≡ true → StepsAlone G s before o
       by [] e h = absurd (true≢false (sym h))
-      by (m ∷ ms) e h = neither (no_step x is none) (gate_held (holds_gate m ms (runs running) e))
+      by (m ∷ ms) e h = neither (no_step x is none) (gate_held (gate_is_held G s.store o (s.continuation G.p) m ms (runs running) e))
 
   idle : (x : Status) (y : Activity) → s.status G.p ≡ x → o.activity ≡ y → kind_of x (s.continuation G.p) ≡ NoStep → machine.is_running y ≡ false → StepsAlone G s before o
   idle x y is activity none still = neither (no_step x is none) (not_running y activity still)
@@ -124,18 +87,11 @@ reach_own p (OfProcess q) h = h
 reach_own p (OfActivation q d) h = h
 reach_own p (OfMonitor m) h = absurd (true≢false (sym h))
 
--- It stands at no gate.
-free_gates : (G : Ground) (s : State) (w : Outside) (before : List ℕ) (o : PrivateState) → IsFree G s o → AtGates G s w before o
-free_gates G s w before o free = record {
-  delays = λ x env k d Y queue n h. delay_steps G s w before o x env k free d Y queue n h;
-  continues = λ x env k d Y queue function h. continue_steps G s w before o x env k free d Y queue function h;
-}
-
 ready_alone : (G : Ground) (s : State) (before : List ℕ) (o : PrivateState) (F : StandsFor G.program G.setup) → F.texts ≡ G.texts → G.sight ≡ OwnWords → PartOf G s before o → Invariant s
     → s.status G.p ≡ stage.Ready → marked_monitors (s.continuation G.p) ≡ [] → o.activity ≡ machine.Running → StepsAlone G s before o
 ready_alone G s before o F texts sight part I ready marks running =
     steps_alone G s before o part ready marks running gate
-    (ready_steps G s w before o F texts part I (record { clock = refl; own = part.count ∙ ap (λ v. words_seen v G.program G.own) sight }) reaches (free_gates G s w before o (marks, gate)) (s.continuation G.p) refl ready on)
+    (ready_steps G s w before o F texts part I (record { clock = refl; own = part.count ∙ ap (λ v. words_seen v G.program G.own) sight }) reaches (s.continuation G.p) refl ready on)
   where
     w : Outside
     w = alone (realtime (clock_of G s)) o
@@ -186,7 +142,7 @@ private_step_is_step program setup F p own s before o I part = by (s.status p) r
     ready (m ∷ ms) marks is =
         neither (ground_of program setup F p own) s before o part (kernel_step (ground_of program setup F p own) s before o part m ms is marks)
         (gate_held (ground_of program setup F p own) s before o part
-        (holds_gate (ground_of program setup F p own) s before o part m ms (runs (ground_of program setup F p own) s before o part (running stage.Ready is tt)) marks))
+        (gate_is_held (ground_of program setup F p own) s.store o (s.continuation p) m ms (runs (ground_of program setup F p own) s before o part (running stage.Ready is tt)) marks))
 
     by : (x : Status) → s.status p ≡ x → StepsAlone (ground_of program setup F p own) s before o
     by stage.Unstarted is = rests stage.Unstarted is refl (λ h. h)

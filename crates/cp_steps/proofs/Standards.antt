@@ -1,4 +1,4 @@
--- Whole private steps of the standard procedures. Outside all monitors `delay` and `continue` do nothing.
+-- Whole private steps of the standard procedures but `continue`. Outside all monitors `delay` does nothing.
 use Rattle.std.proofs.Common.{◌≡◌, ℕ, ℤ, List, [], ◌∷◌, ◌++◌, Bool, true, false, Option, Some, None, Result, Ok, Err, refl, ap, sym, subst, ◌∙◌}
 use Rattle.std.specs.Prelude.{codes, if◌then◌else◌}
 use Rattle.std.specs.Str.{bytes_eq}
@@ -10,11 +10,10 @@ use Rattle.cp_model.specs.Calls.{Callee, UserCall, call_in_designator, callee, f
 use Rattle.cp_model.specs.CallSteps.{innermost_call}
 use Rattle.cp_model.specs.Configurations as stage
 use Rattle.cp_model.specs.Configurations.{Configuration, Context, StepResult, designation, evaluation, Waits, own_step, with_continuation, with_writes}
-use Rattle.cp_model.specs.Continuations.{Do, EndBody, EndCall, EndProcess, ForNext, RepeatTest, Task, WhileTest, marked_monitors}
+use Rattle.cp_model.specs.Continuations.{Do, Task, marked_monitors}
 use Rattle.cp_model.specs.Decimal.{decimal}
 use Rattle.cp_model.specs.Environments.{Environment}
 use Rattle.cp_model.specs.Expressions.{place}
-use Rattle.cp_model.specs.Locations.{Location}
 use Rattle.cp_model.specs.Outcomes.{Fault, Gives, Outcome, and_then}
 use Rattle.cp_model.specs.Parts.{private_status}
 use Rattle.cp_model.specs.Places.{Place, TypedValue, simple_value}
@@ -41,7 +40,7 @@ use Rattle.cp_steps.specs.PartOf.{PartOf, RunsOn, status_of}
 use Rattle.cp_steps.proofs.Assigning.{stores}
 use Rattle.cp_steps.proofs.Doing.{Ready, goes_next, known, place_here, statement_steps, value_here}
 use Rattle.cp_steps.proofs.Evaluates.{ordinal_is}
-use Rattle.cp_steps.proofs.Finding.{cons_is_not_nil, in_context_none, or_else_none}
+use Rattle.cp_steps.proofs.Finding.{in_context_none, or_else_none}
 use Rattle.cp_steps.proofs.RunningOn.{runs_moved, runs_written}
 use Rattle.cp_steps.proofs.Stepping.{IsFree, Now, Stepped, clock_of, faulted, went}
 
@@ -120,24 +119,11 @@ pub delays : (context : Context) (config : Configuration) (env : Environment) (k
     ≡ and_then (designation context config env (designator_of e)) (λ at. delay context.process config k at.at (marked_monitors k))
 delays context config env k x e h g f = where_false _ _ _ h ∙ (where_false _ _ _ g ∙ where_true _ _ _ f)
 
-continues : (context : Context) (config : Configuration) (env : Environment) (k : List Task) (x : Name) (e : a.Expression)
+pub continues : (context : Context) (config : Configuration) (env : Environment) (k : List Task) (x : Name) (e : a.Expression)
     → bytes_eq x (codes "display") ≡ false → bytes_eq x (codes "accept") ≡ false → bytes_eq x (codes "delay") ≡ false
     → standard_procedure context config env k x e
     ≡ and_then (designation context config env (designator_of e)) (λ at. calls.continue config at.at (innermost_call k))
 continues context config env k x e h g f = where_false _ _ _ h ∙ (where_false _ _ _ g ∙ where_false _ _ _ f)
-
--- Nothing continues where no monitor is entered.
-nothing_continues : (config : Configuration) (q : Location) (k : List Task) → marked_monitors k ≡ [] → calls.continue config q (innermost_call k) ≡ own_step config
-nothing_continues config q [] h = refl
-nothing_continues config q (EndCall env None ∷ k) h = refl
-nothing_continues config q (EndCall env (Some m) ∷ k) h = absurd (cons_is_not_nil m (marked_monitors k) h)
-nothing_continues config q (EndBody None ∷ k) h = nothing_continues config q k h
-nothing_continues config q (EndBody (Some m) ∷ k) h = absurd (cons_is_not_nil m (marked_monitors k) h)
-nothing_continues config q (Do s env ∷ k) h = nothing_continues config q k h
-nothing_continues config q (WhileTest now e s env ∷ k) h = nothing_continues config q k h
-nothing_continues config q (RepeatTest now s e env ∷ k) h = nothing_continues config q k h
-nothing_continues config q (ForNext x down n last s env ∷ k) h = nothing_continues config q k h
-nothing_continues config q (EndProcess ∷ k) h = nothing_continues config q k h
 
 module _ (G : Ground) (s : State) (w : Outside) (before : List ℕ) (o : PrivateState) (x : Name) (env : Environment) (k : List Task) where
   -- No call is left in the one argument.
@@ -231,7 +217,7 @@ module _ (G : Ground) (s : State) (w : Outside) (before : List ℕ) (o : Private
       by (Fault i) (Ok m) g = absurd g
 
   -- Where nothing happens.
-  rests : (i : Task) (l : List Task) → Now G s w before o i l → PartOf G (after_step s G.p (own_step (configuration s G.p))) before o
+  pub rests : (i : Task) (l : List Task) → Now G s w before o i l → PartOf G (after_step s G.p (own_step (configuration s G.p))) before o
   rests i l N =
       went G s before o N.part s.store o (s.continuation G.p) (subst (RunsOn G s.store o) (sym N.left) N.on)
       record { number = refl; input = refl; consumed = refl; output = refl; activity = refl }
@@ -261,17 +247,6 @@ module _ (G : Ground) (s : State) (w : Outside) (before : List ℕ) (o : Private
       (sym (delays (context G.setup s G.p) (configuration s G.p) N.on.running.env k x (a.Use d) h.1.0.1 h.1.0.2 h.1.0.3))
       (queue_rests free d Y (λ at. delay G.p (configuration s G.p) k at.at (marked_monitors k)) _ (λ at. ap (delay G.p (configuration s G.p) k at.at) (ap marked_monitors (sym N.left) ∙ free.0)) _ _
       (place_here G s w before o (Do (a.Perform (a.Plain x) (one (a.Use d))) env) k N N.sees d queue Queue o.place N.on.left.2.3.0 N.on.left.2.1 N.on.running.unit.temps h.1.3
-      (used_none N.on.running.env d (argument_none N.on.running.env (a.Use d) Y.none)))))
-
-  pub continue_steps : IsFree G s o → (d : a.Designator) (Y : Ready G s w before o (a.Perform (a.Plain x) (one (a.Use d))) env k) (queue : Spot) (function : Bool)
-      → By (one (a.Use d)) Y (op.Continue queue function) → Stepped G s w before o
-  continue_steps free d Y queue function h =
-      let N = Y.now in
-      statement_steps G s w before o (a.Perform (a.Plain x) (one (a.Use d))) env k Y (op.Continue queue function) (not_called N.on.running.env (a.Plain x) (one (a.Use d)) h.1.0.0) refl h.0 refl
-      (subst (λ z. PartOf G (after_step s G.p z) before (steps.with_place w o queue (λ at. steps.continue o at function)).0)
-      (sym (continues (context G.setup s G.p) (configuration s G.p) N.on.running.env k x (a.Use d) h.1.0.1 h.1.0.2 h.1.0.3))
-      (queue_rests free d Y (λ at. calls.continue (configuration s G.p) at.at (innermost_call k)) _ (λ at. nothing_continues (configuration s G.p) at.at k (ap marked_monitors (sym N.left) ∙ free.0)) _ _
-      (place_here G s w before o (Do (a.Perform (a.Plain x) (one (a.Use d))) env) k N N.sees d queue Queue o.place N.on.left.2.3.0 N.on.left.2.1 N.on.running.unit.temps h.1.2
       (used_none N.on.running.env d (argument_none N.on.running.env (a.Use d) Y.none)))))
 
   pub wait_steps : (Y : Ready G s w before o (a.Perform (a.Plain x) a.NoExpression) env k) (n : ℕ) → By a.NoExpression Y (op.Wait n) → Stepped G s w before o

@@ -17,7 +17,7 @@ use Rattle.cp_code.specs.Sites.{BodyOf, RoutineOf, Site, UnitText, operation_at}
 use Rattle.cp_code.specs.Starts.{word}
 use Rattle.cp_code.specs.TermsFor.{Knowns, TermFor, nothing_known}
 use Rattle.cp_code.specs.StatementsFor.{CodeFor, Counts, is_function, stands_at}
-use Rattle.cp_code.specs.StandsFor.{site_of, system_of_monitor, system_of_process}
+use Rattle.cp_code.specs.StandsFor.{site_of, system_of_monitor, system_of_process, system_of_unit}
 use Rattle.cp_steps.specs.PrivateStates as machine
 use Rattle.cp_steps.specs.Addresses.{ComponentLies, Ground, scope}
 
@@ -41,16 +41,12 @@ FrameFor (RoutineOf s r) (Some f) = f.routine ≡ r
 FrameFor (BodyOf s) None = Unit {0}
 FrameFor _ _ = ⊥
 
-abbrev pub system_in : UnitText → System
-system_in (RoutineOf s r) = s
-system_in (BodyOf s) = s
-
 -- So many temps and frames there are, and `fs` are in use. It has its place, and room for all that it calls.
 pub record Runs (G : Ground) (temps limit : ℕ) (R : Running) (fs : List machine.Frame) : Type 0 where
   pub unit : slice_get G.program.units R.number ≡ Some R.unit
   pub text : slice_get G.texts R.number ≡ Some R.text
   pub globals : R.env.globals ≡ scope G
-  pub system : R.env.system ≡ system_in R.text
+  pub system : R.env.system ≡ system_of_unit R.text
   pub frame : FrameFor R.text R.env.frame
   pub component : ComponentLies G R.env.component R.env.system R.component
   pub words_fit : R.base + R.unit.words ≤ G.own

@@ -85,11 +85,13 @@ delay o at next =
     (go_to next (set_word o at (pos o.number)), Delays o.gate at)
     else private_outcome o)
 
+-- Nothing is done where the call of the routine that runs entered no monitor.
 abbrev pub continue : PrivateState → ℕ → Bool → Acting
 continue o at function =
-    in_monitor o
-    (with_frame o o.frames (λ f fs.
-    return_with o (set_word o at (pos 0)) f fs function (Continues f.gate (word o.words at))))
+    with_frame o o.frames (λ f fs.
+    if is_held f.gate
+    then return_with o (set_word o at (pos 0)) f fs function (Continues f.gate (word o.words at))
+    else private_outcome o)
 
 -- ---- All operations
 
