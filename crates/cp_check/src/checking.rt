@@ -1,5 +1,6 @@
 //! The check of a text: its program, or the rule that it breaks.
 
+ghost use Rattle.cp_model.specs.Rules.{Accepted};
 ghost use Rattle.cp_model.specs.View as view;
 ghost use Rattle.cp_check.specs.Checked.{Checks};
 
@@ -20,6 +21,18 @@ pub enum CheckError {
     Memory,
 }
 
+// The program of an accepted text. Nothing but memory is refused: the numbers of such a text fit.
+fn program(alloc: Global, tree: &Tree) -> Result<Program, CheckError>
+    requires accepted { Accepted (view.tree tree.now) }
+    ensures { Checks (view.tree tree.now) result }
+{
+    accepted_tree_has_program(tree);
+    match compile(alloc, tree) {
+        Ok(program) => Ok(program),
+        Err(_) => Err(CheckError::Memory),
+    }
+}
+
 /// The program of an accepted text.
 ///
 /// It fails with `Broken` where a rule is broken in the text, or when memory runs out.
@@ -27,11 +40,8 @@ pub fn check(alloc: Global, tree: &Tree) -> Result<Program, CheckError>
     ensures { Checks (view.tree tree.now) result }
 {
     match judge(alloc, tree) {
-        Err(Refusal::Broken(violation)) => return Err(CheckError::Broken(violation)),
-        Err(Refusal::Memory) => return Err(CheckError::Memory),
-        Ok(_) => {}
+        Err(Refusal::Broken(violation)) => Err(CheckError::Broken(violation)),
+        Err(Refusal::Memory) => Err(CheckError::Memory),
+        Ok(_) => program(alloc, tree),
     }
-    accepted_tree_has_program(tree);
-    // Of an accepted text nothing else is refused: its numbers fit.
-    compile(alloc, tree).map_err(|_| CheckError::Memory)
 }
