@@ -28,5 +28,8 @@ pub fn counting_program(alloc: Global, tree: &Tree) -> Result<Program, CountingE
     if !fits(tree) {
         return Err(CountingError::Outside);
     }
-    Program::number(alloc, tree).map_err(|_| CountingError::Memory)
+    match Program::number(alloc, tree) {
+        Ok(program) => Ok(program),
+        Err(_) => Err(CountingError::Memory),
+    }
 }
