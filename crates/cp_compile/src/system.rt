@@ -14,11 +14,11 @@ ghost use Rattle.cp_compile.specs.Compiles.{IsCompiled, body_of};
 ghost use Rattle.cp_compile.specs.CompiledSystems.{IsSystem};
 
 use crate::unit::compile_unit;
+use cp_emit::Emitter;
 use cp_emit::plan::Planner;
-use cp_emit::{CompileError, Emitter};
 use cp_model::tree::{Routine, Sort, Statement};
 use cp_names::NameTable;
-use cp_scope::{RoutineTable, Scope, SystemTable, Tables};
+use cp_scope::{CompileError, RoutineTable, Scope, SystemTable, Tables};
 use cp_threaded::operation::Operation;
 
 /// What the units of a system type are compiled with: the tables of the text, plans, the first unit of each type that was defined
@@ -65,7 +65,9 @@ impl<'s, 't> SystemCompiler<'s, 't> {
             self.firsts,
             self.first,
         );
-        let starts = self.planner.routine(is_function, &table.parameters, &table.variables)?;
+        let starts = self
+            .planner
+            .routine(is_function, &table.parameters, &table.variables)?;
         let last = Operation::Return {
             function: is_function,
         };

@@ -9,9 +9,9 @@ ghost use Rattle.cp_scope.specs.Scopes.{IsScope};
 ghost use Rattle.cp_threaded.specs.View as view;
 ghost use Rattle.cp_compile.specs.Compiles.{IsCompiled, body_of};
 
-use cp_emit::{CompileError, Emitter};
+use cp_emit::Emitter;
 use cp_model::tree::Statement;
-use cp_scope::Scope;
+use cp_scope::{CompileError, Scope};
 use cp_threaded::operation::Operation;
 use cp_threaded::program::Start;
 use cp_translate::Translator;

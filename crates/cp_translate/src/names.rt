@@ -17,8 +17,7 @@ ghost use Rattle.cp_threaded.specs.View as view;
 ghost use Rattle.cp_typing.specs.StaticTypes.{is_clock};
 
 use crate::translator::Translator;
-use cp_emit::CompileError;
-use cp_scope::{Local, Part};
+use cp_scope::{CompileError, Local, Part};
 use cp_threaded::term::{Root, Term};
 
 // Whether a name is that of the clock.

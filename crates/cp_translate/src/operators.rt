@@ -12,9 +12,9 @@ ghost use Rattle.cp_emit.specs.declared.emitter.CodedCall.{CodedCall};
 ghost use Rattle.cp_translate.specs.Translated.{IsTerm};
 
 use crate::translator::Translator;
-use cp_emit::CompileError;
 use cp_emit::call::MadeTerm;
 use cp_model::tree::{Operator, Sign};
+use cp_scope::CompileError;
 use cp_threaded::term::Term;
 
 impl<'s, 't> Translator<'s, 't> {

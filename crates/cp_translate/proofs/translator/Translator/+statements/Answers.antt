@@ -17,7 +17,7 @@ use Rattle.cp_translate.specs.Statements.{ArmsEnter, Enters}
 use Rattle.cp_translate.proofs.Counting.{for_entered}
 use Rattle.cp_translate.proofs.Sequencing.{body_made, if_entered, loop_made, nothing_entered, seq_entered, then_entered}
 use Rattle.cp_translate.proofs.Cases.{arm_entered}
-use Rattle.cp_translate.proofs.StatementViews.{view_arm, view_case, view_cycle, view_if, view_if_else}
+use Rattle.cp_model.proofs.StatementViews.{view_arm, view_case, view_cycle, view_if, view_if_else}
 use Rattle.cp_translate.proofs.translator.Translator.+statements.Goals as goal
 
 pub statements-loop-i-preserved : goal.statements-loop-i-preserved
