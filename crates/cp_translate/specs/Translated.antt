@@ -5,7 +5,6 @@ use Rattle.cp_model.specs.Abstract.{Name}
 use Rattle.cp_model.specs.Erase as erase
 use Rattle.cp_model.specs.Syntax as syntax
 use Rattle.cp_model.specs.Syntax.{chain_of}
-use Rattle.cp_model.specs.Declarations.{Variable}
 use Rattle.cp_code.specs.CodedTerms as coded
 use Rattle.cp_code.specs.CodedTerms.{coded_arguments, coded_spot, coded_term, coded_variable}
 use Rattle.cp_code.specs.Scopes as code

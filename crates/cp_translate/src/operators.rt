@@ -1,6 +1,6 @@
 //! Operators over terms that are made.
 
-ghost use Rattle.std.specs.Prelude.{◌≡◌, List, ℕ, IfOk, map};
+ghost use Rattle.std.specs.Prelude.{List, ℕ, IfOk, map};
 ghost use Rattle.cp_model.specs.Abstract as a;
 ghost use Rattle.cp_model.specs.Erase as erase;
 ghost use Rattle.cp_code.specs.CodedTerms as coded;

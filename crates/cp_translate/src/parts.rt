@@ -1,6 +1,6 @@
 //! Parts of variables: fields and elements.
 
-ghost use Rattle.std.specs.Prelude.{◌≡◌, List, ℕ, IfOk, map};
+ghost use Rattle.std.specs.Prelude.{List, ℕ, IfOk, map};
 ghost use Rattle.cp_model.specs.Abstract as a;
 ghost use Rattle.cp_code.specs.CodedTerms.{coded_term};
 ghost use Rattle.cp_code.specs.CodedTerms as coded;

@@ -23,7 +23,7 @@ use crate::standard::lone_name;
 use crate::translator::Translator;
 use cp_emit::Emitter;
 use cp_model::tree::{Designator, Expression};
-use cp_scope::{Base, Callee, CompileError, base_type};
+use cp_scope::{Base, Callee, CompileError};
 use cp_threaded::operation::Operation;
 
 // Whether values of a base type are shown as bytes.
