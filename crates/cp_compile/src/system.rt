@@ -1,6 +1,6 @@
 //! The units of a system type: its routines in text order, and then its body.
 
-ghost use Rattle.std.specs.Prelude.{◌≡◌, List, ℕ, OnOk, length, map};
+ghost use Rattle.std.specs.Prelude.{◌≡◌, List, ℕ, OnOk, length};
 ghost use Rattle.cp_model.specs.Abstract.{Name, Routine, System};
 ghost use Rattle.cp_model.specs.Erase as erase;
 ghost use Rattle.cp_model.specs.Types.{GlobalScope};

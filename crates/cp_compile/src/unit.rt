@@ -1,8 +1,6 @@
 //! Units: the code of a routine, or of the body of a system type.
 
-ghost use Rattle.std.specs.Prelude.{◌≡◌, OnOk, map};
-ghost use Rattle.cp_model.specs.Erase as erase;
-ghost use Rattle.cp_model.specs.View as tree;
+ghost use Rattle.std.specs.Prelude.{OnOk, map};
 ghost use Rattle.cp_code.specs.Compile.{Compiled, with_unit};
 ghost use Rattle.cp_code.specs.Scopes as code;
 ghost use Rattle.cp_scope.specs.Scopes.{IsScope};
