@@ -128,8 +128,7 @@ component_put of plans g firsts groups vs v i k text table n o body text_is tabl
     sym (mapped_length tree.routine rs) ∙ sym (mapped_length erase.routine (map tree.routine rs)) ∙ ap (λ (s : a.System). length s.routines) erased in
     let plan = i.planned k text table text_is table_is ∙ ap (plan_of_component g) erased in
     let own = is plans g of.tables.now.types there.0 ps ws rs (i.systems k text table text_is table_is) written plan in
-    let x : code.Owner = record { system = there.0; body = or_zero (lookup (declared_type v.0 groups) firsts) + length there.0.routines } in
-    (
+    let x : code.Owner = record { system = there.0; body = or_zero (lookup (declared_type v.0 groups) firsts) + length there.0.routines } in (
       x,
       λ rest. ap (λ t. owner_before firsts groups (v.0, record v.1 { type = t }) rest) there.2,
       record {

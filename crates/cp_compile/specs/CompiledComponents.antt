@@ -45,7 +45,8 @@ AreOwners plans g _ _ = ⊥
 -- It is a component of the system type of this table, if the plan of its number is that of the system type.
 abbrev pub IsOwner : SystemTable → ℕ → ℕ → Owner → Type 0
 IsOwner table body plan o =
-    (plans : List Plan) (g : GlobalScope) (types : Types) (s : System) (ps : List Parameters) (vs : List Fields) (rs : List tree_routine.Routine)
+    (plans : List Plan) (g : GlobalScope) (types : Types) (s : System)
+    (ps : List Parameters) (vs : List Fields) (rs : List tree_routine.Routine)
     → SystemStands g types table ps vs rs → IsWritten s ps vs rs → plan_at plans plan ≡ plan_of_component g s
     → OwnerIs plans g o (record { system = s; body = body })
 
@@ -58,11 +59,13 @@ PutsOwner plans g firsts groups v o =
 
 abbrev pub PlansAre : GlobalScope → Tables → List Plan → Type 0
 PlansAre g tables plans =
-    (k : ℕ) (y : Bor tree_system.System) (t : SystemTable) → system_at tables.types k ≡ Some y → slice_get tables.systems.items k ≡ Some t
+    (k : ℕ) (y : Bor tree_system.System) (t : SystemTable)
+    → system_at tables.types k ≡ Some y → slice_get tables.systems.items k ≡ Some t
     → plan_at plans k ≡ plan_of_component g (erase.system (tree.system y.now))
 
 -- The tables stand for the text, whose initial process declares these variables.
-pub record IsInitial (of : InitialCompiler) (plans : List Plan) (g : GlobalScope) (firsts : List (Name × ℕ)) (groups : List Group) (vs : List (Name × Variable))
+pub record IsInitial (of : InitialCompiler) (plans : List Plan) (g : GlobalScope) (firsts : List (Name × ℕ))
+    (groups : List Group) (vs : List (Name × Variable))
     : Type 0 where
   pub systems : AreSystems g of.tables.now.types of.tables.now.systems.items
   pub declared : AreDeclared of.tables.now.types (map declared_entry of.tables.now.initial.variables.items) vs

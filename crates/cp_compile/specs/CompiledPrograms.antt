@@ -50,12 +50,15 @@ pub record ArePlansOf (g : GlobalScope) (tables : Tables) (t : text.Tree) (plans
 -- ---- Components
 
 abbrev pub monitor_owners : Tree → List code.Owner
-monitor_owners t = owners_of (text_types t).firsts t.initial.variables (of_sort a.Monitor (declarations (globals t) t.initial.variables))
+monitor_owners t =
+    owners_of (text_types t).firsts t.initial.variables
+    (of_sort a.Monitor (declarations (globals t) t.initial.variables))
 
 abbrev pub process_owners : Tree → List code.Owner
 process_owners t =
     record { system = t.initial; body = length (text_types t).compiled.units + length t.initial.routines }
-    ∷ owners_of (text_types t).firsts t.initial.variables (of_sort a.Process (declarations (globals t) t.initial.variables))
+    ∷ owners_of (text_types t).firsts t.initial.variables
+    (of_sort a.Process (declarations (globals t) t.initial.variables))
 
 -- The components of a text.
 pub record ComponentsLie (plans : List Plan) (c : Components) (t : Tree) : Type 0 where
@@ -63,4 +66,5 @@ pub record ComponentsLie (plans : List Plan) (c : Components) (t : Tree) : Type 
   pub processes : map (view.process plans) c.processes.items
       ≡ processes_at (globals t) (sum_words (component_words (globals t)) (monitor_owners t)) (process_owners t)
   pub shared : c.shared
-      ≡ sum_words (component_words (globals t)) (monitor_owners t) + sum_words (waiting_words (globals t)) (process_owners t)
+      ≡ sum_words (component_words (globals t)) (monitor_owners t)
+      + sum_words (waiting_words (globals t)) (process_owners t)

@@ -44,7 +44,8 @@ system_number t x = number_of t (lookup x t.names.types)
 -- The text and the table of a system type.
 pub record IsSystemText (of : TextCompiler) (g : GlobalScope) (found : SystemText) (s : System) : Type 0 where
   pub text : erase.system (tree.system found.text.now) ≡ s
-  pub table : SystemStands g of.tables.now.types found.table.now found.text.now.parameters.items found.text.now.variables.items found.text.now.routines.items
+  pub table : SystemStands g of.tables.now.types found.table.now found.text.now.parameters.items
+      found.text.now.variables.items found.text.now.routines.items
 
 -- ---- Definitions
 

@@ -13,6 +13,7 @@ pub record MonitorsLie (plans : List Plan) (g : GlobalScope) (m : MonitorLayout)
   pub monitors : map (view.monitor plans) m.monitors.items ≡ monitors_at g 0 xs
   pub words : m.words ≡ sum_words (component_words g) xs
 
-pub record ProcessesLie (plans : List Plan) (g : GlobalScope) (start : ℕ) (p : ProcessLayout) (xs : List code.Owner) : Type 0 where
+pub record ProcessesLie (plans : List Plan) (g : GlobalScope) (start : ℕ) (p : ProcessLayout) (xs : List code.Owner)
+    : Type 0 where
   pub processes : map (view.process plans) p.processes.items ≡ processes_at g start xs
   pub end : p.end ≡ start + sum_words (waiting_words g) xs

@@ -11,15 +11,15 @@ ghost use Rattle.cp_scope.specs.Texts.{TablesStand};
 ghost use Rattle.cp_threaded.specs.View as view;
 ghost use Rattle.cp_compile.specs.CompiledPrograms.{ArePlansOf, ComponentsLie, IsCode, IsPlanner, text_of};
 
-use crate::components::{InitialCompiler, Owner, small};
+use crate::components::{InitialCompiler, Owner};
 use crate::definitions::TextCompiler;
 use crate::layout::{lay_monitors, lay_processes};
 use crate::system::SystemCompiler;
+use cp_emit::Emitter;
 use cp_emit::plan::Planner;
-use cp_emit::{CompileError, Emitter};
 use cp_model::tree::{Sort, Tree};
 use cp_names::NameTable;
-use cp_scope::Tables;
+use cp_scope::{CompileError, Tables, small_number};
 use cp_threaded::program::{Monitor, Plan, Process, Program};
 use std::alloc::Global;
 
@@ -83,16 +83,13 @@ fn compile_code<'t>(
 }
 
 // Makes the plans of components.
-fn make_plans<'t>(
-    tables: &Tables<'t>,
-    planner: &Planner<'_, 't>,
-) -> Result<Plans, CompileError>
+fn make_plans<'t>(tables: &Tables<'t>, planner: &Planner<'_, 't>) -> Result<Plans, CompileError>
     ensures { IfOk result (λ plans. (g : GlobalScope) (t : text.Tree)
         → TablesStand g tables.now t → IsPlanner tables.now planner.now g
         → ArePlansOf g tables.now t plans) }
 {
     let mut all = planner.components()?;
-    let initial = small(all.len())?;
+    let initial = small_number(all.len())?;
     let starts = planner.component(&tables.initial.parameters, &tables.initial.variables)?;
     all.push(Plan { starts })?;
     Ok(Plans { all, initial })
@@ -118,8 +115,11 @@ fn lay_components<'t>(
     };
     let mut monitors = Vec::new(alloc);
     compiler.add_owners(Sort::Monitor, &mut monitors)?;
-    let routines = small(tree.routines.len())?;
-    let body = code.first.checked_add(routines).ok_or(CompileError::Unaccepted)?;
+    let routines = small_number(tree.routines.len())?;
+    let body = code
+        .first
+        .checked_add(routines)
+        .ok_or(CompileError::Unaccepted)?;
     let mut processes = Vec::new(alloc);
     processes.push(Owner::of(&tables.initial, body, plans.initial)?)?;
     compiler.add_owners(Sort::Process, &mut processes)?;

@@ -12,10 +12,9 @@ ghost use Rattle.cp_scope.specs.Standing.{Stands, row_at};
 ghost use Rattle.cp_threaded.specs.declared.program.Plan.{Plan};
 ghost use Rattle.cp_compile.specs.CompiledComponents.{AreOwners, IsInitial, IsOwner, PutsOwner};
 
-use cp_emit::CompileError;
 use cp_model::tree::Sort;
 use cp_names::NameTable;
-use cp_scope::{Declared, SystemTable, Tables};
+use cp_scope::{CompileError, Declared, SystemTable, Tables, small_number};
 
 /// A monitor or a process: the unit of its body, its words, those of what is passed to it, and the number of its plan.
 #[derive(Clone, Copy)]
@@ -33,19 +32,12 @@ pub struct InitialCompiler<'s, 't> {
     pub firsts: &'s NameTable<'t, u32>,
 }
 
-/// A number of 32 bits.
-pub fn small(n: usize) -> Result<u32, CompileError>
-    ensures { IfOk result (λ m. m ≡ n) }
-{
-    u32::try_from(n).map_err(|_| CompileError::Unaccepted)
-}
-
 impl Owner {
     /// A component of a system type, with the unit of its body and the number of its plan.
     pub fn of(table: &SystemTable, body: u32, plan: u32) -> Result<Owner, CompileError>
         ensures { IfOk result (IsOwner table.now body plan) }
     {
-        let waiting = small(table.parameters.len())?;
+        let waiting = small_number(table.parameters.len())?;
         Ok(Owner {
             body,
             words: table.members.words.ok_or(CompileError::Unaccepted)?,
@@ -65,13 +57,17 @@ impl<'s, 't> InitialCompiler<'s, 't> {
             → system_of (row_at self.now.tables.now.types d.now.of) ≡ Some number
             → PutsOwner plans g firsts groups (d.now.name.now, v) o) }
     {
-        let text = self.tables.types.system(number).ok_or(CompileError::Unaccepted)?;
+        let text = self
+            .tables
+            .types
+            .system(number)
+            .ok_or(CompileError::Unaccepted)?;
         let table = self.tables.system(number).ok_or(CompileError::Unaccepted)?;
         let of = self.tables.initial.variable_type(d.name);
         let first = self.firsts.find(of).unwrap_or(0);
-        let routines = small(text.routines.len())?;
+        let routines = small_number(text.routines.len())?;
         let body = first.checked_add(routines).ok_or(CompileError::Unaccepted)?;
-        Owner::of(table, body, small(number)?)
+        Owner::of(table, body, small_number(number)?)
     }
 
     // Adds the component that a variable is, if it is one of this sort.

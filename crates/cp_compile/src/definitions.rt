@@ -11,11 +11,11 @@ ghost use Rattle.cp_compile.specs.CompiledTexts.{AreNamed, IsDefined, IsNamed, I
 ghost use Rattle.cp_compile.specs.Compiles.{IsCompiled};
 
 use crate::system::SystemCompiler;
+use cp_emit::Emitter;
 use cp_emit::plan::Planner;
-use cp_emit::{CompileError, Emitter};
 use cp_model::tree::{Defined, Section, System, TypeDefinition, TypeExpression};
 use cp_names::NameTable;
-use cp_scope::{SystemTable, Tables, add_name};
+use cp_scope::{CompileError, SystemTable, Tables, add_name};
 
 /// What the definitions of a text are compiled with.
 #[derive(Clone, Copy)]
@@ -63,7 +63,11 @@ impl<'s, 't> TextCompiler<'s, 't> {
             → IsSystemText self.now g found s) }
     {
         let number = self.number(name).ok_or(CompileError::Unaccepted)?;
-        let text = self.tables.types.system(number).ok_or(CompileError::Unaccepted)?;
+        let text = self
+            .tables
+            .types
+            .system(number)
+            .ok_or(CompileError::Unaccepted)?;
         let table = self.tables.system(number).ok_or(CompileError::Unaccepted)?;
         Ok(SystemText { text, table })
     }
@@ -142,7 +146,8 @@ impl<'s, 't> TextCompiler<'s, 't> {
         ensures { OnOk result ((g : GlobalScope) (m : CompiledTypes) → IsText self.now g
             → AreNamed g (map erase.type_definition (map tree.type_definition list.now))
             → TypesAre emitter.old firsts.old m → TypesAre emitter.new firsts.new
-            (with_definitions g (map erase.type_definition (map tree.type_definition list.now)) m)) }
+            (with_definitions g
+            (map erase.type_definition (map tree.type_definition list.now)) m)) }
     {
         for d in list {
             self.definition(d, firsts, emitter)?;

@@ -8,7 +8,7 @@ ghost use Rattle.cp_compile.specs.CompiledComponents.{AreOwners};
 ghost use Rattle.cp_compile.specs.LaidComponents.{MonitorsLie, ProcessesLie};
 
 use crate::components::Owner;
-use cp_emit::CompileError;
+use cp_scope::CompileError;
 use cp_threaded::program::{Monitor, Process};
 use std::alloc::Global;
 
@@ -67,10 +67,9 @@ pub fn lay_processes(
             waiting: owner.waiting,
             plan: owner.plan,
         })?;
-        at = at.checked_add(owner.waiting).ok_or(CompileError::Unaccepted)?;
+        at = at
+            .checked_add(owner.waiting)
+            .ok_or(CompileError::Unaccepted)?;
     }
-    Ok(ProcessLayout {
-        processes,
-        end: at,
-    })
+    Ok(ProcessLayout { processes, end: at })
 }

@@ -1,6 +1,6 @@
 //! The units of a system type: its routines in text order, and then its body.
 
-ghost use Rattle.std.specs.Prelude.{◌≡◌, List, ℕ, OnOk, length, map};
+ghost use Rattle.std.specs.Prelude.{◌≡◌, List, ℕ, OnOk, length};
 ghost use Rattle.cp_model.specs.Abstract.{Name, Routine, System};
 ghost use Rattle.cp_model.specs.Erase as erase;
 ghost use Rattle.cp_model.specs.Types.{GlobalScope};
@@ -14,11 +14,11 @@ ghost use Rattle.cp_compile.specs.Compiles.{IsCompiled, body_of};
 ghost use Rattle.cp_compile.specs.CompiledSystems.{IsSystem};
 
 use crate::unit::compile_unit;
+use cp_emit::Emitter;
 use cp_emit::plan::Planner;
-use cp_emit::{CompileError, Emitter};
 use cp_model::tree::{Routine, Sort, Statement};
 use cp_names::NameTable;
-use cp_scope::{RoutineTable, Scope, SystemTable, Tables};
+use cp_scope::{CompileError, RoutineTable, Scope, SystemTable, Tables};
 use cp_threaded::operation::Operation;
 
 /// What the units of a system type are compiled with: the tables of the text, plans, the first unit of each type that was defined
@@ -65,7 +65,9 @@ impl<'s, 't> SystemCompiler<'s, 't> {
             self.firsts,
             self.first,
         );
-        let starts = self.planner.routine(is_function, &table.parameters, &table.variables)?;
+        let starts = self
+            .planner
+            .routine(is_function, &table.parameters, &table.variables)?;
         let last = Operation::Return {
             function: is_function,
         };

@@ -1,4 +1,3 @@
-pub mod Errors
 pub mod PlainNeeds
 pub mod Emission
 pub mod Arms

@@ -5,8 +5,8 @@ ghost use Rattle.cp_emit.specs.Emission.{Emits, Goes, calls_from, changed_at, op
 ghost use Rattle.cp_threaded.specs.View as view;
 
 use crate::emitter::{CodedCall, Emitter};
-use crate::error::CompileError;
 use crate::need::Need;
+use cp_scope::CompileError;
 use cp_threaded::operation::Operation;
 
 // Completes the operation that closes a loop, whose body begins there.

@@ -7,7 +7,7 @@ ghost use Rattle.cp_scope.specs.Layouts.{Counts};
 ghost use Rattle.cp_scope.specs.Routines.{MakesResult, MakesRoutine};
 ghost use Rattle.cp_scope.specs.Variables.{declared_entry};
 
-use crate::error::TableError;
+use crate::error::CompileError;
 use crate::layout::Layouts;
 use crate::locals::Locals;
 use crate::names::Names;
@@ -23,7 +23,7 @@ pub struct RoutineTable<'t> {
     pub name: &'t [u8],
     pub parameters: Vec<Declared<'t>>,
     pub variables: Vec<Declared<'t>>,
-    pub locals: Locals<'t>,
+    pub(crate) locals: Locals<'t>,
     pub result: Option<usize>,
 }
 
@@ -42,7 +42,7 @@ fn both<'t>(
     alloc: Global,
     parameters: &[Declared<'t>],
     variables: &[Declared<'t>],
-) -> Result<Vec<Declared<'t>>, TableError>
+) -> Result<Vec<Declared<'t>>, CompileError>
     ensures { IfOk result (λ all. map declared_entry all.items ≡
         map declared_entry parameters.now ++ map declared_entry variables.now) }
 {
@@ -57,7 +57,7 @@ impl<'t> Types<'t> {
         &mut self,
         names: &Names<'t>,
         of: &'t Option<Identifier>,
-    ) -> Result<Option<usize>, TableError>
+    ) -> Result<Option<usize>, CompileError>
         ensures { IfOk result (λ r. MakesResult names.now self.old self.new of.now r) }
     {
         match of {
@@ -74,7 +74,7 @@ impl<'t> Layouts<'t> {
         names: &Names<'t>,
         types: &mut Types<'t>,
         text: &'t Routine,
-    ) -> Result<RoutineTable<'t>, TableError>
+    ) -> Result<RoutineTable<'t>, CompileError>
         ensures { IfOk result (λ r. MakesRoutine names.now types.old types.new self.old.rows.items
             self.new.rows.items text.now r) }
     {

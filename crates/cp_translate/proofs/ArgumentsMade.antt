@@ -1,5 +1,5 @@
 -- Arguments, one by one, and calls with them.
-use Rattle.std.proofs.Common.{◌≡◌, ◌∷◌, ◌++◌, ◌∙◌, ◌+◌, ◌<◌, ◌≤◌, Bor, ℕ, zero, suc, List, [], Option, None, Some, Bool, true, false, ap, append_assoc, drop, length, map, refl, slice_get, subst, sym}
+use Rattle.std.proofs.Common.{◌≡◌, ◌∷◌, ◌++◌, ◌∙◌, ◌<◌, ◌≤◌, Bor, ℕ, zero, suc, List, [], Option, Some, false, ap, append_assoc, drop, length, map, refl, slice_get, subst, sym}
 use Rattle.std.proofs.lemmas.List.{append-nil, map-append}
 use Rattle.std.specs.List.{HoldsAt}
 use Rattle.std.specs.Option.{MatchOption}

@@ -1,5 +1,5 @@
 -- Calls, and standard functions.
-use Rattle.std.proofs.Common.{◌≡◌, ◌≤◌, ◌∷◌, ◌++◌, ◌∙◌, ℕ, List, [], Option, None, Some, Bool, true, false, if◌then◌else◌, ap, arith, codes, drop, length, map, refl, slice_index_or, subst, sym}
+use Rattle.std.proofs.Common.{◌≡◌, ◌≤◌, ◌∷◌, ℕ, List, [], Option, None, Some, true, false, if◌then◌else◌, ap, arith, codes, drop, length, map, refl, slice_index_or, subst, sym}
 use Rattle.std.specs.Str.{bytes_eq}
 use Rattle.std.proofs.lemmas.List.{append-nil}
 use Rattle.cp_model.specs.Abstract as a

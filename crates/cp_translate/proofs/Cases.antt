@@ -1,7 +1,7 @@
 -- The statements of a `case`, from the last one on.
-use Rattle.std.proofs.Common.{◌≡◌, ◌++◌, ◌∙◌, ◌+◌, ℕ, List, ap, length, map, subst, sym}
+use Rattle.std.proofs.Common.{◌≡◌, ◌∙◌, ◌+◌, ℕ, List, length, map, subst}
 use Rattle.cp_model.specs.Abstract as a
-use Rattle.cp_code.specs.CodedStatements.{EmittedArms, arms_at, emitted, emitted_arms}
+use Rattle.cp_code.specs.CodedStatements.{arms_at, emitted, emitted_arms}
 use Rattle.cp_code.specs.Scopes.{Scope}
 use Rattle.cp_emit.specs.Emission.{place_of}
 use Rattle.cp_emit.specs.declared.emitter.Emitter.{Emitter}

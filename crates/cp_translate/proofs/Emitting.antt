@@ -1,6 +1,6 @@
 -- Operations that are emitted after the calls of their terms.
 use Rattle.std.proofs.Common.{◌≡◌, ℕ, List, map, subst}
-use Rattle.cp_code.specs.CodedStatements.{Emitted, with_calls}
+use Rattle.cp_code.specs.CodedStatements.{with_calls}
 use Rattle.cp_code.specs.CodedTerms as coded
 use Rattle.cp_code.specs.Programs as op
 use Rattle.cp_emit.specs.Emission.{Emits, coded_call, operation_from, place_of}

@@ -1,11 +1,11 @@
 -- The arguments of an `init`.
-use Rattle.std.proofs.Common.{◌≡◌, ℕ, Bool, true, Some, map, refl, slice_get, subst, sym}
+use Rattle.std.proofs.Common.{◌≡◌, ℕ, Bool, true, Some, map, refl, slice_get, subst}
 use Rattle.cp_model.specs.Abstract as a
 use Rattle.cp_model.specs.Abstract.{Name, System}
 use Rattle.cp_model.specs.Components as components
 use Rattle.cp_model.specs.Declarations.{Variable, declarations, is_component}
 use Rattle.cp_model.specs.Types.{ArrayOf, ComponentOf, GlobalScope, NoType, Queue, RecordOf, ResolvedType, Simple}
-use Rattle.cp_code.specs.CodedTerms.{CodedArgument, coded_term, init_argument, target_named}
+use Rattle.cp_code.specs.CodedTerms.{coded_term, init_argument}
 use Rattle.cp_code.specs.Layout.{member, right}
 use Rattle.cp_code.specs.Scopes.{Scope, environment, part_start, right_start}
 use Rattle.cp_code.specs.Scopes as code

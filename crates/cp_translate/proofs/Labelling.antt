@@ -1,5 +1,5 @@
 -- Labels, from the last one on.
-use Rattle.std.proofs.Common.{◌≡◌, ◌∷◌, ◌++◌, ◌∙◌, ℕ, ℤ, List, [], Option, None, Some, ap, map, refl, reverse, sym}
+use Rattle.std.proofs.Common.{◌≡◌, ◌∷◌, ◌++◌, ◌∙◌, ℕ, ℤ, List, [], Option, None, Some, ap, map, refl, reverse}
 use Rattle.std.proofs.lemmas.List.{reverse-append}
 use Rattle.cp_model.specs.Abstract as a
 use Rattle.cp_model.specs.Abstract.{BaseType}

@@ -1,5 +1,3 @@
-pub mod Views
-pub mod StatementViews
 pub mod Answered
 pub mod Beginning
 pub mod PartsMade

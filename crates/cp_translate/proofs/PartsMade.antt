@@ -1,5 +1,5 @@
 -- Fields and elements.
-use Rattle.std.proofs.Common.{◌≡◌, ◌∷◌, ◌++◌, ◌∙◌, ℕ, List, [], Option, None, Some, ap, append_assoc, map, refl, subst, sym, ℤ}
+use Rattle.std.proofs.Common.{◌≡◌, ◌∷◌, ◌++◌, ◌∙◌, ℕ, List, [], Option, None, Some, ap, append_assoc, map, subst, sym, ℤ}
 use Rattle.std.proofs.lemmas.Option.{same_Some}
 use Rattle.cp_model.specs.Abstract as a
 use Rattle.cp_model.specs.Abstract.{Name}
@@ -23,8 +23,8 @@ use Rattle.cp_scope.specs.declared.layout.Part.{Part}
 use Rattle.cp_scope.specs.declared.places.Elements.{Elements}
 use Rattle.cp_scope.specs.declared.scope.Scope.{Scope}
 use Rattle.cp_scope.specs.declared.types.Types.{Types}
-use Rattle.cp_scope.specs.Layouts.{Counts, PartIs}
-use Rattle.cp_scope.specs.Places.{PlaceIs, TypeIs, elements_of}
+use Rattle.cp_scope.specs.Layouts.{PartIs}
+use Rattle.cp_scope.specs.Places.{TypeIs, elements_of}
 use Rattle.cp_scope.specs.Standing.{Stands, row_at}
 use Rattle.cp_threaded.specs.View as view
 use Rattle.cp_translate.specs.declared.made.MadeSpot.{MadeSpot}

@@ -1,7 +1,8 @@
 -- Terms that are made of expressions.
-use Rattle.std.proofs.Common.{◌≡◌, ◌∷◌, ◌++◌, ◌∙◌, ℕ, List, [], None, Some, drop, map, refl, slice_get, ap, subst, sym}
+use Rattle.std.proofs.Common.{◌≡◌, ◌∷◌, ◌∙◌, ℕ, List, [], Some, drop, map, refl, slice_get, ap, subst, sym}
 use Rattle.std.proofs.lemmas.List.{append-nil}
 use Rattle.std.proofs.lemmas.Option.{same_Some}
+use Rattle.cp_model.proofs.Views.{view_designator}
 use Rattle.cp_model.specs.Abstract as a
 use Rattle.cp_model.specs.Abstract.{Name}
 use Rattle.cp_model.specs.Erase as erase
@@ -17,7 +18,6 @@ use Rattle.cp_emit.specs.Emission.{coded_call}
 use Rattle.cp_emit.specs.declared.call.MadeTerm.{MadeTerm}
 use Rattle.cp_emit.specs.declared.emitter.CodedCall.{CodedCall}
 use Rattle.cp_scope.specs.Scopes.{Selects}
-use Rattle.cp_scope.proofs.Called.{view_designator}
 use Rattle.cp_threaded.specs.View as view
 use Rattle.cp_translate.specs.Translated.{IsTerm}
 

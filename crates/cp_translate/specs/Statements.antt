@@ -1,5 +1,5 @@
 -- When what was emitted for a statement is what the compiler's definition emits for it.
-use Rattle.std.specs.Prelude.{◌≡◌, ℕ, ℤ, List, reverse, map}
+use Rattle.std.specs.Prelude.{◌≡◌, ℕ, List, map}
 use Rattle.cp_model.specs.Abstract as a
 use Rattle.cp_code.specs.CodedStatements.{Emitted, EmittedArms, emitted, emitted_arms}
 use Rattle.cp_code.specs.Scopes as code

@@ -16,9 +16,8 @@ ghost use Rattle.cp_translate.specs.Translated.{IsArgument, IsSpot, IsTerm};
 
 use crate::made::{MadeArgument, MadeSpot};
 use crate::translator::Translator;
-use cp_emit::CompileError;
 use cp_emit::call::MadeTerm;
-use cp_scope::{Declared, Simple};
+use cp_scope::{CompileError, Declared, Simple};
 use cp_threaded::operation::Argument;
 
 /// A reference to a variable.

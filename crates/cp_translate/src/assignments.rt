@@ -19,11 +19,10 @@ ghost use Rattle.cp_translate.specs.Statements.{Enters, StatementOf};
 ghost use Rattle.cp_translate.specs.Translated.{IsSpot};
 
 use crate::made::MadeSpot;
-use crate::parts::refuse_no_index;
 use crate::translator::Translator;
-use cp_emit::{CodedCall, CompileError, Emitter};
+use cp_emit::{CodedCall, Emitter};
 use cp_model::tree::{Designator, Expression};
-use cp_scope::Simple;
+use cp_scope::{CompileError, Simple, refuse_no_index};
 use cp_threaded::operation::Operation;
 
 impl<'s, 't> Translator<'s, 't> {

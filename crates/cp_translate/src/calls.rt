@@ -21,22 +21,11 @@ ghost use Rattle.cp_translate.specs.Translated.{AreArguments, IsTerm};
 
 use crate::made::MadeArguments;
 use crate::translator::Translator;
+use cp_emit::CodedCall;
 use cp_emit::call::{MadeTerm, make_call};
-use cp_emit::{CodedCall, CompileError};
 use cp_model::tree::Sort;
-use cp_scope::{Callee, Component, RoutineTable};
+use cp_scope::{Callee, CompileError, Component, RoutineTable, small_number};
 use cp_threaded::operation::{Argument, Call, Target};
-
-/// A number of 32 bits.
-pub fn counted(n: usize) -> Result<u32, CompileError>
-    ensures { IfOk result (λ m. m ≡ n) }
-{
-    if n <= 0xffff_ffff {
-        Ok(n as u32)
-    } else {
-        Err(CompileError::Unaccepted)
-    }
-}
 
 /// How many words lie in front of the parameters of a routine: that of its result, if it is a function.
 pub fn words_before(routine: &RoutineTable) -> u32
@@ -62,7 +51,7 @@ impl<'s, 't> Translator<'s, 't> {
             → at ≡ right_start (layout.right s.globals s.system name.now)) }
     {
         let right = self.scope.right(name).ok_or(CompileError::Unaccepted)?;
-        counted(right.at)
+        small_number(right.at)
     }
 
     /// The component whose routine is called, where it is named.
@@ -79,7 +68,7 @@ impl<'s, 't> Translator<'s, 't> {
             (Sort::Class, false) => Ok(Target::Class(self.class_at(of.name)?)),
             (Sort::Class, true) => Ok(Target::ClassRight(self.right_at(of.name)?)),
             (Sort::Monitor, false) => {
-                let number = counted(of.monitors)?.checked_add(1);
+                let number = small_number(of.monitors)?.checked_add(1);
                 Ok(Target::Monitor(number.ok_or(CompileError::Unaccepted)?))
             }
             (Sort::Monitor, true) => Ok(Target::MonitorRight(self.right_at(of.name)?)),

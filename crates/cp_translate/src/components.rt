@@ -19,12 +19,10 @@ ghost use Rattle.cp_scope.specs.declared.types.Types.{Types};
 ghost use Rattle.cp_threaded.specs.View as view;
 ghost use Rattle.cp_translate.specs.Initialisation.{IsTable};
 
-use crate::calls::counted;
 use crate::standard::lone_name;
 use crate::translator::Translator;
-use cp_emit::CompileError;
 use cp_model::tree::{Designator, Expression};
-use cp_scope::{Component, SystemTable};
+use cp_scope::{CompileError, Component, SystemTable, small_number};
 use cp_threaded::operation::Target;
 
 /// Where a member lies in a component of a system type.
@@ -43,7 +41,7 @@ pub fn right_at(table: &SystemTable, name: &[u8]) -> Result<u32, CompileError>
         → IsTable g types table.now y → at ≡ right_start (layout.right g y name.now)) }
 {
     let right = table.rights.find(name).ok_or(CompileError::Unaccepted)?;
-    counted(right.at)
+    small_number(right.at)
 }
 
 /// The designator that an expression is. Another expression is refused.

@@ -25,13 +25,12 @@ ghost use Rattle.cp_translate.specs.Translated.{AreArguments, ChainOf, IsArgumen
 use crate::arguments::{reference, simple_value};
 use crate::calls::words_before;
 use crate::made::{MadeArgument, MadeArguments, MadeSpot, no_arguments};
-use crate::parts::refuse_no_index;
 use crate::standard::{is_empty_test, lone_name};
 use crate::translator::Translator;
+use cp_emit::CodedCall;
 use cp_emit::call::MadeTerm;
-use cp_emit::{CodedCall, CompileError};
 use cp_model::tree::{Designator, Expression, Index, Operation, Selector};
-use cp_scope::{Callee, Declared};
+use cp_scope::{Callee, CompileError, Declared, refuse_no_index};
 
 impl<'s, 't> Translator<'s, 't> {
     /// The term of an expression, whose calls are made before. The values of calls go to the temps from `low` on.

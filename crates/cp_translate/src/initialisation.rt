@@ -22,13 +22,12 @@ ghost use Rattle.cp_translate.specs.Statements.{Enters, StatementOf};
 ghost use Rattle.cp_translate.specs.Translated.{AreArguments, IsArgument};
 
 use crate::arguments::simple_value;
-use crate::calls::counted;
 use crate::components::{member_at, right_at};
 use crate::made::{MadeArgument, MadeArguments, no_arguments};
 use crate::translator::Translator;
-use cp_emit::{CodedCall, CompileError, Emitter};
+use cp_emit::{CodedCall, Emitter};
 use cp_model::tree::{Expression, InitItem, Sort};
-use cp_scope::{Component, Declared, SystemTable};
+use cp_scope::{CompileError, Component, Declared, SystemTable, small_number};
 use cp_threaded::operation::{Argument, Call, Operation};
 
 impl<'s, 't> Translator<'s, 't> {
@@ -142,7 +141,7 @@ impl<'s, 't> Translator<'s, 't> {
         if component.is_parameter {
             return Err(CompileError::Unaccepted);
         }
-        let number = counted(component.processes)?.checked_add(2);
+        let number = small_number(component.processes)?.checked_add(2);
         Ok(Operation::InitProcess {
             process: number.ok_or(CompileError::Unaccepted)?,
             arguments,

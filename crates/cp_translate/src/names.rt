@@ -1,7 +1,6 @@
 //! What names are made to: places where variables begin, constants and the clock.
 
-ghost use Rattle.std.specs.Prelude.{◌≡◌, ℕ, Option, IfOk, codes, option_map};
-ghost use Rattle.std.specs.Str.{bytes_eq};
+ghost use Rattle.std.specs.Prelude.{◌≡◌, ℕ, Option, IfOk, option_map};
 ghost use Rattle.cp_model.specs.Declarations.{Variable};
 ghost use Rattle.cp_model.specs.Names.{lookup};
 ghost use Rattle.cp_code.specs.CodedTerms.{ordinal_or_zero, root_or_first, term_of_name};
@@ -17,8 +16,7 @@ ghost use Rattle.cp_threaded.specs.View as view;
 ghost use Rattle.cp_typing.specs.StaticTypes.{is_clock};
 
 use crate::translator::Translator;
-use cp_emit::CompileError;
-use cp_scope::{Local, Part};
+use cp_scope::{CompileError, Local, Part};
 use cp_threaded::term::{Root, Term};
 
 // Whether a name is that of the clock.

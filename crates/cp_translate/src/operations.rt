@@ -15,9 +15,10 @@ ghost use Rattle.cp_threaded.specs.View as view;
 ghost use Rattle.cp_translate.specs.Statements.{Enters};
 
 use crate::translator::Translator;
+use cp_emit::Emitter;
 use cp_emit::table::table_of;
-use cp_emit::{CompileError, Emitter};
 use cp_model::tree::{Constant, Direction, Expression};
+use cp_scope::CompileError;
 use cp_threaded::arm::Arm;
 use cp_threaded::operation::{Counting, Operation};
 

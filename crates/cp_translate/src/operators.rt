@@ -1,6 +1,6 @@
 //! Operators over terms that are made.
 
-ghost use Rattle.std.specs.Prelude.{◌≡◌, List, ℕ, IfOk, map};
+ghost use Rattle.std.specs.Prelude.{List, ℕ, IfOk, map};
 ghost use Rattle.cp_model.specs.Abstract as a;
 ghost use Rattle.cp_model.specs.Erase as erase;
 ghost use Rattle.cp_code.specs.CodedTerms as coded;
@@ -12,9 +12,9 @@ ghost use Rattle.cp_emit.specs.declared.emitter.CodedCall.{CodedCall};
 ghost use Rattle.cp_translate.specs.Translated.{IsTerm};
 
 use crate::translator::Translator;
-use cp_emit::CompileError;
 use cp_emit::call::MadeTerm;
 use cp_model::tree::{Operator, Sign};
+use cp_scope::CompileError;
 use cp_threaded::term::Term;
 
 impl<'s, 't> Translator<'s, 't> {

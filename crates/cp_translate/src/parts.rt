@@ -1,6 +1,6 @@
 //! Parts of variables: fields and elements.
 
-ghost use Rattle.std.specs.Prelude.{◌≡◌, List, ℕ, IfOk, OnOk, map};
+ghost use Rattle.std.specs.Prelude.{List, ℕ, IfOk, map};
 ghost use Rattle.cp_model.specs.Abstract as a;
 ghost use Rattle.cp_code.specs.CodedTerms.{coded_term};
 ghost use Rattle.cp_code.specs.CodedTerms as coded;
@@ -8,29 +8,14 @@ ghost use Rattle.cp_code.specs.Scopes as code;
 ghost use Rattle.cp_code.specs.Terms as plain;
 ghost use Rattle.cp_emit.specs.Emission.{coded_call};
 ghost use Rattle.cp_emit.specs.declared.emitter.CodedCall.{CodedCall};
-ghost use Rattle.cp_model.specs.View as tree;
-ghost use Rattle.cp_scope.specs.Scopes.{IsScope, Selects};
+ghost use Rattle.cp_scope.specs.Scopes.{IsScope};
 ghost use Rattle.cp_translate.specs.Translated.{IsPlace, IsSpot, IsTerm, PartOf};
 
 use crate::made::MadeSpot;
 use crate::translator::Translator;
-use cp_emit::CompileError;
 use cp_emit::call::MadeTerm;
-use cp_model::tree::Selector;
+use cp_scope::CompileError;
 use cp_threaded::term::{Spot, Term};
-
-/// Every index list of a text has an index.
-pub fn refuse_no_index(selector: &Selector) -> Result<(), CompileError>
-    ensures { OnOk result (Selects (tree.selector selector.now)) }
-{
-    match selector {
-        Selector::Field { .. } => Ok(()),
-        Selector::Indexed(indices) => match indices.as_slice() {
-            [] => Err(CompileError::Unaccepted),
-            [_, ..] => Ok(()),
-        },
-    }
-}
 
 impl<'s, 't> Translator<'s, 't> {
     /// The variable of a name, and the type of its place.

@@ -21,9 +21,9 @@ ghost use Rattle.cp_translate.specs.Statements.{Enters, StatementOf};
 use crate::calls::words_before;
 use crate::standard::lone_name;
 use crate::translator::Translator;
-use cp_emit::{CompileError, Emitter};
+use cp_emit::Emitter;
 use cp_model::tree::{Designator, Expression};
-use cp_scope::{Base, Callee, base_type};
+use cp_scope::{Base, Callee, CompileError};
 use cp_threaded::operation::Operation;
 
 // Whether values of a base type are shown as bytes.

@@ -4,7 +4,8 @@ ghost use Rattle.std.specs.Prelude.{◌≡◌, List, IfOk, codes};
 ghost use Rattle.std.specs.Str.{bytes_eq};
 ghost use Rattle.cp_model.specs.Erase as erase;
 ghost use Rattle.cp_model.specs.Expressions.{name_of};
-ghost use Rattle.cp_model.specs.Types.{base_of_type, first_ordinal, last_ordinal};
+ghost use Rattle.cp_model.specs.Types as types;
+ghost use Rattle.cp_model.specs.Types.{base_of_type};
 ghost use Rattle.cp_model.specs.View as tree;
 ghost use Rattle.cp_typing.specs.StaticTypes.{expression_type};
 ghost use Rattle.cp_code.specs.CodedTerms as coded;
@@ -20,10 +21,9 @@ ghost use Rattle.cp_translate.specs.Translated.{IsSpot, IsTerm};
 
 use crate::made::MadeSpot;
 use crate::translator::Translator;
-use cp_emit::CompileError;
 use cp_emit::call::MadeTerm;
 use cp_model::tree::{Designator, Expression};
-use cp_scope::{Base, base_type};
+use cp_scope::{Base, CompileError, base_type, first_ordinal, last_ordinal};
 use cp_threaded::term::{Function, Term};
 
 /// The name that a designator is. A part is refused.
@@ -44,32 +44,15 @@ pub fn is_empty_test(name: &[u8]) -> bool
     name == b"empty".as_slice()
 }
 
-// The last ordinal of a base type.
-fn last_ordinal(base: Base) -> Result<i32, CompileError>
-    ensures { IfOk result (λ n. n ≡ last_ordinal (base_of base.entry)) }
-{
-    match base {
-        Base::Integer => Ok(32767),
-        Base::Char => Ok(127),
-        Base::Boolean => Ok(1),
-        Base::Enumeration { last, .. } => {
-            i32::try_from(last).map_err(|_| CompileError::Unaccepted)
-        }
-    }
-}
-
 // So many values further on, within the bounds of a base type.
 fn shift(by: i32, base: Base) -> Result<Function, CompileError>
     ensures { IfOk result (λ f. view.function f
-        ≡ plain.Shift by (first_ordinal (base_of base.entry)) (last_ordinal (base_of base.entry))) }
+        ≡ plain.Shift by (types.first_ordinal (base_of base.entry))
+        (types.last_ordinal (base_of base.entry))) }
 {
     Ok(Function::Shift {
         by,
-        low: if matches!(base, Base::Integer) {
-            -32768
-        } else {
-            0
-        },
+        low: first_ordinal(base),
         high: last_ordinal(base)?,
     })
 }

@@ -10,8 +10,9 @@ ghost use Rattle.cp_model.specs.View as tree;
 ghost use Rattle.cp_translate.specs.Statements.{ArmsOf, StatementOf};
 
 use crate::translator::Translator;
-use cp_emit::{CompileError, Emitter};
+use cp_emit::Emitter;
 use cp_model::tree::{Arm, Direction, Expression, Identifier, Statement};
+use cp_scope::CompileError;
 use cp_threaded::arm::Arm as CodedArm;
 use cp_threaded::operation::Operation;
 

@@ -8,7 +8,7 @@ ghost use Rattle.cp_scope.specs.Scopes.{IsScope};
 ghost use Rattle.cp_scope.specs.Standing.{Stands};
 
 use crate::translator::Translator;
-use cp_emit::CompileError;
+use cp_scope::CompileError;
 
 impl<'s, 't> Translator<'s, 't> {
     /// How many words a variable of this type takes.

@@ -26,5 +26,5 @@ returns c =
     first ∙ ap (λ n. or_zero (lookup n of.firsts.now)) (c.variable_type-of.ensures ∙ i.type_names x) ∙ ap or_zero (i.firsts_are (declared_type x groups)) in
     component_put of plans g firsts groups vs (c.args.d.now.name.now, v) i k text table c.args.d.now.of o c.in_ok-body.body text_is table_is
     (body ∙ ap (λ n. n + c.in_ok-routines.routines) own ∙ ap (λ n. or_zero (lookup (declared_type x groups) firsts) + n) routines) stands number
-    (subst (λ n. IsOwner table c.in_ok-body.body n o) c.in_ok-small.ensures is))
+    (subst (λ n. IsOwner table c.in_ok-body.body n o) c.in_ok-small_number.ensures is))
     c.of.ensures

@@ -1,23 +1,22 @@
-use Rattle.std.proofs.Common.{rules, ◌≡◌, ◌∷◌, ◌++◌, ◌+◌, ◌-◌, ◌<◌, ◌∙◌, [], ℕ, List, ap, arith, drop, length, map, refl, reverse, subst, suc, sym}
-use Rattle.std.proofs.lemmas.List.{at_drop_all, at_drop_more}
+use Rattle.std.proofs.Common.{rules, ◌≡◌, ◌∷◌, ◌++◌, ◌+◌, ◌-◌, ◌<◌, ◌∙◌, ℕ, List, ap, arith, drop, length, map, reverse, subst, suc, sym}
+use Rattle.std.proofs.lemmas.List.{at_drop_more}
 use Rattle.cp_model.specs.Abstract as a
 use Rattle.cp_model.specs.Erase as erase
 use Rattle.cp_model.specs.Syntax as syntax
 use Rattle.cp_model.specs.View as tree
 use Rattle.cp_model.specs.declared.tree.Arm.{Arm}
 use Rattle.cp_model.specs.declared.tree.Statement.{Statement}
-use Rattle.cp_code.specs.CodedStatements.{Emitted, EmittedArms, arms_at, calls_at, emitted, emitted_arms, table_of, with_calls}
+use Rattle.cp_code.specs.CodedStatements.{Emitted, EmittedArms, calls_at, emitted, emitted_arms, table_of, with_calls}
 use Rattle.cp_code.specs.CodedTerms.{coded_term}
 use Rattle.cp_code.specs.Programs as op
 use Rattle.cp_emit.specs.Emission.{Emits, place_of, with_body, with_repeated}
 use Rattle.cp_scope.proofs.Unrefused.{if_ok}
-use Rattle.cp_threaded.specs.Labels.{arm}
 use Rattle.cp_threaded.specs.View as view
 use Rattle.cp_translate.specs.Statements.{ArmsEnter, Enters}
 use Rattle.cp_translate.proofs.Counting.{for_entered}
 use Rattle.cp_translate.proofs.Sequencing.{body_made, if_entered, loop_made, nothing_entered, seq_entered, then_entered}
 use Rattle.cp_translate.proofs.Cases.{arm_entered}
-use Rattle.cp_translate.proofs.StatementViews.{view_arm, view_case, view_cycle, view_if, view_if_else}
+use Rattle.cp_model.proofs.StatementViews.{view_arm, view_case, view_cycle, view_if, view_if_else}
 use Rattle.cp_translate.proofs.translator.Translator.+statements.Goals as goal
 
 pub statements-loop-i-preserved : goal.statements-loop-i-preserved

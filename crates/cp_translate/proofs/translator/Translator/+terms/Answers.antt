@@ -1,4 +1,4 @@
-use Rattle.std.proofs.Common.{rules, ◌≡◌, ◌∷◌, ◌++◌, ◌+◌, ◌∙◌, [], Some, pos, ℕ, List, IfOk, add-one, ap, arith, codes, drop, length, length-append, map, refl, slice_get, subst, sym}
+use Rattle.std.proofs.Common.{◌≡◌, ◌∷◌, ◌++◌, ◌+◌, ◌∙◌, [], Some, pos, ℕ, List, add-one, ap, arith, codes, drop, length, length-append, map, refl, slice_get, subst, sym}
 use Rattle.std.specs.Str.{bytes_eq}
 use Rattle.std.specs.Int.{w32}
 use Rattle.std.proofs.lemmas.Int.{to_z-of_z}
@@ -20,7 +20,6 @@ use Rattle.cp_model.specs.declared.tree.Expression.{Expression}
 use Rattle.cp_code.specs.CodedTerms.{CodedArguments, argument_of, coded_arguments, coded_spot, coded_term, coded_variable, function_named, lone_term, name_or_item, no_arguments, parameters_of, term_of_name, with_argument}
 use Rattle.cp_code.specs.Terms.{Function, Number, Standard}
 use Rattle.cp_emit.specs.Emission.{coded_call}
-use Rattle.cp_scope.proofs.Called.{view_designator, view_field}
 use Rattle.cp_scope.proofs.Unrefused.{if_ok}
 use Rattle.cp_emit.specs.declared.call.MadeTerm.{MadeTerm}
 use Rattle.cp_threaded.proofs.Wide.{narrow}
@@ -28,7 +27,7 @@ use Rattle.cp_translate.specs.Translated.{AreArguments, IsPlace, IsTerm}
 use Rattle.cp_translate.proofs.ArgumentsMade.{Finishes, all_made, declared_at, got, none_made, one_made}
 use Rattle.cp_translate.proofs.CallsMade.{called_as, called_by, first_at, nothing_passed, standard_as, standard_empty, standard_other, valued}
 use Rattle.cp_translate.proofs.TermsMade.{first_of, lone_made, name_designated, part_designated, part_held, seen_as}
-use Rattle.cp_translate.proofs.Views.{view_call, view_chain, view_character, view_index, view_not, view_number, view_operation, view_signed}
+use Rattle.cp_model.proofs.Views.{view_call, view_chain, view_character, view_designator, view_field, view_index, view_not, view_number, view_operation, view_signed}
 use Rattle.cp_translate.proofs.translator.Translator.+terms.Goals as goal
 
 pub chain-loop-o-preserved : goal.chain-loop-o-preserved

@@ -1,9 +1,8 @@
-use Rattle.std.proofs.Common.{rules, ◌≡◌, ◌∙◌, Some, ap, refl, sym}
+use Rattle.std.proofs.Common.{rules}
 use Rattle.std.specs.Int.{w32}
 use Rattle.std.specs.Prelude.{FitsSigned}
 use Rattle.std.proofs.lemmas.Int.{to_z-of_z}
 use Rattle.cp_model.specs.Erase as erase
-use Rattle.cp_model.specs.Types.{constant_value}
 use Rattle.cp_code.specs.Programs as code
 use Rattle.cp_scope.specs.Standing.{value_of}
 use Rattle.cp_threaded.proofs.Wide.{narrow}

@@ -1,4 +1,4 @@
-use Rattle.std.proofs.Common.{rules, ◌≡◌, ◌∙◌, ℕ, Option, Some, IfSome, refl, subst, sym}
+use Rattle.std.proofs.Common.{rules, ◌≡◌, ℕ, Option, Some, refl, subst}
 use Rattle.cp_typing.specs.StaticTypes.{place_type}
 use Rattle.cp_code.specs.Scopes.{environment}
 use Rattle.cp_scope.specs.Places.{TypeIs}

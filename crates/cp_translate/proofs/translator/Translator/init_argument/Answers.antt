@@ -8,7 +8,6 @@ use Rattle.cp_code.specs.Scopes.{part_start, right_start}
 use Rattle.cp_code.specs.Terms as plain
 use Rattle.cp_emit.specs.Emission.{coded_call}
 use Rattle.cp_scope.proofs.Unrefused.{if_ok}
-use Rattle.cp_scope.specs.Standing.{simple_of}
 use Rattle.cp_translate.specs.Initialisation.{right_argument}
 use Rattle.cp_translate.specs.Translated.{IsArgument}
 use Rattle.cp_translate.proofs.Initialising.{component_argument, simple_argument}

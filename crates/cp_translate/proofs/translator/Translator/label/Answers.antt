@@ -1,4 +1,4 @@
-use Rattle.std.proofs.Common.{◌≡◌, ◌∷◌, ◌+◌, ◌-◌, ◌<◌, ◌∙◌, [], List, ap, arith, drop, get_or, length, map, reverse, sym}
+use Rattle.std.proofs.Common.{◌≡◌, ◌∷◌, ◌+◌, ◌-◌, ◌<◌, ◌∙◌, [], List, ap, arith, drop, length, map, reverse, sym}
 use Rattle.std.proofs.lemmas.List.{at_drop_all, at_drop_more}
 use Rattle.cp_model.specs.Erase as erase
 use Rattle.cp_model.specs.declared.tree.Constant.{Constant}

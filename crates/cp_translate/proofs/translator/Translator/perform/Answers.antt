@@ -1,4 +1,4 @@
-use Rattle.std.proofs.Common.{◌≡◌, map, subst, sym}
+use Rattle.std.proofs.Common.{map, subst, sym}
 use Rattle.cp_model.specs.Calls.{callee}
 use Rattle.cp_model.specs.Erase as erase
 use Rattle.cp_model.specs.View as tree

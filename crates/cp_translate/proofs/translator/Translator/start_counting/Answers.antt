@@ -1,7 +1,7 @@
-use Rattle.std.proofs.Common.{◌≡◌, ◌++◌, ◌∙◌, [], List, ap, append_assoc, map, refl, subst, sym}
+use Rattle.std.proofs.Common.{◌++◌, ◌∙◌, ap, map, subst}
 use Rattle.cp_model.specs.Erase as erase
 use Rattle.cp_model.specs.View as tree
-use Rattle.cp_code.specs.CodedTerms.{coded_term, coded_variable}
+use Rattle.cp_code.specs.CodedTerms.{coded_term}
 use Rattle.cp_code.specs.Programs as op
 use Rattle.cp_threaded.specs.View as view
 use Rattle.cp_threaded.specs.declared.operation.Operation.TheVariants as operation

@@ -1,4 +1,4 @@
-use Rattle.std.proofs.Common.{◌∙◌, refl, sym}
+use Rattle.std.proofs.Common.{refl}
 use Rattle.cp_model.specs.Erase as erase
 use Rattle.cp_model.specs.View as tree
 use Rattle.cp_typing.specs.StaticTypes.{place_type}

@@ -1,4 +1,4 @@
-use Rattle.std.proofs.Common.{◌∙◌, sym}
+use Rattle.std.proofs.Common.{sym}
 use Rattle.cp_translate.proofs.Initialising.{table_stands}
 use Rattle.cp_translate.proofs.translator.Translator.system_table.Goals as goal
 
