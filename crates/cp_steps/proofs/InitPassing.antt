@@ -1,4 +1,4 @@
--- Arguments of the `init` of a class are what the meaning binds to its parameters.
+-- Arguments of an `init` are what the meaning binds to its parameters.
 use Rattle.std.proofs.Common.{◌≡◌, ◌⊎◌, inl, inr, ℕ, ◌+◌, ◌≤◌, ◌<◌, ℤ, pos, List, [], ◌∷◌, ◌++◌, length, Bool, true, false, Option, Some, None, Result, Ok, Err, refl, ap, sym, subst, ◌∙◌, arith}
 use Rattle.std.specs.Prelude.{if◌then◌else◌, slice_set}
 use Rattle.std.proofs.lemmas.Bool.{true≢false}
@@ -154,7 +154,7 @@ module _ (G : Ground) (sys : System) (at : Location) (c from : ℕ) (distinct : 
   module _ (site : Site) (clock : Clock) (store : Store) (w : Outside) (K : Knowns) (lies : Location → Option Part) (o : PrivateState) (stays : Stays site.env clock store w K lies from o)
       (globals : site.env.globals ≡ scope G)
       (given : (n : Component) (t : Target) → TargetFor site.env (Some n) t → (named : Name) → component_named site.env named ≡ Some n → (ws : List ℤ) → SameOutside from w.own o.words ws → length ws ≡ length o.words → (k : ℕ) (inner : Members) (l : Location)
-      → c + k ≤ length o.words → (v : StoreValue) × (right_writes site.env store sys.sort l n.system.sort n ≡ (l, v) ∷ []) × RightMeans G (ComponentOf n.system inner) v (c + k) (right_word (record o { words = ws }) (c + k) t) × IsGiven (ComponentOf n.system inner) v)
+      → c + k ≤ length o.words → (y : Name) (u : Variable) → right (scope G) sys y ≡ Some (k, u) → u.type ≡ ComponentOf n.system inner → (v : StoreValue) × (right_writes site.env store sys.sort l n.system.sort n ≡ (l, v) ∷ []) × RightMeans G (ComponentOf n.system inner) v (c + k) (right_word (record o { words = ws }) (c + k) t) × IsGiven (ComponentOf n.system inner) v)
       (there : c + length (declarations (scope G) sys.parameters) ≤ length o.words) where
     abbrev pub Inits : List (Name × Variable) → List ℤ → Outcome Writes → Passing → Type 0
     Inits ps ws O P = InitAgrees ps w.own (record o { words = ws }) ws O P
@@ -232,7 +232,7 @@ module _ (G : Ground) (sys : System) (at : Location) (c from : ℕ) (distinct : 
         let component : is_component p.1.type ≡ true = ap is_component h.4 in
         let off : Offset (scope G) sys p to = inl (component, lying) in
         let here : from + to < w.own = omega (arith, room, (offset_within (scope G) sys distinct one p to (all p (inl refl)) off).1) in
-        let r = given h.0 t h.6 x h.5 ws same len to h.1 (stored_at at p.0) (omega (arith, there, (offset_within (scope G) sys distinct one p to (all p (inl refl)) off).1)) in
+        let r = given h.0 t h.6 x h.5 ws same len to h.1 (stored_at at p.0) (omega (arith, there, (offset_within (scope G) sys distinct one p to (all p (inl refl)) off).1)) p.0 p.1 lying h.4 in
         let m = right_word (record o { words = ws }) (c + to) t in
         subst (λ y. Inits (p ∷ ps) ws
         (and_then (init_argument_writes sys.sort clock site.env store (stored_at at p.0) y (a.Use (a.Plain x))) (λ us. and_then (bind (λ l v e. init_argument_writes sys.sort clock site.env store l v.type e) at ps es) (λ vs. Gives (us ++ vs))))

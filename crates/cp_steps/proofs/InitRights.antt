@@ -1,4 +1,4 @@
--- Rights that are passed to a class.
+-- Rights that are passed to a component.
 use Rattle.std.proofs.Common.{◌≡◌, inl, inr, ℕ, ◌+◌, ◌≤◌, ℤ, pos, List, [], ◌∷◌, length, Bool, true, false, Some, refl, ap, sym, subst, ◌∙◌, arith}
 use Rattle.std.specs.Prelude.{if◌then◌else◌, ◌+ℤ◌, ◌-ℤ◌}
 use Rattle.std.proofs.lemmas.Int.{ints}
@@ -58,28 +58,30 @@ module _ (G : Ground) (s : State) (w : Outside) (before : List ℕ) (o : Private
       by (MonitorLies m where' is from) = absurd (none.1 m here.system is off n.name r.variable n.system r.inner lying r.type sort)
 
   -- A right as the meaning and the machine pass it.
-  pub given : NoClassRights G → Declares G here → (y : System) (c : ℕ) → y.sort ≡ Class → (n : Component) (x : t.Target) → TargetFor here (Some n) x → (named : Name) → component_named here named ≡ Some n → (ws : List ℤ)
+  pub given : NoClassRights G → Declares G here → (y : System) (c : ℕ) → (n : Component) → (n.system.sort ≡ Class → y.sort ≡ Class) → (x : t.Target) → TargetFor here (Some n) x → (named : Name) → component_named here named ≡ Some n → (ws : List ℤ)
       → SameBelow G (o.base + (site G N.on.running).words) o.words ws → length ws ≡ length o.words → (k : ℕ) (inner : Members) (at : Location)
       → c + k ≤ length o.words
       → (v : Value) × (right_writes here s.store y.sort at n.system.sort n ≡ (at, v) ∷ []) × RightMeans G (ComponentOf n.system inner) v (c + k) (right_word (record o { words = ws }) (c + k) x)
       × IsGiven (ComponentOf n.system inner) v
-  given none declares y c class n x h named found ws same len k inner at room =
-      subst (λ q. (v : Value) × (right_writes here s.store q at n.system.sort n ≡ (at, v) ∷ []) × RightOf G n.system n.system.sort v (c + k) (right_word (record o { words = ws }) (c + k) x) × IsGivenTo n.system.sort v) (sym class)
-      (by n.system.sort n.is_parameter refl refl x h)
+  given none declares y c n may x h named found ws same len k inner at room =
+      by n.system.sort n.is_parameter refl refl x h
     where
       by : (z : Sort) (b : Bool) → n.system.sort ≡ z → n.is_parameter ≡ b → (x : t.Target) → TargetOf here n z b x
-          → (v : Value) × (right_writes here s.store Class at z n ≡ (at, v) ∷ []) × RightOf G n.system z v (c + k) (right_word (record o { words = ws }) (c + k) x) × IsGivenTo z v
-      by a.Class false sort own (t.Class off) h = let there = class_lies G s w before o i l N sees I n off h in (
-        ClassRight (name_location here n),
-        (λ j. (at, ClassRight (if own j then class_or_here (name_location here n) (s.store (name_location here n)) else name_location here n)) ∷ []),
-        subst (λ z. lies G [] (name_location here n) ≡ Some (natural (pos (c + k) +ℤ z), component_type G n.system))
-            (sym (far (record o { words = ws }) (o.component + off) (c + k) (omega (arith, len, N.on.count, lies_below G s w before o i l N sees I (name_location here n) (o.component + off) _ sees.component there)) (omega (arith, len, room))))
-            (there ∙ ap (λ z. Some (z, component_type G n.system)) (sym (back_again (c + k) (o.component + off)))),
-        tt,
-      )
+          → (v : Value) × (right_writes here s.store y.sort at z n ≡ (at, v) ∷ []) × RightOf G n.system z v (c + k) (right_word (record o { words = ws }) (c + k) x) × IsGivenTo z v
+      by a.Class false sort own (t.Class off) h =
+          let there = class_lies G s w before o i l N sees I n off h in
+          subst (λ q. (v : Value) × (right_writes here s.store q at a.Class n ≡ (at, v) ∷ []) × RightOf G n.system a.Class v (c + k) (right_word (record o { words = ws }) (c + k) (t.Class off)) × IsGivenTo a.Class v) (sym (may sort)) (
+            ClassRight (name_location here n),
+            (λ j. (at, ClassRight (if own j then class_or_here (name_location here n) (s.store (name_location here n)) else name_location here n)) ∷ []),
+            subst (λ z. lies G [] (name_location here n) ≡ Some (natural (pos (c + k) +ℤ z), component_type G n.system))
+                (sym (far (record o { words = ws }) (o.component + off) (c + k) (omega (arith, len, N.on.count, lies_below G s w before o i l N sees I (name_location here n) (o.component + off) _ sees.component there)) (omega (arith, len, room))))
+                (there ∙ ap (λ z. Some (z, component_type G n.system)) (sym (back_again (c + k) (o.component + off)))),
+            tt,
+          )
       by a.Class true sort own (t.ClassRight off) h =
-          handed (s.store (name_location here n)) (class_set none n off sort h)
-          (subst (λ y. RightOf G n.system y (s.store (name_location here n)) (o.component + off) (word o.words (o.component + off))) sort (right_held G s w before o i l N sees I n off h)) refl
+          subst (λ q. (v : Value) × (right_writes here s.store q at a.Class n ≡ (at, v) ∷ []) × RightOf G n.system a.Class v (c + k) (right_word (record o { words = ws }) (c + k) (t.ClassRight off)) × IsGivenTo a.Class v) (sym (may sort))
+          (handed (s.store (name_location here n)) (class_set none n off sort h)
+          (subst (λ y. RightOf G n.system y (s.store (name_location here n)) (o.component + off) (word o.words (o.component + off))) sort (right_held G s w before o i l N sees I n off h)) refl)
         where
           to : ℕ
           to = class_right o off

@@ -1,5 +1,5 @@
--- Passed arguments that are moved into their class are its parameters.
-use Rattle.std.proofs.Common.{List, Some, [], ap, arith, false, inl, inr, length, refl, subst, suc, sym, true, zero, ℕ, ℤ, ◌+◌, ◌-◌, ◌<◌, ◌∙◌, ◌∷◌, ◌≡◌, ◌≤◌, ◌⊎◌}
+-- Passed arguments that are moved into their component are its parameters.
+use Rattle.std.proofs.Common.{List, Some, [], ap, arith, false, inl, inr, length, refl, subst, suc, sym, zero, ℕ, ℤ, ◌+◌, ◌-◌, ◌<◌, ◌∙◌, ◌∷◌, ◌≡◌, ◌≤◌, ◌⊎◌}
 use Rattle.std.proofs.lemmas.Bool.{true≢false}
 use Rattle.cp_model.specs.Abstract as a
 use Rattle.cp_model.specs.Abstract.{Class, Name, System}
@@ -17,13 +17,14 @@ use Rattle.cp_code.specs.Starts.{block, paste, word}
 use Rattle.cp_code.specs.StatementsFor.{InitArgumentsFor}
 use Rattle.cp_code.specs.TermsFor.{Knowns}
 use Rattle.cp_steps.specs.Means.{CellMeans}
-use Rattle.cp_steps.specs.Addresses.{Activation, ClassLies, Ground, RightMeans, component_type, in_sight, lies, scope, whole}
-use Rattle.cp_steps.proofs.Apart.{IsCell, IsClass, cell_head}
+use Rattle.cp_steps.specs.Addresses.{Activation, Ground, RightMeans, scope, whole}
+use Rattle.cp_steps.proofs.Apart.{IsCell, cell_head}
 use Rattle.cp_steps.proofs.Copying.{copied_outside, copied_word}
-use Rattle.cp_steps.proofs.Heres.{lies_any, member_lies}
+use Rattle.cp_steps.proofs.Heres.{member_lies}
 use Rattle.cp_steps.proofs.InitOffsets.{Offset, offset_at, offset_within, right_is, right_of}
 use Rattle.cp_steps.proofs.InitPassing.{InitBound}
 use Rattle.cp_steps.proofs.Separate.{cell_inside}
+use Rattle.cp_steps.proofs.Placing.{Placed}
 use Rattle.cp_steps.proofs.Settling.{Settled, stored_at}
 use Rattle.cp_steps.proofs.Stacks.{Stacked}
 
@@ -64,25 +65,23 @@ init_offsets g site K s same distinct one (q ∷ ps) (a.MoreExpressions (a.Use (
     (to, subst (λ z. Offset g s z to) (sym i) (inl (ap is_component h.4, found ∙ ap (λ z. Some (to, z)) (right_of g s distinct one q to h.2 (all q (inl refl)) found))))
 init_offsets g site K s same distinct one _ _ _ place next low high h all p i = absurd h
 
--- ---- moved into the class
+-- ---- moved into the component
 
-module _ (G : Ground) (xs : List Activation) (top : ℕ) (stack : Stacked G top xs) (at : Location) (c from : ℕ) (s : System) (own : in_sight G at.owner ≡ true) (sort : s.sort ≡ Class)
-    (is : lies G [] at ≡ Some (c, component_type G s)) (distinct : Distinct (declarations (scope G) s.parameters))
+module _ (G : Ground) (xs : List Activation) (top : ℕ) (stack : Stacked G top xs) (at : Location) (c from : ℕ) (s : System) (L : Placed G xs top at c s) (distinct : Distinct (declarations (scope G) s.parameters))
     (one : (p : Name × Variable) → IsIn p (declarations (scope G) s.parameters) → is_component p.1.type ≡ false → (words (scope G) p.1.type ≡ 1) × IsCell p.1.type) where
   -- The words of its parameters are among those in reach.
-  pub class_below : c + length (declarations (scope G) s.parameters) < whole G
-  class_below = by (length (declarations (scope G) s.parameters)) refl
+  pub component_below : c + length (declarations (scope G) s.parameters) < whole G
+  component_below = by (length (declarations (scope G) s.parameters)) refl
     where
       inner : (k : ℕ) (p : Name × Variable) → Offset (scope G) s p k → c + k < whole G
-      inner k p (inl h) =
-          cell_inside G xs top stack at c (component_type G s) k own (subst IsClass (sym sort) tt, omega (arith, (right_is 1 (rights (scope G) s) p.0 k p.1 h.1).1)) (lies_any G xs at _ is)
+      inner k p (inl h) = L.inside k (omega (arith, (right_is 1 (rights (scope G) s) p.0 k p.1 h.1).1))
       inner k p (inr h) =
-          let below : c + k + 0 < whole G = cell_inside G xs top stack (stored_at at p.0) (c + k) p.1.type 0 own (cell_head (scope G) p.1.type h.2) (member_lies G xs at s c p.0 k p.1.type (ClassLies sort is) h.1) in
+          let below : c + k + 0 < whole G = cell_inside G xs top stack (stored_at at p.0) (c + k) p.1.type 0 L.own (cell_head (scope G) p.1.type h.2) (member_lies G xs at s c p.0 k p.1.type L.there h.1) in
           omega (arith, below)
 
       by : (k : ℕ) → length (declarations (scope G) s.parameters) ≡ k → c + k < whole G
       by zero e =
-          let below : c + 0 < whole G = cell_inside G xs top stack at c (component_type G s) 0 own (cell_head (scope G) (component_type G s) (subst IsClass (sym sort) tt)) (lies_any G xs at _ is) in
+          let below : c + 0 < whole G = L.inside 0 (omega arith) in
           omega (arith, below)
       by (suc k) e = let o = offset_at (scope G) s distinct one (suc k) (omega arith) (omega (arith, e)) in inner (suc k) o.0 o.2
 
@@ -110,7 +109,7 @@ module _ (G : Ground) (xs : List Activation) (top : ℕ) (stack : Stacked G top 
       moved : (k : ℕ) → (1 ≤ k) × (k ≤ length (declarations (scope G) s.parameters)) → word (paste (c + 1) (block us (from + 1) (length (declarations (scope G) s.parameters))) us) (c + k) ≡ word us (from + k)
       moved k h =
           ap (word (paste (c + 1) (block us (from + 1) (length (declarations (scope G) s.parameters))) us)) (there k h.0)
-          ∙ (copied_word us us (c + 1) (from + 1) (length (declarations (scope G) s.parameters)) (k - 1) (omega (arith, h)) (omega (arith, class_below, count))
+          ∙ (copied_word us us (c + 1) (from + 1) (length (declarations (scope G) s.parameters)) (k - 1) (omega (arith, h)) (omega (arith, component_below, count))
           ∙ ap (word us) (back k h.0))
         where
           there : (k : ℕ) → 1 ≤ k → c + k ≡ c + 1 + (k - 1)

@@ -56,7 +56,8 @@ use Rattle.cp_steps.proofs.Finding.{in_context_none}
 use Rattle.cp_steps.proofs.InitOffsets.{Offset}
 use Rattle.cp_steps.proofs.InitPassing.{InitAgrees, InitBound, passes_init}
 use Rattle.cp_steps.proofs.InitRights.{given}
-use Rattle.cp_steps.proofs.InitSettled.{class_below, init_count, init_offsets, init_settled, init_values}
+use Rattle.cp_steps.proofs.InitSettled.{component_below, init_count, init_offsets, init_settled, init_values}
+use Rattle.cp_steps.proofs.Placing.{Placed, class_placed}
 use Rattle.cp_steps.proofs.ProcessRights.{NoClassRights}
 use Rattle.cp_steps.proofs.Rooms.{room_for}
 use Rattle.cp_steps.proofs.RunningOn.{left_afresh, runs_here, runs_over, runs_stacked, runs_stored}
@@ -274,7 +275,7 @@ init_steps G s w before o x es env k I units Y call next there h none declares =
         (passes_init G n.system (name_location here n) c top names one (site G Y.now.on.running) (clock_of G s) s.store w known_here lying' o
         (λ ws len same. runs_here G s.store w (record o { words = ws }) (first ∷ k) (clock_of G s) Y.now.around.clock (runs_over G s.store s.store o ws (first ∷ k) Y.now.on (λ at q. refl) (λ j q. same j (beyond G s w Y.now.around top j q)) len) Y.now.sees)
         Y.now.on.runs.globals
-        (λ m t f y named ws same len j inner l room. given G s w before o first k Y.now Y.now.sees I none declares n.system c h.0 m t f y named ws (λ z q. same z (beyond G s w Y.now.around top z q)) len j inner l room)
+        (λ m t f y named ws same len j inner l room z u right type. given G s w before o first k Y.now Y.now.sees I none declares n.system c m (λ e. h.0) t f y named ws (λ z q. same z (beyond G s w Y.now.around top z q)) len j inner l room)
         there
         passed es call.arguments o.place Y.now.on.left.2.3.0 Y.now.on.left.2.1 Y.now.on.running.unit.temps o.words arguments
         (in_context_none (a.Init x) (call_in_arguments here (a.Literal 0) es) Y.none) names (λ p i. i)
@@ -296,6 +297,10 @@ init_steps G s w before o x es env k I units Y call next there h none declares =
 
         lying : lies G [] (name_location here n) ≡ Some (o.component + off, component_type G n.system)
         lying = class_lies G s w before o first k Y.now Y.now.sees I n off f
+
+        placed : Placed G (activations o.base o.frames (first ∷ k)) top (name_location here n) (o.component + off) n.system
+        placed =
+            class_placed G (activations o.base o.frames (first ∷ k)) top (runs_stacked G s.store o (first ∷ k) Y.now.on) (name_location here n) (o.component + off) n.system Y.now.sees.component h.0 lying
 
         mark : not (same_integer (word o.words (o.component + off)) (pos 0)) ≡ is_initialised (s.store (name_location here n))
         mark = mark_is G (activations o.base o.frames (first ∷ k)) s.store o.words Y.now.on.data_means (name_location here n) (o.component + off) n.system Y.now.sees.component h.0 lying
@@ -330,17 +335,17 @@ init_steps G s w before o x es env k I units Y call next there h none declares =
             }))) before result) (sym env_is)
             (went G s before o Y.now.part (put (name_location here n) (Initialised true) (put_all ws s.store)) result (push n.system.body (body_of_class G n.system (name_location here n)) (EndBody None ∷ k))
             (body_entered G (put_all ws s.store) (record o { words = moved us }) first k
-            (runs_settled G s.store (put_all ws s.store) o (moved us) (first ∷ k) Y.now.on (name_location here n) (o.component + off) n.system Y.now.sees.component h.0 lying stands.1 one offsets settled
+            (runs_settled G s.store (put_all ws s.store) o (moved us) (first ∷ k) Y.now.on (name_location here n) (o.component + off) n.system placed stands.1 one offsets settled
             (copied_length us us (o.component + off + 1) (o.base + call.words + 1) (length passed) ∙ B.length_is))
             call back n.system (name_location here n) (o.component + off) Y.now.on.left.2.1 h.2.runs stands h.0 Y.now.sees.component lying
-            (has_settled G (activations o.base o.frames (first ∷ k)) top (runs_stacked G s.store o (first ∷ k) Y.now.on) s.store (put_all ws s.store) o.words (moved us) (name_location here n) (o.component + off) n.system Y.now.sees.component h.0 lying stands.1 one offsets settled)
+            (has_settled G (activations o.base o.frames (first ∷ k)) top (runs_stacked G s.store o (first ∷ k) Y.now.on) s.store (put_all ws s.store) o.words (moved us) (name_location here n) (o.component + off) n.system placed stands.1 one offsets settled)
             refl refl refl
             (subst (λ z. Left G o.temps o.limit nothing_known Y.now.on.running o.frames z Y.now.on.left.2.1 k) (sym h.1) Y.now.on.left.2.4) Y.now.on.left.2.2)
             record { number = refl; input = refl; consumed = refl; output = refl; activity = refl }))
           where
             settled : Settled G top s.store (put_all ws s.store) o.words (moved us) (name_location here n) (o.component + off) n.system
             settled =
-                init_settled G (activations o.base o.frames (first ∷ k)) top (runs_stacked G s.store o (first ∷ k) Y.now.on) (name_location here n) (o.component + off) (o.base + call.words) n.system Y.now.sees.component h.0 lying names one
+                init_settled G (activations o.base o.frames (first ∷ k)) top (runs_stacked G s.store o (first ∷ k) Y.now.on) (name_location here n) (o.component + off) (o.base + call.words) n.system placed names one
                 s.store o.words us ws B (ap (λ z. o.base + z) h.2.runs.words) (omega (arith, h.2.room, h.2.runs.words, count, Y.now.on.runs.words_fit, Y.now.on.base)) (B.length_is ∙ Y.now.on.count)
 
             result : PrivateState
@@ -370,7 +375,7 @@ init_steps G s w before o x es env k I units Y call next there h none declares =
         by false = faulted G s w before o first k Y.now 7 fault.InitialisedTwice refl
         by true = inner (bind (λ l v e. init_argument_writes n.system.sort (clock_of G s) here s.store l v.type e) (name_location here n) passed es) (pass_all w (o.base + call.words) (o.component + off) call.arguments o)
             (passed_ok (o.component + off)
-            (omega (arith, class_below G (activations o.base o.frames (first ∷ k)) top (runs_stacked G s.store o (first ∷ k) Y.now.on) (name_location here n) (o.component + off) top n.system Y.now.sees.component h.0 lying names one, Y.now.on.count)))
+            (omega (arith, component_below G (activations o.base o.frames (first ∷ k)) top (runs_stacked G s.store o (first ∷ k) Y.now.on) (name_location here n) (o.component + off) top n.system placed names one, Y.now.on.count)))
 
     by_target : (t : target.Target) → TargetOf here n Class false t → call.target ≡ t
         → PartOf G (after_step s G.p (inits (name_location here n) (declarations here.globals n.system.parameters) es)) before computed

@@ -45,6 +45,7 @@ pub mod Continuing
 pub mod ContinueSteps
 pub mod GatesKept
 pub mod StagesKept
+pub mod KernelKept
 pub mod Ending
 pub mod Returning
 pub mod Resulting
@@ -60,6 +61,7 @@ pub mod LeafWords
 pub mod Copying
 pub mod CopySteps
 pub mod InitOffsets
+pub mod Placing
 pub mod Settling
 pub mod InitPassing
 pub mod ProcessRights
@@ -74,5 +76,6 @@ pub mod Opening
 pub mod Targets
 pub mod CallSteps
 pub mod InitSteps
+pub mod InitMonitors
 pub mod Puts
 pub mod Passing

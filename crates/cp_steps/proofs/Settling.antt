@@ -1,4 +1,4 @@
--- The parameters of a class are stored in it, in the words after its mark.
+-- The parameters of a class or a monitor are stored in it, in the words after its mark.
 use Rattle.std.proofs.Common.{Bool, List, None, Some, [], ap, arith, false, inl, inr, length, refl, subst, suc, sym, true, ℕ, ℤ, ◌++◌, ◌+◌, ◌<◌, ◌∙◌, ◌∷◌, ◌≡◌, ◌≤◌, ◌⊎◌}
 use Rattle.cp_model.specs.Abstract.{Class, Name, System}
 use Rattle.cp_model.specs.Continuations.{Task}
@@ -16,24 +16,25 @@ use Rattle.cp_code.specs.Layout.{Part, activation_words, component_words, member
 use Rattle.cp_code.specs.Starts.{word}
 use Rattle.cp_steps.specs.PrivateStates.{PrivateState}
 use Rattle.cp_steps.specs.Means.{CellMeans}
-use Rattle.cp_steps.specs.Addresses.{Activation, ClassLies, ComponentLies, Ground, HasRights, IsGiven, MonitorLies, ProcessLies, RightMeans, activation_at, activations, component_type, in_sight, lies, scope}
+use Rattle.cp_steps.specs.Addresses.{Activation, ClassLies, ComponentLies, Ground, HasRights, IsGiven, RightMeans, activation_at, activations, component_type, in_sight, lies, scope}
 use Rattle.cp_steps.specs.Left.{held_below, site}
 use Rattle.cp_steps.specs.PartOf.{DataMeans, RunsOn, components}
-use Rattle.cp_steps.proofs.Apart.{InHead, IsCell, IsClass, cell_head}
+use Rattle.cp_steps.proofs.Apart.{InHead, IsCell, cell_head}
 use Rattle.cp_steps.proofs.Copying.{Inside, inside_or_not}
 use Rattle.cp_steps.proofs.Declared.{distinct_first}
 use Rattle.cp_steps.proofs.Finding.{some_is_not_none}
 use Rattle.cp_steps.proofs.Heres.{lies_any, member_lies}
-use Rattle.cp_steps.proofs.Holding.{live_owner, without_zero}
+use Rattle.cp_steps.proofs.Holding.{without_zero}
 use Rattle.cp_steps.proofs.InitOffsets.{Offset, of_filter, offset_at, offset_within, right_is, right_is_no_member, right_same}
-use Rattle.cp_steps.proofs.Keeping.{KeepsActivation, activation_kept, activations_kept, local_named, right_kept, right_no_variable, right_place}
+use Rattle.cp_steps.proofs.Keeping.{KeepsActivation, activation_kept, activations_kept, local_named, right_kept, right_no_variable, right_place, right_within}
 use Rattle.cp_steps.proofs.Layouts.{same_some}
+use Rattle.cp_steps.proofs.Placing.{IsRightWord, Placed, component_same}
 use Rattle.cp_steps.proofs.RunningOn.{runs_stacked}
 use Rattle.cp_steps.proofs.Owned.{OwnRight, reference_inside, result_inside}
 use Rattle.cp_steps.proofs.Separate.{cell_below, cell_no_own_right, cell_no_reference, cell_no_result, own_right_below, separate}
 use Rattle.cp_steps.proofs.Stacks.{Stacked, found_inside}
 use Rattle.cp_steps.proofs.Writing.{is_cell, location_is, location_itself}
-use Rattle.cp_steps.proofs.Given.{KeepsGiven, all_kept, rights_kept, system_in, system_same}
+use Rattle.cp_steps.proofs.Given.{KeepsGiven, all_kept, rights_kept}
 use Rattle.std.proofs.lemmas.Bool.{true≢false}
 use Rattle.cp_model.specs.CallSteps.{is_initialised}
 
@@ -41,7 +42,7 @@ use Rattle.cp_model.specs.CallSteps.{is_initialised}
 abbrev pub stored_at : Location → Name → Location
 stored_at at x = under at (ByName x ∷ [])
 
--- What changed: the parameters of a class of the process, at their names and in their words.
+-- What changed: the parameters of a component, at their names and in their words.
 pub record Settled (G : Ground) (top : ℕ) (store after : Store) (old new : List ℤ) (at : Location) (c : ℕ) (s : System) : Type 0 where
   pub values : (p : Name × Variable) (k : ℕ) → IsIn p (declarations (scope G) s.parameters) → is_component p.1.type ≡ false → member (scope G) s p.0 ≡ Some (k, p.1.type)
       → CellMeans p.1.type (after (stored_at at p.0)) (word new (c + k))
@@ -70,7 +71,7 @@ snoc_same (s ∷ p) (t ∷ q) x y e =
     (λ i. k.0 i ∷ r.0 i, r.1)
 
 module _ (G : Ground) (xs : List Activation) (top : ℕ) (stack : Stacked G top xs) (store after : Store) (old new : List ℤ) (at : Location) (c : ℕ) (s : System)
-    (own : in_sight G at.owner ≡ true) (sort : s.sort ≡ Class) (is : lies G [] at ≡ Some (c, component_type G s)) (distinct : Distinct (permanent_variables (scope G) s))
+    (L : Placed G xs top at c s) (distinct : Distinct (permanent_variables (scope G) s))
     (one : (p : Name × Variable) → IsIn p (declarations (scope G) s.parameters) → is_component p.1.type ≡ false → (words (scope G) p.1.type ≡ 1) × IsCell p.1.type)
     (offsets : (p : Name × Variable) → IsIn p (declarations (scope G) s.parameters) → (k : ℕ) × Offset (scope G) s p k)
     (S : Settled G top store after old new at c s) where
@@ -80,20 +81,15 @@ module _ (G : Ground) (xs : List Activation) (top : ℕ) (stack : Stacked G top 
   own_names : Distinct (declarations (scope G) s.parameters)
   own_names = distinct_first (declarations (scope G) s.parameters) (declarations (scope G) s.variables) distinct
 
-  here : lies G xs at ≡ Some (c, component_type G s)
-  here = lies_any G xs at _ is
-
-  there : ComponentLies G at s c
-  there = ClassLies sort is
-
   value_lies : (p : Name × Variable) (k : ℕ) → member (scope G) s p.0 ≡ Some (k, p.1.type) → lies G xs (stored_at at p.0) ≡ Some (c + k, p.1.type)
-  value_lies p k h = member_lies G xs at s c p.0 k p.1.type there h
+  value_lies p k h = member_lies G xs at s c p.0 k p.1.type L.there h
 
   right_lies_not : (p : Name × Variable) → IsIn p (declarations (scope G) s.parameters) → is_component p.1.type ≡ true → lies G xs (stored_at at p.0) ≡ None
-  right_lies_not p i component = right_no_variable G xs at s c p.0 there (right_is_no_member (scope G) s p distinct i component)
+  right_lies_not p i component = right_no_variable G xs at s c p.0 L.there (right_is_no_member (scope G) s p distinct i component)
 
-  right_in_head : (p : Name × Variable) (k : ℕ) → right (scope G) s p.0 ≡ Some (k, p.1) → InHead (scope G) (component_type G s) k
-  right_in_head p k h = (subst IsClass (sym sort) tt, omega (arith, (right_is 1 (rights (scope G) s) p.0 k p.1 h).1))
+  -- Its rights come behind its mark.
+  right_in_head : (p : Name × Variable) (k : ℕ) → right (scope G) s p.0 ≡ Some (k, p.1) → IsRightWord G s k
+  right_in_head p k h = let w = right_within 1 (rights (scope G) s) p.0 k p.1 h in (w.0, omega (arith, w.1))
 
   -- An address that holds what lives is that of a parameter, or outside.
   abbrev Around : ℕ → Type 0
@@ -136,12 +132,11 @@ module _ (G : Ground) (xs : List Activation) (top : ℕ) (stack : Stacked G top 
       by (inr apart) =
           subst (λ z. CellMeans t z (word new i)) (sym (cell_unwritten l i t lying apart)) (subst (CellMeans t (store l)) (sym (S.outside i below apart)) means)
       by (inl (p, k, there', inl h, e)) =
-          let same : l ≡ at = separate G xs top stack l at i c t (component_type G s) 0 k mine own (cell_head (scope G) t cell) (right_in_head p k h.1) lying here (omega (arith, e)) in
-          let place_is : i ≡ c = ap (λ z. z.0) (same_some {A = Part} (i, t) (c, component_type G s) (sym lying ∙ (ap (lies G xs) same ∙ here))) in
+          let place_is : i ≡ c = L.heads l i t 0 k mine (cell_head (scope G) t cell) lying (right_in_head p k h.1) (omega (arith, e)) in
           absurd (omega (arith, place_is, e, (offset_within (scope G) s own_names one p k there' (inl h)).0))
       by (inl (p, k, there', inr h, e)) =
           let same : l ≡ stored_at at p.0 =
-          separate G xs top stack l (stored_at at p.0) i (c + k) t p.1.type 0 0 mine own (cell_head (scope G) t cell) (cell_head (scope G) p.1.type h.2) lying (value_lies p k h.1) (omega (arith, e)) in
+          separate G xs top stack l (stored_at at p.0) i (c + k) t p.1.type 0 0 mine L.own (cell_head (scope G) t cell) (cell_head (scope G) p.1.type h.2) lying (value_lies p k h.1) (omega (arith, e)) in
           let type : t ≡ p.1.type = ap (λ z. z.1) (same_some {A = Part} (i, t) (c + k, p.1.type) (sym lying ∙ (ap (lies G xs) same ∙ value_lies p k h.1))) in
           subst (λ z. CellMeans z (after l) (word new i)) (sym type)
           (subst (λ z. CellMeans p.1.type (after z) (word new i)) (sym same) (subst (λ z. CellMeans p.1.type (after (stored_at at p.0)) (word new z)) (sym e) (S.values p k there' h.0 h.1)))
@@ -156,14 +151,7 @@ module _ (G : Ground) (xs : List Activation) (top : ℕ) (stack : Stacked G top 
       below (inr o) = cell_below G xs top stack j n (component_type G r) m mine o.1 o.0
 
       same_class : j ≡ at → (n ≡ c) × (r ≡ s)
-      same_class e = by_lies cl
-        where
-          by_lies : ComponentLies G j r n → (n ≡ c) × (r ≡ s)
-          by_lies (ClassLies sort' lying) =
-              let found : ◌≡◌ {A = Part} (n, component_type G r) (c, component_type G s) = same_some (n, component_type G r) (c, component_type G s) (sym lying ∙ (ap (lies G []) e ∙ is)) in
-              (ap (λ z. z.0) found, ap (λ z. system_in s z.1) found)
-          by_lies (ProcessLies where' is'' zero') = absurd (some_is_not_none _ (sym is ∙ (ap (lies G []) (sym e) ∙ ap (lies G []) where')))
-          by_lies (MonitorLies k where' is'' from) = absurd (some_is_not_none _ (sym is ∙ (ap (lies G []) (sym e) ∙ ap (lies G []) where')))
+      same_class e = component_same G j at r s n c cl L.there e
 
       unwritten : (n + m < c + 1) ⊎ (c + 1 + length (declarations (scope G) s.parameters) ≤ n + m) → after (stored_at j x) ≡ store (stored_at j x)
       unwritten apart = S.unwritten (stored_at j x) (λ p there' e. inner p there' e (offsets p there'))
@@ -181,16 +169,14 @@ module _ (G : Ground) (xs : List Activation) (top : ℕ) (stack : Stacked G top 
           → RightMeans G v.type (after (stored_at j x)) (n + m) (word new (n + m))
       by (inr apart) o = right_kept G store after old new xs j r n m x v (unwritten apart, S.outside (n + m) (below o) apart) means
       by (inl (p, k, there', inr h, e)) (inl o) =
-          absurd (cell_no_own_right G xs top stack (stored_at at p.0) (c + k) (n + m) p.1.type 0 own (cell_head (scope G) p.1.type h.2) (value_lies p k h.1) o (omega (arith, e)))
+          absurd (cell_no_own_right G xs top stack (stored_at at p.0) (c + k) (n + m) p.1.type 0 L.own (cell_head (scope G) p.1.type h.2) (value_lies p k h.1) o (omega (arith, e)))
       by (inl (p, k, there', inr h, e)) (inr o) =
           let same : stored_at at p.0 ≡ j =
-          separate G xs top stack (stored_at at p.0) j (c + k) n p.1.type (component_type G r) 0 m own mine (cell_head (scope G) p.1.type h.2) o.1 (value_lies p k h.1) o.0 (omega (arith, e)) in
+          separate G xs top stack (stored_at at p.0) j (c + k) n p.1.type (component_type G r) 0 m L.own mine (cell_head (scope G) p.1.type h.2) o.1 (value_lies p k h.1) o.0 (omega (arith, e)) in
           let place_is : c + k ≡ n = ap (λ z. z.0) (same_some {A = Part} (c + k, p.1.type) (n, component_type G r) (sym (value_lies p k h.1) ∙ (ap (lies G xs) same ∙ o.0))) in
           absurd (omega (arith, e, place_is, o.2))
-      by (inl (p, k, there', inl h, e)) (inl o) =
-          absurd (cell_no_own_right G xs top stack at c (n + m) (component_type G s) k own (right_in_head p k h.1) here o (sym e))
-      by (inl (p, k, there', inl h, e)) (inr o) =
-          let same : j ≡ at = separate G xs top stack j at n c (component_type G r) (component_type G s) m k mine own o.1 (right_in_head p k h.1) o.0 here e in
+      by (inl (p, k, there', inl h, e)) o =
+          let same : j ≡ at = L.rights j r n m k x v mine cl is' (right_in_head p k h.1) e in
           let q = same_class same in
           let far : m ≡ k = omega (arith, e, q.0) in
           let found = right_same 1 (rights (scope G) s) x p.0 k v p.1 (ap (λ y. right (scope G) y x) (sym q.1) ∙ (is' ∙ ap (λ z. Some (z, v)) far)) h.1 in
@@ -198,7 +184,7 @@ module _ (G : Ground) (xs : List Activation) (top : ℕ) (stack : Stacked G top 
           (subst (λ l. RightMeans G p.1.type (after l) (n + m) (word new (n + m))) (sym (λ i. stored_at (same i) (found.0 i)))
           (subst (λ z. RightMeans G p.1.type (after (stored_at at p.0)) z (word new z)) (sym e) (S.rights p k there' h.0 h.1)))
 
-  -- The class has its rights, and each other one keeps those that it had.
+  -- The component has its rights, and each other one keeps those that it had.
   pub has_settled : HasRights G after at s
   has_settled m x v r none =
       let i = of_filter (λ d. is_component d.1.type) (declarations (scope G) s.parameters) (x, v) (right_is 1 (rights (scope G) s) x m v r).2 in
@@ -210,7 +196,7 @@ module _ (G : Ground) (xs : List Activation) (top : ℕ) (stack : Stacked G top 
       by : (b : Bool) → same_location j at ≡ b → HasRights G after j r
       by true e =
           let same : j ≡ at = location_is j at e in
-          let systems : r ≡ s = system_same G r s (ap (λ z. z.1) (same_some {A = Part} (n, component_type G r) (c, component_type G s) (sym there' ∙ (ap (lies G []) same ∙ is)))) in
+          let systems : r ≡ s = (component_same G j at r s n c (ClassLies class' there') L.there same).1 in
           subst (λ z. HasRights G after z r) (sym same) (subst (HasRights G after at) (sym systems) has_settled)
       by false e =
           let apart : j ≡ at → ⊥ = λ same. true≢false (sym (location_itself at) ∙ (ap (λ z. same_location z at) (sym same) ∙ e)) in
@@ -244,41 +230,41 @@ module _ (G : Ground) (xs : List Activation) (top : ℕ) (stack : Stacked G top 
 
   -- A parameter is no variable of an activation.
   local_unwritten : (d : ℕ) (x : Name) → after (local_named G d x) ≡ store (local_named G d x)
-  local_unwritten d x = S.unwritten (local_named G d x) (λ p there' e. absurd (omega (arith, live_owner G [] at _ d is (sym (ap (λ (l : Location). l.owner) e)))))
+  local_unwritten d x = S.unwritten (local_named G d x) (λ p there' e. absurd (L.no_activation d (sym (ap (λ (l : Location). l.owner) e))))
 
   -- A word of an activation that is no part of a variable is as it was.
-  word_settled : (i : ℕ) → (i < top) ⊎ (G.own ≤ i) → ((l : Location) (n : ℕ) (u : ResolvedType) (a : ℕ) → in_sight G l.owner ≡ true → InHead (scope G) u a → lies G xs l ≡ Some (n, u) → n + a ≡ i → ⊥) → word new i ≡ word old i
+  word_settled : (i : ℕ) → i < top → ((l : Location) (n : ℕ) (u : ResolvedType) (a : ℕ) → in_sight G l.owner ≡ true → InHead (scope G) u a → lies G xs l ≡ Some (n, u) → n + a ≡ i → ⊥) → word new i ≡ word old i
   word_settled i below none = by (around i)
     where
       by : Around i → word new i ≡ word old i
-      by (inr apart) = S.outside i below apart
-      by (inl (p, k, there', inl h, e)) = absurd (none at c (component_type G s) k own (right_in_head p k h.1) here (sym e))
-      by (inl (p, k, there', inr h, e)) = absurd (none (stored_at at p.0) (c + k) p.1.type 0 own (cell_head (scope G) p.1.type h.2) (value_lies p k h.1) (omega (arith, e)))
+      by (inr apart) = S.outside i (inl below) apart
+      by (inl (p, k, there', inl h, e)) = absurd (L.beyond i k below (right_in_head p k h.1) e none)
+      by (inl (p, k, there', inr h, e)) = absurd (none (stored_at at p.0) (c + k) p.1.type 0 L.own (cell_head (scope G) p.1.type h.2) (value_lies p k h.1) (omega (arith, e)))
 
   pub activation_settled : (d : ℕ) (z : Activation) → activation_at d xs ≡ Some z → KeepsActivation G store after old new d z
   activation_settled d z found = (
     λ x far v is' by_reference. (
       local_unwritten d x,
-      word_settled (z.base + far) (inl (omega (arith, inside.0, (reference_inside (scope G) z.routine x far v is' by_reference).1)))
+      word_settled (z.base + far) (omega (arith, inside.0, (reference_inside (scope G) z.routine x far v is' by_reference).1))
           (λ l n u a mine head lying e. cell_no_reference G xs top stack l n u a d z x far v mine head lying found is' by_reference e),
     ),
     λ t is' none. (
       local_unwritten d z.routine.name,
-      word_settled z.base (inl (omega (arith, inside.0, result_inside (scope G) z.routine t is'))) (λ l n u a mine head lying e. cell_no_result G xs top stack l n u a d z t mine head lying found is' e),
+      word_settled z.base (omega (arith, inside.0, result_inside (scope G) z.routine t is')) (λ l n u a mine head lying e. cell_no_result G xs top stack l n u a d z t mine head lying found is' e),
     ),
   )
     where
       inside : (z.base + activation_words (scope G) z.routine ≤ top) × ((y : System) → system_of_process G.setup G.p ≡ Some y → component_words (scope G) y ≤ z.base)
       inside = found_inside G top d xs z stack.stack found
 
--- The process runs on with the parameters of the class.
+-- The process runs on with the parameters of the component.
 abbrev pub runs_settled : (G : Ground) (store after : Store) (o : PrivateState) (new : List ℤ) (k : List Task) (R : RunsOn G store o k) (at : Location) (c : ℕ) (s : System)
-    → in_sight G at.owner ≡ true → s.sort ≡ Class → lies G [] at ≡ Some (c, component_type G s) → Distinct (permanent_variables (scope G) s)
+    → Placed G (activations o.base o.frames k) (o.base + (site G R.running).words) at c s → Distinct (permanent_variables (scope G) s)
     → ((p : Name × Variable) → IsIn p (declarations (scope G) s.parameters) → is_component p.1.type ≡ false → (words (scope G) p.1.type ≡ 1) × IsCell p.1.type)
     → ((p : Name × Variable) → IsIn p (declarations (scope G) s.parameters) → (k : ℕ) × Offset (scope G) s p k)
     → Settled G (o.base + (site G R.running).words) store after o.words new at c s → length new ≡ length o.words
     → RunsOn G after (record o { words = new }) k
-runs_settled G store after o new k R at c s own sort is distinct one offsets S count = record {
+runs_settled G store after o new k R at c s L distinct one offsets S count = record {
   running = R.running;
   runs = R.runs;
   base = R.base;
@@ -292,7 +278,7 @@ runs_settled G store after o new k R at c s own sort is distinct one offsets S c
   activations_mean =
       activations_kept G store after o.words new o.temps o.limit o.base (held_below R.live o.temps R.running.temp) R.running o.frames o.place R.running.unit.temps k R.left
       (λ rest f b owner there. activation_kept G store after o.words new rest b (length rest) f owner
-      (activation_settled G (activations o.base o.frames k) _ (runs_stacked G store o k R) store after o.words new at c s own sort is distinct one offsets S (length rest) (record { base = b; routine = f.routine }) there)) R.activations_mean;
-  data_means = data_settled G (activations o.base o.frames k) _ (runs_stacked G store o k R) store after o.words new at c s own sort is distinct one offsets S R.data_means;
-  given = all_kept G store after (settled_keeps G (activations o.base o.frames k) _ (runs_stacked G store o k R) store after o.words new at c s own sort is distinct one offsets S) (components o) R.given;
+      (activation_settled G (activations o.base o.frames k) _ (runs_stacked G store o k R) store after o.words new at c s L distinct one offsets S (length rest) (record { base = b; routine = f.routine }) there)) R.activations_mean;
+  data_means = data_settled G (activations o.base o.frames k) _ (runs_stacked G store o k R) store after o.words new at c s L distinct one offsets S R.data_means;
+  given = all_kept G store after (settled_keeps G (activations o.base o.frames k) _ (runs_stacked G store o k R) store after o.words new at c s L distinct one offsets S) (components o) R.given;
 }

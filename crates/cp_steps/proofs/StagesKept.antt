@@ -20,7 +20,7 @@ stage_is (g ∷ gs) zero = refl
 stage_is (g ∷ gs) (suc p) = stage_is gs p
 
 -- The stage and the status of one process are set.
-pub stage_set : (G : Ground) (gs : List Stage) (f : ℕ → Status) (p : ℕ) (x : Status) (g : Stage) → 1 ≤ p → StageMeans G x g → StagesMean G gs f
+pub stage_set : (G : Ground) (gs : List Stage) (f : ℕ → Status) (p : ℕ) (x : Status) (g : Stage) → 1 ≤ p → (p ≤ length gs → StageMeans G x g) → StagesMean G gs f
     → (q : ℕ) → 1 ≤ q → q ≤ length gs → StageMeans G (with_at p x f q) (stage_of (slice_set gs (p - 1) g) q)
 stage_set G gs f zero x g low means all q one high = absurd (omega (arith, low))
 stage_set G gs f (suc i) x g low means all zero one high = absurd (omega (arith, one))
@@ -33,7 +33,7 @@ stage_set G gs f (suc i) x g low means all (suc n) one high =
     by : (b : Bool) → nat_eq (suc i) (suc n) ≡ b → StageMeans G (if b then x else f (suc n)) (get_or (slice_set gs i g) n Begun)
     by true e =
         let here : n ≡ i = omega (arith, eqb-true (suc i) (suc n) e) in
-        subst (StageMeans G x) (sym (ap (λ k. get_or (slice_set gs i g) k Begun) here ∙ get_or-set_same gs i g Begun (omega (arith, high, here)))) means
+        subst (StageMeans G x) (sym (ap (λ k. get_or (slice_set gs i g) k Begun) here ∙ get_or-set_same gs i g Begun (omega (arith, high, here)))) (means (omega (arith, high, here)))
     by false e =
         subst (StageMeans G (f (suc n))) (stage_is gs n ∙ sym (get_or-set_other gs i n g Begun (λ h. true≢false (sym (eq-eqb (suc i) (suc n) (omega (arith, h))) ∙ e)))) (all (suc n) one high)
 

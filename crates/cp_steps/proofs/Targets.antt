@@ -222,8 +222,8 @@ module _ (G : Ground) (s : State) (w : Outside) (before : List ℕ) (o : Private
         by (OfMonitor m) (ByName x ∷ path) h = refl
 
     -- No class lies where a monitor begins.
-    no_class_begins : (m : ℕ) (y : System) → system_of_monitor G.setup m ≡ Some y → ClassHasRights G s.store (w.own + monitor_start G.program m)
-    no_class_begins m y is at r class' h =
+    pub no_class_begins : (store : Store) (m : ℕ) (y : System) → system_of_monitor G.setup m ≡ Some y → ClassHasRights G store (w.own + monitor_start G.program m)
+    no_class_begins store m y is at r class' h =
         absurd (cell_no_own_right G (activations o.base o.frames (i ∷ l)) _ (runs_stacked G s.store o (i ∷ l) N.on) at (w.own + monitor_start G.program m) (G.own + monitor_start G.program m + 0)
         (component_type G r) 0 (seen_all at _ h) (class_head G r class') (lies_any G (activations o.base o.frames (i ∷ l)) at _ h)
         (inr (m, y, 0, ap (λ v. addresses.sees v G.p (OfMonitor m)) K.sight, is, omega arith, refl)) (omega (arith, N.around.own)))
@@ -237,7 +237,7 @@ module _ (G : Ground) (s : State) (w : Outside) (before : List ℕ) (o : Private
       there = omega (arith, N.around.own, K.starts m, ap (λ v. words_seen v G.program G.own) K.sight);
       system = refl;
       lies_there = λ callable. MonitorLies m refl (there callable) (omega (arith, N.around.own));
-      given = λ callable. no_class_begins m n.system (there callable);
+      given = λ callable. no_class_begins s.store m n.system (there callable);
       gate = refl;
       is_gate = λ callable. (n.system, there callable);
     }

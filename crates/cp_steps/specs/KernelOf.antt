@@ -1,5 +1,5 @@
 -- When a kernel, as plain data, is the kernel's part of a state of the system.
-use Rattle.std.specs.Prelude.{◌≡◌, ◌≤◌, ℕ, Bool, false, true, List, [], Some, length}
+use Rattle.std.specs.Prelude.{◌≡◌, ◌≤◌, ℕ, Bool, false, true, List, [], ◌∷◌, Some, length}
 use Rattle.cp_model.specs.Configurations as status
 use Rattle.cp_model.specs.Configurations.{Status}
 use Rattle.cp_model.specs.Locations.{OfMonitor, Owner}
@@ -39,12 +39,21 @@ StageMeans G status.Waiting Begun = Unit {0}
 StageMeans G (status.Faulted n) Begun = Unit {0}
 StageMeans G _ _ = ⊥
 
--- The gates and stages are those of the state, and the shared words mean what the store holds of the monitors.
+-- Nobody is 0.
+abbrev pub AreProcesses : List ℕ → Type 0
+AreProcesses [] = Unit {0}
+AreProcesses (p ∷ ps) = (1 ≤ p) × AreProcesses ps
+
+-- The gates and stages of a kernel are those of a state.
+pub record GatesStand (G : Ground) (monitors processes : ℕ) (s : State) (k : Kernel) : Type 0 where
+  pub gate_count : length k.gates ≡ monitors
+  pub stage_count : length k.stages ≡ processes
+  pub gates : (m : ℕ) → gate_of k.gates m ≡ s.gates m
+  pub stages : (p : ℕ) → 1 ≤ p → p ≤ length k.stages → StageMeans G (s.status p) (stage_of k.stages p)
+  pub askers : (m : ℕ) → AreProcesses (s.gates m).askers
+
+-- Its gates and stages are those of the state, and its shared words mean what the store holds of the monitors.
 pub record KernelOf (program : Program) (texts : List UnitText) (setup : Setup) (s : State) (k : Kernel) : Type 0 where
   pub word_count : length k.shared ≡ program.shared
-  pub gate_count : length k.gates ≡ monitor_count setup
-  pub gates : (m : ℕ) → gate_of k.gates m ≡ s.gates m
-  pub stage_count : length k.stages ≡ process_count setup
-  pub stages : (p : ℕ) → 1 ≤ p → p ≤ process_count setup
-      → StageMeans (kernel_ground program texts setup) (s.status p) (stage_of k.stages p)
+  pub gates_stand : GatesStand (kernel_ground program texts setup) (monitor_count setup) (process_count setup) s k
   pub data_means : DataMeans (kernel_ground program texts setup) [] is_shared s.store k.shared

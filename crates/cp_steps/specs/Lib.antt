@@ -12,3 +12,4 @@ pub mod Machines
 pub mod Beginning
 pub mod KernelOf
 pub mod Laws
+pub mod EffectOf
