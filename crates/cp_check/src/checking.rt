@@ -1,14 +1,15 @@
-//! The check of a text: its program, or why it has none.
+//! The check of a text: its program, or the rule that it breaks.
 
 ghost use Rattle.cp_model.specs.Rules.{Accepted};
 ghost use Rattle.cp_model.specs.View as view;
 ghost use Rattle.cp_check.specs.Checked.{Checks};
 
-use cp_fragment::fits::fits;
+use cp_code::law::accepted_tree_has_program;
+use cp_compile::compile;
 use cp_model::rules::Violation;
 use cp_model::tree::Tree;
-use cp_program::program::Program;
 use cp_rules::text::{Refusal, judge};
+use cp_threaded::program::Program;
 use std::alloc::Global;
 
 /// Why a text has no program.
@@ -16,16 +17,25 @@ use std::alloc::Global;
 pub enum CheckError {
     /// A rule is broken: the earliest violation, and at its place the lowest rule.
     Broken(Violation),
-    /// The text is accepted, and not of the fragment.
-    Outside,
     /// Memory ran out.
     Memory,
 }
 
-/// The program of an accepted text of the fragment.
+// The program of an accepted text. Nothing but memory is refused: the numbers of such a text fit.
+fn program(alloc: Global, tree: &Tree) -> Result<Program, CheckError>
+    requires accepted { Accepted (view.tree tree.now) }
+    ensures { Checks (view.tree tree.now) result }
+{
+    accepted_tree_has_program(tree);
+    match compile(alloc, tree) {
+        Ok(program) => Ok(program),
+        Err(_) => Err(CheckError::Memory),
+    }
+}
+
+/// The program of an accepted text.
 ///
-/// It fails with `Broken` where a rule is broken in the text; else with `Outside` where it is not of the fragment; or when memory
-/// runs out.
+/// It fails with `Broken` where a rule is broken in the text, or when memory runs out.
 pub fn check(alloc: Global, tree: &Tree) -> Result<Program, CheckError>
     ensures { Checks (view.tree tree.now) result }
 {
@@ -33,21 +43,5 @@ pub fn check(alloc: Global, tree: &Tree) -> Result<Program, CheckError>
         Err(Refusal::Broken(violation)) => Err(CheckError::Broken(violation)),
         Err(Refusal::Memory) => Err(CheckError::Memory),
         Ok(_) => program(alloc, tree),
-    }
-}
-
-/// The program of an accepted text.
-///
-/// It fails with `Outside` where the text is not of the fragment, or when memory runs out.
-pub fn program(alloc: Global, tree: &Tree) -> Result<Program, CheckError>
-    requires accepted { Accepted (view.tree tree.now) }
-    ensures { Checks (view.tree tree.now) result }
-{
-    if !fits(tree) {
-        return Err(CheckError::Outside);
-    }
-    match Program::number(alloc, tree) {
-        Ok(program) => Ok(program),
-        Err(_) => Err(CheckError::Memory),
     }
 }

@@ -1,6 +1,8 @@
-//! The check of a text: the rules of the language first (cp_rules), and then its program (cp_program).
+//! The check of a text: the rules of the language first (cp_rules), and then its program.
 //!
-//! Any text is judged. A program is made of accepted texts of the fragment alone (cp_fragment); every other accepted text is outside.
+//! - `checking`: any text is judged, and an accepted one has its program (cp_compile).
+//! - `counting`: the program of an accepted text of counting processes (cp_fragment, cp_program), which is what the machine runs so far.
 #![tactic(auto)]
 
 pub mod checking;
+pub mod counting;

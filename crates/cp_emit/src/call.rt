@@ -6,7 +6,7 @@ ghost use Rattle.cp_emit.specs.Emission.{coded_call};
 ghost use Rattle.cp_threaded.specs.View as view;
 
 use crate::emitter::CodedCall;
-use crate::error::CompileError;
+use cp_scope::CompileError;
 use cp_threaded::operation::Call;
 use cp_threaded::term::Term;
 use std::alloc::Global;

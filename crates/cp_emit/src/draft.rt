@@ -6,7 +6,7 @@ ghost use Rattle.cp_code.specs.Programs as code;
 ghost use Rattle.cp_emit.specs.Drafts.{Joins, closed, planned, with_end};
 ghost use Rattle.cp_threaded.specs.View as view;
 
-use crate::error::CompileError;
+use cp_scope::CompileError;
 use cp_threaded::program::Start;
 use std::alloc::Global;
 

@@ -5,8 +5,8 @@ ghost use Rattle.cp_emit.specs.Emission.{Emits, Goes, calls_from, changed_at, op
 ghost use Rattle.cp_threaded.specs.View as view;
 
 use crate::emitter::{CodedCall, Emitter};
-use crate::error::CompileError;
 use crate::need::Need;
+use cp_scope::CompileError;
 use cp_threaded::operation::Operation;
 
 // Completes the operation that closes a loop, whose body begins there.
@@ -52,8 +52,8 @@ fn complete_repeat_at(operations: &mut Vec<Operation>, place: u32, body: u32)
 }
 
 impl Emitter {
-    // The place of the next operation, if it is a number of 32 bits.
-    fn place(&self) -> Result<u32, CompileError>
+    /// The place of the next operation, if it is a number of 32 bits.
+    pub fn place(&self) -> Result<u32, CompileError>
         ensures { IfOk result (λ place. place ≡ place_of self.now) }
     {
         let place = self.operations.len();

@@ -14,7 +14,6 @@ pub mod call;
 pub mod draft;
 pub mod emission;
 pub mod emitter;
-pub mod error;
 mod members;
 pub mod need;
 pub mod plan;
@@ -24,4 +23,3 @@ pub mod table;
 pub mod unit;
 
 pub use emitter::{CodedCall, Emitter};
-pub use error::CompileError;

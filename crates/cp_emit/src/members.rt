@@ -4,8 +4,7 @@ ghost use Rattle.std.specs.Prelude.{◌≡◌, ◌∷◌, ◌++◌, [], IfOk, On
 ghost use Rattle.cp_emit.specs.Members.{is_own, member_of, own_of};
 ghost use Rattle.cp_scope.specs.Standing.{entry};
 
-use crate::error::CompileError;
-use cp_scope::{Declared, Field, Types};
+use cp_scope::{CompileError, Declared, Field, Types};
 use std::alloc::Global;
 
 // Adds a parameter, if it is no right to a component.

@@ -5,7 +5,7 @@ ghost use Rattle.cp_code.specs.CodeNeeds as needs;
 ghost use Rattle.cp_emit.specs.PlainNeeds.{plain_need};
 ghost use Rattle.cp_threaded.specs.View as view;
 
-use crate::error::CompileError;
+use cp_scope::{CompileError, small_number};
 use cp_threaded::operation::{Argument, Call, Operation};
 use cp_threaded::program::CodeUnit;
 
@@ -22,18 +22,6 @@ fn sum(a: u32, b: u32) -> Result<u32, CompileError>
     ensures { IfOk result (λ n. n ≡ a + b) }
 {
     a.checked_add(b).ok_or(CompileError::Unaccepted)
-}
-
-// How many there are, if that is a number of 32 bits.
-fn count(arguments: &[Argument]) -> Result<u32, CompileError>
-    ensures { IfOk result (λ n. n ≡ length arguments.now) }
-{
-    let count = arguments.len();
-    if count <= 4_294_967_295 {
-        Ok(count as u32)
-    } else {
-        Err(CompileError::Unaccepted)
-    }
 }
 
 impl Need {
@@ -85,7 +73,7 @@ impl Need {
         ensures { IfOk result
             (λ n. plain_need n ≡ needs.with_room words (length arguments.now) (plain_need self)) }
     {
-        let room = sum(words, sum(count(arguments)?, 1)?)?;
+        let room = sum(words, sum(small_number(arguments.len())?, 1)?)?;
         Ok(Need {
             words: self.words.max(room),
             ..self

@@ -20,22 +20,16 @@ ghost use Rattle.cp_scope.specs.Standing.{AreMembers, ScopeStands, Stands, entry
 ghost use Rattle.cp_typing.specs.Words.{words};
 
 use crate::draft::{Draft, Work};
-use crate::error::CompileError;
 use crate::start_values::start_values;
-use crate::table::count_between;
 use cp_model::tree::{Parameters, Sort, System};
-use cp_scope::{Field, Tables, TypeRow};
+use cp_scope::{CompileError, Field, Tables, TypeRow, count_between, small_number};
 use std::alloc::Global;
 
 // How many integers there are from one to another.
 fn count_of(low: i32, high: i32) -> Result<u32, CompileError>
     ensures { IfOk result (λ count. count ≡ integers.count_between low high) }
 {
-    let count = count_between(low, high);
-    if count > 0xffff_ffff {
-        return Err(CompileError::Unaccepted);
-    }
-    Ok(count as u32)
+    small_number(count_between(low, high))
 }
 
 /// What plans are made from.
@@ -60,6 +54,13 @@ impl<'a, 't> Planner<'a, 't> {
             tables,
             values,
         })
+    }
+
+    /// What it takes memory from.
+    pub fn alloc(&self) -> Global
+        ensures { result ≡ self.now.alloc }
+    {
+        self.alloc
     }
 
     // How many words a variable of this type takes.

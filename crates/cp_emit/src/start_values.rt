@@ -3,8 +3,7 @@
 ghost use Rattle.std.specs.Prelude.{IfOk};
 ghost use Rattle.cp_emit.specs.StartValues.{AreStartValues, StartsRow};
 
-use crate::error::CompileError;
-use cp_scope::{TypeRow, Types};
+use cp_scope::{CompileError, TypeRow, Types};
 use std::alloc::Global;
 
 // The value by which all words of a type start, if it is made of simple elements.

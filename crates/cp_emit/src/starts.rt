@@ -16,10 +16,9 @@ ghost use Rattle.cp_scope.specs.Variables.{AreDeclared, declared_entry};
 ghost use Rattle.cp_threaded.specs.View as view;
 
 use crate::draft::Draft;
-use crate::error::CompileError;
 use crate::members::{add_members, own_parameters};
 use crate::plan::Planner;
-use cp_scope::{Declared, Field, SystemTable};
+use cp_scope::{CompileError, Declared, Field, SystemTable};
 use cp_threaded::program::{Plan, Start};
 
 /// The word of a result that isn't set.

@@ -3,13 +3,12 @@
 ghost use Rattle.std.specs.Prelude.{◌≡◌, ℕ, ◌*◌, None, Some, IfErr, IfOk, [], if◌then◌else◌, int_le, length, map, replicate, slice_set};
 ghost use Rattle.cp_code.specs.CodedStatements as coded;
 ghost use Rattle.cp_code.specs.Layout.{distance};
-ghost use Rattle.cp_emit.specs.declared.error.CompileError.TheVariants as error;
+ghost use Rattle.cp_scope.specs.declared.error.CompileError.TheVariants as error;
 ghost use Rattle.cp_emit.specs.Arms.{bounds_of};
-ghost use Rattle.cp_model.specs.Integers as integers;
 ghost use Rattle.cp_threaded.specs.Labels.{arm};
 ghost use Rattle.cp_threaded.specs.View as view;
 
-use crate::error::CompileError;
+use cp_scope::{CompileError, count_between};
 use cp_threaded::arm::Arm;
 use cp_threaded::arms::Arms;
 use cp_threaded::operation::Table;
@@ -50,16 +49,6 @@ fn bounds(arms: &[Arm]) -> Option<(i32, i32)>
         lowest(first.label, &arms[1..]),
         highest(first.label, &arms[1..]),
     ))
-}
-
-// How many numbers lie from one to another.
-pub(crate) fn count_between(low: i32, high: i32) -> usize
-    ensures { result ≡ integers.count_between low high }
-{
-    if high < low {
-        return 0;
-    }
-    (i64::from(high) - i64::from(low) + 1) as usize
 }
 
 // Puts the place of a label among those of the numbers from the lowest on.

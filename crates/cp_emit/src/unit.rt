@@ -1,13 +1,13 @@
 //! Units: an emitter begins one, emits its operations, and ends it.
 
-ghost use Rattle.std.specs.Prelude.{◌≡◌, [], ◌∷◌, ◌++◌, IfErr, OnOk, map};
-ghost use Rattle.cp_emit.specs.declared.error.CompileError.TheVariants as error;
+ghost use Rattle.std.specs.Prelude.{◌≡◌, [], ◌∷◌, ◌++◌, IfErr, IfOk, OnOk, length, map};
+ghost use Rattle.cp_scope.specs.declared.error.CompileError.TheVariants as error;
 ghost use Rattle.cp_emit.specs.Emission.{operations_of, place_of, unit_ended, units_of};
 ghost use Rattle.cp_threaded.specs.View as view;
 
 use crate::emitter::Emitter;
-use crate::error::CompileError;
 use crate::need::Need;
+use cp_scope::CompileError;
 use cp_threaded::operation::Operation;
 use cp_threaded::program::{CodeUnit, Start};
 use std::alloc::Global;
@@ -58,6 +58,18 @@ impl Emitter {
         self.words = 0;
         self.need = Need::none();
         Ok(())
+    }
+
+    /// How many units there are so far.
+    pub fn units(&self) -> Result<u32, CompileError>
+        ensures { IfOk result (λ n. n ≡ length (units_of self.now)) }
+    {
+        let count = self.units.len();
+        if count <= 4_294_967_295 {
+            Ok(count as u32)
+        } else {
+            Err(CompileError::Unaccepted)
+        }
     }
 
     /// The operations and units.

@@ -3,11 +3,11 @@
 ghost use Rattle.std.specs.Prelude.{◌≡◌, IfErr, IfOk};
 ghost use Rattle.cp_model.specs.Rules.{Accepted};
 ghost use Rattle.cp_model.specs.View as view;
-ghost use Rattle.cp_execute.specs.Refusals.{of_check, of_rules, of_syntax};
+ghost use Rattle.cp_execute.specs.Refusals.{of_counting, of_rules, of_syntax};
 ghost use Rattle.cp_execute.specs.Texts.{HasProgram, IsAccepted, IsTextOf, LacksProgram, Refuses};
 
 use crate::refusal::Refusal;
-use cp_check::checking::{CheckError, program};
+use cp_check::counting::{CountingError, counting_program};
 use cp_model::tree::Tree;
 use cp_program::program::Program;
 use cp_rules::text::{self, judge};
@@ -38,16 +38,12 @@ fn rules_refusal(error: text::Refusal) -> Refusal
     }
 }
 
-fn check_refusal(error: CheckError) -> Refusal
-    ensures { result ≡ of_check error }
+fn counting_refusal(error: CountingError) -> Refusal
+    ensures { result ≡ of_counting error }
 {
     match error {
-        CheckError::Broken(violation) => Refusal::Check {
-            rule: violation.rule,
-            at: violation.at,
-        },
-        CheckError::Outside => Refusal::Fragment,
-        CheckError::Memory => Refusal::Memory,
+        CountingError::Outside => Refusal::Fragment,
+        CountingError::Memory => Refusal::Memory,
     }
 }
 
@@ -97,8 +93,8 @@ pub fn program_of(alloc: Global, tree: &Tree) -> Result<Program, Refusal>
     ensures program { IfOk result (HasProgram (view.tree tree.now)) }
     ensures refused { IfErr result (LacksProgram (view.tree tree.now)) }
 {
-    match program(alloc, tree) {
+    match counting_program(alloc, tree) {
         Ok(program) => Ok(program),
-        Err(error) => Err(check_refusal(error)),
+        Err(error) => Err(counting_refusal(error)),
     }
 }

@@ -6,6 +6,5 @@ pub mod ExpressionsTold
 pub mod StatementsTold
 pub mod InitTold
 pub mod LabelsTold
-pub mod StatementViews
 pub mod NeedsOfChains
 pub mod Covers

@@ -1,7 +1,8 @@
 //! The program of a text.
 
-use cp_check::checking::check;
+use cp_check::counting::counting_program;
 use cp_program::program::Program;
+use cp_rules::text::judge;
 use cp_scan::scan;
 use cp_syntax::parse;
 use std::alloc::Global;
@@ -11,5 +12,6 @@ use std::test::Fail;
 pub fn program(alloc: Global, text: &str) -> Result<Program, Fail> {
     let tokens = scan(alloc, text.as_bytes()).map_err(|_| "the text has no tokens")?;
     let tree = parse(alloc, tokens.as_slice(), text.len()).map_err(|_| "the text has no tree")?;
-    Ok(check(alloc, &tree).map_err(|_| "the text is refused")?)
+    judge(alloc, &tree).map_err(|_| "the text is refused")?;
+    Ok(counting_program(alloc, &tree).map_err(|_| "the text is outside")?)
 }

@@ -29,3 +29,4 @@ pub mod SharedTurns
 pub mod AskingChains
 pub mod PrivatelyReady
 pub mod Views
+pub mod StatementViews

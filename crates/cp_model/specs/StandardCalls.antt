@@ -1,7 +1,7 @@
 -- The standard procedures: `display`, `accept`, `delay`, `continue` and `wait`.
 --
 -- A step that faults takes no input and writes nothing.
-use Rattle.std.specs.Prelude.{List, None, Option, Some, [], codes, if◌then◌else◌, negsuc, pos, slice_get, suc, ℕ, ℤ, ◌++◌, ◌∷◌}
+use Rattle.std.specs.Prelude.{List, None, Option, Some, [], codes, if◌then◌else◌, negsuc, pos, slice_get, suc, ℕ, ℤ, ◌%◌, ◌++◌, ◌∷◌}
 use Rattle.cp_model.specs.Abstract.{Char, Designator, Expression, Expressions, MoreExpressions, Name, NoExpression}
 use Rattle.std.specs.Str.{bytes_eq}
 use Rattle.cp_model.specs.Locations.{Location}
@@ -19,8 +19,9 @@ use Rattle.cp_model.specs.Decimal.{decimal}
 
 -- ---- display and accept
 
+-- Each character is one. A number beyond is told by its lowest eight bits, so that a transcript has bytes alone.
 abbrev pub byte : ℤ → ℕ
-byte (pos n) = n
+byte (pos n) = n % 256
 byte (negsuc n) = 0
 
 -- A character is displayed as its byte, any other simple value as the decimal number of its ordinal.

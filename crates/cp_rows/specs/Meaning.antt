@@ -2,6 +2,9 @@
 use Rattle.std.specs.Prelude.{◌≡◌, true, false, [], ◌∷◌, ◌++◌, codes}
 use Rattle.cp_rows.specs.Answers.{check_answer, run_answer, replay_answer, consumed_answer}
 
+abbrev pub a_call_that_makes_calls_1 : Type 0
+a_call_that_makes_calls_1 = run_answer 1 100 1 false [] (codes "var a: integer;\nfunction f(k: integer): integer; begin display(k); f := k * 10 end;\nfunction h(k: integer): integer; var s: integer;\nbegin display(k); s := f(k + 1) - f(k + 2); display(f(7) div 10); h := s + k end;\nbegin a := f(1) + h(2) end.") ≡ (codes "rounds 1\nprocess 1 initial ended\nout '123477'\nvar a = 2\n")
+
 abbrev pub an_array_of_queues_1 : Type 0
 an_array_of_queues_1 = run_answer 3 2 1 false [] (codes "type m = monitor; var q: array [1..2] of queue;\n  procedure entry w(i: integer); begin delay(q[i]) end;\n  procedure entry s(i: integer); begin if empty(q[i]) then display(0) else continue(q[i]) end; begin end;\np = process(a: m; i: integer); begin a.w(i); display(5) end;\nr = process(a: m); begin a.s(1); a.s(2); display(6) end;\nvar g: m; b: p; c: r;\nbegin init g, b(g, 2), c(g) end.") ≡ (codes "rounds 3\nprocess 1 initial ended\nout ''\nprocess 2 b delayed g q[2]\nout ''\nvar i = 2\nprocess 3 c ready\nout ''\nmonitor g held 3 askers -\nqueue q[1] = -\nqueue q[2] = 2\n")
 
@@ -31,6 +34,9 @@ body_that_waits_3 = run_answer 3 10 1 false [] (codes "type m = monitor; var q: 
 
 abbrev pub call_test_after_arguments_1 : Type 0
 call_test_after_arguments_1 = run_answer 1 100 1 false [] (codes "type e = class; procedure entry z(k: integer); begin end; begin end;\nvar u: e;\nfunction f: integer; begin display(9); f := 1 end;\nbegin u.z(f) end.") ≡ (codes "rounds 1\nprocess 1 initial fault 6\nout '9'\n")
+
+abbrev pub calls_in_a_for_1 : Type 0
+calls_in_a_for_1 = run_answer 1 300 1 false [] (codes "var i, j, n: integer;\nfunction f(k: integer): integer; begin n := n + 1; f := k end;\nfunction g(k: integer): integer; var m: integer;\nbegin for m := k downto f(1) do n := n + f(10); g := n end;\nbegin for i := f(1) to f(2) do for j := f(i) to f(2) do begin display(g(j)); display('.') end end.") ≡ (codes "rounds 1\nprocess 1 initial ended\nout '16.39.64.'\nvar i = 2\nvar j = 2\nvar n = 64\n")
 
 abbrev pub calls_in_bounds_and_selectors_1 : Type 0
 calls_in_bounds_and_selectors_1 = run_answer 1 100 1 false [] (codes "var n, i: integer;\nfunction f(k: integer): integer; begin n := n + 1; f := k end;\nbegin for i := f(1) to f(3) do display(i); display(n);\n  case f(2) of 1: display(10); 2: display(20) end; display(n) end.") ≡ (codes "rounds 1\nprocess 1 initial ended\nout '1232203'\nvar n = 3\nvar i = 3\n")
@@ -70,6 +76,9 @@ for_subrange_1 = run_answer 1 100 1 false [] (codes "var v: 1..3;\nbegin for v :
 
 abbrev pub function_that_continues_1 : Type 0
 function_that_continues_1 = run_answer 4 100 1 false [] (codes "type m = monitor; var q: queue; n: integer;\n  procedure entry w; begin n := n + 1; delay(q); n := n + 10 end;\n  function entry f(k: integer): integer; begin f := k + n; continue(q); f := 0 end;\nbegin end;\npw = process(a: m); begin a.w end;\npf = process(a: m); var x: integer; begin x := a.f(1) * 2 + a.f(5) end;\nvar g: m; b: pw; c: pf;\nbegin init g, b(g), c(g) end.") ≡ (codes "rounds 4\nprocess 1 initial ended\nout ''\nprocess 2 b ended\nout ''\nprocess 3 c ended\nout ''\nvar x = 20\nmonitor g free askers -\nqueue q = -\nvar n = 11\n")
+
+abbrev pub functions_of_functions_1 : Type 0
+functions_of_functions_1 = run_answer 1 100 1 false [] (codes "type color = (red, green, blue);\nvar c: color; n: integer;\nfunction f(k: color): color; begin display(k); f := succ(k) end;\nbegin c := succ(succ(red)); display(c); display(succ(succ('a'))); n := succ(pred(32767)); display(n);\n  c := succ(f(red)); display(c); n := pred(succ(n)) end.") ≡ (codes "rounds 1\nprocess 1 initial fault 1\nout '2c3276702'\nvar c = 2\nvar n = 32767\n")
 
 abbrev pub index_by_local_1 : Type 0
 index_by_local_1 = run_answer 1 100 1 false [] (codes "type a = array [1..3] of integer;\nvar v: a; i: integer;\nfunction f: integer; begin i := 2; f := 7 end;\nprocedure p; var g: integer; begin g := 3; v[g] := 5 end;\nprocedure g; begin v[i] := f end;\nbegin i := 1; p; g end.") ≡ (codes "rounds 1\nprocess 1 initial ended\nout ''\nvar v[1] = 0\nvar v[2] = 7\nvar v[3] = 5\nvar i = 2\n")
@@ -159,4 +168,4 @@ abbrev pub waiting_processes_wake_at_the_tick_2 : Type 0
 waiting_processes_wake_at_the_tick_2 = run_answer 6 100 2 false [] (codes "type p = process; begin wait; display(realtime); wait; display(realtime) end;\nvar a: p;\nbegin init a; wait; display(realtime) end.") ≡ (codes "rounds 6\nprocess 1 initial ended\nout '2'\nprocess 2 a ended\nout '23'\n")
 
 abbrev pub Meaning : Type 0
-Meaning = an_array_of_queues_1 × an_array_of_queues_2 × an_array_of_queues_3 × argument_range_first_1 × askers_in_order_1 × askers_in_order_2 × body_that_waits_1 × body_that_waits_2 × body_that_waits_3 × call_test_after_arguments_1 × calls_in_bounds_and_selectors_1 × calls_left_to_right_1 × case_of_negative_1 × class_in_monitor_1 × counting_down_1 × cycle_in_a_monitor_1 × division_1 × early_class_1 × early_handing_on_1 × fault_with_outer_gates_1 × field_names_1 × for_subrange_1 × function_that_continues_1 × index_by_local_1 × inner_rights_1 × input_beyond_its_end_1 × input_beyond_its_end_2 × input_beyond_its_end_3 × input_beyond_its_end_4 × input_in_subrange_1 × input_in_subrange_2 × label_constants_1 × later_component_1 × later_constant_routine_1 × later_definitions_1 × later_routine_parameter_1 × later_routine_variable_1 × local_record_field_1 × monitor_variable_handed_down_1 × nested_delay_1 × nested_delay_2 × overflow_signs_1 × parameters_of_init_1 × references_of_references_1 × result_named_later_1 × same_function_names_1 × same_local_names_1 × structures_1 × subranges_of_characters_and_enumerations_1 × tests_anew_1 × waiting_processes_wake_at_the_tick_1 × waiting_processes_wake_at_the_tick_2
+Meaning = a_call_that_makes_calls_1 × an_array_of_queues_1 × an_array_of_queues_2 × an_array_of_queues_3 × argument_range_first_1 × askers_in_order_1 × askers_in_order_2 × body_that_waits_1 × body_that_waits_2 × body_that_waits_3 × call_test_after_arguments_1 × calls_in_a_for_1 × calls_in_bounds_and_selectors_1 × calls_left_to_right_1 × case_of_negative_1 × class_in_monitor_1 × counting_down_1 × cycle_in_a_monitor_1 × division_1 × early_class_1 × early_handing_on_1 × fault_with_outer_gates_1 × field_names_1 × for_subrange_1 × function_that_continues_1 × functions_of_functions_1 × index_by_local_1 × inner_rights_1 × input_beyond_its_end_1 × input_beyond_its_end_2 × input_beyond_its_end_3 × input_beyond_its_end_4 × input_in_subrange_1 × input_in_subrange_2 × label_constants_1 × later_component_1 × later_constant_routine_1 × later_definitions_1 × later_routine_parameter_1 × later_routine_variable_1 × local_record_field_1 × monitor_variable_handed_down_1 × nested_delay_1 × nested_delay_2 × overflow_signs_1 × parameters_of_init_1 × references_of_references_1 × result_named_later_1 × same_function_names_1 × same_local_names_1 × structures_1 × subranges_of_characters_and_enumerations_1 × tests_anew_1 × waiting_processes_wake_at_the_tick_1 × waiting_processes_wake_at_the_tick_2

@@ -3,6 +3,7 @@ use Rattle.std.proofs.Common.{◌≡◌, Global, Vec, ◌≤◌, ◌∷◌, ◌+
 use Rattle.std.proofs.lemmas.Option.{same_Some}
 use Rattle.std.proofs.lemmas.Slice.Eq.{bytes_eq-Decides}
 use Rattle.std.specs.Str.{bytes_eq}
+use Rattle.cp_model.proofs.Views.{view_designator, view_indexed}
 use Rattle.cp_model.specs.Abstract as a
 use Rattle.cp_model.specs.Abstract.{Name, Routine, System}
 use Rattle.cp_model.specs.Calls as calls
@@ -13,14 +14,10 @@ use Rattle.cp_model.specs.Declarations.{Variable, declarations}
 use Rattle.cp_model.specs.Environments.{Environment}
 use Rattle.cp_model.specs.Erase as erase
 use Rattle.cp_model.specs.View as view
-use Rattle.cp_model.specs.View.{PlacedIndex, designator_layer, expression_layer, index_layer, operation_layer, selector_layer}
 use Rattle.cp_model.specs.declared.tree.Designator.{Designator}
-use Rattle.cp_model.specs.declared.tree.Expression.TheFolds.{fold-roll-Selector, fold_out-Designator}
-use Rattle.cp_model.specs.declared.tree.Identifier.{Identifier}
 use Rattle.cp_model.specs.declared.tree.Index.{Index}
 use Rattle.cp_model.specs.declared.tree.Selector.{Selector}
 use Rattle.cp_model.specs.declared.tree.Selector.TheVariants as tree
-use Rattle.cp_model.specs.declared.tree.Selector.TheVariants.{rolls-Field, rolls-Indexed}
 use Rattle.cp_model.specs.Names.{lookup}
 use Rattle.cp_model.specs.Syntax as s
 use Rattle.cp_model.specs.Types.{GlobalScope}
@@ -86,19 +83,6 @@ deep_twice x (s.Field at y) z first second = deep_second x y.name z second
 deep_twice x (s.Indexed s.NoIndices) z first second = absurd first
 deep_twice x (s.Indexed (s.MoreIndices at e is)) z first second =
     deep_select (erase.indexed (a.At (a.Plain x) (erase.expression e)) is) z (deep_indexed (a.At (a.Plain x) (erase.expression e)) is tt)
-
-pub view_indexed : (v : Vec Index Global) → view.selector (tree.Indexed v) ≡ s.Indexed (view.indices_of (map view.index v.items))
-view_indexed v =
-    ap view.selector (sym (rolls-Indexed v))
-    ∙ fold-roll-Selector s.Expression s.Selector s.Designator PlacedIndex s.Operation expression_layer selector_layer designator_layer index_layer operation_layer _
-
-pub view_field : (at : ℕ) (x : Identifier) → view.selector (tree.Field at x) ≡ s.Field at x
-view_field at x =
-    ap view.selector (sym (rolls-Field at x))
-    ∙ fold-roll-Selector s.Expression s.Selector s.Designator PlacedIndex s.Operation expression_layer selector_layer designator_layer index_layer operation_layer _
-
-pub view_designator : (d : Designator) → view.designator d ≡ s.Designate d.root (view.selectors_of (map view.selector d.selectors.items))
-view_designator = fold_out-Designator s.Expression s.Selector s.Designator PlacedIndex s.Operation expression_layer selector_layer designator_layer index_layer operation_layer
 
 index_selects : (is : List Index) → 1 ≤ length is → Selects (s.Indexed (view.indices_of (map view.index is)))
 index_selects [] some = absurd (omega (arith, some))
@@ -221,7 +205,7 @@ sought x n (r ∷ rs) = go (bytes_eq x r.name) refl (sought x (suc n) rs)
     }
     go false is h = sought_later x n r rs (routine_number x (suc n) rs) is h
 
-routine_stands : (g : GlobalScope) (types : Types) (ts : List RoutineTable) (rs : List Routine) (k : ℕ) (t : RoutineTable) (r : Routine)
+pub routine_stands : (g : GlobalScope) (types : Types) (ts : List RoutineTable) (rs : List Routine) (k : ℕ) (t : RoutineTable) (r : Routine)
     → AreRoutines g types ts rs → slice_get ts k ≡ Some t → slice_get rs k ≡ Some r → RoutineStands g types t r
 routine_stands g types [] [] k t r all here there = absurd (cc)
 routine_stands g types (u ∷ ts) [] k t r all here there = absurd all

@@ -55,3 +55,10 @@ pub variables_listed : (names : Names) (a b later : Types) (before after : List 
 variables_listed names a b later before after fs g one none scope grows =
     let own : after ≡ one.added ++ [] = one.all ∙ ap (λ ds. ds ++ one.added) none ∙ sym (append-nil one.added) in
     subst (AreDeclared later after) (variables_declared g fs [] ∙ append-nil (variables_of g fs)) (rw own (one.stands g later [] [] scope grows tt))
+
+pub both_declared : (types : Types) (ds es : List Entry) (vs ws : List (Name × Variable)) → AreDeclared types ds vs → AreDeclared types es ws
+    → AreDeclared types (ds ++ es) (vs ++ ws)
+both_declared types [] es [] ws one two = two
+both_declared types (d ∷ ds) es (v ∷ vs) ws one two = (one.0, one.1, one.2, both_declared types ds es vs ws one.3 two)
+both_declared types [] es (v ∷ vs) ws one two = absurd one
+both_declared types (d ∷ ds) es [] ws one two = absurd one

@@ -1,6 +1,7 @@
 -- Types of parts.
 use Rattle.std.proofs.Common.{◌≡◌, ◌∷◌, ◌+◌, Bool, true, false, ℕ, List, [], Option, None, Some, if◌then◌else◌, map, option_map, refl, subst, sym}
 use Rattle.std.specs.Str.{bytes_eq}
+use Rattle.cp_model.proofs.Views.{view_field}
 use Rattle.cp_model.specs.Abstract as a
 use Rattle.cp_model.specs.Abstract.{Name}
 use Rattle.cp_model.specs.Erase as erase
@@ -9,7 +10,6 @@ use Rattle.cp_model.specs.declared.tree.Index.{Index}
 use Rattle.cp_model.specs.declared.tree.Identifier.{Identifier}
 use Rattle.cp_model.specs.declared.tree.Selector.{Selector}
 use Rattle.cp_model.specs.declared.tree.Selector.TheVariants as tree
-use Rattle.cp_scope.proofs.Called.{view_field}
 use Rattle.cp_model.specs.Locations.{ByName}
 use Rattle.cp_model.specs.Places.{field_type, member_type}
 use Rattle.cp_model.specs.Types.{ArrayOf, ComponentOf, GlobalScope, Members, MoreMembers, NoMembers, NoType, Queue, RecordOf, ResolvedType, Simple}

@@ -14,7 +14,7 @@ use Rattle.cp_model.specs.declared.tree.Expression.{Expression}
 use Rattle.cp_model.specs.declared.tree.Expression.TheVariants as tree
 use Rattle.cp_model.specs.declared.tree.Operation.{Operation}
 use Rattle.cp_model.specs.declared.tree.Selector.{Selector}
-use Rattle.cp_model.proofs.Views.{view_call, view_operation}
+use Rattle.cp_model.proofs.Views.{view_call, view_designator, view_operation}
 use Rattle.cp_typing.specs.StaticTypes.{answer_type, called_type, operator_type, own_value_type, place_type}
 use Rattle.cp_code.specs.Scopes as code
 use Rattle.cp_code.specs.Scopes.{environment}
@@ -23,7 +23,6 @@ use Rattle.cp_scope.specs.declared.scope.Scope.{Scope}
 use Rattle.cp_scope.specs.declared.types.Simple as plain
 use Rattle.cp_scope.specs.Expressions.{SimpleIs, ValueIs, is_part}
 use Rattle.cp_scope.specs.Scopes.{CalleeIs, IsCallee, Selects}
-use Rattle.cp_scope.proofs.Called.{view_designator}
 
 -- ---- Chains
 

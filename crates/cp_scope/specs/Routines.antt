@@ -32,6 +32,7 @@ pub record MakesResult (names : Names) (old new : Types) (of : Option Identifier
 pub record RoutineStands (g : GlobalScope) (types : Types) (table : RoutineTable) (r : Routine) : Type 0 where
   pub name : table.name.now ≡ r.name
   pub parameters : AreDeclared types (map declared_entry table.parameters.items) (declarations g r.parameters)
+  pub variables : AreDeclared types (map declared_entry table.variables.items) (declarations g r.variables)
   pub locals : LocalsLie g types (result_words r.result) (code.locals g r) table.locals
   pub result : ResultIs g types table.result r.result
 

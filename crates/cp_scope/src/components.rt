@@ -4,7 +4,7 @@ ghost use Rattle.std.specs.Prelude.{IfOk, OnOk, map};
 ghost use Rattle.cp_scope.specs.Components.{MakesComponent, Picks, PicksComponents, RightsLie};
 ghost use Rattle.cp_scope.specs.Variables.{declared_entry};
 
-use crate::error::TableError;
+use crate::error::CompileError;
 use crate::layout::{Layout, Layouts, sum};
 use crate::names::{Names, add_first};
 use crate::types::Types;
@@ -23,7 +23,7 @@ pub struct Right {
 
 impl<'t> Types<'t> {
     // Adds a parameter, if it is a right to a component.
-    fn pick(&self, components: &mut Vec<Declared<'t>>, d: Declared<'t>) -> Result<(), TableError>
+    fn pick(&self, components: &mut Vec<Declared<'t>>, d: Declared<'t>) -> Result<(), CompileError>
         ensures { OnOk result (Picks self.now (declared_entry d.entry)
             (map declared_entry components.old.items) (map declared_entry components.new.items)) }
     {
@@ -34,7 +34,7 @@ impl<'t> Types<'t> {
     }
 
     /// Those of these parameters that are rights to components.
-    pub fn components(&self, list: &[Declared<'t>]) -> Result<Vec<Declared<'t>>, TableError>
+    pub fn components(&self, list: &[Declared<'t>]) -> Result<Vec<Declared<'t>>, CompileError>
         ensures { IfOk result (λ components. PicksComponents self.now (map declared_entry list.now)
             (map declared_entry components.items)) }
     {
@@ -46,7 +46,10 @@ impl<'t> Types<'t> {
     }
 
     /// Where the rights to these components lie: behind the mark, one after another.
-    pub fn rights_to(&self, components: &[Declared<'t>]) -> Result<NameTable<'t, Right>, TableError>
+    pub fn rights_to(
+        &self,
+        components: &[Declared<'t>],
+    ) -> Result<NameTable<'t, Right>, CompileError>
         ensures { IfOk result (λ rights. RightsLie self.now
             (map declared_entry components.now) rights) }
     {
@@ -75,7 +78,7 @@ impl<'t> Layouts<'t> {
         types: &mut Types<'t>,
         parameters: &'t [Parameters],
         variables: &'t [Fields],
-    ) -> Result<Layout<'t>, TableError>
+    ) -> Result<Layout<'t>, CompileError>
         ensures { IfOk result (λ l. MakesComponent names.now types.old types.new self.old.rows.items
             self.new.rows.items parameters.now variables.now l) }
     {

@@ -18,13 +18,23 @@ ghost use Rattle.cp_scope.specs.Places.{TypeIs};
 ghost use Rattle.cp_scope.specs.Scopes.{IsCallee, IsScope};
 ghost use Rattle.cp_scope.specs.Standing.{base_of, simple_of};
 
-use crate::error::TableError;
+use crate::error::CompileError;
 use crate::scope::{Callee, Meaning, Scope, refuse_no_index};
 use crate::types::{Base, Simple, TypeRow, Types};
 use cp_model::tree::{Designator, Expression, Operation, Operator, Sign};
 
-// The last ordinal of a base type.
-fn last_ordinal(base: Base) -> Result<i32, TableError>
+/// The first ordinal of a base type.
+pub fn first_ordinal(base: Base) -> i32
+    ensures { result ≡ types.first_ordinal (base_of base.entry) }
+{
+    match base {
+        Base::Integer => -32768,
+        _ => 0,
+    }
+}
+
+/// The last ordinal of a base type. An enumeration with too many values is refused.
+pub fn last_ordinal(base: Base) -> Result<i32, CompileError>
     ensures { IfOk result (λ n. n ≡ types.last_ordinal (base_of base.entry)) }
 {
     match base {
@@ -32,22 +42,18 @@ fn last_ordinal(base: Base) -> Result<i32, TableError>
         Base::Char => Ok(127),
         Base::Boolean => Ok(1),
         Base::Enumeration { last, .. } => {
-            i32::try_from(last).map_err(|_| TableError::Unaccepted)
+            i32::try_from(last).map_err(|_| CompileError::Unaccepted)
         }
     }
 }
 
 // The type of all values of a base type, which starts at 0.
-fn full_range<'t>(base: Base<'t>) -> Result<Option<Simple<'t>>, TableError>
+fn full_range<'t>(base: Base<'t>) -> Result<Option<Simple<'t>>, CompileError>
     ensures { IfOk result (λ s. SimpleIs s (types.full_range (base_of base.entry))) }
 {
     Ok(Some(Simple {
         base,
-        low: if matches!(base, Base::Integer) {
-            -32768
-        } else {
-            0
-        },
+        low: first_ordinal(base),
         high: last_ordinal(base)?,
         start: 0,
     }))
@@ -63,7 +69,7 @@ pub fn base_type<'t>(of: Option<Simple<'t>>) -> Base<'t>
     }
 }
 
-fn operator_type<'t>(operator: Operator) -> Result<Option<Simple<'t>>, TableError>
+fn operator_type<'t>(operator: Operator) -> Result<Option<Simple<'t>>, CompileError>
     ensures { IfOk result
         (λ s. SimpleIs s (static.operator_type (erase.operator_of operator))) }
 {
@@ -81,7 +87,7 @@ fn operator_type<'t>(operator: Operator) -> Result<Option<Simple<'t>>, TableErro
 fn chain_type<'t>(
     first: Option<Simple<'t>>,
     rest: &[Operation],
-) -> Result<Option<Simple<'t>>, TableError>
+) -> Result<Option<Simple<'t>>, CompileError>
     ensures { IfOk result (λ of. (s : code.Scope) (e : syntax.Expression) → ValueIs s first.entry e
         → ValueIs s of (syntax.chain_of e (map view.operation rest.now))) }
 {
@@ -96,7 +102,7 @@ fn chain_type<'t>(
 fn standard_type<'t>(
     name: &[u8],
     argument: Option<Simple<'t>>,
-) -> Result<Option<Simple<'t>>, TableError>
+) -> Result<Option<Simple<'t>>, CompileError>
     ensures { IfOk result (λ s. (t : ResolvedType) → SimpleIs argument.entry t
         → SimpleIs s (static.standard_type name.now t)) }
 {
@@ -119,7 +125,7 @@ fn standard_type<'t>(
 }
 
 // Whether a designator is more than a name.
-fn is_part(d: &Designator) -> Result<bool, TableError>
+fn is_part(d: &Designator) -> Result<bool, CompileError>
     ensures { IfOk result (λ b. b ≡ is_part (erase.designator (view.designator d.now))) }
 {
     match d.selectors.as_slice() {
@@ -145,7 +151,7 @@ impl<'t> Types<'t> {
 
 impl<'s, 't> Scope<'s, 't> {
     // The type of the value that a name has.
-    fn name_type(&self, name: &[u8]) -> Result<Option<Simple<'t>>, TableError>
+    fn name_type(&self, name: &[u8]) -> Result<Option<Simple<'t>>, CompileError>
         ensures { IfOk result (λ of. (s : code.Scope) → IsScope self.now s
             → SimpleIs of (static.named_value_type (environment s) name.now)) }
     {
@@ -160,7 +166,7 @@ impl<'s, 't> Scope<'s, 't> {
     }
 
     // The type of the value that a designator has where it calls nothing.
-    fn own_type(&self, d: &Designator) -> Result<Option<Simple<'t>>, TableError>
+    fn own_type(&self, d: &Designator) -> Result<Option<Simple<'t>>, CompileError>
         ensures { IfOk result (λ of. (s : code.Scope) → IsScope self.now s → SimpleIs of
             (static.own_value_type (environment s) (erase.designator (view.designator d.now)))) }
     {
@@ -172,7 +178,7 @@ impl<'s, 't> Scope<'s, 't> {
     }
 
     // The type of what a function gives.
-    fn answer_type(&self, callee: &Callee) -> Result<Option<Simple<'t>>, TableError>
+    fn answer_type(&self, callee: &Callee) -> Result<Option<Simple<'t>>, CompileError>
         ensures { IfOk result (λ of. (s : code.Scope) (c : calls.Callee) → IsScope self.now s
             → IsCallee self.now s callee.now c
             → SimpleIs of (static.answer_type s.globals c.routine.result)) }
@@ -184,7 +190,7 @@ impl<'s, 't> Scope<'s, 't> {
     }
 
     // The type of a designator that is used as a value.
-    fn use_type(&self, d: &Designator) -> Result<Option<Simple<'t>>, TableError>
+    fn use_type(&self, d: &Designator) -> Result<Option<Simple<'t>>, CompileError>
         ensures { IfOk result (λ of. (s : code.Scope) → IsScope self.now s → SimpleIs of
             (static.expression_type (environment s)
             (a.Use (erase.designator (view.designator d.now))))) }
@@ -200,7 +206,7 @@ impl<'s, 't> Scope<'s, 't> {
         &self,
         d: &Designator,
         argument: Option<Simple<'t>>,
-    ) -> Result<Option<Simple<'t>>, TableError>
+    ) -> Result<Option<Simple<'t>>, CompileError>
         ensures { IfOk result (λ of. (s : code.Scope) (e : syntax.Expression)
             (es : syntax.Expressions) → IsScope self.now s → ValueIs s argument.entry e
             → ValueIs s of (syntax.Call (view.designator d.now) (syntax.MoreExpressions e es))) }
@@ -222,7 +228,7 @@ impl<'s, 't> Scope<'s, 't> {
     /// # Errors
     ///
     /// `Unaccepted` where an index list is empty, or an enumeration has too many values: no accepted text has either.
-    pub fn expression_type(&self, e: &Expression) -> Result<Option<Simple<'t>>, TableError>
+    pub fn expression_type(&self, e: &Expression) -> Result<Option<Simple<'t>>, CompileError>
         ensures { IfOk result (λ of. (s : code.Scope) → IsScope self.now s
             → ValueIs s of (view.expression e.now)) }
     {

@@ -1,7 +1,6 @@
 //! How many words a variable of each type takes, and where the members of records and classes lie.
 
 ghost use Rattle.std.specs.Prelude.{◌≡◌, ◌∷◌, ◌≤◌, ◌+◌, ◌*◌, [], ℕ, IfOk, OnOk, length, map, option_map, slice_get};
-ghost use Rattle.cp_model.specs.Integers.{count_between};
 ghost use Rattle.cp_model.specs.Declarations.{is_component};
 ghost use Rattle.cp_model.specs.Types.{GlobalScope, ResolvedType};
 ghost use Rattle.cp_typing.specs.Words.{words};
@@ -10,7 +9,8 @@ ghost use Rattle.cp_model.specs.Locations.{ByName};
 ghost use Rattle.cp_scope.specs.Layouts.{AreLaid, Counts, LaysComponent, LaysOut, LaysRow, PartIs, rights_among, rights_of};
 ghost use Rattle.cp_scope.specs.Standing.{ScopeStands, Stands, entry, named};
 
-use crate::error::TableError;
+use crate::counts::count_between;
+use crate::error::CompileError;
 use crate::names::{Names, add_first};
 use crate::types::{Field, TypeRow, Types};
 use cp_model::tree::{Parameters, Sort, System};
@@ -60,17 +60,6 @@ fn counted(n: usize) -> Option<u32>
         return None;
     }
     Some(n as u32)
-}
-
-// How many integers there are from one to another.
-fn count_between(low: i32, high: i32) -> Option<u32>
-    ensures { Counts result (count_between low high) }
-{
-    if high < low {
-        return Some(0);
-    }
-    let count = i64::from(high) - i64::from(low) + 1;
-    counted(count as usize)
 }
 
 impl<'t> Types<'t> {
@@ -140,14 +129,14 @@ impl<'t> Layouts<'t> {
     /// Where a member of a record or of a class lies in a variable of the type, if it has one of
     /// the name. A type without a layout is
     /// refused.
-    pub fn part(&self, number: usize, name: &[u8]) -> Result<Option<Part>, TableError>
+    pub fn part(&self, number: usize, name: &[u8]) -> Result<Option<Part>, CompileError>
         ensures { IfOk result (λ p. (g : GlobalScope) (types : Types) (t : ResolvedType)
             → AreLaid g types self.now.rows.items → Stands types number t → PartIs types p
             (code.part g t (ByName name.now ∷ []))) }
     {
         match self.layout(number) {
             Some(layout) => Ok(layout.parts.find(name)),
-            None => Err(TableError::Unaccepted),
+            None => Err(CompileError::Unaccepted),
         }
     }
 
@@ -166,7 +155,7 @@ impl<'t> Layouts<'t> {
         &self,
         members: &[Field<'t>],
         head: Option<u32>,
-    ) -> Result<Layout<'t>, TableError>
+    ) -> Result<Layout<'t>, CompileError>
         ensures { IfOk result (λ l. LaysOut self.now.rows.items (map entry members.now) head l) }
     {
         let mut layout = self.bare(head);
@@ -189,7 +178,7 @@ impl<'t> Layouts<'t> {
         types: &Types<'t>,
         system: &System,
         members: &[Field<'t>],
-    ) -> Result<Layout<'t>, TableError>
+    ) -> Result<Layout<'t>, CompileError>
         ensures { IfOk result (λ l. LaysComponent names.now types.now self.now.rows.items system.now
             (map entry members.now) l) }
     {
@@ -208,33 +197,33 @@ impl<'t> Layouts<'t> {
         names: &Names<'t>,
         types: &Types<'t>,
         row: &TypeRow<'t>,
-    ) -> Result<Layout<'t>, TableError>
+    ) -> Result<Layout<'t>, CompileError>
         ensures { IfOk result (λ l. LaysRow names.now types.now self.now.rows.items row.now l) }
     {
         match row {
             TypeRow::Simple(_) => Ok(self.bare(Some(1))),
             TypeRow::Array { low, high, element } => {
-                let words = product(count_between(*low, *high), self.words(*element));
+                let words = product(counted(count_between(*low, *high)), self.words(*element));
                 Ok(self.bare(words))
             }
             TypeRow::Record(fields) => self.members(fields, Some(0)),
             TypeRow::Queue => Ok(self.bare(Some(1))),
             TypeRow::Component { system, members } => match types.system(*system) {
                 Some(system) => self.component(names, types, system, members),
-                None => Err(TableError::Unaccepted),
+                None => Err(CompileError::Unaccepted),
             },
             TypeRow::Unknown => Ok(self.bare(Some(0))),
         }
     }
 
     /// Adds the layouts of all types that have none yet.
-    pub fn extend(&mut self, names: &Names<'t>, types: &Types<'t>) -> Result<(), TableError>
+    pub fn extend(&mut self, names: &Names<'t>, types: &Types<'t>) -> Result<(), CompileError>
         ensures laid { OnOk result ((g : GlobalScope) → ScopeStands names.now types.now g
             → AreLaid g types.now self.old.rows.items → AreLaid g types.now self.new.rows.items) }
         ensures complete { OnOk result (length types.now.rows.items ≤ length self.new.rows.items) }
     {
         for number in self.rows.len()..types.rows.len() {
-            let row = types.row(number).ok_or(TableError::Unaccepted)?;
+            let row = types.row(number).ok_or(CompileError::Unaccepted)?;
             let layout = self.row(names, types, row)?;
             self.rows.push(layout)?;
         }

@@ -26,6 +26,7 @@
 #![tactic(auto)]
 
 mod components;
+mod counts;
 mod error;
 mod expressions;
 mod layout;
@@ -45,16 +46,17 @@ mod units;
 mod variables;
 
 pub use components::Right;
-pub use error::TableError;
-pub use expressions::base_type;
+pub use counts::{count_between, small_number};
+pub use error::CompileError;
+pub use expressions::{base_type, first_ordinal, last_ordinal};
 pub use layout::{Layout, Layouts, Part};
 pub use locals::{Local, Locals};
-pub use names::{Names, Value};
+pub use names::{Names, Value, add_name};
 pub use numbering::Numbered;
 pub use outer::Outer;
 pub use places::Elements;
 pub use routines::RoutineTable;
-pub use scope::{Callee, Meaning, Scope};
+pub use scope::{Callee, Meaning, Scope, refuse_no_index};
 pub use systems::{Component, IndexedRoutine, SystemTable};
 pub use tables::Tables;
 pub use types::{Base, Field, Simple, TypeRow, Types};

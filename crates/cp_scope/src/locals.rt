@@ -10,7 +10,7 @@ ghost use Rattle.cp_scope.specs.Standing.{Stands};
 ghost use Rattle.cp_scope.specs.declared.types.Types.{Types};
 ghost use Rattle.cp_scope.specs.Variables.{declared_entry};
 
-use crate::error::TableError;
+use crate::error::CompileError;
 use crate::layout::{Layouts, sum};
 use crate::names::add_first;
 use crate::variables::Declared;
@@ -51,7 +51,11 @@ impl<'t> Layouts<'t> {
 
     /// Where these parameters and variables lie, the first one so many words from the first of the
     /// activation.
-    pub fn locals(&self, list: &[Declared<'t>], head: Option<u32>) -> Result<Locals<'t>, TableError>
+    pub fn locals(
+        &self,
+        list: &[Declared<'t>],
+        head: Option<u32>,
+    ) -> Result<Locals<'t>, CompileError>
         ensures { IfOk result (λ l. LaysLocals self.now.rows.items
             (map declared_entry list.now) head l) }
     {

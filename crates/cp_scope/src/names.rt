@@ -3,7 +3,7 @@
 ghost use Rattle.std.specs.Prelude.{◌≡◌, [], OnOk};
 ghost use Rattle.cp_scope.specs.Tables.{Behind, InFront};
 
-use crate::error::TableError;
+use crate::error::CompileError;
 use crate::types::Base;
 use cp_names::NameTable;
 use std::alloc::Global;
@@ -40,11 +40,11 @@ pub fn add_name<'t, A: Copy>(
     table: &mut NameTable<'t, A>,
     name: &'t [u8],
     value: A,
-) -> Result<(), TableError>
+) -> Result<(), CompileError>
     ensures { OnOk result (InFront name.now value table.old table.new) }
 {
     if table.find(name).is_some() {
-        return Err(TableError::Unaccepted);
+        return Err(CompileError::Unaccepted);
     }
     table.add(name, value)?;
     Ok(())
@@ -55,7 +55,7 @@ pub fn add_first<'t, A: Copy>(
     table: &mut NameTable<'t, A>,
     name: &'t [u8],
     value: A,
-) -> Result<(), TableError>
+) -> Result<(), CompileError>
     ensures { OnOk result (Behind name.now value table.old table.new) }
 {
     if table.find(name).is_none() {

@@ -8,7 +8,7 @@ ghost use Rattle.cp_scope.specs.Numbering.{AreNumbered, system_of};
 ghost use Rattle.cp_scope.specs.Standing.{Stands, row_at};
 ghost use Rattle.cp_scope.specs.Variables.{declared_entry};
 
-use crate::error::TableError;
+use crate::error::CompileError;
 use crate::names::add_first;
 use crate::types::{TypeRow, Types};
 use crate::variables::Declared;
@@ -76,7 +76,7 @@ impl<'t> Types<'t> {
     }
 
     /// The names of these parameters or variables, with the numbers of the components among them.
-    pub fn numbered(&self, list: &[Declared<'t>]) -> Result<NameTable<'t, Numbered>, TableError>
+    pub fn numbered(&self, list: &[Declared<'t>]) -> Result<NameTable<'t, Numbered>, CompileError>
         ensures { IfOk result (λ names. AreNumbered self.now (map declared_entry list.now) names) }
     {
         let mut names = NameTable::new(self.alloc);

@@ -10,7 +10,7 @@ ghost use Rattle.cp_model.specs.View as view;
 ghost use Rattle.cp_scope.specs.Outer.{Defines, NamesType, OuterStands, component_of, defining, defining_all, with_type, with_value, with_values};
 ghost use Rattle.cp_scope.specs.Standing.{Makes, MakesFields, Stands, base_of, entry, simple_of, value_of, with_parameter, with_parameters, written};
 
-use crate::error::TableError;
+use crate::error::CompileError;
 use crate::names::{Names, Value, add_name};
 use crate::resolving::add_fields;
 use crate::types::{Base, Field, Simple, TypeRow, Types};
@@ -28,11 +28,11 @@ pub struct Outer<'t> {
 }
 
 // A number as an ordinal. No accepted text has one that doesn't fit.
-fn ordinal(n: usize) -> Result<i32, TableError>
+fn ordinal(n: usize) -> Result<i32, CompileError>
     ensures { IfOk result (λ i. i ≡ pos n) }
 {
     if n > 0x7fff_ffff {
-        return Err(TableError::Unaccepted);
+        return Err(CompileError::Unaccepted);
     }
     Ok(n as i32)
 }
@@ -56,7 +56,7 @@ fn simple<'t>(base: Base<'t>, low: i32, high: i32) -> Simple<'t>
 }
 
 // The value of an enumeration with this number.
-fn numbered<'t>(base: Base<'t>, number: usize) -> Result<Value<'t>, TableError>
+fn numbered<'t>(base: Base<'t>, number: usize) -> Result<Value<'t>, CompileError>
     ensures { IfOk result (λ v. value_of v ≡ (base_of base.entry, pos number)) }
 {
     let ordinal = ordinal(number)?;
@@ -64,7 +64,7 @@ fn numbered<'t>(base: Base<'t>, number: usize) -> Result<Value<'t>, TableError>
 }
 
 // An enumeration whose last value has this number.
-fn enumeration<'t>(base: Base<'t>, last: usize) -> Result<Simple<'t>, TableError>
+fn enumeration<'t>(base: Base<'t>, last: usize) -> Result<Simple<'t>, CompileError>
     ensures { IfOk result (λ s. simple_of s ≡ t.Simple (base_of base.entry) (pos 0) (pos last)
         (pos 0)) }
 {
@@ -86,7 +86,7 @@ impl<'t> Types<'t> {
         names: &Names<'t>,
         group: &'t Parameters,
         members: &mut Vec<Field<'t>>,
-    ) -> Result<(), TableError>
+    ) -> Result<(), CompileError>
         ensures { OnOk result (MakesFields names.now self.old self.new (map entry members.old.items)
             (map entry members.new.items) (with_parameter group.now)) }
     {
@@ -103,7 +103,7 @@ impl<'t> Types<'t> {
         names: &Names<'t>,
         groups: &'t [Parameters],
         members: &mut Vec<Field<'t>>,
-    ) -> Result<(), TableError>
+    ) -> Result<(), CompileError>
         ensures { OnOk result (MakesFields names.now self.old self.new (map entry members.old.items)
             (map entry members.new.items) (with_parameters groups.now)) }
     {
@@ -114,7 +114,7 @@ impl<'t> Types<'t> {
     }
 
     // The number of the type of the components of a system type.
-    fn component(&mut self, names: &Names<'t>, system: &'t System) -> Result<usize, TableError>
+    fn component(&mut self, names: &Names<'t>, system: &'t System) -> Result<usize, CompileError>
         ensures { IfOk result (λ n. Makes names.now self.old self.new (component_of system.now) n) }
     {
         let mut members = Vec::new(self.alloc);
@@ -130,7 +130,7 @@ impl<'t> Types<'t> {
 
 impl<'t> Outer<'t> {
     // Adds a constant.
-    fn add_constant(&mut self, name: &'t [u8], value: Value<'t>) -> Result<(), TableError>
+    fn add_constant(&mut self, name: &'t [u8], value: Value<'t>) -> Result<(), CompileError>
         ensures { OnOk result (Defines self.old self.new
             (with_value name.now (value_of value.entry))) }
     {
@@ -138,14 +138,14 @@ impl<'t> Outer<'t> {
     }
 
     // Adds the name of a type.
-    fn add_type(&mut self, name: &'t [u8], of: usize) -> Result<(), TableError>
+    fn add_type(&mut self, name: &'t [u8], of: usize) -> Result<(), CompileError>
         ensures { OnOk result (NamesType self.old self.new name.now of) }
     {
         add_name(&mut self.names.types, name, of)
     }
 
     // Adds a base type.
-    fn add_base(&mut self, name: &'t [u8], base: Simple<'t>) -> Result<(), TableError>
+    fn add_base(&mut self, name: &'t [u8], base: Simple<'t>) -> Result<(), CompileError>
         ensures { OnOk result (Defines self.old self.new
             (with_type name.now (λ g. simple_of base.entry))) }
     {
@@ -154,7 +154,7 @@ impl<'t> Outer<'t> {
     }
 
     /// The scope of the standard names.
-    pub fn standard(alloc: Global) -> Result<Outer<'t>, TableError>
+    pub fn standard(alloc: Global) -> Result<Outer<'t>, CompileError>
         ensures { IfOk result (λ outer. OuterStands outer standard_scope) }
     {
         let mut outer = Outer {
@@ -171,7 +171,7 @@ impl<'t> Outer<'t> {
         Ok(outer)
     }
 
-    fn define_constant(&mut self, d: &'t ConstantDefinition) -> Result<(), TableError>
+    fn define_constant(&mut self, d: &'t ConstantDefinition) -> Result<(), CompileError>
         ensures { OnOk result (Defines self.old self.new
             (defining (erase.constant_definition d.now))) }
     {
@@ -181,7 +181,7 @@ impl<'t> Outer<'t> {
         }
     }
 
-    fn define_type(&mut self, x: &'t Identifier, t: &'t TypeExpression) -> Result<(), TableError>
+    fn define_type(&mut self, x: &'t Identifier, t: &'t TypeExpression) -> Result<(), CompileError>
         ensures { OnOk result (Defines self.old self.new (with_type x.now.name (written t.now))) }
     {
         let of = self.types.resolve(&self.names, t)?;
@@ -189,7 +189,7 @@ impl<'t> Outer<'t> {
     }
 
     // The values of an enumeration. The last one is added first.
-    fn add_values(&mut self, base: Base<'t>, values: &'t [Identifier]) -> Result<(), TableError>
+    fn add_values(&mut self, base: Base<'t>, values: &'t [Identifier]) -> Result<(), CompileError>
         ensures { OnOk result (Defines self.old self.new
             (with_values (base_of base.entry) 0 values.now)) }
     {
@@ -206,7 +206,7 @@ impl<'t> Outer<'t> {
         &mut self,
         x: &'t Identifier,
         values: &'t [Identifier],
-    ) -> Result<(), TableError>
+    ) -> Result<(), CompileError>
         ensures { OnOk result (Defines self.old self.new
             (defining (a.EnumDef x.now.name (map erase.name values.now)))) }
     {
@@ -217,7 +217,7 @@ impl<'t> Outer<'t> {
         self.add_values(base, values)
     }
 
-    fn define_system(&mut self, x: &'t Identifier, system: &'t System) -> Result<(), TableError>
+    fn define_system(&mut self, x: &'t Identifier, system: &'t System) -> Result<(), CompileError>
         ensures { OnOk result (Defines self.old self.new
             (with_type x.now.name (component_of system.now))) }
     {
@@ -225,7 +225,7 @@ impl<'t> Outer<'t> {
         self.add_type(x.name.as_bytes(), of)
     }
 
-    fn define_as(&mut self, d: &'t TypeDefinition) -> Result<(), TableError>
+    fn define_as(&mut self, d: &'t TypeDefinition) -> Result<(), CompileError>
         ensures { OnOk result (Defines self.old self.new
             (defining (erase.type_definition (view.type_definition d.now)))) }
     {
@@ -236,7 +236,7 @@ impl<'t> Outer<'t> {
         }
     }
 
-    fn define_constants(&mut self, list: &'t [ConstantDefinition]) -> Result<(), TableError>
+    fn define_constants(&mut self, list: &'t [ConstantDefinition]) -> Result<(), CompileError>
         ensures { OnOk result (Defines self.old self.new
             (defining_all (map erase.constant_definition list.now))) }
     {
@@ -246,7 +246,7 @@ impl<'t> Outer<'t> {
         Ok(())
     }
 
-    fn define_types(&mut self, list: &'t [TypeDefinition]) -> Result<(), TableError>
+    fn define_types(&mut self, list: &'t [TypeDefinition]) -> Result<(), CompileError>
         ensures { OnOk result (Defines self.old self.new
             (defining_all (map erase.type_definition (map view.type_definition list.now)))) }
     {
@@ -256,7 +256,7 @@ impl<'t> Outer<'t> {
         Ok(())
     }
 
-    fn define_section(&mut self, section: &'t Section) -> Result<(), TableError>
+    fn define_section(&mut self, section: &'t Section) -> Result<(), CompileError>
         ensures { OnOk result (Defines self.old self.new
             (defining_all (erase.section (view.section_of section.now)))) }
     {
@@ -266,7 +266,7 @@ impl<'t> Outer<'t> {
         }
     }
 
-    fn define_sections(&mut self, sections: &'t [Section]) -> Result<(), TableError>
+    fn define_sections(&mut self, sections: &'t [Section]) -> Result<(), CompileError>
         ensures { OnOk result (Defines self.old self.new
             (defining_all (erase.sections (map view.section_of sections.now)))) }
     {
@@ -277,7 +277,7 @@ impl<'t> Outer<'t> {
     }
 
     /// The outermost scope of a text.
-    pub fn of_tree(alloc: Global, tree: &'t Tree) -> Result<Outer<'t>, TableError>
+    pub fn of_tree(alloc: Global, tree: &'t Tree) -> Result<Outer<'t>, CompileError>
         ensures { IfOk result (λ outer. OuterStands outer
             (globals (erase.abstract (view.tree tree.now)))) }
     {

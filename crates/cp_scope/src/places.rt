@@ -12,7 +12,7 @@ ghost use Rattle.cp_scope.specs.Places.{PlaceIs, TypeIs, elements_of, is_record}
 ghost use Rattle.cp_scope.specs.Scopes.{IsScope};
 ghost use Rattle.cp_scope.specs.Standing.{Stands, row_at};
 
-use crate::error::TableError;
+use crate::error::CompileError;
 use crate::layout::Part;
 use crate::scope::{Meaning, Scope};
 use crate::types::{TypeRow, Types};
@@ -65,7 +65,7 @@ fn part_type(part: Option<Part>) -> Option<usize>
 
 impl<'s, 't> Scope<'s, 't> {
     /// The type of a field of what has this type.
-    pub fn field_type(&self, of: Option<usize>, name: &[u8]) -> Result<Option<usize>, TableError>
+    pub fn field_type(&self, of: Option<usize>, name: &[u8]) -> Result<Option<usize>, CompileError>
         ensures { IfOk result (λ n. (s : code.Scope) (t : ResolvedType) → IsScope self.now s
             → TypeIs self.now.tables.now.types of t → TypeIs self.now.tables.now.types n
             (places.field_type name.now t)) }
@@ -108,7 +108,7 @@ impl<'s, 't> Scope<'s, 't> {
         &self,
         of: Option<usize>,
         selector: &Selector,
-    ) -> Result<Option<usize>, TableError>
+    ) -> Result<Option<usize>, CompileError>
         ensures { IfOk result (λ n. (s : code.Scope) (d : a.Designator) → IsScope self.now s
             → PlaceIs self.now s of d → PlaceIs self.now s n
             (erase.select d (view.selector selector.now))) }
@@ -120,7 +120,7 @@ impl<'s, 't> Scope<'s, 't> {
     }
 
     /// The type of the place of a designator, if it has one.
-    pub fn place_type(&self, d: &Designator) -> Result<Option<usize>, TableError>
+    pub fn place_type(&self, d: &Designator) -> Result<Option<usize>, CompileError>
         ensures { IfOk result (λ n. (s : code.Scope) → IsScope self.now s → PlaceIs self.now s n
             (erase.designator (view.designator d.now))) }
     {

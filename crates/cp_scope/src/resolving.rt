@@ -6,7 +6,7 @@ ghost use Rattle.cp_model.specs.Types.{GlobalScope, constant_value};
 ghost use Rattle.cp_model.specs.Erase as erase;
 ghost use Rattle.cp_scope.specs.Standing.{Adds, ConstantsStand, Makes, MakesArray, MakesFields, MakesIndexed, array_row, entries_of, entry, named, ranged, recorded, row_at, subrange_row, value_of, with_group, with_groups, written};
 
-use crate::error::TableError;
+use crate::error::CompileError;
 use crate::names::{Names, Value};
 use crate::types::{Base, Field, Simple, TypeRow, Types};
 use cp_model::tree::{Constant, Fields, Identifier, TypeExpression};
@@ -78,14 +78,14 @@ impl<'t> Types<'t> {
         names: &Names<'t>,
         low: &Constant,
         high: &Constant,
-    ) -> Result<usize, TableError>
+    ) -> Result<usize, CompileError>
         ensures { IfOk result (λ n. Makes names.now self.old self.new (ranged low.now high.now) n) }
     {
         self.add(subrange_row(names.value(low), names.value(high)))
     }
 
     /// The number of the type of a name. What names no type has a number of its own.
-    pub fn named(&mut self, names: &Names<'t>, x: &Identifier) -> Result<usize, TableError>
+    pub fn named(&mut self, names: &Names<'t>, x: &Identifier) -> Result<usize, CompileError>
         ensures { IfOk result (λ n. Makes names.now self.old self.new (named x.now.name) n) }
     {
         match names.types.find(x.name.as_bytes()) {
@@ -108,7 +108,7 @@ impl<'t> Types<'t> {
         }
     }
 
-    fn array(&mut self, index: usize, element: usize) -> Result<usize, TableError>
+    fn array(&mut self, index: usize, element: usize) -> Result<usize, CompileError>
         ensures { IfOk result (λ n. MakesArray self.old self.new index element n) }
     {
         let row = self.array_row(index, element);
@@ -117,7 +117,11 @@ impl<'t> Types<'t> {
 
     /// The number of a type that is written so.
     #[cycle(types)]
-    pub fn resolve(&mut self, names: &Names<'t>, t: &'t TypeExpression) -> Result<usize, TableError>
+    pub fn resolve(
+        &mut self,
+        names: &Names<'t>,
+        t: &'t TypeExpression,
+    ) -> Result<usize, CompileError>
         ensures { IfOk result (λ n. Makes names.now self.old self.new (written t.now) n) }
     {
         match t {
@@ -142,7 +146,7 @@ impl<'t> Types<'t> {
         names: &Names<'t>,
         indices: &'t [TypeExpression],
         element: usize,
-    ) -> Result<usize, TableError>
+    ) -> Result<usize, CompileError>
         ensures { IfOk result
             (λ n. MakesIndexed names.now self.old self.new indices.now element n) }
     {
@@ -157,7 +161,7 @@ impl<'t> Types<'t> {
     }
 
     #[cycle(types)]
-    fn record(&mut self, names: &Names<'t>, groups: &'t [Fields]) -> Result<usize, TableError>
+    fn record(&mut self, names: &Names<'t>, groups: &'t [Fields]) -> Result<usize, CompileError>
         ensures { IfOk result (λ n. Makes names.now self.old self.new (recorded groups.now) n) }
     {
         let mut fields = Vec::new(self.alloc);
@@ -172,7 +176,7 @@ impl<'t> Types<'t> {
         names: &Names<'t>,
         groups: &'t [Fields],
         fields: &mut Vec<Field<'t>>,
-    ) -> Result<(), TableError>
+    ) -> Result<(), CompileError>
         ensures { OnOk result (MakesFields names.now self.old self.new (map entry fields.old.items)
             (map entry fields.new.items) (with_groups groups.now)) }
     {
@@ -189,7 +193,7 @@ impl<'t> Types<'t> {
         names: &Names<'t>,
         group: &'t Fields,
         fields: &mut Vec<Field<'t>>,
-    ) -> Result<(), TableError>
+    ) -> Result<(), CompileError>
         ensures { OnOk result (MakesFields names.now self.old self.new (map entry fields.old.items)
             (map entry fields.new.items) (with_group group.now)) }
     {

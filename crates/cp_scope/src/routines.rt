@@ -1,27 +1,29 @@
 //! What is known of a routine: its parameters, where its variables lie, and the type of its result.
 
-ghost use Rattle.std.specs.Prelude.{◌≡◌, IfOk};
+ghost use Rattle.std.specs.Prelude.{◌≡◌, ◌++◌, IfOk, map};
 ghost use Rattle.cp_typing.specs.Needs.{result_words};
 ghost use Rattle.cp_model.specs.Erase as erase;
 ghost use Rattle.cp_scope.specs.Layouts.{Counts};
 ghost use Rattle.cp_scope.specs.Routines.{MakesResult, MakesRoutine};
+ghost use Rattle.cp_scope.specs.Variables.{declared_entry};
 
-use crate::error::TableError;
+use crate::error::CompileError;
 use crate::layout::Layouts;
 use crate::locals::Locals;
 use crate::names::Names;
 use crate::types::Types;
 use crate::variables::Declared;
 use cp_model::tree::{Identifier, Routine};
+use std::alloc::Global;
 
-/// A routine: its name and its parameters, where they and its variables lie in an activation, whose words are
-/// those of `locals`, and the number of
-/// the type of its result, where it is a function.
+/// A routine: its name, its parameters and variables in text order, where they lie in an activation, whose words are those of
+/// `locals`, and the number of the type of its result, where it is a function.
 #[derive(Drop)]
 pub struct RoutineTable<'t> {
     pub name: &'t [u8],
     pub parameters: Vec<Declared<'t>>,
-    pub locals: Locals<'t>,
+    pub variables: Vec<Declared<'t>>,
+    pub(crate) locals: Locals<'t>,
     pub result: Option<usize>,
 }
 
@@ -35,13 +37,27 @@ fn words_of_result(of: &Option<Identifier>) -> u32
     }
 }
 
+// Parameters, and variables behind them.
+fn both<'t>(
+    alloc: Global,
+    parameters: &[Declared<'t>],
+    variables: &[Declared<'t>],
+) -> Result<Vec<Declared<'t>>, CompileError>
+    ensures { IfOk result (λ all. map declared_entry all.items ≡
+        map declared_entry parameters.now ++ map declared_entry variables.now) }
+{
+    let mut all = Vec::from_slice(alloc, parameters)?;
+    all.extend_from_slice(variables)?;
+    Ok(all)
+}
+
 impl<'t> Types<'t> {
     // The type of a result.
     fn result(
         &mut self,
         names: &Names<'t>,
         of: &'t Option<Identifier>,
-    ) -> Result<Option<usize>, TableError>
+    ) -> Result<Option<usize>, CompileError>
         ensures { IfOk result (λ r. MakesResult names.now self.old self.new of.now r) }
     {
         match of {
@@ -58,20 +74,22 @@ impl<'t> Layouts<'t> {
         names: &Names<'t>,
         types: &mut Types<'t>,
         text: &'t Routine,
-    ) -> Result<RoutineTable<'t>, TableError>
+    ) -> Result<RoutineTable<'t>, CompileError>
         ensures { IfOk result (λ r. MakesRoutine names.now types.old types.new self.old.rows.items
             self.new.rows.items text.now r) }
     {
         let mut parameters = Vec::new(self.alloc);
         types.declare_parameters(names, &text.parameters, &mut parameters)?;
-        let mut all = Vec::from_slice(self.alloc, parameters.as_slice())?;
-        types.declare_variables(names, &text.variables, &mut all)?;
+        let mut variables = Vec::new(self.alloc);
+        types.declare_variables(names, &text.variables, &mut variables)?;
         let result = types.result(names, &text.result_type)?;
         self.extend(names, types)?;
+        let all = both(self.alloc, &parameters, &variables)?;
         let locals = self.locals(&all, Some(words_of_result(&text.result_type)))?;
         Ok(RoutineTable {
             name: text.name.name.as_bytes(),
             parameters,
+            variables,
             locals,
             result,
         })

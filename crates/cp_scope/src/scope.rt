@@ -15,7 +15,7 @@ ghost use Rattle.cp_scope.specs.Locals.{LocalIs};
 ghost use Rattle.cp_scope.specs.Scopes.{CalleeIs, IsScope, MeaningIs, Selects, VariableIs, locals_of, results_of};
 
 use crate::components::Right;
-use crate::error::TableError;
+use crate::error::CompileError;
 use crate::layout::Part;
 use crate::locals::Local;
 use crate::names::Value;
@@ -61,13 +61,13 @@ fn type_of(found: Option<Numbered>) -> Option<usize>
 }
 
 /// Every index list of a text has an index: one without is refused.
-pub fn refuse_no_index(selector: &Selector) -> Result<(), TableError>
+pub fn refuse_no_index(selector: &Selector) -> Result<(), CompileError>
     ensures { OnOk result (Selects (view.selector selector.now)) }
 {
     match selector {
         Selector::Field { .. } => Ok(()),
         Selector::Indexed(indices) => match indices.as_slice() {
-            [] => Err(TableError::Unaccepted),
+            [] => Err(CompileError::Unaccepted),
             [_, ..] => Ok(()),
         },
     }
@@ -205,7 +205,7 @@ impl<'s, 't> Scope<'s, 't> {
     }
 
     // The routine of this system type that a name calls.
-    fn own_callee<'n>(&self, name: &[u8]) -> Result<Option<Callee<'s, 't, 'n>>, TableError>
+    fn own_callee<'n>(&self, name: &[u8]) -> Result<Option<Callee<'s, 't, 'n>>, CompileError>
         ensures { IfOk result (λ c. (s : code.Scope) → IsScope self.now s → CalleeIs self.now s c
             (calls.callee (code.environment s) (a.Plain name.now))) }
     {
@@ -223,14 +223,14 @@ impl<'s, 't> Scope<'s, 't> {
         &self,
         component: &'n [u8],
         name: &[u8],
-    ) -> Result<Option<Callee<'s, 't, 'n>>, TableError>
+    ) -> Result<Option<Callee<'s, 't, 'n>>, CompileError>
         ensures { IfOk result (λ c. (s : code.Scope) → IsScope self.now s → CalleeIs self.now s c
             (calls.callee (code.environment s) (a.Part (a.Plain component.now) name.now))) }
     {
         match self.system.component(&self.tables.types, component) {
             None => Ok(None),
             Some(of) => match self.tables.system(of.system) {
-                None => Err(TableError::Unaccepted),
+                None => Err(CompileError::Unaccepted),
                 Some(system) => match system.routine(name)? {
                     None => Ok(None),
                     Some(routine) => Ok(Some(Callee {
@@ -247,7 +247,7 @@ impl<'s, 't> Scope<'s, 't> {
         &self,
         name: &'n [u8],
         selector: &Selector,
-    ) -> Result<Option<Callee<'s, 't, 'n>>, TableError>
+    ) -> Result<Option<Callee<'s, 't, 'n>>, CompileError>
         ensures { IfOk result (λ c. (s : code.Scope) → IsScope self.now s → CalleeIs self.now s c
             (calls.callee (code.environment s)
             (erase.select (a.Plain name.now) (view.selector selector.now)))) }
@@ -264,7 +264,7 @@ impl<'s, 't> Scope<'s, 't> {
     }
 
     /// What a designator calls, if it calls a routine. A selector without an index is refused.
-    pub fn callee<'n>(&self, d: &'n Designator) -> Result<Option<Callee<'s, 't, 'n>>, TableError>
+    pub fn callee<'n>(&self, d: &'n Designator) -> Result<Option<Callee<'s, 't, 'n>>, CompileError>
         ensures { IfOk result (λ c. (s : code.Scope) → IsScope self.now s → CalleeIs self.now s c
             (calls.callee (code.environment s) (erase.designator (view.designator d.now)))) }
     {

@@ -1,13 +1,14 @@
 //! What is known of a system type: its parameters and variables, its routines, and where the
 //! members and rights of its components lie.
 
-ghost use Rattle.std.specs.Prelude.{◌≡◌, IfOk, option_map, slice_get};
+ghost use Rattle.std.specs.Prelude.{◌≡◌, [], IfOk, option_map, slice_get};
 ghost use Rattle.cp_model.specs.Abstract.{Name};
 ghost use Rattle.cp_model.specs.Names.{lookup};
+ghost use Rattle.cp_scope.specs.TypeNames.{name_or};
 ghost use Rattle.cp_scope.specs.Systems.{ComponentFound, MakesRoutines, MakesSystem, RoutineFound, component_of_name, routine_number, routines_of};
 
 use crate::components::Right;
-use crate::error::TableError;
+use crate::error::CompileError;
 use crate::layout::{Layout, Layouts};
 use crate::names::{Names, add_first};
 use crate::numbering::Numbered;
@@ -29,12 +30,12 @@ pub struct SystemTable<'t> {
     pub variables: Vec<Declared<'t>>,
     pub members: Layout<'t>,
     pub rights: NameTable<'t, Right>,
-    pub parameter_names: NameTable<'t, Numbered>,
-    pub variable_names: NameTable<'t, Numbered>,
+    pub(crate) parameter_names: NameTable<'t, Numbered>,
+    pub(crate) variable_names: NameTable<'t, Numbered>,
     pub(crate) parameter_types: NameTable<'t, &'t [u8]>,
     pub(crate) variable_types: NameTable<'t, &'t [u8]>,
-    pub routines: Vec<RoutineTable<'t>>,
-    pub routine_names: NameTable<'t, usize>,
+    pub(crate) routines: Vec<RoutineTable<'t>>,
+    pub(crate) routine_names: NameTable<'t, usize>,
 }
 
 impl<'t> Layouts<'t> {
@@ -44,7 +45,7 @@ impl<'t> Layouts<'t> {
         names: &Names<'t>,
         types: &mut Types<'t>,
         texts: &'t [Routine],
-    ) -> Result<Vec<RoutineTable<'t>>, TableError>
+    ) -> Result<Vec<RoutineTable<'t>>, CompileError>
         ensures { IfOk result (λ rs. MakesRoutines names.now types.old types.new self.old.rows.items
             self.new.rows.items texts.now rs.items) }
     {
@@ -57,7 +58,7 @@ impl<'t> Layouts<'t> {
     }
 
     // The numbers of routines by their names.
-    fn routine_names(&self, texts: &'t [Routine]) -> Result<NameTable<'t, usize>, TableError>
+    fn routine_names(&self, texts: &'t [Routine]) -> Result<NameTable<'t, usize>, CompileError>
         ensures { IfOk result (λ names. (x : Name) → lookup x names ≡ routine_number x 0
             (routines_of texts.now)) }
     {
@@ -76,7 +77,7 @@ impl<'t> Layouts<'t> {
         parameters: &'t [Parameters],
         variables: &'t [Fields],
         routines: &'t [Routine],
-    ) -> Result<SystemTable<'t>, TableError>
+    ) -> Result<SystemTable<'t>, CompileError>
         ensures { IfOk result (λ s. MakesSystem names.now types.old types.new self.old.rows.items
             self.new.rows.items parameters.now variables.now routines.now s) }
     {
@@ -155,16 +156,23 @@ impl<'t> SystemTable<'t> {
     }
 
     /// The first routine of a name.
-    pub fn routine(&self, name: &[u8]) -> Result<Option<IndexedRoutine<'_, 't>>, TableError>
+    pub fn routine(&self, name: &[u8]) -> Result<Option<IndexedRoutine<'_, 't>>, CompileError>
         ensures { IfOk result (λ r. RoutineFound self.now name.now r) }
     {
         match self.routine_names.find(name) {
             None => Ok(None),
             Some(index) => match self.routine_at(index) {
-                None => Err(TableError::Unaccepted),
+                None => Err(CompileError::Unaccepted),
                 Some(table) => Ok(Some(IndexedRoutine { index, table })),
             },
         }
+    }
+
+    /// The name of the type with which a variable is declared, empty where the type isn't a name alone.
+    pub fn variable_type(&self, name: &[u8]) -> &'t [u8]
+        ensures { result.now ≡ name_or (lookup name.now self.now.variable_types) [] }
+    {
+        self.variable_types.find(name).unwrap_or(&[])
     }
 
     /// The component that a name means in a component of this system type.

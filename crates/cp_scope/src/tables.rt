@@ -6,7 +6,7 @@ ghost use Rattle.cp_model.specs.Erase as erase;
 ghost use Rattle.cp_model.specs.View as view;
 ghost use Rattle.cp_scope.specs.Texts.{MakesSystems, TablesStand};
 
-use crate::error::TableError;
+use crate::error::CompileError;
 use crate::layout::Layouts;
 use crate::names::Names;
 use crate::outer::Outer;
@@ -33,13 +33,13 @@ impl<'t> Layouts<'t> {
         &mut self,
         names: &Names<'t>,
         types: &mut Types<'t>,
-    ) -> Result<Vec<SystemTable<'t>>, TableError>
+    ) -> Result<Vec<SystemTable<'t>>, CompileError>
         ensures { IfOk result (λ ss. MakesSystems names.now types.old types.new self.old.rows.items
             self.new.rows.items ss.items) }
     {
         let mut tables = Vec::new(self.alloc);
         for number in 0..types.systems.len() {
-            let y = types.system(number).ok_or(TableError::Unaccepted)?;
+            let y = types.system(number).ok_or(CompileError::Unaccepted)?;
             let table = self.system(names, types, &y.parameters, &y.variables, &y.routines)?;
             tables.push(table)?;
         }
@@ -58,7 +58,7 @@ impl<'t> Tables<'t> {
     /// The tables of a text, whatever it is. They are refused where memory is, where a name is
     /// declared twice in the outermost scope,
     /// and where an enumeration has more values than ordinals.
-    pub fn of_tree(alloc: Global, tree: &'t Tree) -> Result<Tables<'t>, TableError>
+    pub fn of_tree(alloc: Global, tree: &'t Tree) -> Result<Tables<'t>, CompileError>
         ensures { IfOk result (λ tables. TablesStand
             (globals (erase.abstract (view.tree tree.now))) tables tree.now) }
     {

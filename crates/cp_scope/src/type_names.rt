@@ -6,21 +6,21 @@ ghost use Rattle.cp_model.specs.View as view;
 ghost use Rattle.cp_code.specs.Scopes.{type_name};
 ghost use Rattle.cp_scope.specs.TypeNames.{AreTypeNames, NamesMore, typed_among};
 
-use crate::error::TableError;
+use crate::error::CompileError;
 use crate::names::add_first;
 use cp_model::tree::{Fields, Identifier, Parameters, TypeExpression};
 use cp_names::NameTable;
 use std::alloc::Global;
 
 // The name of a written type, or an empty one where that isn't a name alone.
-fn type_name<'t>(of: &'t TypeExpression) -> Result<&'t [u8], TableError>
+fn type_name<'t>(of: &'t TypeExpression) -> Result<&'t [u8], CompileError>
     ensures { IfOk result (λ name.
         name.now ≡ type_name (erase.type_expression (view.type_expression of.now))) }
 {
     match of {
         TypeExpression::Named(x) => Ok(x.name.as_bytes()),
         TypeExpression::Array { indices, .. } => match indices.as_slice() {
-            [] => Err(TableError::Unaccepted),
+            [] => Err(CompileError::Unaccepted),
             [_, ..] => Ok(&[]),
         },
         TypeExpression::Subrange(_, _) => Ok(&[]),
@@ -33,7 +33,7 @@ fn add_names<'t>(
     table: &mut NameTable<'t, &'t [u8]>,
     names: &'t [Identifier],
     of: &'t [u8],
-) -> Result<(), TableError>
+) -> Result<(), CompileError>
     ensures { OnOk result
         (NamesMore table.old table.new (typed_among (map erase.name names.now) of.now)) }
 {
@@ -47,7 +47,7 @@ fn add_names<'t>(
 pub fn parameter_types<'t>(
     alloc: Global,
     groups: &'t [Parameters],
-) -> Result<NameTable<'t, &'t [u8]>, TableError>
+) -> Result<NameTable<'t, &'t [u8]>, CompileError>
     ensures { IfOk result (λ names.
         AreTypeNames names (map erase.parameter_group (map view.parameters groups.now))) }
 {
@@ -62,7 +62,7 @@ pub fn parameter_types<'t>(
 pub fn variable_types<'t>(
     alloc: Global,
     groups: &'t [Fields],
-) -> Result<NameTable<'t, &'t [u8]>, TableError>
+) -> Result<NameTable<'t, &'t [u8]>, CompileError>
     ensures { IfOk result (λ names.
         AreTypeNames names (map erase.variable_group (map view.variables groups.now))) }
 {

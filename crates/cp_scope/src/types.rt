@@ -3,7 +3,7 @@
 ghost use Rattle.std.specs.Prelude.{◌≡◌, [], IfOk, option_map};
 ghost use Rattle.cp_scope.specs.Standing.{Adds, AddsSystem, row_at, system_at};
 
-use crate::error::TableError;
+use crate::error::CompileError;
 use cp_model::tree::System;
 use std::alloc::Global;
 
@@ -89,7 +89,7 @@ impl<'t> Types<'t> {
     }
 
     /// Adds a type, and answers its number.
-    pub fn add(&mut self, row: TypeRow<'t>) -> Result<usize, TableError>
+    pub fn add(&mut self, row: TypeRow<'t>) -> Result<usize, CompileError>
         ensures { IfOk result (λ n. Adds self.old self.new row.entry n) }
     {
         let number = self.rows.len();
@@ -98,7 +98,7 @@ impl<'t> Types<'t> {
     }
 
     /// Adds a system type, and answers its number.
-    pub fn add_system(&mut self, system: &'t System) -> Result<usize, TableError>
+    pub fn add_system(&mut self, system: &'t System) -> Result<usize, CompileError>
         ensures { IfOk result (λ k. AddsSystem self.old self.new system.now k) }
     {
         let number = self.systems.len();

@@ -8,26 +8,28 @@ ghost use Rattle.cp_model.specs.Components as components;
 ghost use Rattle.cp_code.specs.Scopes as code;
 ghost use Rattle.cp_scope.specs.Scopes.{IsCallee, IsScope, Names};
 
-use crate::error::TableError;
+use crate::counts::small_number;
+use crate::error::CompileError;
 use crate::scope::{Callee, Scope};
 use crate::systems::Component;
 
 // The unit that comes so many after the first.
-fn unit_after(first: u32, count: usize) -> Result<u32, TableError>
+fn unit_after(first: u32, count: usize) -> Result<u32, CompileError>
     ensures { IfOk result (λ n. n ≡ first + count) }
 {
-    let count = u32::try_from(count).map_err(|_| TableError::Unaccepted)?;
-    first.checked_add(count).ok_or(TableError::Unaccepted)
+    first
+        .checked_add(small_number(count)?)
+        .ok_or(CompileError::Unaccepted)
 }
 
 impl<'s, 't> Scope<'s, 't> {
     /// The words of an activation; a body has none.
-    pub fn words(&self) -> Result<u32, TableError>
+    pub fn words(&self) -> Result<u32, CompileError>
         ensures { IfOk result (λ n. (s : code.Scope) → IsScope self.now s → n ≡ s.words) }
     {
         match self.routine {
             None => Ok(0),
-            Some(routine) => routine.locals.words.ok_or(TableError::Unaccepted),
+            Some(routine) => routine.locals.words.ok_or(CompileError::Unaccepted),
         }
     }
 
@@ -46,7 +48,7 @@ impl<'s, 't> Scope<'s, 't> {
     }
 
     /// The unit of a component's body.
-    pub fn body_of(&self, c: &Component) -> Result<u32, TableError>
+    pub fn body_of(&self, c: &Component) -> Result<u32, CompileError>
         ensures { IfOk result (λ unit. (s : code.Scope) (n : components.Component)
             → IsScope self.now s → Names self.now s c.now n → unit ≡ code.body_of s n) }
     {
@@ -54,12 +56,12 @@ impl<'s, 't> Scope<'s, 't> {
             .tables
             .types
             .system(c.system)
-            .ok_or(TableError::Unaccepted)?;
+            .ok_or(CompileError::Unaccepted)?;
         unit_after(self.first_of(c), of.routines.len())
     }
 
     /// The unit of a routine that is called.
-    pub fn unit_of(&self, callee: &Callee) -> Result<u32, TableError>
+    pub fn unit_of(&self, callee: &Callee) -> Result<u32, CompileError>
         ensures { IfOk result (λ unit. (s : code.Scope) (c : calls.Callee)
             → IsScope self.now s → IsCallee self.now s callee.now c → unit ≡ code.unit_of s c) }
     {

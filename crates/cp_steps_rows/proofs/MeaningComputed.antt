@@ -1,6 +1,6 @@
 -- The answers of meaning, computed. Written by worked/make_rows.py.
 use Rattle.std.proofs.Common.{refl}
-use Rattle.cp_steps_rows.specs.Meaning.{an_array_of_queues_1, an_array_of_queues_2, an_array_of_queues_3, argument_range_first_1, askers_in_order_1, askers_in_order_2, body_that_waits_1, body_that_waits_2, body_that_waits_3, call_test_after_arguments_1, calls_in_bounds_and_selectors_1, calls_left_to_right_1, case_of_negative_1, class_in_monitor_1, counting_down_1, cycle_in_a_monitor_1, division_1, early_class_1, early_handing_on_1, fault_with_outer_gates_1, field_names_1, for_subrange_1, function_that_continues_1, index_by_local_1, inner_rights_1, input_beyond_its_end_1, input_beyond_its_end_2, input_beyond_its_end_3, input_beyond_its_end_4, input_in_subrange_1, input_in_subrange_2, label_constants_1, later_component_1, later_constant_routine_1, later_definitions_1, later_routine_parameter_1, later_routine_variable_1, local_record_field_1, monitor_variable_handed_down_1, nested_delay_1, nested_delay_2, overflow_signs_1, parameters_of_init_1, references_of_references_1, result_named_later_1, same_function_names_1, same_local_names_1, structures_1, subranges_of_characters_and_enumerations_1, tests_anew_1, waiting_processes_wake_at_the_tick_1, waiting_processes_wake_at_the_tick_2}
+use Rattle.cp_steps_rows.specs.Meaning.{a_call_that_makes_calls_1, an_array_of_queues_1, an_array_of_queues_2, an_array_of_queues_3, argument_range_first_1, askers_in_order_1, askers_in_order_2, body_that_waits_1, body_that_waits_2, body_that_waits_3, call_test_after_arguments_1, calls_in_a_for_1, calls_in_bounds_and_selectors_1, calls_left_to_right_1, case_of_negative_1, class_in_monitor_1, counting_down_1, cycle_in_a_monitor_1, division_1, early_class_1, early_handing_on_1, fault_with_outer_gates_1, field_names_1, for_subrange_1, function_that_continues_1, functions_of_functions_1, index_by_local_1, inner_rights_1, input_beyond_its_end_1, input_beyond_its_end_2, input_beyond_its_end_3, input_beyond_its_end_4, input_in_subrange_1, input_in_subrange_2, label_constants_1, later_component_1, later_constant_routine_1, later_definitions_1, later_routine_parameter_1, later_routine_variable_1, local_record_field_1, monitor_variable_handed_down_1, nested_delay_1, nested_delay_2, overflow_signs_1, parameters_of_init_1, references_of_references_1, result_named_later_1, same_function_names_1, same_local_names_1, structures_1, subranges_of_characters_and_enumerations_1, tests_anew_1, waiting_processes_wake_at_the_tick_1, waiting_processes_wake_at_the_tick_2}
 use Rattle.cp_scan.specs.Pieces.{word, number, comment, coded, character, longer_mark, mark, piece, pieces}
 use Rattle.cp_grammar.specs.Declarations.{constant_definition_of, parameter_group_of, some_parameters_of, parameters_of, result_type_of, heading_from, heading_of, variable_group_of, some_variables_of, variables_of, body_of, routine_of, routines_of, system_from, system_type, enumeration_of, written_type, defined_by, defined_of, type_definition_of, section_by, section_of}
 use Rattle.cp_grammar.specs.Expressions.{operation_of, chain_from, term_of, signed_term, simple_of, expression_of, expressions_from, index_of, indices_from, field_of, indexed_of, selector_by, selector_of, designator_of, arguments_of, optional_arguments_of, call_or_part, named_of, parenthesized_of, not_of, factor_by, factor_of, inner_at}
@@ -10,6 +10,10 @@ use Rattle.cp_grammar.specs.Reading.{expect, optional_symbol, repeat}
 use Rattle.cp_grammar.specs.Statements.{direction_of, statements_from, arm_of, else_part, block_of, compound_of, if_of, case_of, while_of, repeat_of, for_of, cycle_of, assign_or_perform, designated_of, init_item_of, init_of, statement_by, statement_of, deeper_at}
 use Rattle.cp_grammar.specs.Text.{tree_of, text_of}
 use Rattle.cp_grammar.specs.Types.{subrange_from, named_or_subrange, group_of, array_of, record_of, type_by, type_of, inner_type_at}
+
+pub a_call_that_makes_calls_1-holds : a_call_that_makes_calls_1
+unfolding word number comment coded character longer_mark mark piece pieces constant_definition_of parameter_group_of some_parameters_of parameters_of result_type_of heading_from heading_of variable_group_of some_variables_of variables_of body_of routine_of routines_of system_from system_type enumeration_of written_type defined_by defined_of type_definition_of section_by section_of operation_of chain_from term_of signed_term simple_of expression_of expressions_from index_of indices_from field_of indexed_of selector_by selector_of designator_of arguments_of optional_arguments_of call_or_part named_of parenthesized_of not_of factor_by factor_of inner_at is_symbol identifier_of names_of constant_of constants_of expect optional_symbol repeat direction_of statements_from arm_of else_part block_of compound_of if_of case_of while_of repeat_of for_of cycle_of assign_or_perform designated_of init_item_of init_of statement_by statement_of deeper_at tree_of text_of subrange_from named_or_subrange group_of array_of record_of type_by type_of inner_type_at
+a_call_that_makes_calls_1-holds = refl
 
 pub an_array_of_queues_1-holds : an_array_of_queues_1
 unfolding word number comment coded character longer_mark mark piece pieces constant_definition_of parameter_group_of some_parameters_of parameters_of result_type_of heading_from heading_of variable_group_of some_variables_of variables_of body_of routine_of routines_of system_from system_type enumeration_of written_type defined_by defined_of type_definition_of section_by section_of operation_of chain_from term_of signed_term simple_of expression_of expressions_from index_of indices_from field_of indexed_of selector_by selector_of designator_of arguments_of optional_arguments_of call_or_part named_of parenthesized_of not_of factor_by factor_of inner_at is_symbol identifier_of names_of constant_of constants_of expect optional_symbol repeat direction_of statements_from arm_of else_part block_of compound_of if_of case_of while_of repeat_of for_of cycle_of assign_or_perform designated_of init_item_of init_of statement_by statement_of deeper_at tree_of text_of subrange_from named_or_subrange group_of array_of record_of type_by type_of inner_type_at
@@ -50,6 +54,10 @@ body_that_waits_3-holds = refl
 pub call_test_after_arguments_1-holds : call_test_after_arguments_1
 unfolding word number comment coded character longer_mark mark piece pieces constant_definition_of parameter_group_of some_parameters_of parameters_of result_type_of heading_from heading_of variable_group_of some_variables_of variables_of body_of routine_of routines_of system_from system_type enumeration_of written_type defined_by defined_of type_definition_of section_by section_of operation_of chain_from term_of signed_term simple_of expression_of expressions_from index_of indices_from field_of indexed_of selector_by selector_of designator_of arguments_of optional_arguments_of call_or_part named_of parenthesized_of not_of factor_by factor_of inner_at is_symbol identifier_of names_of constant_of constants_of expect optional_symbol repeat direction_of statements_from arm_of else_part block_of compound_of if_of case_of while_of repeat_of for_of cycle_of assign_or_perform designated_of init_item_of init_of statement_by statement_of deeper_at tree_of text_of subrange_from named_or_subrange group_of array_of record_of type_by type_of inner_type_at
 call_test_after_arguments_1-holds = refl
+
+pub calls_in_a_for_1-holds : calls_in_a_for_1
+unfolding word number comment coded character longer_mark mark piece pieces constant_definition_of parameter_group_of some_parameters_of parameters_of result_type_of heading_from heading_of variable_group_of some_variables_of variables_of body_of routine_of routines_of system_from system_type enumeration_of written_type defined_by defined_of type_definition_of section_by section_of operation_of chain_from term_of signed_term simple_of expression_of expressions_from index_of indices_from field_of indexed_of selector_by selector_of designator_of arguments_of optional_arguments_of call_or_part named_of parenthesized_of not_of factor_by factor_of inner_at is_symbol identifier_of names_of constant_of constants_of expect optional_symbol repeat direction_of statements_from arm_of else_part block_of compound_of if_of case_of while_of repeat_of for_of cycle_of assign_or_perform designated_of init_item_of init_of statement_by statement_of deeper_at tree_of text_of subrange_from named_or_subrange group_of array_of record_of type_by type_of inner_type_at
+calls_in_a_for_1-holds = refl
 
 pub calls_in_bounds_and_selectors_1-holds : calls_in_bounds_and_selectors_1
 unfolding word number comment coded character longer_mark mark piece pieces constant_definition_of parameter_group_of some_parameters_of parameters_of result_type_of heading_from heading_of variable_group_of some_variables_of variables_of body_of routine_of routines_of system_from system_type enumeration_of written_type defined_by defined_of type_definition_of section_by section_of operation_of chain_from term_of signed_term simple_of expression_of expressions_from index_of indices_from field_of indexed_of selector_by selector_of designator_of arguments_of optional_arguments_of call_or_part named_of parenthesized_of not_of factor_by factor_of inner_at is_symbol identifier_of names_of constant_of constants_of expect optional_symbol repeat direction_of statements_from arm_of else_part block_of compound_of if_of case_of while_of repeat_of for_of cycle_of assign_or_perform designated_of init_item_of init_of statement_by statement_of deeper_at tree_of text_of subrange_from named_or_subrange group_of array_of record_of type_by type_of inner_type_at
@@ -102,6 +110,10 @@ for_subrange_1-holds = refl
 pub function_that_continues_1-holds : function_that_continues_1
 unfolding word number comment coded character longer_mark mark piece pieces constant_definition_of parameter_group_of some_parameters_of parameters_of result_type_of heading_from heading_of variable_group_of some_variables_of variables_of body_of routine_of routines_of system_from system_type enumeration_of written_type defined_by defined_of type_definition_of section_by section_of operation_of chain_from term_of signed_term simple_of expression_of expressions_from index_of indices_from field_of indexed_of selector_by selector_of designator_of arguments_of optional_arguments_of call_or_part named_of parenthesized_of not_of factor_by factor_of inner_at is_symbol identifier_of names_of constant_of constants_of expect optional_symbol repeat direction_of statements_from arm_of else_part block_of compound_of if_of case_of while_of repeat_of for_of cycle_of assign_or_perform designated_of init_item_of init_of statement_by statement_of deeper_at tree_of text_of subrange_from named_or_subrange group_of array_of record_of type_by type_of inner_type_at
 function_that_continues_1-holds = refl
+
+pub functions_of_functions_1-holds : functions_of_functions_1
+unfolding word number comment coded character longer_mark mark piece pieces constant_definition_of parameter_group_of some_parameters_of parameters_of result_type_of heading_from heading_of variable_group_of some_variables_of variables_of body_of routine_of routines_of system_from system_type enumeration_of written_type defined_by defined_of type_definition_of section_by section_of operation_of chain_from term_of signed_term simple_of expression_of expressions_from index_of indices_from field_of indexed_of selector_by selector_of designator_of arguments_of optional_arguments_of call_or_part named_of parenthesized_of not_of factor_by factor_of inner_at is_symbol identifier_of names_of constant_of constants_of expect optional_symbol repeat direction_of statements_from arm_of else_part block_of compound_of if_of case_of while_of repeat_of for_of cycle_of assign_or_perform designated_of init_item_of init_of statement_by statement_of deeper_at tree_of text_of subrange_from named_or_subrange group_of array_of record_of type_by type_of inner_type_at
+functions_of_functions_1-holds = refl
 
 pub index_by_local_1-holds : index_by_local_1
 unfolding word number comment coded character longer_mark mark piece pieces constant_definition_of parameter_group_of some_parameters_of parameters_of result_type_of heading_from heading_of variable_group_of some_variables_of variables_of body_of routine_of routines_of system_from system_type enumeration_of written_type defined_by defined_of type_definition_of section_by section_of operation_of chain_from term_of signed_term simple_of expression_of expressions_from index_of indices_from field_of indexed_of selector_by selector_of designator_of arguments_of optional_arguments_of call_or_part named_of parenthesized_of not_of factor_by factor_of inner_at is_symbol identifier_of names_of constant_of constants_of expect optional_symbol repeat direction_of statements_from arm_of else_part block_of compound_of if_of case_of while_of repeat_of for_of cycle_of assign_or_perform designated_of init_item_of init_of statement_by statement_of deeper_at tree_of text_of subrange_from named_or_subrange group_of array_of record_of type_by type_of inner_type_at

@@ -11,11 +11,11 @@ use Rattle.cp_threaded.specs.View.{PlainApplication, PlainIndex}
 
 abbrev pub view_of : Reach → View
 view_of r = record {
-  words = r.own.now ++ r.shared.now;
-  temps = r.temps.now;
-  base = r.base;
-  temp = r.temp;
-  component = r.component;
+  words = r.memory.now.words.items ++ r.shared.now;
+  temps = r.memory.now.temps.items;
+  base = r.memory.now.base;
+  temp = r.memory.now.temp;
+  component = r.memory.now.component;
   clock = r.clock;
 }
 

@@ -136,13 +136,13 @@ impl<'a> Reach<'a> {
     // The word at a place, or 0 where it is missing. The place may be told as the greatest number.
     #[inline(always)]
     fn word(&self, at: usize) -> i32
-        ensures word { result ≡ starts.word (self.now.own.now ++ self.now.shared.now) at }
+        ensures word { result ≡ starts.word (self.now.memory.now.words.items ++ self.now.shared.now) at }
         ensures capped { (place : ℕ) → capped place ≡ at
-            → result ≡ starts.word (self.now.own.now ++ self.now.shared.now) place }
+            → result ≡ starts.word (self.now.memory.now.words.items ++ self.now.shared.now) place }
     {
-        match self.own.get(at) {
+        match self.memory.words.get(at) {
             Some(n) => *n,
-            None => word(self.shared, at.saturating_sub(self.own.len())),
+            None => word(self.shared, at.saturating_sub(self.memory.words.len())),
         }
     }
 
@@ -151,7 +151,7 @@ impl<'a> Reach<'a> {
         ensures place { result ≡ values.root_place (view_of self.now) (terms.Local at) }
         ensures small { result < 2 ^ 33 }
     {
-        self.base as usize + at as usize
+        self.memory.base as usize + at as usize
     }
 
     #[inline(always)]
@@ -159,15 +159,19 @@ impl<'a> Reach<'a> {
         ensures place { result ≡ values.root_place (view_of self.now) (terms.Member at) }
         ensures small { result < 2 ^ 33 }
     {
-        self.component as usize + at as usize
+        self.memory.component as usize + at as usize
     }
 
     // The temp of this number.
     #[inline(always)]
     fn made(&self, temp: u32) -> i32
-        ensures { result ≡ starts.word self.now.temps.now (self.now.temp + temp) }
+        ensures { result ≡ starts.word self.now.memory.now.temps.items
+            (self.now.memory.now.temp + temp) }
     {
-        word(self.temps, self.temp as usize + temp as usize)
+        word(
+            &self.memory.temps,
+            self.memory.temp as usize + temp as usize,
+        )
     }
 
     fn through(&self, parameter: u32, plus: u32) -> usize
@@ -290,6 +294,21 @@ impl Term {
     /// The first fault that is met from left to right.
     #[cycle(value)]
     pub fn value(&self, reach: &Reach) -> Result<i32, Fault>
+        ensures { result ≡ values.value_of (view_of reach.now) (view.term self.now) }
+    {
+        let first = self.first.value(reach)?;
+        value_of_chain(first, &self.rest, reach)
+    }
+}
+
+impl Term {
+    /// The same value, found without a call where the operands are numbers and words: for the operations that are most common.
+    ///
+    /// # Errors
+    ///
+    /// The first fault that is met from left to right.
+    #[inline(always)]
+    pub fn value_here(&self, reach: &Reach) -> Result<i32, Fault>
         ensures { result ≡ values.value_of (view_of reach.now) (view.term self.now) }
     {
         let first = self.first.value(reach)?;

@@ -2,18 +2,24 @@
 
 ghost use Rattle.std.specs.Prelude.{◌+◌, ◌<◌, ◌^◌, length};
 
-/// Words, temps and registers. The shared words follow after the process's own; a private step has none.
-#[derive(Clone, Copy)]
-pub struct Reach<'a> {
-    pub own: &'a [i32],
-    pub shared: &'a [i32],
-    pub temps: &'a [i32],
+/// What a process holds for what runs: its words and temps, and where those of the running activation and component begin.
+#[derive(Debug, Drop)]
+pub struct Memory {
+    pub words: Vec<i32>,
+    pub temps: Vec<i32>,
     /// The first word of the running activation.
     pub base: u32,
     /// The first temp of the running activation.
     pub temp: u32,
     /// The first word of the running component.
     pub component: u32,
+}
+
+/// The memory of a process, the shared words, which follow after its own, and the clock. A private step has no shared words.
+#[derive(Clone, Copy)]
+pub struct Reach<'a> {
+    pub memory: &'a Memory,
+    pub shared: &'a [i32],
     pub clock: u64,
-    ghost fits: { length own.now + length shared.now < 2 ^ 64 },
+    ghost fits: { length memory.now.words.items + length shared.now < 2 ^ 64 },
 }

@@ -386,7 +386,9 @@ module _ (env : Environment) (g : GlobalScope) (rs : Types) (ys : List a.System)
     later = later_behind;
     stage = stage_behind;
     typed = λ i w h. only i w h;
-    in_order = λ k l. ((later_on g scope_behind k later_behind l, type_is_typed g (later_same g)), tt);
+    in_order = λ k l. (
+      (later_on g scope_behind k later_behind l, type_is_typed g (later_same g), l.types x.name type (first_there x.name type g.types)), tt,
+    );
   })
     where
       only : (i : ℕ) (w : a.System) → slice_get (meaning ∷ []) i ≡ Some w → SystemTyped scope_behind (ys ++ take i (meaning ∷ [])) w

@@ -2,8 +2,8 @@
 use Rattle.std.specs.Prelude.{◌≡◌, ◌≤◌, ℕ, ℤ, true, false, List, [], ◌∷◌, ◌++◌, None, Some, slice_get, length, take}
 use Rattle.cp_model.specs.Abstract.{BaseType, ConstantDef, Definition, EnumDef, Name, Process, Routine, System, SystemDef, TypeDef}
 use Rattle.cp_model.specs.Names.{lookup}
-use Rattle.cp_model.specs.Types.{GlobalScope, ResolvedType, standard_scope}
-use Rattle.cp_model.specs.Declarations.{Variable, declarations, define, globals}
+use Rattle.cp_model.specs.Types.{ComponentOf, GlobalScope, ResolvedType, standard_scope}
+use Rattle.cp_model.specs.Declarations.{Variable, declarations, define, globals, reported_members}
 use Rattle.cp_model.specs.Locations.{Location, Owner}
 use Rattle.cp_model.specs.Environments.{local_variables, permanent_variables}
 use Rattle.cp_model.specs.Calls.{routine_named}
@@ -69,11 +69,13 @@ pub record Later (g h : GlobalScope) : Type 0 where
   pub constants : (x : Name) (v : BaseType × ℤ) → lookup x g.constants ≡ Some v → lookup x h.constants ≡ Some v
   pub types : (x : Name) (r : ResolvedType) → lookup x g.types ≡ Some r → lookup x h.types ≡ Some r
 
--- Each system type is typed in the scope before its definition, too; and whatever is found there, the scope g of the text has.
+-- What is found in the scope before the definition of a system type, the scope g of the text has, and that the name is the system
+-- type's; which is typed in the scope before, too.
 abbrev pub TypedInOrder : GlobalScope → GlobalScope → List System → List Definition → Type 0
 TypedInOrder g h before [] = Unit {0}
 TypedInOrder g h before (SystemDef x s ∷ ds) =
-    (Later h g × TypedSystem h before s) × TypedInOrder g (define h (SystemDef x s)) (before ++ s ∷ []) ds
+    (Later h g × TypedSystem h before s × (lookup x g.types ≡ Some (ComponentOf s (reported_members h s))))
+    × TypedInOrder g (define h (SystemDef x s)) (before ++ s ∷ []) ds
 TypedInOrder g h before (TypeDef x t ∷ ds) = TypedInOrder g (define h (TypeDef x t)) before ds
 TypedInOrder g h before (EnumDef x vs ∷ ds) = TypedInOrder g (define h (EnumDef x vs)) before ds
 TypedInOrder g h before (ConstantDef x c ∷ ds) = TypedInOrder g (define h (ConstantDef x c)) before ds

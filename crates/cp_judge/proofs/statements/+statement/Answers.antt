@@ -6,7 +6,7 @@ use Rattle.cp_model.specs.RulesStatements as st
 use Rattle.cp_model.specs.View.{expression, statement, statements_of, arm, arms_of}
 use Rattle.cp_judge.specs.StatementParts as parts
 use Rattle.cp_judge.proofs.LabelsTold.{arms_told, base_told}
-use Rattle.cp_judge.proofs.StatementViews.{view_if, view_if_else, view_case, view_while, view_repeat, view_for, view_arm}
+use Rattle.cp_model.proofs.StatementViews.{view_if, view_if_else, view_case, view_while, view_repeat, view_for, view_arm}
 use Rattle.cp_judge.proofs.Tells.{more_told, then_told, rest_told, on_ok}
 use Rattle.cp_judge.proofs.statements.+statement.Goals as goal
 

@@ -1,4 +1,4 @@
-use Rattle.std.proofs.Common.{◌∙◌, Some, ap, refl, rules, sym}
+use Rattle.std.proofs.Common.{◌≡◌, ◌∙◌, Some, ap, refl, rules, subst, sym}
 use Rattle.cp_model.specs.Integers.{count_between}
 use Rattle.cp_typing.specs.Words.{words}
 use Rattle.cp_scope.specs.Layouts.{Counts}
@@ -12,7 +12,8 @@ returns-in-Array c = λ g later n t scope grows laid at stands.
     let low = c.in-Array.low in
     let high = c.in-Array.high in
     let e = c.in-Array.element in
-    let count : Counts c.count_between.result (count_between low high) = search rules in
+    let between : c.count_between.result ≡ count_between low high = search rules in
+    let count : Counts c.counted.result (count_between low high) = subst (Counts c.counted.result) between c.counted.ensures in
     array_laid g later n l t low high e (at ∙ ap Some c.in-Array.is) stands c.bare-in-Array.ensures.parts
     (λ u s. rw c.bare-in-Array.ensures.words
     (c.product-words.ensures (count_between low high) (words g u) count

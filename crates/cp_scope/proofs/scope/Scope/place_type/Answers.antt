@@ -1,7 +1,7 @@
 use Rattle.std.proofs.Common.{ap, sym}
+use Rattle.cp_model.proofs.Views.{view_designator}
 use Rattle.cp_model.specs.Abstract as a
 use Rattle.cp_model.specs.Erase as erase
-use Rattle.cp_scope.proofs.Called.{view_designator}
 use Rattle.cp_scope.proofs.scope.Scope.place_type.Goals as goal
 
 pub loop-selector-init : goal.loop-selector-init

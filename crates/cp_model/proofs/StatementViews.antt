@@ -8,7 +8,7 @@ use Rattle.cp_model.specs.declared.tree.Expression.{Expression}
 use Rattle.cp_model.specs.declared.tree.Arm.{Arm}
 use Rattle.cp_model.specs.declared.tree.Statement.{Statement}
 use Rattle.cp_model.specs.declared.tree.Statement.TheVariants as tree
-use Rattle.cp_model.specs.declared.tree.Statement.TheVariants.{rolls-If, rolls-IfElse, rolls-Case, rolls-While, rolls-Repeat, rolls-For}
+use Rattle.cp_model.specs.declared.tree.Statement.TheVariants.{rolls-Cycle, rolls-If, rolls-IfElse, rolls-Case, rolls-While, rolls-Repeat, rolls-For}
 use Rattle.cp_model.specs.declared.tree.Statement.TheFolds.{fold-roll-Statement, fold_out-Arm}
 
 pub view_if : (e : Expression) (x : Box Statement Global) → statement (tree.If e x) ≡ s.If (expression e) (statement x.value)
@@ -32,3 +32,6 @@ view_for v a d b x = ap statement (sym (rolls-For v a d b x)) ∙ fold-roll-Stat
 
 pub view_arm : (a : Arm) → arm a ≡ record { labels = a.labels.items; body = statement a.body }
 view_arm = fold_out-Arm s.Statement LabelledStatement statement_layer arm_layer
+
+pub view_cycle : (l : Vec Statement Global) → statement (tree.Cycle l) ≡ s.Cycle (statements_of (map statement l.items))
+view_cycle l = ap statement (sym (rolls-Cycle l)) ∙ fold-roll-Statement s.Statement LabelledStatement statement_layer arm_layer _

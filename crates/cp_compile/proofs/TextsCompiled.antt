@@ -1,0 +1,124 @@
+-- Definitions that are compiled one after another.
+use Rattle.std.proofs.Common.{◌≡◌, ◌∷◌, ◌++◌, ◌∙◌, ℕ, List, [], Option, None, Some, Box, Global, Vec, ◌≤◌, ap, arith, if◌then◌else◌, length, map, refl, subst, sym}
+use Rattle.std.proofs.lemmas.Option.{same_Some}
+use Rattle.std.specs.Borrow.{Bor}
+use Rattle.std.specs.Str.{bytes_eq}
+use Rattle.cp_model.specs.Abstract as a
+use Rattle.cp_model.specs.Abstract.{Definition, Name}
+use Rattle.cp_model.specs.Erase as erase
+use Rattle.cp_model.specs.Names.{lookup}
+use Rattle.cp_model.specs.Types.{ComponentOf, GlobalScope, Members, ResolvedType}
+use Rattle.cp_model.specs.View as tree
+use Rattle.cp_model.specs.declared.tree.ConstantDefinition.{ConstantDefinition}
+use Rattle.cp_model.specs.declared.tree.Fields.{Fields}
+use Rattle.cp_model.specs.declared.tree.System.{System}
+use Rattle.cp_model.specs.declared.tree.TypeExpression.{TypeExpression}
+use Rattle.cp_model.specs.declared.tree.TypeExpression.TheVariants as written
+use Rattle.cp_code.specs.Compile.{CompiledTypes, first_of_type, with_definition, with_definitions, with_system}
+use Rattle.cp_code.specs.Scopes.{or_zero}
+use Rattle.cp_emit.specs.declared.emitter.Emitter.{Emitter}
+use Rattle.cp_scope.specs.declared.types.Types.{Types}
+use Rattle.cp_scope.specs.Numbering.{system_of}
+use Rattle.cp_scope.specs.Standing.{TypeMeans, row_at, system_at}
+use Rattle.cp_scope.specs.Tables.{InFront}
+use Rattle.cp_scope.proofs.Written.{view_array, view_record}
+use Rattle.cp_compile.specs.Compiles.{IsCompiled}
+use Rattle.cp_compile.specs.CompiledTexts.{AreNamed, IsDefined, TypesAre, defined_name}
+
+-- ---- System types
+
+abbrev pub number_in : Types → Option ℕ → Option ℕ
+number_in types None = None
+number_in types (Some of) = system_of (row_at types of)
+
+pub system_there : (types : Types) (o : Option ℕ) (t : Option ResolvedType) (s : a.System) (ms : Members) (k : ℕ) → TypeMeans types o t
+    → t ≡ Some (ComponentOf s ms) → number_in types o ≡ Some k → (b : Bor System) × (system_at types k ≡ Some b) × (erase.system (tree.system b.now) ≡ s)
+system_there types o t s ms k means is number = go o (subst (TypeMeans types o) is means) number
+  where
+    go : (p : Option ℕ) → TypeMeans types p (Some (ComponentOf s ms)) → number_in types p ≡ Some k
+        → (b : Bor System) × (system_at types k ≡ Some b) × (erase.system (tree.system b.now) ≡ s)
+    go None h n = absurd h
+    go (Some of) h n =
+        let same : h.0 ≡ k = same_Some h.0 k (sym (ap system_of h.3) ∙ n) in
+        (h.2, subst (λ i. system_at types i ≡ Some h.2) same h.4, h.5)
+
+-- ---- First units
+
+-- One definition more.
+pub one_defined : (old new : List (Name × ℕ)) (emitter : Emitter) (d : Definition) (first : ℕ) (before after : CompiledTypes)
+    → ((x : Name) → lookup x old ≡ lookup x before.firsts) → InFront (defined_name d) first old new → IsDefined emitter first d before after
+    → TypesAre emitter new after
+one_defined old new emitter d first before after so front is = record {
+  compiled = is.compiled;
+  firsts_are = λ x.
+      front x ∙ ap (λ o. if bytes_eq x (defined_name d) then Some first else o) (so x) ∙ ap (lookup x) (sym is.firsts);
+}
+
+-- ---- Definitions one after another
+
+pub definitions_behind : (g : GlobalScope) (ds es : List Definition) (m : CompiledTypes)
+    → with_definitions g (ds ++ es) m ≡ with_definitions g es (with_definitions g ds m)
+definitions_behind g [] es m = refl
+definitions_behind g (d ∷ ds) es m = definitions_behind g ds es (with_definition g d m)
+
+pub named_behind : (g : GlobalScope) (ds es : List Definition) → AreNamed g (ds ++ es) → AreNamed g ds × AreNamed g es
+named_behind g [] es h = (tt, h)
+named_behind g (d ∷ ds) es h = let rest = named_behind g ds es h.1 in ((h.0, rest.0), rest.1)
+
+-- Constants have no code.
+pub constants_compiled : (g : GlobalScope) (ds : List ConstantDefinition) (m : CompiledTypes) → m ≡ with_definitions g (map erase.constant_definition ds) m
+constants_compiled g [] m = refl
+constants_compiled g (d ∷ ds) m = constants_compiled g ds m
+
+-- With the definitions that are left, what was compiled so far becomes all.
+pub record PartlyDefined (g : GlobalScope) (left all : List Definition) (start : CompiledTypes) (emitter : Emitter) (firsts : List (Name × ℕ)) : Type 0 where
+  pub so_far : CompiledTypes
+  pub are : TypesAre emitter firsts so_far
+  pub named : AreNamed g left
+  pub rest : with_definitions g left so_far ≡ with_definitions g all start
+
+pub more_defined : (g : GlobalScope) (ds left all : List Definition) (start : CompiledTypes) (a b : Emitter) (old new : List (Name × ℕ))
+    → PartlyDefined g (ds ++ left) all start a old
+    → ((m : CompiledTypes) → AreNamed g ds → TypesAre a old m → TypesAre b new (with_definitions g ds m)) → PartlyDefined g left all start b new
+more_defined g ds left all start a b old new some more =
+    let named = named_behind g ds left some.named in
+    record {
+      so_far = with_definitions g ds some.so_far;
+      are = more some.so_far named.0 some.are;
+      named = named.1;
+      rest = sym (definitions_behind g ds left some.so_far) ∙ some.rest;
+    }
+
+pub all_defined : (g : GlobalScope) (left all : List Definition) (start : CompiledTypes) (emitter : Emitter) (firsts : List (Name × ℕ)) → left ≡ []
+    → PartlyDefined g left all start emitter firsts → TypesAre emitter firsts (with_definitions g all start)
+all_defined g left all start emitter firsts none some =
+    subst (TypesAre emitter firsts) (ap (λ ds. with_definitions g ds some.so_far) (sym none) ∙ some.rest) some.are
+
+-- ---- Written types
+
+pub array_has_no_units : (firsts : List (Name × ℕ)) (at : ℕ) (indices : Vec TypeExpression Global) (element : Box TypeExpression Global) → 1 ≤ length indices.items
+    → 0 ≡ first_of_type firsts (erase.type_expression (tree.type_expression (written.Array at indices element)))
+array_has_no_units firsts at indices element some =
+    go indices.items some ∙ ap (λ t. first_of_type firsts (erase.type_expression t)) (sym (view_array at indices element))
+  where
+    go : (is : List TypeExpression) → 1 ≤ length is
+        → 0 ≡ first_of_type firsts (erase.arrays (erase.type_expressions (tree.types_of (map tree.type_expression is))) (erase.type_expression (tree.type_expression element.value)))
+    go [] some = absurd (omega (arith, some))
+    go (i ∷ is) some = refl
+
+pub record_has_no_units : (firsts : List (Name × ℕ)) (at : ℕ) (groups : Vec Fields Global)
+    → 0 ≡ first_of_type firsts (erase.type_expression (tree.type_expression (written.Record at groups)))
+record_has_no_units firsts at groups = ap (λ t. first_of_type firsts (erase.type_expression t)) (sym (view_record at groups))
+
+-- The first unit is the same in tables that tell the same.
+pub same_first : (fs gs : List (Name × ℕ)) (t : a.TypeExpression) → ((x : Name) → lookup x fs ≡ lookup x gs) → first_of_type fs t ≡ first_of_type gs t
+same_first fs gs (a.TypeName x) so = ap or_zero (so x)
+same_first fs gs (a.Range l h) so = refl
+same_first fs gs (a.Array i e) so = refl
+same_first fs gs (a.Record gs') so = refl
+
+-- A system type's definition.
+pub system_defined : (g : GlobalScope) (x : Name) (s : a.System) (m : CompiledTypes) (new : Emitter) (first : ℕ)
+    → IsCompiled new (with_system g m.firsts s m.compiled) → first ≡ length m.compiled.units
+    → IsDefined new first (a.SystemDef x s) m (with_definition g (a.SystemDef x s) m)
+system_defined g x s m new first is first_is = record { compiled = is; firsts = ap (λ n. (x, n) ∷ m.firsts) (sym first_is) }

@@ -1,0 +1,63 @@
+-- A unit that is compiled behind others.
+use Rattle.std.proofs.Common.{◌≡◌, ◌∷◌, ◌++◌, ◌∙◌, ℕ, suc, List, [], ap, append_assoc, drop, length, length-append, arith}
+use Rattle.std.proofs.Math.Seq.{drop-append_seam}
+use Rattle.cp_model.specs.Abstract as a
+use Rattle.cp_code.specs.CodeNeeds.{need_of_all}
+use Rattle.cp_code.specs.CodedStatements.{emitted}
+use Rattle.cp_code.specs.Compile.{Compiled, code_unit, unit_code, with_unit}
+use Rattle.cp_code.specs.Programs.{CodeUnit, Operation, Start}
+use Rattle.cp_code.specs.Scopes as code
+use Rattle.cp_emit.specs.declared.emitter.Emitter.{Emitter}
+use Rattle.cp_emit.specs.Emission.{operations_of, place_of, units_of}
+use Rattle.cp_compile.specs.Compiles.{IsCompiled}
+
+-- What was emitted behind these operations and units.
+pub record Behind (s : code.Scope) (starts : List Start) (last : Operation) (body : a.Statement) (os : List Operation) (us : List CodeUnit) (operations : List Operation) (units : List CodeUnit) : Type 0 where
+  pub operations_are : operations ≡ os ++ (unit_code s last body (length os)).operations
+  pub units_are : units ≡ us ++ code_unit (unit_code s last body (length os)).entry starts
+      (need_of_all us s.words (unit_code s last body (length os)).operations) ∷ []
+
+pub unit_behind : (s : code.Scope) (starts : List Start) (last : Operation) (body : a.Statement) (os : List Operation) (us : List CodeUnit)
+    (operations : List Operation) (units : List CodeUnit) (at here entry first words : ℕ) → at ≡ length os → here ≡ length (os ++ last ∷ [])
+    → first ≡ length os → words ≡ s.words → entry ≡ (emitted s body 0 here at).entry
+    → operations ≡ (os ++ last ∷ []) ++ (emitted s body 0 here at).operations
+    → units ≡ us ++ code_unit entry starts (need_of_all us words (drop first operations)) ∷ []
+    → Behind s starts last body os us operations units
+unit_behind s starts last body os us operations units at here entry first words at_is here_is first_is words_is entry_is operations_is units_is =
+    let after : here ≡ suc (length os) = here_is ∙ length-append os (last ∷ []) ∙ omega arith in
+    let all : operations ≡ os ++ (unit_code s last body (length os)).operations =
+    operations_is ∙ append_assoc os (last ∷ []) (emitted s body 0 here at).operations
+    ∙ ap (λ n. os ++ (last ∷ (emitted s body 0 n at).operations)) after
+    ∙ ap (λ n. os ++ (last ∷ (emitted s body 0 (suc (length os)) n).operations)) at_is in
+    let own : drop first operations ≡ (unit_code s last body (length os)).operations =
+    ap (λ n. drop n operations) first_is ∙ ap (drop (length os)) all ∙ drop-append_seam os (unit_code s last body (length os)).operations in
+    let entered : entry ≡ (unit_code s last body (length os)).entry =
+    entry_is ∙ ap (λ n. (emitted s body 0 n at).entry) after ∙ ap (λ n. (emitted s body 0 (suc (length os)) n).entry) at_is in
+    record {
+      operations_are = all;
+      units_are =
+          units_is ∙ ap (λ n. us ++ code_unit n starts (need_of_all us words (drop first operations)) ∷ []) entered
+          ∙ ap (λ n. us ++ code_unit (unit_code s last body (length os)).entry starts (need_of_all us n (drop first operations)) ∷ []) words_is
+          ∙ ap (λ xs. us ++ code_unit (unit_code s last body (length os)).entry starts (need_of_all us s.words xs) ∷ []) own;
+    }
+
+-- The same of an emitter.
+pub unit_compiled : (s : code.Scope) (starts : List Start) (last : Operation) (body : a.Statement) (old new : Emitter) (c : Compiled)
+    (here at entry first words : ℕ) → at ≡ place_of old → here ≡ length (operations_of old ++ last ∷ [])
+    → first ≡ place_of old → words ≡ s.words → entry ≡ (emitted s body 0 here at).entry
+    → operations_of new ≡ (operations_of old ++ last ∷ []) ++ (emitted s body 0 here at).operations
+    → units_of new ≡ units_of old ++ code_unit entry starts (need_of_all (units_of old) words (drop first (operations_of new))) ∷ []
+    → IsCompiled old c → IsCompiled new (with_unit s starts last body c)
+unit_compiled s starts last body old new c here at entry first words at_is here_is first_is words_is entry_is operations_is units_is is =
+    let one =
+    unit_behind s starts last body (operations_of old) (units_of old) (operations_of new) (units_of new) at here entry first words at_is here_is first_is words_is
+    entry_is operations_is units_is in
+    record {
+      operations = one.operations_are ∙ ap (λ os. os ++ (unit_code s last body (length os)).operations) is.operations;
+      units =
+          one.units_are
+          ∙ ap (λ us. us ++ code_unit (unit_code s last body (place_of old)).entry starts
+          (need_of_all us s.words (unit_code s last body (place_of old)).operations) ∷ []) is.units
+          ∙ ap (λ os. c.units ++ code_unit (unit_code s last body (length os)).entry starts
+          (need_of_all c.units s.words (unit_code s last body (length os)).operations) ∷ []) is.operations;
+    }

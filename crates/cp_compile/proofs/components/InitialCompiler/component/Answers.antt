@@ -1,0 +1,30 @@
+use Rattle.std.proofs.Common.{rules, ◌≡◌, ◌+◌, ◌∙◌, Some, ap, length, slice_get, subst}
+use Rattle.cp_model.specs.Names.{lookup}
+use Rattle.cp_code.specs.Scopes.{declared_type, or_zero}
+use Rattle.cp_scope.specs.Standing.{system_at}
+use Rattle.cp_scope.proofs.Unrefused.{if_ok}
+use Rattle.cp_compile.specs.CompiledComponents.{IsOwner}
+use Rattle.cp_compile.proofs.ComponentsCompiled.{component_put}
+use Rattle.cp_compile.proofs.components.InitialCompiler.component.Goals as goal
+
+pub returns : goal.returns
+returns c =
+    let of = c.args.self.now in
+    let tables = of.tables.now in
+    let k = c.args.number in
+    let text = c.in_ok-text.text in
+    let table = c.in_ok-table.table.now in
+    let text_is : system_at tables.types k ≡ Some text = search rules in
+    let table_is : slice_get tables.systems.items k ≡ Some table = search rules in
+    let first : c.unwrap_or-first.result ≡ or_zero (lookup c.variable_type-of.result.now of.firsts.now) = search rules in
+    let routines : c.in_ok-routines.routines ≡ length text.now.routines.items = search rules in
+    let body : c.in_ok-body.body ≡ c.unwrap_or-first.result + c.in_ok-routines.routines = search rules in
+    if_ok c.of.result
+    (λ o is plans g firsts groups vs v i stands number.
+    let x = c.args.d.now.name.now in
+    let own : c.unwrap_or-first.result ≡ or_zero (lookup (declared_type x groups) firsts) =
+    first ∙ ap (λ n. or_zero (lookup n of.firsts.now)) (c.variable_type-of.ensures ∙ i.type_names x) ∙ ap or_zero (i.firsts_are (declared_type x groups)) in
+    component_put of plans g firsts groups vs (c.args.d.now.name.now, v) i k text table c.args.d.now.of o c.in_ok-body.body text_is table_is
+    (body ∙ ap (λ n. n + c.in_ok-routines.routines) own ∙ ap (λ n. or_zero (lookup (declared_type x groups) firsts) + n) routines) stands number
+    (subst (λ n. IsOwner table c.in_ok-body.body n o) c.in_ok-small_number.ensures is))
+    c.of.ensures

@@ -1,0 +1,39 @@
+use Rattle.std.proofs.Common.{rules, ◌≡◌, ◌+◌, ◌∷◌, List, arith, drop, get_or, refl, subst, sym}
+use Rattle.std.proofs.lemmas.List.{at_drop_more, drop_all}
+use Rattle.cp_code.specs.Compile.{monitors_at}
+use Rattle.cp_code.specs.Layout.{component_words}
+use Rattle.cp_threaded.specs.View as view
+use Rattle.cp_threaded.specs.declared.program.Monitor.{Monitor}
+use Rattle.cp_compile.specs.declared.components.Owner.{Owner}
+use Rattle.cp_compile.proofs.LaidOut.{PartlyLaid, all_laid, monitor_first, one_laid}
+use Rattle.cp_compile.proofs.layout.lay_monitors.Goals as goal
+
+-- What is read past the end of the owners.
+abbrev nothing : Owner
+nothing = record { body = 0; words = 0; waiting = 0; plan = 0 }
+
+pub loop-owner-init : goal.loop-owner-init
+loop-owner-init c = λ plans g xs are. record { others = xs; are = are; rest = rw c.in_ok-monitors.ensures.items refl; end = refl }
+
+pub loop-owner-preserved : goal.loop-owner-preserved
+loop-owner-preserved c = λ plans g xs are.
+    let all = c.args.owners.now in
+    let k = c.loop-owner.owner-index in
+    let o = get_or all k nothing in
+    let next : c.in_ok-at.at ≡ c.loop-owner.at + o.words = search rules in
+    let step : drop k all ≡ o ∷ drop (k + 1) all = at_drop_more (λ (os : List Owner). os) all k nothing c.loop-owner-test.true in
+    let z : Monitor = record { start = c.loop-owner.at; body = o.body; words = o.words; plan = o.plan } in
+    let some =
+    subst (λ os. PartlyLaid plans g (view.monitor plans) (monitors_at g) (component_words g) os c.loop-owner.monitors.items c.loop-owner.at 0 xs) step
+    (c.loop-owner.invariant plans g xs are) in
+    subst (λ zs. PartlyLaid plans g (view.monitor plans) (monitors_at g) (component_words g) (drop (k + 1) all) zs c.in_ok-at.at 0 xs) (sym c.in_ok-push.ensures.items)
+    (one_laid plans g (view.monitor plans) (monitors_at g) (component_words g) o (drop (k + 1) all) c.loop-owner.monitors.items z c.loop-owner.at c.in_ok-at.at 0 xs some
+    (λ x is. monitor_first plans g o x c.loop-owner.at c.in_ok-at.at is next))
+
+pub returns : goal.returns
+returns c = λ plans g xs are.
+    let all = c.args.owners.now in
+    let laid =
+    all_laid plans g (view.monitor plans) (monitors_at g) (component_words g) (drop c.loop-owner.owner-index all) c.loop-owner.monitors.items c.loop-owner.at 0 xs
+    (λ n. refl) (drop_all c.loop-owner.owner-index all c.loop-owner-test.false) (c.loop-owner.invariant plans g xs are) in
+    record { monitors = laid.all; words = omega (arith, laid.end_is) }

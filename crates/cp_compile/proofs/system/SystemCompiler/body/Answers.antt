@@ -1,0 +1,17 @@
+use Rattle.std.proofs.Common.{◌∙◌, None, ap, map, sym}
+use Rattle.cp_code.specs.StandsFor.{end_of}
+use Rattle.cp_scope.proofs.Unrefused.{on_ok}
+use Rattle.cp_threaded.specs.View as view
+use Rattle.cp_compile.specs.Compiles.{body_of}
+use Rattle.cp_compile.proofs.SystemsCompiled.{body_compiled, scope_made, unit_scope}
+use Rattle.cp_compile.proofs.system.SystemCompiler.body.Goals as goal
+
+pub returns : goal.returns
+returns c =
+    let of = c.args.self.now in
+    on_ok c.compile_unit.result
+    (λ made g s firsts d i sort_is body_is so.
+    body_compiled of g s firsts (map view.start c.new.result.items) (view.operation c.end_of.result) (body_of c.args.body.now) d c.compile_unit.new.emitter
+    (ap (map view.start) c.new.ensures.items) (c.end_of.ensures ∙ ap end_of (sym sort_is)) body_is
+    (made (unit_scope of g s firsts None) d (scope_made of g s firsts i c.new-scope.result None None c.new-scope.ensures tt) so))
+    c.compile_unit.ensures

@@ -1,0 +1,16 @@
+use Rattle.std.proofs.Common.{◌≡◌, ℕ, List, drop}
+use Rattle.cp_model.specs.Abstract.{Name, System}
+use Rattle.cp_model.specs.Types.{GlobalScope}
+use Rattle.cp_code.specs.Compile.{Compiled}
+use Rattle.cp_scope.specs.Systems.{routines_of}
+use Rattle.cp_compile.specs.CompiledSystems.{IsSystem}
+use Rattle.cp_compile.specs.Compiles.{IsCompiled}
+use Rattle.cp_compile.proofs.SystemsCompiled.{PartlyCompiled}
+use Rattle.cp_compile.proofs.system.SystemCompiler.routines.Given as goal
+
+-- with the routines that are left, all are compiled
+abbrev pub invariant-loop-i : goal.invariant-loop-i
+invariant-loop-i l =
+    (g : GlobalScope) (s : System) (firsts : List (Name × ℕ)) (c : Compiled) → IsSystem l.self g s firsts → s.routines ≡ routines_of l.texts
+    → IsCompiled l.fn.emitter c
+    → PartlyCompiled l.self g s firsts (routines_of (drop l.i l.texts)) (routines_of l.texts) c l.emitter

@@ -1,0 +1,74 @@
+-- When monitors and processes are those of the definition.
+use Rattle.std.specs.Prelude.{◌≡◌, ℕ, List, [], ◌∷◌, Some, map, slice_get}
+use Rattle.std.specs.Borrow.{Bor}
+use Rattle.cp_model.specs.Abstract.{Group, Name, System}
+use Rattle.cp_model.specs.Declarations.{Variable}
+use Rattle.cp_model.specs.Erase as erase
+use Rattle.cp_model.specs.Names.{lookup}
+use Rattle.cp_model.specs.Types.{GlobalScope}
+use Rattle.cp_model.specs.View as tree
+use Rattle.cp_model.specs.declared.tree.Fields.{Fields}
+use Rattle.cp_model.specs.declared.tree.Parameters.{Parameters}
+use Rattle.cp_model.specs.declared.tree.Routine as tree_routine
+use Rattle.cp_model.specs.declared.tree.System as tree_system
+use Rattle.cp_code.specs.Compile as code
+use Rattle.cp_code.specs.Compile.{owner_before, waiting_words}
+use Rattle.cp_code.specs.Layout.{component_words}
+use Rattle.cp_code.specs.Plans.{plan_of_component}
+use Rattle.cp_scope.specs.declared.systems.SystemTable.{SystemTable}
+use Rattle.cp_scope.specs.declared.tables.Tables.{Tables}
+use Rattle.cp_scope.specs.declared.types.Types.{Types}
+use Rattle.cp_scope.specs.Scopes.{IsWritten}
+use Rattle.cp_scope.specs.Standing.{system_at}
+use Rattle.cp_scope.specs.Systems.{SystemStands}
+use Rattle.cp_scope.specs.Texts.{AreSystems}
+use Rattle.cp_scope.specs.TypeNames.{AreTypeNames}
+use Rattle.cp_scope.specs.Variables.{AreDeclared, declared_entry}
+use Rattle.cp_threaded.specs.View.{plan_at}
+use Rattle.cp_threaded.specs.declared.program.Plan.{Plan}
+use Rattle.cp_compile.specs.declared.components.InitialCompiler.{InitialCompiler}
+use Rattle.cp_compile.specs.declared.components.Owner.{Owner}
+
+-- ---- Owners
+
+pub record OwnerIs (plans : List Plan) (g : GlobalScope) (o : Owner) (x : code.Owner) : Type 0 where
+  pub body : o.body ≡ x.body
+  pub words : o.words ≡ component_words g x.system
+  pub waiting : o.waiting ≡ waiting_words g x.system
+  pub plan : plan_at plans o.plan ≡ plan_of_component g x.system
+
+abbrev pub AreOwners : List Plan → GlobalScope → List Owner → List code.Owner → Type 0
+AreOwners plans g [] [] = Unit {0}
+AreOwners plans g (o ∷ os) (x ∷ xs) = OwnerIs plans g o x × AreOwners plans g os xs
+AreOwners plans g _ _ = ⊥
+
+-- It is a component of the system type of this table, if the plan of its number is that of the system type.
+abbrev pub IsOwner : SystemTable → ℕ → ℕ → Owner → Type 0
+IsOwner table body plan o =
+    (plans : List Plan) (g : GlobalScope) (types : Types) (s : System)
+    (ps : List Parameters) (vs : List Fields) (rs : List tree_routine.Routine)
+    → SystemStands g types table ps vs rs → IsWritten s ps vs rs → plan_at plans plan ≡ plan_of_component g s
+    → OwnerIs plans g o (record { system = s; body = body })
+
+-- The variable is this component.
+abbrev pub PutsOwner : List Plan → GlobalScope → List (Name × ℕ) → List Group → Name × Variable → Owner → Type 0
+PutsOwner plans g firsts groups v o =
+    (x : code.Owner) × ((rest : List code.Owner) → owner_before firsts groups v rest ≡ x ∷ rest) × OwnerIs plans g o x
+
+-- ---- The initial process
+
+abbrev pub PlansAre : GlobalScope → Tables → List Plan → Type 0
+PlansAre g tables plans =
+    (k : ℕ) (y : Bor tree_system.System) (t : SystemTable)
+    → system_at tables.types k ≡ Some y → slice_get tables.systems.items k ≡ Some t
+    → plan_at plans k ≡ plan_of_component g (erase.system (tree.system y.now))
+
+-- The tables stand for the text, whose initial process declares these variables.
+pub record IsInitial (of : InitialCompiler) (plans : List Plan) (g : GlobalScope) (firsts : List (Name × ℕ))
+    (groups : List Group) (vs : List (Name × Variable))
+    : Type 0 where
+  pub systems : AreSystems g of.tables.now.types of.tables.now.systems.items
+  pub declared : AreDeclared of.tables.now.types (map declared_entry of.tables.now.initial.variables.items) vs
+  pub type_names : AreTypeNames of.tables.now.initial.variable_types groups
+  pub firsts_are : (x : Name) → lookup x of.firsts.now ≡ lookup x firsts
+  pub planned : PlansAre g of.tables.now plans

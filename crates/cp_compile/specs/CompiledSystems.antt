@@ -1,0 +1,29 @@
+-- When the units of a system type are compiled with the right tables.
+use Rattle.std.specs.Prelude.{◌≡◌, ℕ, List}
+use Rattle.cp_model.specs.Abstract.{Name, System}
+use Rattle.cp_model.specs.Names.{lookup}
+use Rattle.cp_model.specs.Types.{GlobalScope}
+use Rattle.cp_model.specs.declared.tree.Fields.{Fields}
+use Rattle.cp_model.specs.declared.tree.Parameters.{Parameters}
+use Rattle.cp_model.specs.declared.tree.Routine as tree
+use Rattle.cp_emit.specs.Planning.{Knows}
+use Rattle.cp_scope.specs.Layouts.{AreLaid}
+use Rattle.cp_scope.specs.Scopes.{IsWritten}
+use Rattle.cp_scope.specs.Standing.{ScopeStands}
+use Rattle.cp_scope.specs.Systems.{SystemStands}
+use Rattle.cp_scope.specs.Texts.{AreSystems}
+use Rattle.cp_compile.specs.declared.system.SystemCompiler.{SystemCompiler}
+
+-- The tables stand for the text with this outermost scope, and for this system type.
+pub record IsSystem (of : SystemCompiler) (g : GlobalScope) (s : System) (firsts : List (Name × ℕ)) : Type 0 where
+  pub parameters : List Parameters
+  pub variables : List Fields
+  pub routines : List tree.Routine
+  pub written : IsWritten s parameters variables routines
+  pub names : ScopeStands of.tables.now.names of.tables.now.types g
+  pub laid : AreLaid g of.tables.now.types of.tables.now.layouts.rows.items
+  pub systems : AreSystems g of.tables.now.types of.tables.now.systems.items
+  pub system : SystemStands g of.tables.now.types of.system.now parameters variables routines
+  pub planned : of.planner.now.tables.now ≡ of.tables.now
+  pub knows : Knows of.planner.now g
+  pub firsts_are : (x : Name) → lookup x of.firsts.now ≡ lookup x firsts

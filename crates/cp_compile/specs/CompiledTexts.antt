@@ -1,0 +1,70 @@
+-- When the definitions of a text are compiled with the right tables, and what was compiled so far.
+use Rattle.std.specs.Prelude.{◌≡◌, ℕ, List, [], ◌∷◌, Option, None, Some}
+use Rattle.cp_model.specs.Abstract as a
+use Rattle.cp_model.specs.Abstract.{Definition, Name, System}
+use Rattle.cp_model.specs.Erase as erase
+use Rattle.cp_model.specs.Names.{lookup}
+use Rattle.cp_model.specs.Types.{ComponentOf, GlobalScope, Members}
+use Rattle.cp_model.specs.View as tree
+use Rattle.cp_code.specs.Compile.{CompiledTypes}
+use Rattle.cp_emit.specs.declared.emitter.Emitter.{Emitter}
+use Rattle.cp_emit.specs.Planning.{Knows}
+use Rattle.cp_scope.specs.Layouts.{AreLaid}
+use Rattle.cp_scope.specs.Numbering.{system_of}
+use Rattle.cp_scope.specs.Standing.{ScopeStands, row_at}
+use Rattle.cp_scope.specs.Systems.{SystemStands}
+use Rattle.cp_scope.specs.Texts.{AreSystems}
+use Rattle.cp_scope.specs.declared.tables.Tables.{Tables}
+use Rattle.cp_compile.specs.declared.definitions.SystemText.{SystemText}
+use Rattle.cp_compile.specs.declared.definitions.TextCompiler.{TextCompiler}
+use Rattle.cp_compile.specs.Compiles.{IsCompiled}
+
+-- The tables stand for the text with this outermost scope.
+pub record IsText (of : TextCompiler) (g : GlobalScope) : Type 0 where
+  pub names : ScopeStands of.tables.now.names of.tables.now.types g
+  pub laid : AreLaid g of.tables.now.types of.tables.now.layouts.rows.items
+  pub systems : AreSystems g of.tables.now.types of.tables.now.systems.items
+  pub planned : of.planner.now.tables.now ≡ of.tables.now
+  pub knows : Knows of.planner.now g
+
+-- The emitter and the first units are those of what was compiled so far.
+pub record TypesAre (emitter : Emitter) (firsts : List (Name × ℕ)) (m : CompiledTypes) : Type 0 where
+  pub compiled : IsCompiled emitter m.compiled
+  pub firsts_are : (x : Name) → lookup x firsts ≡ lookup x m.firsts
+
+-- ---- System types
+
+abbrev pub number_of : Tables → Option ℕ → Option ℕ
+number_of t None = None
+number_of t (Some of) = system_of (row_at t.types of)
+
+abbrev pub system_number : Tables → Name → Option ℕ
+system_number t x = number_of t (lookup x t.names.types)
+
+-- The text and the table of a system type.
+pub record IsSystemText (of : TextCompiler) (g : GlobalScope) (found : SystemText) (s : System) : Type 0 where
+  pub text : erase.system (tree.system found.text.now) ≡ s
+  pub table : SystemStands g of.tables.now.types found.table.now found.text.now.parameters.items
+      found.text.now.variables.items found.text.now.routines.items
+
+-- ---- Definitions
+
+-- The name of a system type means it in the scope of the whole text.
+abbrev pub IsNamed : GlobalScope → Definition → Type 0
+IsNamed g (a.SystemDef x s) = (ms : Members) × (lookup x g.types ≡ Some (ComponentOf s ms))
+IsNamed g d = Unit {0}
+
+abbrev pub AreNamed : GlobalScope → List Definition → Type 0
+AreNamed g [] = Unit {0}
+AreNamed g (d ∷ ds) = IsNamed g d × AreNamed g ds
+
+abbrev pub defined_name : Definition → Name
+defined_name (a.SystemDef x s) = x
+defined_name (a.TypeDef x t) = x
+defined_name (a.EnumDef x vs) = x
+defined_name (a.ConstantDef x c) = x
+
+-- A type's definition was compiled, and the first unit of the type is this.
+pub record IsDefined (emitter : Emitter) (first : ℕ) (d : Definition) (before after : CompiledTypes) : Type 0 where
+  pub compiled : IsCompiled emitter after.compiled
+  pub firsts : after.firsts ≡ (defined_name d, first) ∷ before.firsts

@@ -1,0 +1,17 @@
+-- When an emitter holds what the definition has compiled.
+use Rattle.std.specs.Prelude.{◌≡◌, List, map}
+use Rattle.cp_model.specs.Abstract as a
+use Rattle.cp_model.specs.Erase as erase
+use Rattle.cp_model.specs.View as tree
+use Rattle.cp_model.specs.declared.tree.Statement.{Statement}
+use Rattle.cp_code.specs.Compile.{Compiled}
+use Rattle.cp_emit.specs.declared.emitter.Emitter.{Emitter}
+use Rattle.cp_emit.specs.Emission.{operations_of, units_of}
+
+-- Its operations and units are these.
+pub record IsCompiled (emitter : Emitter) (c : Compiled) : Type 0 where
+  pub operations : operations_of emitter ≡ c.operations
+  pub units : units_of emitter ≡ c.units
+
+abbrev pub body_of : List Statement → a.Statement
+body_of list = erase.statements (tree.statements_of (map tree.statement list))

@@ -1,0 +1,158 @@
+//! The program of a text.
+
+ghost use Rattle.std.specs.Prelude.{◌≡◌, IfOk};
+ghost use Rattle.cp_model.specs.Declarations.{globals};
+ghost use Rattle.cp_model.specs.Rules.{Accepted};
+ghost use Rattle.cp_model.specs.Types.{GlobalScope};
+ghost use Rattle.cp_model.specs.View as syntax;
+ghost use Rattle.cp_model.specs.declared.tree.Tree as text;
+ghost use Rattle.cp_code.specs.Compile as code;
+ghost use Rattle.cp_scope.specs.Texts.{TablesStand};
+ghost use Rattle.cp_threaded.specs.View as view;
+ghost use Rattle.cp_compile.specs.CompiledPrograms.{ArePlansOf, ComponentsLie, IsCode, IsPlanner, text_of};
+
+use crate::components::{InitialCompiler, Owner};
+use crate::definitions::TextCompiler;
+use crate::layout::{lay_monitors, lay_processes};
+use crate::system::SystemCompiler;
+use cp_emit::Emitter;
+use cp_emit::plan::Planner;
+use cp_model::tree::{Sort, Tree};
+use cp_names::NameTable;
+use cp_scope::{CompileError, Tables, small_number};
+use cp_threaded::program::{Monitor, Plan, Process, Program};
+use std::alloc::Global;
+
+/// The code of a text: its operations and units, the first unit of each type, by its name, and that of the initial process.
+#[derive(Drop)]
+struct Code<'t> {
+    emitter: Emitter,
+    firsts: NameTable<'t, u32>,
+    first: u32,
+}
+
+/// The plans of components: of the system types by their numbers, and of the initial process.
+#[derive(Drop)]
+struct Plans {
+    all: Vec<Plan>,
+    initial: u32,
+}
+
+/// Monitors and processes, and how many words the monitors and what is passed to processes take.
+#[derive(Drop)]
+struct Components {
+    monitors: Vec<Monitor>,
+    processes: Vec<Process>,
+    shared: u32,
+}
+
+// Compiles the system types of a text, and then the initial process.
+fn compile_code<'t>(
+    alloc: Global,
+    tree: &'t Tree,
+    tables: &Tables<'t>,
+    planner: &Planner<'_, 't>,
+) -> Result<Code<'t>, CompileError>
+    ensures { IfOk result (λ code. Accepted (syntax.tree tree.now)
+        → TablesStand (globals (text_of tree.now)) tables.now tree.now
+        → IsPlanner tables.now planner.now (globals (text_of tree.now))
+        → IsCode code (text_of tree.now)) }
+{
+    let mut firsts = NameTable::new(alloc);
+    let mut emitter = Emitter::new(alloc);
+    TextCompiler { tables, planner }.sections(&tree.sections, &mut firsts, &mut emitter)?;
+    let first = emitter.units()?;
+    let initial = SystemCompiler {
+        tables,
+        planner,
+        firsts: &firsts,
+        system: &tables.initial,
+        first,
+    };
+    initial.compile(
+        Sort::Process,
+        &tree.routines,
+        &tree.body.statements,
+        &mut emitter,
+    )?;
+    Ok(Code {
+        emitter,
+        firsts,
+        first,
+    })
+}
+
+// Makes the plans of components.
+fn make_plans<'t>(tables: &Tables<'t>, planner: &Planner<'_, 't>) -> Result<Plans, CompileError>
+    ensures { IfOk result (λ plans. (g : GlobalScope) (t : text.Tree)
+        → TablesStand g tables.now t → IsPlanner tables.now planner.now g
+        → ArePlansOf g tables.now t plans) }
+{
+    let mut all = planner.components()?;
+    let initial = small_number(all.len())?;
+    let starts = planner.component(&tables.initial.parameters, &tables.initial.variables)?;
+    all.push(Plan { starts })?;
+    Ok(Plans { all, initial })
+}
+
+// Lays out the monitors and processes of a text.
+fn lay_components<'t>(
+    alloc: Global,
+    tree: &'t Tree,
+    tables: &Tables<'t>,
+    code: &Code<'t>,
+    plans: &Plans,
+) -> Result<Components, CompileError>
+    ensures { IfOk result (λ components.
+        TablesStand (globals (text_of tree.now)) tables.now tree.now
+        → IsCode code.now (text_of tree.now)
+        → ArePlansOf (globals (text_of tree.now)) tables.now tree.now plans.now
+        → ComponentsLie plans.now.all.items components (text_of tree.now)) }
+{
+    let compiler = InitialCompiler {
+        tables,
+        firsts: &code.firsts,
+    };
+    let mut monitors = Vec::new(alloc);
+    compiler.add_owners(Sort::Monitor, &mut monitors)?;
+    let routines = small_number(tree.routines.len())?;
+    let body = code
+        .first
+        .checked_add(routines)
+        .ok_or(CompileError::Unaccepted)?;
+    let mut processes = Vec::new(alloc);
+    processes.push(Owner::of(&tables.initial, body, plans.initial)?)?;
+    compiler.add_owners(Sort::Process, &mut processes)?;
+    let monitors = lay_monitors(alloc, &monitors)?;
+    let processes = lay_processes(alloc, &processes, monitors.words)?;
+    Ok(Components {
+        monitors: monitors.monitors,
+        processes: processes.processes,
+        shared: processes.end,
+    })
+}
+
+/// The program of a text: of an accepted one that which the definition makes, which stands for it.
+///
+/// # Errors
+///
+/// `Memory` where memory runs out, and `Unaccepted` where a number or a name is beyond those of any accepted text.
+pub fn compile(alloc: Global, tree: &Tree) -> Result<Program, CompileError>
+    ensures { IfOk result (λ program. Accepted (syntax.tree tree.now)
+        → view.program program ≡ code.compile (text_of tree.now)) }
+{
+    let tables = Tables::of_tree(alloc, tree)?;
+    let planner = Planner::new(alloc, &tables)?;
+    let code = compile_code(alloc, tree, &tables, &planner)?;
+    let plans = make_plans(&tables, &planner)?;
+    let components = lay_components(alloc, tree, &tables, &code, &plans)?;
+    let (operations, units) = code.emitter.into_parts();
+    Ok(Program::new(
+        operations,
+        units,
+        components.monitors,
+        components.processes,
+        plans.all,
+        components.shared,
+    ))
+}

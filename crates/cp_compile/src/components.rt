@@ -1,0 +1,110 @@
+//! Monitors and processes, and where their words lie.
+
+ghost use Rattle.std.specs.Prelude.{◌≡◌, ◌++◌, ◌∷◌, [], List, Some, ℕ, IfOk, OnOk};
+ghost use Rattle.cp_model.specs.Abstract.{Group, Name};
+ghost use Rattle.cp_model.specs.Declarations.{Variable};
+ghost use Rattle.cp_model.specs.Erase as erase;
+ghost use Rattle.cp_model.specs.Types.{GlobalScope};
+ghost use Rattle.cp_code.specs.Compile as code;
+ghost use Rattle.cp_code.specs.Compile.{of_sort, owners_of};
+ghost use Rattle.cp_scope.specs.Numbering.{system_of};
+ghost use Rattle.cp_scope.specs.Standing.{Stands, row_at};
+ghost use Rattle.cp_threaded.specs.declared.program.Plan.{Plan};
+ghost use Rattle.cp_compile.specs.CompiledComponents.{AreOwners, IsInitial, IsOwner, PutsOwner};
+
+use cp_model::tree::Sort;
+use cp_names::NameTable;
+use cp_scope::{CompileError, Declared, SystemTable, Tables, small_number};
+
+/// A monitor or a process: the unit of its body, its words, those of what is passed to it, and the number of its plan.
+#[derive(Clone, Copy)]
+pub struct Owner {
+    pub body: u32,
+    pub words: u32,
+    pub waiting: u32,
+    pub plan: u32,
+}
+
+/// What the components of a text are made from: its tables, and the first unit of each type, by its name.
+#[derive(Clone, Copy)]
+pub struct InitialCompiler<'s, 't> {
+    pub tables: &'s Tables<'t>,
+    pub firsts: &'s NameTable<'t, u32>,
+}
+
+impl Owner {
+    /// A component of a system type, with the unit of its body and the number of its plan.
+    pub fn of(table: &SystemTable, body: u32, plan: u32) -> Result<Owner, CompileError>
+        ensures { IfOk result (IsOwner table.now body plan) }
+    {
+        let waiting = small_number(table.parameters.len())?;
+        Ok(Owner {
+            body,
+            words: table.members.words.ok_or(CompileError::Unaccepted)?,
+            waiting: waiting.checked_add(1).ok_or(CompileError::Unaccepted)?,
+            plan,
+        })
+    }
+}
+
+impl<'s, 't> InitialCompiler<'s, 't> {
+    // The component that a variable is, of the system type of this number.
+    fn component(&self, d: &Declared<'t>, number: usize) -> Result<Owner, CompileError>
+        ensures { IfOk result (λ o. (plans : List Plan) (g : GlobalScope)
+            (firsts : List (Name × ℕ)) (groups : List Group) (vs : List (Name × Variable))
+            (v : Variable) → IsInitial self.now plans g firsts groups vs
+            → Stands self.now.tables.now.types d.now.of v.type
+            → system_of (row_at self.now.tables.now.types d.now.of) ≡ Some number
+            → PutsOwner plans g firsts groups (d.now.name.now, v) o) }
+    {
+        let text = self
+            .tables
+            .types
+            .system(number)
+            .ok_or(CompileError::Unaccepted)?;
+        let table = self.tables.system(number).ok_or(CompileError::Unaccepted)?;
+        let of = self.tables.initial.variable_type(d.name);
+        let first = self.firsts.find(of).unwrap_or(0);
+        let routines = small_number(text.routines.len())?;
+        let body = first.checked_add(routines).ok_or(CompileError::Unaccepted)?;
+        Owner::of(table, body, small_number(number)?)
+    }
+
+    // Adds the component that a variable is, if it is one of this sort.
+    fn add_owner(
+        &self,
+        sort: Sort,
+        d: &Declared<'t>,
+        owners: &mut Vec<Owner>,
+    ) -> Result<(), CompileError>
+        ensures { OnOk result ((plans : List Plan) (g : GlobalScope)
+            (firsts : List (Name × ℕ)) (groups : List Group) (vs : List (Name × Variable))
+            (v : Variable) (before : List code.Owner) → IsInitial self.now plans g firsts groups vs
+            → Stands self.now.tables.now.types d.now.of v.type
+            → AreOwners plans g owners.old.items before → AreOwners plans g owners.new.items
+            (before ++ owners_of firsts groups
+            (of_sort (erase.sort_of sort) ((d.now.name.now, v) ∷ [])))) }
+    {
+        let types = &self.tables.types;
+        if !types.is_component_of(sort, d.of) {
+            return Ok(());
+        }
+        let number = types.system_of(d.of).ok_or(CompileError::Unaccepted)?;
+        owners.push(self.component(d, number)?)?;
+        Ok(())
+    }
+
+    /// Adds the components of a sort that the initial process declares.
+    pub fn add_owners(&self, sort: Sort, owners: &mut Vec<Owner>) -> Result<(), CompileError>
+        ensures { OnOk result ((plans : List Plan) (g : GlobalScope)
+            (firsts : List (Name × ℕ)) (groups : List Group) (vs : List (Name × Variable))
+            (before : List code.Owner) → IsInitial self.now plans g firsts groups vs
+            → AreOwners plans g owners.old.items before → AreOwners plans g owners.new.items
+            (before ++ owners_of firsts groups (of_sort (erase.sort_of sort) vs))) }
+    {
+        for d in &self.tables.initial.variables {
+            self.add_owner(sort, d, owners)?;
+        }
+        Ok(())
+    }
+}

@@ -1,0 +1,192 @@
+//! The system types of a text in text order, and the first unit of each named type.
+
+ghost use Rattle.std.specs.Prelude.{◌≡◌, IfOk, OnOk, Some, length, map};
+ghost use Rattle.cp_model.specs.Abstract as a;
+ghost use Rattle.cp_model.specs.Erase as erase;
+ghost use Rattle.cp_model.specs.Types.{ComponentOf, GlobalScope, Members};
+ghost use Rattle.cp_model.specs.Names.{lookup};
+ghost use Rattle.cp_model.specs.View as tree;
+ghost use Rattle.cp_code.specs.Compile.{CompiledTypes, first_of_type, with_definition, with_definitions, with_system};
+ghost use Rattle.cp_compile.specs.CompiledTexts.{AreNamed, IsDefined, IsNamed, IsSystemText, IsText, TypesAre, system_number};
+ghost use Rattle.cp_compile.specs.Compiles.{IsCompiled};
+
+use crate::system::SystemCompiler;
+use cp_emit::Emitter;
+use cp_emit::plan::Planner;
+use cp_model::tree::{Defined, Section, System, TypeDefinition, TypeExpression};
+use cp_names::NameTable;
+use cp_scope::{CompileError, SystemTable, Tables, add_name};
+
+/// What the definitions of a text are compiled with.
+#[derive(Clone, Copy)]
+pub struct TextCompiler<'s, 't> {
+    pub tables: &'s Tables<'t>,
+    pub planner: &'s Planner<'s, 't>,
+}
+
+// A system type, and its table.
+#[derive(Clone, Copy)]
+struct SystemText<'s, 't> {
+    text: &'t System,
+    table: &'s SystemTable<'t>,
+}
+
+// The first unit of a type that is written: of a name, that of the type it names.
+fn first_of_written(t: &TypeExpression, firsts: &NameTable<u32>) -> Result<u32, CompileError>
+    ensures { IfOk result (λ n.
+        n ≡ first_of_type firsts.now (erase.type_expression (tree.type_expression t.now))) }
+{
+    match t {
+        TypeExpression::Named(x) => Ok(firsts.find(x.name.as_bytes()).unwrap_or(0)),
+        TypeExpression::Array { indices, .. } => match indices.as_slice() {
+            [] => Err(CompileError::Unaccepted),
+            [_, ..] => Ok(0),
+        },
+        TypeExpression::Subrange(_, _) => Ok(0),
+        TypeExpression::Record { .. } => Ok(0),
+    }
+}
+
+impl<'s, 't> TextCompiler<'s, 't> {
+    // The number of the system type that a name is defined as.
+    fn number(&self, name: &[u8]) -> Option<usize>
+        ensures { result ≡ system_number self.now.tables.now name.now }
+    {
+        let of = self.tables.names.types.find(name)?;
+        self.tables.types.system_of(of)
+    }
+
+    // The system type that a name is defined as.
+    fn system_text(&self, name: &[u8]) -> Result<SystemText<'s, 't>, CompileError>
+        ensures { IfOk result (λ found. (g : GlobalScope) (s : a.System) (ms : Members)
+            → IsText self.now g → lookup name.now g.types ≡ Some (ComponentOf s ms)
+            → IsSystemText self.now g found s) }
+    {
+        let number = self.number(name).ok_or(CompileError::Unaccepted)?;
+        let text = self
+            .tables
+            .types
+            .system(number)
+            .ok_or(CompileError::Unaccepted)?;
+        let table = self.tables.system(number).ok_or(CompileError::Unaccepted)?;
+        Ok(SystemText { text, table })
+    }
+
+    // Compiles the system type that a name is defined as, and answers its first unit.
+    fn system(
+        &self,
+        name: &[u8],
+        firsts: &NameTable<'t, u32>,
+        emitter: &mut Emitter,
+    ) -> Result<u32, CompileError>
+        ensures { IfOk result (λ first. (g : GlobalScope) (m : CompiledTypes) (s : a.System)
+            (ms : Members) → IsText self.now g → lookup name.now g.types ≡ Some (ComponentOf s ms)
+            → TypesAre emitter.old firsts.now m
+            → IsCompiled emitter.new (with_system g m.firsts s m.compiled)
+            × (first ≡ length m.compiled.units)) }
+    {
+        let found = self.system_text(name)?;
+        let first = emitter.units()?;
+        let compiler = SystemCompiler {
+            tables: self.tables,
+            planner: self.planner,
+            firsts,
+            system: found.table,
+            first,
+        };
+        let text = found.text;
+        compiler.compile(text.sort, &text.routines, &text.body.statements, emitter)?;
+        Ok(first)
+    }
+
+    // The first unit of a type that is defined.
+    fn first_of(
+        &self,
+        d: &TypeDefinition,
+        firsts: &NameTable<'t, u32>,
+        emitter: &mut Emitter,
+    ) -> Result<u32, CompileError>
+        ensures { IfOk result (λ first. (g : GlobalScope) (m : CompiledTypes) → IsText self.now g
+            → IsNamed g (erase.type_definition (tree.type_definition d.now))
+            → TypesAre emitter.old firsts.now m → IsDefined emitter.new first
+            (erase.type_definition (tree.type_definition d.now)) m
+            (with_definition g (erase.type_definition (tree.type_definition d.now)) m)) }
+    {
+        match &d.defined {
+            Defined::Written(t) => first_of_written(t, firsts),
+            Defined::Enumeration(_) => Ok(0),
+            Defined::System(_) => self.system(d.name.name.as_bytes(), firsts, emitter),
+        }
+    }
+
+    // Compiles a type's definition.
+    fn definition(
+        &self,
+        d: &'t TypeDefinition,
+        firsts: &mut NameTable<'t, u32>,
+        emitter: &mut Emitter,
+    ) -> Result<(), CompileError>
+        ensures { OnOk result ((g : GlobalScope) (m : CompiledTypes) → IsText self.now g
+            → IsNamed g (erase.type_definition (tree.type_definition d.now))
+            → TypesAre emitter.old firsts.old m → TypesAre emitter.new firsts.new
+            (with_definition g (erase.type_definition (tree.type_definition d.now)) m)) }
+    {
+        let first = self.first_of(d, firsts, emitter)?;
+        add_name(firsts, d.name.name.as_bytes(), first)?;
+        Ok(())
+    }
+
+    // Compiles the types of a section.
+    fn types(
+        &self,
+        list: &'t [TypeDefinition],
+        firsts: &mut NameTable<'t, u32>,
+        emitter: &mut Emitter,
+    ) -> Result<(), CompileError>
+        ensures { OnOk result ((g : GlobalScope) (m : CompiledTypes) → IsText self.now g
+            → AreNamed g (map erase.type_definition (map tree.type_definition list.now))
+            → TypesAre emitter.old firsts.old m → TypesAre emitter.new firsts.new
+            (with_definitions g
+            (map erase.type_definition (map tree.type_definition list.now)) m)) }
+    {
+        for d in list {
+            self.definition(d, firsts, emitter)?;
+        }
+        Ok(())
+    }
+
+    fn section(
+        &self,
+        section: &'t Section,
+        firsts: &mut NameTable<'t, u32>,
+        emitter: &mut Emitter,
+    ) -> Result<(), CompileError>
+        ensures { OnOk result ((g : GlobalScope) (m : CompiledTypes) → IsText self.now g
+            → AreNamed g (erase.section (tree.section_of section.now))
+            → TypesAre emitter.old firsts.old m → TypesAre emitter.new firsts.new
+            (with_definitions g (erase.section (tree.section_of section.now)) m)) }
+    {
+        match section {
+            Section::Constants(_) => Ok(()),
+            Section::Types(list) => self.types(list, firsts, emitter),
+        }
+    }
+
+    /// Compiles the system types of a text in text order.
+    pub fn sections(
+        &self,
+        sections: &'t [Section],
+        firsts: &mut NameTable<'t, u32>,
+        emitter: &mut Emitter,
+    ) -> Result<(), CompileError>
+        ensures { OnOk result ((g : GlobalScope) (m : CompiledTypes) → IsText self.now g
+            → AreNamed g (erase.sections (map tree.section_of sections.now))
+            → TypesAre emitter.old firsts.old m → TypesAre emitter.new firsts.new
+            (with_definitions g (erase.sections (map tree.section_of sections.now)) m)) }
+    {
+        for section in sections {
+            self.section(section, firsts, emitter)?;
+        }
+        Ok(())
+    }
+}

@@ -1,0 +1,75 @@
+//! Where the words of monitors lie, and behind them what is passed to processes.
+
+ghost use Rattle.std.specs.Prelude.{List, IfOk};
+ghost use Rattle.cp_model.specs.Types.{GlobalScope};
+ghost use Rattle.cp_code.specs.Compile as code;
+ghost use Rattle.cp_threaded.specs.declared.program.Plan.{Plan};
+ghost use Rattle.cp_compile.specs.CompiledComponents.{AreOwners};
+ghost use Rattle.cp_compile.specs.LaidComponents.{MonitorsLie, ProcessesLie};
+
+use crate::components::Owner;
+use cp_scope::CompileError;
+use cp_threaded::program::{Monitor, Process};
+use std::alloc::Global;
+
+/// Monitors that lie one behind the other, and the words that they take.
+#[derive(Drop)]
+pub struct MonitorLayout {
+    pub monitors: Vec<Monitor>,
+    pub words: u32,
+}
+
+/// Processes with what is passed to them, one behind the other, and the word behind all.
+#[derive(Drop)]
+pub struct ProcessLayout {
+    pub processes: Vec<Process>,
+    pub end: u32,
+}
+
+/// Lays monitors out, from the first word on.
+pub fn lay_monitors(alloc: Global, owners: &[Owner]) -> Result<MonitorLayout, CompileError>
+    ensures { IfOk result (λ m. (plans : List Plan) (g : GlobalScope) (xs : List code.Owner)
+        → AreOwners plans g owners.now xs → MonitorsLie plans g m xs) }
+{
+    let mut monitors = Vec::with_capacity(alloc, owners.len())?;
+    let mut at: u32 = 0;
+    for owner in owners {
+        monitors.push(Monitor {
+            start: at,
+            body: owner.body,
+            words: owner.words,
+            plan: owner.plan,
+        })?;
+        at = at.checked_add(owner.words).ok_or(CompileError::Unaccepted)?;
+    }
+    Ok(MonitorLayout {
+        monitors,
+        words: at,
+    })
+}
+
+/// Lays out what is passed to processes, from a word on.
+pub fn lay_processes(
+    alloc: Global,
+    owners: &[Owner],
+    start: u32,
+) -> Result<ProcessLayout, CompileError>
+    ensures { IfOk result (λ p. (plans : List Plan) (g : GlobalScope) (xs : List code.Owner)
+        → AreOwners plans g owners.now xs → ProcessesLie plans g start p xs) }
+{
+    let mut processes = Vec::with_capacity(alloc, owners.len())?;
+    let mut at = start;
+    for owner in owners {
+        processes.push(Process {
+            body: owner.body,
+            words: owner.words,
+            parameters: at,
+            waiting: owner.waiting,
+            plan: owner.plan,
+        })?;
+        at = at
+            .checked_add(owner.waiting)
+            .ok_or(CompileError::Unaccepted)?;
+    }
+    Ok(ProcessLayout { processes, end: at })
+}

@@ -1,0 +1,132 @@
+//! The units of a system type: its routines in text order, and then its body.
+
+ghost use Rattle.std.specs.Prelude.{◌≡◌, List, ℕ, OnOk, length};
+ghost use Rattle.cp_model.specs.Abstract.{Name, Routine, System};
+ghost use Rattle.cp_model.specs.Erase as erase;
+ghost use Rattle.cp_model.specs.Types.{GlobalScope};
+ghost use Rattle.cp_model.specs.View as tree;
+ghost use Rattle.cp_code.specs.Compile.{Compiled, with_body, with_routine, with_routines, with_system};
+ghost use Rattle.cp_code.specs.StandsFor.{end_of};
+ghost use Rattle.cp_scope.specs.Routines.{RoutineStands};
+ghost use Rattle.cp_scope.specs.Systems.{routines_of};
+ghost use Rattle.cp_threaded.specs.View as view;
+ghost use Rattle.cp_compile.specs.Compiles.{IsCompiled, body_of};
+ghost use Rattle.cp_compile.specs.CompiledSystems.{IsSystem};
+
+use crate::unit::compile_unit;
+use cp_emit::Emitter;
+use cp_emit::plan::Planner;
+use cp_model::tree::{Routine, Sort, Statement};
+use cp_names::NameTable;
+use cp_scope::{CompileError, RoutineTable, Scope, SystemTable, Tables};
+use cp_threaded::operation::Operation;
+
+/// What the units of a system type are compiled with: the tables of the text, plans, the first unit of each type that was defined
+/// before, by its name, the table of the system type, and its own first unit.
+#[derive(Clone, Copy)]
+pub struct SystemCompiler<'s, 't> {
+    pub tables: &'s Tables<'t>,
+    pub planner: &'s Planner<'s, 't>,
+    pub firsts: &'s NameTable<'t, u32>,
+    pub system: &'s SystemTable<'t>,
+    pub first: u32,
+}
+
+// The operation with which a body ends.
+fn end_of(sort: Sort) -> Operation
+    ensures { view.operation result ≡ end_of (erase.sort_of sort) }
+{
+    match sort {
+        Sort::Process => Operation::End,
+        _ => Operation::EndBody,
+    }
+}
+
+impl<'s, 't> SystemCompiler<'s, 't> {
+    // Compiles a routine.
+    fn routine(
+        &self,
+        table: &RoutineTable<'t>,
+        text: &Routine,
+        emitter: &mut Emitter,
+    ) -> Result<(), CompileError>
+        ensures { OnOk result ((g : GlobalScope) (s : System) (firsts : List (Name × ℕ))
+            (c : Compiled) → IsSystem self.now g s firsts
+            → RoutineStands g self.now.tables.now.types table.now
+            (erase.routine (tree.routine text.now)) → IsCompiled emitter.old c
+            → IsCompiled emitter.new (with_routine g s firsts self.now.first
+            (erase.routine (tree.routine text.now)) c)) }
+    {
+        let is_function = text.result_type.is_some();
+        let scope = Scope::new(
+            self.tables,
+            self.system,
+            Some(table),
+            self.firsts,
+            self.first,
+        );
+        let starts = self
+            .planner
+            .routine(is_function, &table.parameters, &table.variables)?;
+        let last = Operation::Return {
+            function: is_function,
+        };
+        compile_unit(
+            self.planner.alloc(),
+            &scope,
+            starts,
+            last,
+            &text.body.statements,
+            emitter,
+        )
+    }
+
+    // Compiles routines.
+    fn routines(&self, texts: &[Routine], emitter: &mut Emitter) -> Result<(), CompileError>
+        ensures { OnOk result ((g : GlobalScope) (s : System) (firsts : List (Name × ℕ))
+            (c : Compiled) → IsSystem self.now g s firsts → s.routines ≡ routines_of texts.now
+            → IsCompiled emitter.old c → IsCompiled emitter.new
+            (with_routines g s firsts self.now.first (routines_of texts.now) c)) }
+    {
+        for i in 0..texts.len() {
+            let table = self.system.routine_at(i).ok_or(CompileError::Unaccepted)?;
+            self.routine(table, &texts[i], emitter)?;
+        }
+        Ok(())
+    }
+
+    // Compiles the body.
+    fn body(
+        &self,
+        sort: Sort,
+        body: &[Statement],
+        emitter: &mut Emitter,
+    ) -> Result<(), CompileError>
+        ensures { OnOk result ((g : GlobalScope) (s : System) (firsts : List (Name × ℕ))
+            (c : Compiled) → IsSystem self.now g s firsts → s.sort ≡ erase.sort_of sort
+            → s.body ≡ body_of body.now → IsCompiled emitter.old c → IsCompiled emitter.new
+            (with_body g s firsts self.now.first c)) }
+    {
+        let scope = Scope::new(self.tables, self.system, None, self.firsts, self.first);
+        let alloc = self.planner.alloc();
+        compile_unit(alloc, &scope, Vec::new(alloc), end_of(sort), body, emitter)
+    }
+
+    /// Compiles the routines and the body of the system type.
+    pub fn compile(
+        &self,
+        sort: Sort,
+        routines: &[Routine],
+        body: &[Statement],
+        emitter: &mut Emitter,
+    ) -> Result<(), CompileError>
+        ensures { OnOk result ((g : GlobalScope) (s : System) (firsts : List (Name × ℕ))
+            (c : Compiled) → IsSystem self.now g s firsts → self.now.first ≡ length c.units
+            → s.sort ≡ erase.sort_of sort → s.routines ≡ routines_of routines.now
+            → s.body ≡ body_of body.now → IsCompiled emitter.old c
+            → IsCompiled emitter.new (with_system g firsts s c)) }
+    {
+        self.routines(routines, emitter)?;
+        self.body(sort, body, emitter)
+    }
+}

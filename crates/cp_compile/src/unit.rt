@@ -1,0 +1,40 @@
+//! Units: the code of a routine, or of the body of a system type.
+
+ghost use Rattle.std.specs.Prelude.{OnOk, map};
+ghost use Rattle.cp_code.specs.Compile.{Compiled, with_unit};
+ghost use Rattle.cp_code.specs.Scopes as code;
+ghost use Rattle.cp_scope.specs.Scopes.{IsScope};
+ghost use Rattle.cp_threaded.specs.View as view;
+ghost use Rattle.cp_compile.specs.Compiles.{IsCompiled, body_of};
+
+use cp_emit::Emitter;
+use cp_model::tree::Statement;
+use cp_scope::{CompileError, Scope};
+use cp_threaded::operation::Operation;
+use cp_threaded::program::Start;
+use cp_translate::Translator;
+use std::alloc::Global;
+
+/// Compiles a unit of these statements, which ends with an operation and whose words start by this plan.
+pub fn compile_unit(
+    alloc: Global,
+    scope: &Scope,
+    starts: Vec<Start>,
+    last: Operation,
+    body: &[Statement],
+    emitter: &mut Emitter,
+) -> Result<(), CompileError>
+    ensures { OnOk result ((s : code.Scope) (c : Compiled) → IsScope scope.now s
+        → IsCompiled emitter.old c → IsCompiled emitter.new (with_unit s
+        (map view.start starts.items) (view.operation last) (body_of body.now) c)) }
+{
+    emitter.begin(scope.words()?);
+    let at = emitter.push(last)?;
+    let translator = Translator {
+        scope: *scope,
+        alloc,
+    };
+    let entry = translator.statements(body, 0, at, emitter)?;
+    emitter.end(entry, starts)?;
+    Ok(())
+}

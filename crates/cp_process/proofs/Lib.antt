@@ -1,0 +1,9 @@
+pub mod Unshared
+pub mod Blocks
+pub mod Calling
+pub mod Digits
+pub mod InUse
+pub mod Kept
+pub mod Lasting
+pub mod Results
+pub mod Returning

@@ -1,0 +1,12 @@
+use Rattle.std.proofs.Common.{◌≡◌, ◌-◌, ◌<◌, ◌^◌, ◌++◌, length}
+use Rattle.cp_code.specs.Starts.{repeated}
+use Rattle.cp_process.proofs.words.repeat.Given as goal
+
+-- What is left leads to the words of all.
+abbrev pub invariant-loop-i : goal.invariant-loop-i
+invariant-loop-i l = record {
+  small : l.from < 2 ^ 34;
+  words : repeated l.from l.size (l.count - l._i) (l.own ++ l.shared) ≡ repeated l.fn.at l.fn.size l.fn.count (l.fn.own ++ l.fn.shared);
+  own : length l.own ≡ length l.fn.own;
+  shared : length l.shared ≡ length l.fn.shared;
+}

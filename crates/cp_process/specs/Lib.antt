@@ -1,0 +1,5 @@
+pub mod States
+pub mod Rooms
+pub mod Calls
+pub mod Kinds
+pub mod Promises

@@ -1,0 +1,29 @@
+-- What private steps and turns promise, for each state of which a private state is the part.
+use Rattle.std.specs.Prelude.{◌≡◌, ℕ, List}
+use Rattle.cp_model.specs.Invariant.{Invariant}
+use Rattle.cp_model.specs.Operators.{realtime}
+use Rattle.cp_model.specs.States.{Setup, State, running_clock}
+use Rattle.cp_model.specs.Turns as meaning
+use Rattle.cp_code.specs.StandsFor.{StandsFor}
+use Rattle.cp_steps.specs.Laws.{ground_of}
+use Rattle.cp_steps.specs.PartOf.{PartOf}
+use Rattle.cp_threaded.specs.declared.program.Program.{Program}
+use Rattle.cp_threaded.specs.View as view
+use Rattle.cp_process.specs.States.{private_of}
+use Rattle.cp_process.specs.declared.private.Private.{Private}
+
+-- y is the part of the process after its private step, whatever the state of which x is the part.
+abbrev pub MakesStep : Program → Private → Private → List ℕ → ℕ → Type 0
+MakesStep program x y input clock =
+    (setup : Setup) (F : StandsFor (view.program program) setup) (p own : ℕ) (s : State) (before : List ℕ)
+    → let G = ground_of (view.program program) setup F p own in
+    Invariant s → clock ≡ realtime (running_clock setup s) → PartOf G s before (private_of x input)
+    → PartOf G (meaning.private_step setup s p) before (private_of y input)
+
+-- The same of a turn.
+abbrev pub MakesTurn : Program → ℕ → Private → Private → List ℕ → ℕ → Type 0
+MakesTurn program n x y input clock =
+    (setup : Setup) (F : StandsFor (view.program program) setup) (p own : ℕ) (s : State) (before : List ℕ)
+    → let G = ground_of (view.program program) setup F p own in
+    Invariant s → clock ≡ realtime (running_clock setup s) → PartOf G s before (private_of x input)
+    → PartOf G (meaning.private_turn setup n s p) before (private_of y input)

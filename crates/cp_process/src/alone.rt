@@ -1,0 +1,21 @@
+//! What a private step reads beside: nothing of the kernel.
+
+ghost use Rattle.std.specs.Prelude.{◌≡◌};
+ghost use Rattle.cp_process.specs.States.{IsAlone};
+
+use crate::outside::Outside;
+
+impl<'a> Outside<'a> {
+    pub(crate) fn alone(input: &'a [u8], clock: u64) -> Outside<'a>
+        ensures alone { IsAlone result }
+        ensures input { result.input.now ≡ input.now }
+        ensures clock { result.clock ≡ clock }
+    {
+        Outside {
+            clock,
+            input,
+            gates: &[],
+            stages: &[],
+        }
+    }
+}

@@ -1,0 +1,202 @@
+//! Assignments, and what chooses the operation that comes next.
+
+ghost use Rattle.std.specs.Prelude.{◌≡◌, ◌<◌, ◌^◌, ℕ, pos, List, if◌then◌else◌, length};
+ghost use Rattle.cp_code.specs.Tables.{place_in};
+ghost use Rattle.cp_model.specs.Integers.{same_integer};
+ghost use Rattle.cp_model.specs.Places.{within};
+ghost use Rattle.cp_steps.specs.Steps as plain;
+ghost use Rattle.cp_steps.specs.PrivateStates.{go_to, private_outcome};
+ghost use Rattle.cp_process.specs.States.{IsStep, joined, outcome};
+ghost use Rattle.cp_threaded.specs.Reaches.{capped};
+ghost use Rattle.cp_threaded.specs.View as view;
+
+use crate::effect::Effect;
+use crate::outside::Outside;
+use crate::private::Private;
+use cp_model::state::Fault;
+use cp_threaded::operation::Table;
+use cp_threaded::term::{Spot, Term};
+
+/// The bounds of what may be assigned.
+#[derive(Clone, Copy)]
+pub(crate) struct Bounds {
+    pub(crate) low: i32,
+    pub(crate) high: i32,
+}
+
+impl Bounds {
+    #[inline(always)]
+    pub(crate) fn new(low: i32, high: i32) -> Bounds
+        ensures low { result.low ≡ low }
+        ensures high { result.high ≡ high }
+    {
+        Bounds { low, high }
+    }
+
+    #[inline(always)]
+    pub(crate) fn contain(self, n: i32) -> bool
+        ensures { result ≡ within self.low self.high n }
+    {
+        self.low <= n && n <= self.high
+    }
+}
+
+impl Private {
+    // The place may be told as the greatest number.
+    #[inline(always)]
+    fn set_within(
+        &mut self,
+        shared: &mut [i32],
+        at: usize,
+        n: i32,
+        bounds: Bounds,
+        next: u32,
+    ) -> Result<Effect, Fault>
+        requires { length shared.old < 2 ^ 30 }
+        ensures step { (input : List ℕ) (place : ℕ) → capped place ≡ at
+            → outcome (joined self.new input shared.new) result ≡ plain.set_within
+            (joined self.old input shared.old) bounds.low bounds.high place n next }
+        ensures output { self.new.output ≡ self.old.output }
+        ensures own { length self.new.memory.words.items ≡ length self.old.memory.words.items }
+        ensures shared { length shared.new ≡ length shared.old }
+    {
+        if !bounds.contain(n) {
+            return Err(Fault::Range);
+        }
+        self.set_word(shared, at, n);
+        self.place = next;
+        Ok(Effect::None)
+    }
+
+    #[inline(always)]
+    pub(crate) fn set(
+        &mut self,
+        shared: &mut [i32],
+        outside: &Outside,
+        to: &Spot,
+        value: &Term,
+        bounds: Bounds,
+        next: u32,
+    ) -> Result<Effect, Fault>
+        requires { length shared.old < 2 ^ 30 }
+        ensures step { IsStep self.old shared.old outside.now self.new shared.new result
+            (λ w o. plain.with_place w o (view.spot to.now) (λ at. plain.with_value w o
+            (view.term value.now) (λ n. plain.set_within o bounds.low bounds.high at n
+            next))) }
+        ensures output { self.new.output ≡ self.old.output }
+        ensures own { length self.new.memory.words.items ≡ length self.old.memory.words.items }
+        ensures shared { length shared.new ≡ length shared.old }
+    {
+        let reach = self.reach(shared, outside);
+        let at = to.place(&reach)?;
+        let n = value.value_here(&reach)?;
+        self.set_within(shared, at, n, bounds, next)
+    }
+
+    pub(crate) fn set_result(
+        &mut self,
+        shared: &mut [i32],
+        outside: &Outside,
+        value: &Term,
+        bounds: Bounds,
+        next: u32,
+    ) -> Result<Effect, Fault>
+        requires { length shared.old < 2 ^ 30 }
+        ensures step { IsStep self.old shared.old outside.now self.new shared.new result
+            (λ w o. plain.with_value w o (view.term value.now) (λ n. plain.set_within o
+            bounds.low bounds.high o.base n next)) }
+        ensures output { self.new.output ≡ self.old.output }
+        ensures own { length self.new.memory.words.items ≡ length self.old.memory.words.items }
+        ensures shared { length shared.new ≡ length shared.old }
+    {
+        let n = self.evaluate(shared, outside, value)?;
+        let at = self.memory.base as usize;
+        self.set_within(shared, at, n, bounds, next)
+    }
+
+    pub(crate) fn copy_words(
+        &mut self,
+        shared: &mut [i32],
+        outside: &Outside,
+        to: &Spot,
+        from: &Spot,
+        size: u32,
+        next: u32,
+    ) -> Result<Effect, Fault>
+        requires { length shared.old < 2 ^ 30 }
+        ensures step { IsStep self.old shared.old outside.now self.new shared.new result
+            (λ w o. plain.with_place w o (view.spot to.now) (λ at. plain.with_place w o
+            (view.spot from.now) (λ b. plain.copy_words o at b size next))) }
+        ensures output { self.new.output ≡ self.old.output }
+        ensures own { length self.new.memory.words.items ≡ length self.old.memory.words.items }
+        ensures shared { length shared.new ≡ length shared.old }
+    {
+        let at = self.place(shared, outside, to)?;
+        let from = self.place(shared, outside, from)?;
+        self.move_words(shared, at, from, size as usize);
+        self.place = next;
+        Ok(Effect::None)
+    }
+
+    #[inline(always)]
+    pub(crate) fn test(
+        &mut self,
+        shared: &[i32],
+        outside: &Outside,
+        value: &Term,
+        yes: u32,
+        no: u32,
+    ) -> Result<Effect, Fault>
+        requires { length shared.now < 2 ^ 30 }
+        ensures step { IsStep self.old shared.now outside.now self.new shared.now result
+            (λ w o. plain.with_value w o (view.term value.now) (λ n. private_outcome (go_to (if
+            same_integer n (pos 1) then yes else no) o))) }
+        ensures output { self.new.output ≡ self.old.output }
+        ensures own { length self.new.memory.words.items ≡ length self.old.memory.words.items }
+    {
+        let n = self.evaluate(shared, outside, value)?;
+        self.place = if n == 1 { yes } else { no };
+        Ok(Effect::None)
+    }
+
+    pub(crate) fn choose(
+        &mut self,
+        shared: &[i32],
+        outside: &Outside,
+        value: &Term,
+        table: &Table,
+    ) -> Result<Effect, Fault>
+        requires { length shared.now < 2 ^ 30 }
+        ensures step { IsStep self.old shared.now outside.now self.new shared.now result
+            (λ w o. plain.with_value w o (view.term value.now) (λ n. plain.go_to_arm o (place_in
+            (view.table table.now) n))) }
+        ensures output { self.new.output ≡ self.old.output }
+        ensures own { length self.new.memory.words.items ≡ length self.old.memory.words.items }
+    {
+        let n = self.evaluate(shared, outside, value)?;
+        match table.place(n) {
+            Some(place) => {
+                self.place = place;
+                Ok(Effect::None)
+            }
+            None => Err(Fault::NoLabel),
+        }
+    }
+
+    /// Leads to the operation at a place.
+    #[inline(always)]
+    pub(crate) fn go_to(
+        &mut self,
+        shared: &[i32],
+        outside: &Outside,
+        place: u32,
+    ) -> Result<Effect, Fault>
+        ensures step { IsStep self.old shared.now outside.now self.new shared.now result
+            (λ w o. private_outcome (go_to place o)) }
+        ensures output { self.new.output ≡ self.old.output }
+        ensures own { length self.new.memory.words.items ≡ length self.old.memory.words.items }
+    {
+        self.place = place;
+        Ok(Effect::None)
+    }
+}

@@ -1,0 +1,68 @@
+//! Changes of the words and temps of a private state.
+
+ghost use Rattle.std.specs.Prelude.{◌≡◌, ◌<◌, ◌^◌, ℕ, ℤ, List, length, map};
+ghost use Rattle.cp_code.specs.Starts.{block, paste, started};
+ghost use Rattle.cp_process.specs.States.{joined};
+ghost use Rattle.cp_steps.specs.PrivateStates as plain;
+ghost use Rattle.cp_threaded.specs.Reaches.{capped};
+ghost use Rattle.cp_threaded.specs.View as view;
+
+use crate::private::Private;
+use crate::words;
+use cp_threaded::program::Start;
+
+impl Private {
+    /// Writes the word at a place, which may be told as the greatest number.
+    #[inline(always)]
+    pub(crate) fn set_word(&mut self, shared: &mut [i32], at: usize, n: i32)
+        requires { length shared.old < 2 ^ 30 }
+        ensures step { (input : List ℕ) (place : ℕ) → capped place ≡ at
+            → joined self.new input shared.new ≡ plain.set_word (joined self.old input shared.old)
+            place n }
+        ensures output { self.new.output ≡ self.old.output }
+        ensures own { length self.new.memory.words.items ≡ length self.old.memory.words.items }
+        ensures shared { length shared.new ≡ length shared.old }
+    {
+        words::write(&mut self.memory.words, shared, at, n);
+    }
+
+    /// Writes the temp at a place. Nothing is written where it is missing.
+    pub(crate) fn set_temp(&mut self, at: usize, n: i32)
+        ensures step { (input : List ℕ) (shared : List ℤ)
+            → joined self.new input shared ≡ plain.set_temp
+            (joined self.old input shared) at n }
+        ensures output { self.new.output ≡ self.old.output }
+        ensures own { length self.new.memory.words.items ≡ length self.old.memory.words.items }
+    {
+        if at < self.memory.temps.len() {
+            self.memory.temps[at] = n;
+        }
+    }
+
+    /// Copies so many words. The places may be told as the greatest number.
+    pub(crate) fn move_words(&mut self, shared: &mut [i32], to: usize, from: usize, count: usize)
+        requires { length shared.old < 2 ^ 30 }
+        ensures step { (input : List ℕ) (i j : ℕ) → capped i ≡ to → capped j ≡ from
+            → let o = joined self.old input shared.old in joined self.new input shared.new
+            ≡ record o { words = paste i (block o.words j count) o.words } }
+        ensures output { self.new.output ≡ self.old.output }
+        ensures own { length self.new.memory.words.items ≡ length self.old.memory.words.items }
+        ensures shared { length shared.new ≡ length shared.old }
+    {
+        words::copy(&mut self.memory.words, shared, to, from, count);
+    }
+
+    /// Makes words start as a plan says, which counts from a base.
+    pub(crate) fn start_words(&mut self, shared: &mut [i32], base: usize, plan: &[Start])
+        requires shared { length shared.old < 2 ^ 30 }
+        requires base { base < 2 ^ 33 }
+        ensures step { (input : List ℕ)
+            → let o = joined self.old input shared.old in joined self.new input shared.new
+            ≡ record o { words = started base (map view.start plan.now) o.words } }
+        ensures output { self.new.output ≡ self.old.output }
+        ensures own { length self.new.memory.words.items ≡ length self.old.memory.words.items }
+        ensures shared { length shared.new ≡ length shared.old }
+    {
+        words::start(&mut self.memory.words, shared, base, plan);
+    }
+}

@@ -1,0 +1,36 @@
+//! The private state of a process of the whole language, and its steps.
+//!
+//! For any program and any private state a step is the function on plain data that cp_steps defines (`specs/States.antt` says of what
+//! data), over the process's own words and the shared ones after them, so that private and kernel steps are one function. Over the
+//! law of cp_steps, private steps and turns are the meaning's (`specs/Promises.antt`).
+//!
+//! - `private`, `making`: the private state; how it is made, copied and read.
+//! - `outside`, `effect`: what a step reads beside, and what it leaves to the kernel.
+//! - `words`, `changing`, `reading`, `frames`, `starting`: words, temps and frames.
+//! - `assignments`, `counting`, `standards`, `targets`, `passing`, `calls`, `returns`, `initialisation`: the steps of operations.
+//! - `step`, `turns`, `kind`: a step of any operation, turns, and whose the next step is.
+#![tactic(auto)]
+
+mod alone;
+mod assignments;
+mod called;
+mod calls;
+mod changing;
+mod counting;
+pub mod effect;
+mod frames;
+mod initialisation;
+pub mod kind;
+mod making;
+pub mod outside;
+mod passing;
+pub mod private;
+mod reading;
+mod returns;
+mod standards;
+pub mod starting;
+mod step;
+mod targets;
+pub mod turn;
+pub mod turns;
+mod words;

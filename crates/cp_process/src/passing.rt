@@ -1,0 +1,192 @@
+//! The arguments of calls and of `init`.
+
+ghost use Rattle.std.specs.Prelude.{◌≡◌, ◌+◌, ◌<◌, ◌^◌, ℕ, List, None, length, map};
+ghost use Rattle.cp_process.specs.Calls.{passed};
+ghost use Rattle.cp_process.specs.States.{joined, outside_of};
+ghost use Rattle.cp_steps.specs.Passing as plain;
+ghost use Rattle.cp_steps.specs.PrivateStates.{view_of};
+ghost use Rattle.cp_steps.specs.Values.{place_of, value_of};
+ghost use Rattle.cp_threaded.specs.Reaches.{capped};
+ghost use Rattle.cp_threaded.specs.View as view;
+
+use crate::assignments::Bounds;
+use crate::outside::Outside;
+use crate::private::Private;
+use cp_model::state::Fault;
+use cp_threaded::operation::{Argument, Target};
+use cp_threaded::term::{Spot, Term};
+
+/// Where arguments are put: their first word, and the first word of the activation or component that they are of in the end.
+#[derive(Clone, Copy)]
+pub(crate) struct Destination {
+    pub(crate) to: usize,
+    pub(crate) home: usize,
+    ghost small: { (to < 2 ^ 35) × (home < 2 ^ 35) },
+}
+
+impl Private {
+    fn pass_value(
+        &mut self,
+        shared: &mut [i32],
+        outside: &Outside,
+        at: usize,
+        bounds: Bounds,
+        term: &Term,
+    ) -> Result<(), Fault>
+        requires shared { length shared.old < 2 ^ 30 }
+        requires at { at < 2 ^ 36 }
+        ensures step { (own : ℕ) → let o = joined self.old outside.now.input.now shared.old in
+            passed (joined self.new outside.now.input.now shared.new) result ≡ plain.pass_result o
+            (value_of (view_of (outside_of outside.now own) o) (view.term term.now))
+            (λ n. plain.pass_value o at bounds.low bounds.high n) }
+        ensures output { self.new.output ≡ self.old.output }
+        ensures own { length self.new.memory.words.items ≡ length self.old.memory.words.items }
+        ensures shared { length shared.new ≡ length shared.old }
+    {
+        let n = self.evaluate(shared, outside, term)?;
+        if !bounds.contain(n) {
+            return Err(Fault::Range);
+        }
+        self.set_word(shared, at, n);
+        Ok(())
+    }
+
+    fn pass_copy(
+        &mut self,
+        shared: &mut [i32],
+        outside: &Outside,
+        at: usize,
+        size: u32,
+        from: &Spot,
+    ) -> Result<(), Fault>
+        requires shared { length shared.old < 2 ^ 30 }
+        requires at { at < 2 ^ 36 }
+        ensures step { (own : ℕ) → let o = joined self.old outside.now.input.now shared.old in
+            passed (joined self.new outside.now.input.now shared.new) result ≡ plain.pass_result o
+            (place_of (view_of (outside_of outside.now own) o) (view.spot from.now))
+            (λ a. plain.pass_copy o at size a) }
+        ensures output { self.new.output ≡ self.old.output }
+        ensures own { length self.new.memory.words.items ≡ length self.old.memory.words.items }
+        ensures shared { length shared.new ≡ length shared.old }
+    {
+        let from = self.place(shared, outside, from)?;
+        self.move_words(shared, at, from, size as usize);
+        Ok(())
+    }
+
+    // A place as a word. One beyond all words is told by 0.
+    fn reference_word(&self, shared: &[i32], at: usize) -> i32
+        requires { length shared.now < 2 ^ 30 }
+        ensures { (input : List ℕ) (place : ℕ) → capped place ≡ at → result ≡ plain.reference_word
+            (joined self.now input shared.now) place }
+    {
+        if at <= self.memory.words.len() + shared.len() {
+            at as i32
+        } else {
+            0
+        }
+    }
+
+    fn pass_reference(
+        &mut self,
+        shared: &mut [i32],
+        outside: &Outside,
+        at: usize,
+        to: &Spot,
+    ) -> Result<(), Fault>
+        requires shared { length shared.old < 2 ^ 30 }
+        requires at { at < 2 ^ 36 }
+        ensures step { (own : ℕ) → let o = joined self.old outside.now.input.now shared.old in
+            passed (joined self.new outside.now.input.now shared.new) result ≡ plain.pass_result o
+            (place_of (view_of (outside_of outside.now own) o) (view.spot to.now))
+            (λ a. plain.pass_word o at (plain.reference_word o a)) }
+        ensures output { self.new.output ≡ self.old.output }
+        ensures own { length self.new.memory.words.items ≡ length self.old.memory.words.items }
+        ensures shared { length shared.new ≡ length shared.old }
+    {
+        let place = self.place(shared, outside, to)?;
+        let word = self.reference_word(shared, place);
+        self.set_word(shared, at, word);
+        Ok(())
+    }
+
+    fn pass_right(&mut self, shared: &mut [i32], at: usize, home: usize, of: Target)
+        requires shared { length shared.old < 2 ^ 30 }
+        requires at { at < 2 ^ 36 }
+        ensures step { (input : List ℕ) → let o = joined self.old input shared.old in
+            plain.pass_word o at (plain.right_word o home (view.target of))
+            ≡ record { own = joined self.new input shared.new; fault = None } }
+        ensures output { self.new.output ≡ self.old.output }
+        ensures own { length self.new.memory.words.items ≡ length self.old.memory.words.items }
+        ensures shared { length shared.new ≡ length shared.old }
+    {
+        let word = self.right_word(shared, home, of);
+        self.set_word(shared, at, word);
+    }
+
+    fn pass_one(
+        &mut self,
+        shared: &mut [i32],
+        outside: &Outside,
+        destination: Destination,
+        argument: &Argument,
+    ) -> Result<(), Fault>
+        requires { length shared.old < 2 ^ 30 }
+        ensures step { (own : ℕ) → passed (joined self.new outside.now.input.now shared.new) result
+            ≡ plain.pass_one (outside_of outside.now own) destination.to destination.home
+            (joined self.old outside.now.input.now shared.old) (view.argument argument.now) }
+        ensures output { self.new.output ≡ self.old.output }
+        ensures own { length self.new.memory.words.items ≡ length self.old.memory.words.items }
+        ensures shared { length shared.new ≡ length shared.old }
+    {
+        let Destination { to, home } = destination;
+        match argument {
+            Argument::Value {
+                at,
+                low,
+                high,
+                term,
+            } => {
+                let bounds = Bounds {
+                    low: *low,
+                    high: *high,
+                };
+                self.pass_value(shared, outside, to + *at as usize, bounds, term)
+            }
+            Argument::Copy { at, size, from } => {
+                self.pass_copy(shared, outside, to + *at as usize, *size, from)
+            }
+            Argument::Reference { at, to: spot } => {
+                self.pass_reference(shared, outside, to + *at as usize, spot)
+            }
+            Argument::Right { at, of } => {
+                let far = *at as usize;
+                self.pass_right(shared, to + far, home + far, *of);
+                Ok(())
+            }
+        }
+    }
+
+    /// Passes arguments from the first on. One that faults ends it, and the words of those before it stay.
+    pub(crate) fn pass_all(
+        &mut self,
+        shared: &mut [i32],
+        outside: &Outside,
+        destination: Destination,
+        arguments: &[Argument],
+    ) -> Result<(), Fault>
+        requires { length shared.old < 2 ^ 30 }
+        ensures step { (own : ℕ) → passed (joined self.new outside.now.input.now shared.new) result
+            ≡ plain.pass_all (outside_of outside.now own) destination.to destination.home
+            (map view.argument arguments.now)
+            (joined self.old outside.now.input.now shared.old) }
+        ensures output { self.new.output ≡ self.old.output }
+        ensures own { length self.new.memory.words.items ≡ length self.old.memory.words.items }
+        ensures shared { length shared.new ≡ length shared.old }
+    {
+        for argument in arguments {
+            self.pass_one(shared, outside, destination, argument)?;
+        }
+        Ok(())
+    }
+}

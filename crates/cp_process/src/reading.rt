@@ -1,0 +1,74 @@
+//! What evaluation reads of a private state, and the values and places that it finds.
+
+ghost use Rattle.std.specs.Prelude.{◌≡◌, ◌<◌, ◌^◌, ℕ, List, length};
+ghost use Rattle.cp_code.specs.Starts.{word};
+ghost use Rattle.cp_process.specs.States.{joined, outside_of};
+ghost use Rattle.cp_steps.specs.PrivateStates as plain;
+ghost use Rattle.cp_steps.specs.Values.{place_of, value_of};
+ghost use Rattle.cp_threaded.specs.Reaches.{capped, capped_result, view_of};
+ghost use Rattle.cp_threaded.specs.View as view;
+
+use crate::outside::Outside;
+use crate::private::Private;
+use crate::words;
+use cp_model::state::Fault;
+use cp_threaded::reach::Reach;
+use cp_threaded::term::{Spot, Term};
+
+impl Private {
+    /// What evaluation reads.
+    #[inline(always)]
+    pub(crate) fn reach<'a>(&'a self, shared: &'a [i32], outside: &Outside) -> Reach<'a>
+        requires { length shared.now < 2 ^ 30 }
+        ensures { (input : List ℕ) (own : ℕ) → view_of result ≡ plain.view_of
+            (outside_of outside.now own) (joined self.now input shared.now) }
+    {
+        Reach {
+            memory: &self.memory,
+            shared,
+            clock: outside.clock,
+        }
+    }
+
+    /// The word at a place, which may be told as the greatest number.
+    #[inline(always)]
+    pub(crate) fn word(&self, shared: &[i32], at: usize) -> i32
+        requires { length shared.now < 2 ^ 30 }
+        ensures { (input : List ℕ) (place : ℕ) → capped place ≡ at → result ≡ word
+            (joined self.now input shared.now).words place }
+    {
+        words::read(&self.memory.words, shared, at)
+    }
+
+    /// The value of a term.
+    #[inline(always)]
+    pub(crate) fn evaluate(
+        &self,
+        shared: &[i32],
+        outside: &Outside,
+        term: &Term,
+    ) -> Result<i32, Fault>
+        requires { length shared.now < 2 ^ 30 }
+        ensures { (input : List ℕ) (own : ℕ) → result ≡ value_of
+            (plain.view_of (outside_of outside.now own) (joined self.now input shared.now))
+            (view.term term.now) }
+    {
+        term.value(&self.reach(shared, outside))
+    }
+
+    /// The place of a spot. One beyond all words is told as the greatest number.
+    #[inline(always)]
+    pub(crate) fn place(
+        &self,
+        shared: &[i32],
+        outside: &Outside,
+        spot: &Spot,
+    ) -> Result<usize, Fault>
+        requires { length shared.now < 2 ^ 30 }
+        ensures { (input : List ℕ) (own : ℕ) → result ≡ capped_result (place_of
+            (plain.view_of (outside_of outside.now own) (joined self.now input shared.now))
+            (view.spot spot.now)) }
+    {
+        spot.place(&self.reach(shared, outside))
+    }
+}

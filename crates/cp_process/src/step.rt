@@ -1,0 +1,214 @@
+//! One step of a process.
+
+ghost use Rattle.std.specs.Prelude.{◌≡◌, ◌<◌, ◌^◌, false, ℕ, [], Some, length};
+ghost use Rattle.cp_process.specs.Rooms.{HasRoomFor, KeepsRoom};
+ghost use Rattle.cp_process.specs.States.{IsAlone, IsStep, effect, joined, outside_of, private_of};
+ghost use Rattle.cp_steps.specs.Steps as plain;
+ghost use Rattle.cp_threaded.specs.View as view;
+
+use crate::assignments::Bounds;
+use crate::called::Back;
+use crate::effect::Effect;
+use crate::outside::Outside;
+use crate::private::{Activity, Private};
+use cp_model::state::Fault;
+use cp_threaded::operation::{Operation, Target};
+use cp_threaded::program::Program;
+use cp_threaded::term::{Spot, Term};
+
+impl Private {
+    // The step of an operation. Where it faults, no more than what was passed to a call has changed.
+    #[inline(always)]
+    fn act(
+        &mut self,
+        operation: &Operation,
+        program: &Program,
+        shared: &mut [i32],
+        outside: &Outside,
+    ) -> Result<Effect, Fault>
+        requires shared { length shared.old < 2 ^ 30 }
+        requires room { HasRoomFor self.old 1 }
+        ensures step { IsStep self.old shared.old outside.now self.new shared.new result
+            (λ w o. plain.act (view.program program.now) w o (view.operation operation.now)) }
+        ensures room { KeepsRoom self.old self.new }
+        ensures own { length self.new.memory.words.items ≡ length self.old.memory.words.items }
+        ensures shared { length shared.new ≡ length shared.old }
+    {
+        match operation {
+            Operation::Set {
+                to,
+                low,
+                high,
+                value,
+                next,
+            } => self.set(shared, outside, to, value, Bounds::new(*low, *high), *next),
+            Operation::SetResult {
+                low,
+                high,
+                value,
+                next,
+            } => self.set_result(shared, outside, value, Bounds::new(*low, *high), *next),
+            Operation::CopyWords {
+                to,
+                from,
+                size,
+                next,
+            } => self.copy_words(shared, outside, to, from, *size, *next),
+            Operation::Test { value, yes, no } => self.test(shared, outside, value, *yes, *no),
+            Operation::Case { value, table } => self.choose(shared, outside, value, table),
+            Operation::For {
+                counting,
+                first,
+                last,
+            } => self.count_from(shared, outside, counting, first, last),
+            Operation::ForNext(counting) => self.count_on(shared, outside, counting),
+            Operation::Cycle { body } => self.go_to(shared, outside, *body),
+            Operation::Procedure { call, next } => {
+                self.call(program, shared, outside, call, Back::new(*next, 0))
+            }
+            Operation::Function { call, into, next } => {
+                self.call(program, shared, outside, call, Back::new(*next, *into))
+            }
+            Operation::Return { function } => self.give_back(shared, outside, *function),
+            Operation::InitClass { call, next } => {
+                self.init_class(program, shared, outside, call, *next)
+            }
+            Operation::InitMonitor { call, next } => {
+                self.init_monitor(program, shared, outside, call, *next)
+            }
+            Operation::InitProcess {
+                process,
+                arguments,
+                words,
+                next,
+            } => self.init_process(program, shared, outside, *process, arguments, *words, *next),
+            Operation::EndBody => self.end_body(shared, outside),
+            Operation::End => self.end(shared, outside),
+            Operation::Display {
+                value,
+                as_byte,
+                next,
+            } => self.display(shared, outside, value, *as_byte, *next),
+            Operation::Accept {
+                to,
+                low,
+                high,
+                next,
+            } => self.accept(shared, outside, to, Bounds::new(*low, *high), *next),
+            Operation::Delay { queue, next } => self.delay(shared, outside, queue, *next),
+            Operation::Continue { queue, function } => {
+                self.let_go(shared, outside, queue, *function)
+            }
+            Operation::Wait { next } => self.wait(shared, outside, *next),
+        }
+    }
+
+    /// Makes the step of an operation. A fault ends the process.
+    #[inline(always)]
+    pub(crate) fn make(
+        &mut self,
+        operation: &Operation,
+        program: &Program,
+        shared: &mut [i32],
+        outside: &Outside,
+    ) -> Effect
+        requires shared { length shared.old < 2 ^ 30 }
+        requires room { HasRoomFor self.old 1 }
+        ensures step { let w = outside_of outside.now (length self.old.memory.words.items) in
+            (joined self.new outside.now.input.now shared.new, effect result) ≡ plain.act
+            (view.program program.now) w (joined self.old outside.now.input.now shared.old)
+            (view.operation operation.now) }
+        ensures room { KeepsRoom self.old self.new }
+        ensures own { length self.new.memory.words.items ≡ length self.old.memory.words.items }
+        ensures shared { length shared.new ≡ length shared.old }
+    {
+        match self.act(operation, program, shared, outside) {
+            Ok(effect) => effect,
+            Err(fault) => {
+                self.activity = Activity::Faulted(fault);
+                Effect::None
+            }
+        }
+    }
+
+    // Makes a private step that assigns a value: the most common one, so it takes no way through all operations.
+    #[inline(always)]
+    fn assign(&mut self, outside: &Outside, to: &Spot, value: &Term, bounds: Bounds, next: u32)
+        ensures step { let input = outside.now.input.now in let o = joined self.old input [] in
+            let w = outside_of outside.now (length self.old.memory.words.items) in
+            joined self.new input []
+            ≡ (plain.with_place w o (view.spot to.now) (λ at. plain.with_value w o
+            (view.term value.now) (λ n. plain.set_within o bounds.low bounds.high at n next))).0 }
+        ensures output { self.new.output ≡ self.old.output }
+    {
+        if let Err(fault) = self.set(&mut [], outside, to, value, bounds, next) {
+            self.activity = Activity::Faulted(fault);
+        }
+    }
+
+    /// One step, if the next one is private; else nothing. Tells whether it was.
+    #[inline(always)]
+    pub(crate) fn private_step(&mut self, program: &Program, outside: &Outside) -> bool
+        requires alone { IsAlone outside.now }
+        requires room { HasRoomFor self.old 1 }
+        ensures step { private_of self.new outside.now.input.now ≡ plain.private_step
+            (view.program program.now) outside.now.clock
+            (private_of self.old outside.now.input.now) }
+        ensures rest { result ≡ false → plain.private_step (view.program program.now)
+            outside.now.clock (private_of self.old outside.now.input.now)
+            ≡ private_of self.old outside.now.input.now }
+        ensures room { KeepsRoom self.old self.new }
+    {
+        if !matches!(self.activity, Activity::Running) || self.gate != 0 {
+            return false;
+        }
+        let Some(operation) = program.operation(self.place) else {
+            return false;
+        };
+        if let Operation::Set {
+            to,
+            low,
+            high,
+            value,
+            next,
+        } = operation
+        {
+            self.assign(outside, to, value, Bounds::new(*low, *high), *next);
+            return true;
+        }
+        if needs_kernel(operation) {
+            return false;
+        }
+        self.make(operation, program, &mut [], outside);
+        true
+    }
+}
+
+fn is_monitor(target: Target) -> bool
+    ensures { result ≡ plain.is_monitor (view.target target) }
+{
+    matches!(target, Target::Monitor(_) | Target::MonitorRight(_))
+}
+
+/// Whether the step of an operation is the kernel's wherever it is made.
+#[inline(always)]
+pub(crate) fn needs_kernel(operation: &Operation) -> bool
+    ensures { result ≡ plain.is_kernel_operation (view.operation operation.now) }
+{
+    // One test tells most operations apart.
+    if !matches!(
+        operation,
+        Operation::Procedure { .. }
+            | Operation::Function { .. }
+            | Operation::InitMonitor { .. }
+            | Operation::InitProcess { .. }
+    ) {
+        return false;
+    }
+    match operation {
+        Operation::Procedure { call, .. } | Operation::Function { call, .. } => {
+            is_monitor(call.target)
+        }
+        _ => true,
+    }
+}

@@ -1,0 +1,193 @@
+//! The components that calls and rights name.
+
+ghost use Rattle.std.specs.Prelude.{◌≡◌, ◌+◌, ◌<◌, ◌^◌, ◌+ℤ◌, ℕ, pos, List, length};
+ghost use Rattle.cp_code.specs.Layout as layout;
+ghost use Rattle.cp_model.specs.Places.{within};
+ghost use Rattle.cp_process.specs.Calls.{called};
+ghost use Rattle.cp_process.specs.States.{holder_of, joined, outside_of, stage_of};
+ghost use Rattle.cp_steps.specs.KernelSteps as kernel;
+ghost use Rattle.cp_steps.specs.Passing as plain;
+ghost use Rattle.cp_threaded.specs.View as view;
+
+use crate::called::Called;
+use crate::outside::{Holder, Outside, Stage};
+use crate::private::Private;
+use cp_threaded::operation::Target;
+use cp_threaded::program::Program;
+
+impl<'a> Outside<'a> {
+    // Whether the monitor was initialised.
+    fn is_set(&self, monitor: u32) -> bool
+        ensures { result ≡ kernel.is_set (holder_of self.now.gates.now monitor) }
+    {
+        if monitor == 0 {
+            return false;
+        }
+        match self.gates.get(monitor as usize - 1) {
+            Some(gate) => !matches!(gate.holder, Holder::Unset),
+            None => false,
+        }
+    }
+
+    /// Whether the process was initialised.
+    pub(crate) fn is_started(&self, process: u32) -> bool
+        ensures { result ≡ kernel.is_started (stage_of self.now.stages.now process) }
+    {
+        if process == 0 {
+            return true;
+        }
+        match self.stages.get(process as usize - 1) {
+            Some(Stage::Unstarted) => false,
+            _ => true,
+        }
+    }
+}
+
+// A word as a number that can't be negative.
+fn natural(n: i32) -> u32
+    ensures { result ≡ layout.natural n }
+{
+    if n < 0 { 0 } else { n as u32 }
+}
+
+// The place so far away.
+fn shifted(place: usize, far: i32) -> usize
+    requires { place < 2 ^ 34 }
+    ensures place { result ≡ layout.natural (pos place +ℤ far) }
+    ensures small { result < 2 ^ 35 }
+{
+    if far < 0 {
+        place.saturating_sub(far.unsigned_abs() as usize)
+    } else {
+        place + far as usize
+    }
+}
+
+// Where the words of the monitor begin among the shared ones.
+fn monitor_start(program: &Program, monitor: u32) -> u32
+    ensures { result ≡ plain.monitor_start (view.program program.now) monitor }
+{
+    match program.monitor(monitor as usize) {
+        Some(monitor) => monitor.start,
+        None => 0,
+    }
+}
+
+impl Private {
+    fn member(&self, at: u32) -> usize
+        ensures place { result ≡ self.now.memory.component + at }
+        ensures small { result < 2 ^ 33 }
+    {
+        self.memory.component as usize + at as usize
+    }
+
+    // The place of the class to which a word of the component holds a right.
+    fn class_right(&self, shared: &[i32], at: u32) -> usize
+        requires { length shared.now < 2 ^ 30 }
+        ensures place { (input : List ℕ) → result ≡ plain.class_right
+            (joined self.now input shared.now) at }
+        ensures small { result < 2 ^ 35 }
+    {
+        let place = self.member(at);
+        shifted(place, self.word(shared, place))
+    }
+
+    fn class_called(&self, shared: &[i32], at: usize) -> Called
+        requires { length shared.now < 2 ^ 30 }
+        ensures { (input : List ℕ) → called result ≡ plain.class_called
+            (joined self.now input shared.now) at }
+    {
+        Called {
+            component: at,
+            is_set: self.word(shared, at) != 0,
+            gate: 0,
+        }
+    }
+
+    pub(crate) fn monitor_called(
+        &self,
+        program: &Program,
+        outside: &Outside,
+        monitor: u32,
+    ) -> Called
+        ensures { called result ≡ plain.monitor_called (view.program program.now)
+            (outside_of outside.now (length self.now.memory.words.items)) monitor }
+    {
+        Called {
+            component: self.memory.words.len() + monitor_start(program, monitor) as usize,
+            is_set: outside.is_set(monitor),
+            gate: monitor,
+        }
+    }
+
+    /// The component that a target names.
+    pub(crate) fn called(
+        &self,
+        program: &Program,
+        shared: &[i32],
+        outside: &Outside,
+        target: Target,
+    ) -> Called
+        requires { length shared.now < 2 ^ 30 }
+        ensures { (input : List ℕ) → called result ≡ plain.component_called
+            (view.program program.now) (outside_of outside.now (length self.now.memory.words.items))
+            (joined self.now input shared.now) (view.target target) }
+    {
+        match target {
+            Target::Own => Called {
+                component: self.memory.component as usize,
+                is_set: true,
+                gate: 0,
+            },
+            Target::Class(at) => self.class_called(shared, self.member(at)),
+            Target::ClassRight(at) => self.class_called(shared, self.class_right(shared, at)),
+            Target::Monitor(monitor) => self.monitor_called(program, outside, monitor),
+            Target::MonitorRight(at) => {
+                let monitor = natural(self.word(shared, self.member(at)));
+                self.monitor_called(program, outside, monitor)
+            }
+        }
+    }
+
+    // How far a class at the one place lies from the word at the other. A place that isn't there is told by 0.
+    fn distance_word(&self, shared: &[i32], at: usize, from: usize) -> i32
+        requires { length shared.now < 2 ^ 30 }
+        ensures { (input : List ℕ) → result ≡ plain.distance_word
+            (joined self.now input shared.now) at from }
+    {
+        let all = self.memory.words.len() + shared.len();
+        if at <= all && from <= all {
+            at as i32 - from as i32
+        } else {
+            0
+        }
+    }
+
+    /// A right as it is handed on, to lie in the word `to`.
+    pub(crate) fn right_word(&self, shared: &[i32], to: usize, target: Target) -> i32
+        requires { length shared.now < 2 ^ 30 }
+        ensures { (input : List ℕ) → result ≡ plain.right_word (joined self.now input shared.now) to
+            (view.target target) }
+    {
+        match target {
+            Target::Own => 0,
+            Target::Class(at) => self.distance_word(shared, self.member(at), to),
+            Target::ClassRight(at) => {
+                self.distance_word(shared, self.class_right(shared, at), to)
+            }
+            Target::Monitor(monitor) => monitor_word(monitor),
+            Target::MonitorRight(at) => self.word(shared, self.member(at)),
+        }
+    }
+}
+
+// The number of a monitor, if it has 31 bits.
+fn monitor_word(monitor: u32) -> i32
+    ensures { result ≡ plain.monitor_word monitor }
+{
+    if monitor < 0x8000_0000 {
+        monitor as i32
+    } else {
+        0
+    }
+}

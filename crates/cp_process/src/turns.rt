@@ -1,0 +1,85 @@
+//! Private turns.
+
+ghost use Rattle.std.specs.Prelude.{◌≡◌, ◌≤◌, ◌+◌, ◌*◌, ◌<◌, ◌^◌, length, vec_capacity, vec_len};
+ghost use Rattle.cp_process.specs.Promises.{MakesStep, MakesTurn};
+ghost use Rattle.cp_process.specs.Rooms.{HasRoomFor, KeepsRoom};
+ghost use Rattle.cp_process.specs.States.{IsAlone, effect, joined, outside_of, private_of};
+ghost use Rattle.cp_steps.specs.Steps as plain;
+ghost use Rattle.cp_threaded.specs.View as view;
+
+use crate::effect::Effect;
+use crate::outside::Outside;
+use crate::private::Private;
+use crate::turn::Turn;
+use cp_steps::law;
+use cp_threaded::program::Program;
+
+// So many steps, while the next one is private.
+fn take_steps(program: &Program, private: &mut Private, outside: &Outside, count: u32)
+    requires alone { IsAlone outside.now }
+    requires room { HasRoomFor private.old count }
+    ensures steps { private_of private.new outside.now.input.now ≡ plain.private_steps
+        (view.program program.now) outside.now.clock count
+        (private_of private.old outside.now.input.now) }
+    ensures length { vec_len private.new.output ≤ vec_len private.old.output + 11 * count }
+    ensures capacity { vec_capacity private.old.output ≤ vec_capacity private.new.output }
+{
+    for _i in 0..count {
+        if !private.private_step(program, outside) {
+            return;
+        }
+    }
+}
+
+/// One step, if the next one is private; else nothing. It takes no memory.
+pub fn private_step(program: &Program, private: &mut Private, input: &[u8], clock: u64)
+    requires room { HasRoomFor private.old 1 }
+    ensures step { private_of private.new input.now ≡ plain.private_step (view.program program.now)
+        clock (private_of private.old input.now) }
+    ensures meaning { MakesStep program.now private.old private.new input.now clock }
+    ensures room { KeepsRoom private.old private.new }
+{
+    private.private_step(program, &Outside::alone(input, clock));
+    law::private_steps();
+}
+
+/// As many steps as the turn has, while the next one is private. It takes no memory: `Private::reserve` makes the room. A step
+/// writes at most 11 bytes.
+pub fn private_turn(program: &Program, private: &mut Private, input: &[u8], clock: u64, turn: Turn)
+    requires room { HasRoomFor private.old turn.steps }
+    ensures steps { private_of private.new input.now ≡ plain.private_steps
+        (view.program program.now) clock turn.steps (private_of private.old input.now) }
+    ensures meaning { MakesTurn program.now turn.steps private.old private.new input.now clock }
+    ensures length { vec_len private.new.output ≤ vec_len private.old.output + 11 * turn.steps }
+    ensures capacity { vec_capacity private.old.output ≤ vec_capacity private.new.output }
+{
+    take_steps(
+        program,
+        private,
+        &Outside::alone(input, clock),
+        turn.steps(),
+    );
+    law::private_steps();
+}
+
+/// One step of a running process, of any kind: what it leaves to the kernel is answered. It takes no memory.
+pub fn step(
+    program: &Program,
+    private: &mut Private,
+    shared: &mut [i32],
+    outside: &Outside,
+) -> Effect
+    requires shared { length shared.old < 2 ^ 30 }
+    requires room { HasRoomFor private.old 1 }
+    ensures step { let w = outside_of outside.now (length private.old.memory.words.items) in
+        (joined private.new outside.now.input.now shared.new, effect result) ≡ plain.step_with
+        (view.program program.now) w (joined private.old outside.now.input.now shared.old) }
+    ensures room { KeepsRoom private.old private.new }
+    ensures own { length private.new.memory.words.items ≡ length private.old.memory.words.items }
+    ensures shared { length shared.new ≡ length shared.old }
+{
+    match program.operation(private.place) {
+        Some(operation) => private.make(operation, program, shared, outside),
+        None => Effect::None,
+    }
+}

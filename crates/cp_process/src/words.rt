@@ -1,0 +1,189 @@
+//! The words that a step reads and writes: the process's own, and the shared ones, which follow behind them.
+//!
+//! A word that is missing reads as 0, and nothing is written there.
+
+ghost use Rattle.std.specs.Prelude.{◌≡◌, ◌+◌, ◌-◌, ◌≤◌, ◌<◌, ◌^◌, ◌++◌, ℕ, length, map, slice_set};
+ghost use Rattle.cp_code.specs.Starts as plain;
+ghost use Rattle.cp_threaded.specs.Reaches.{capped};
+ghost use Rattle.cp_threaded.specs.View as view;
+
+use cp_threaded::program::Start;
+
+#[inline(always)]
+fn word(words: &[i32], at: usize) -> i32
+    ensures { result ≡ plain.word words.now at }
+{
+    match words.get(at) {
+        Some(n) => *n,
+        None => 0,
+    }
+}
+
+/// The word at a place.
+#[inline(always)]
+pub(crate) fn read(own: &[i32], shared: &[i32], at: usize) -> i32
+    requires { length own.now + length shared.now < 2 ^ 32 }
+    ensures word { result ≡ plain.word (own.now ++ shared.now) at }
+    ensures capped { (place : ℕ) → capped place ≡ at
+        → result ≡ plain.word (own.now ++ shared.now) place }
+{
+    match own.get(at) {
+        Some(n) => *n,
+        None => word(shared, at.saturating_sub(own.len())),
+    }
+}
+
+/// Writes the word at a place.
+#[inline(always)]
+#[tactic(auto, using(crate::proofs::Blocks::set_own, crate::proofs::Blocks::set_shared, crate::proofs::Blocks::set_neither))]
+pub(crate) fn write(own: &mut [i32], shared: &mut [i32], at: usize, n: i32)
+    requires { length own.old + length shared.old < 2 ^ 32 }
+    ensures word { own.new ++ shared.new ≡ slice_set (own.old ++ shared.old) at n }
+    ensures capped { (place : ℕ) → capped place ≡ at
+        → own.new ++ shared.new ≡ slice_set (own.old ++ shared.old) place n }
+    ensures own { length own.new ≡ length own.old }
+    ensures shared { length shared.new ≡ length shared.old }
+{
+    let count = own.len();
+    if at < count {
+        own[at] = n;
+    } else {
+        let behind = at - count;
+        if behind < shared.len() {
+            shared[behind] = n;
+        }
+    }
+}
+
+/// Sets so many words to one value.
+pub(crate) fn fill(own: &mut [i32], shared: &mut [i32], at: usize, count: usize, n: i32)
+    requires { length own.old + length shared.old < 2 ^ 32 }
+    ensures words { own.new ++ shared.new ≡ plain.fill at count n (own.old ++ shared.old) }
+    ensures own { length own.new ≡ length own.old }
+    ensures shared { length shared.new ≡ length shared.old }
+{
+    let all = own.len() + shared.len();
+    let there = count.min(all.saturating_sub(at));
+    for i in 0..there {
+        write(own, shared, at + i, n);
+    }
+}
+
+// From the first word on, which is right where they move down.
+fn copy_down(own: &mut [i32], shared: &mut [i32], to: usize, from: usize, count: usize)
+    requires words { length own.old + length shared.old < 2 ^ 32 }
+    requires there { to + count ≤ length own.old + length shared.old }
+    requires down { to ≤ from }
+    ensures words { own.new ++ shared.new ≡ plain.paste to
+        (plain.block (own.old ++ shared.old) from count) (own.old ++ shared.old) }
+    ensures own { length own.new ≡ length own.old }
+    ensures shared { length shared.new ≡ length shared.old }
+{
+    for i in 0..count {
+        let n = read(own, shared, from.saturating_add(i));
+        write(own, shared, to + i, n);
+    }
+}
+
+// From the last word on, which is right where they move up.
+fn copy_up(own: &mut [i32], shared: &mut [i32], to: usize, from: usize, count: usize)
+    requires words { length own.old + length shared.old < 2 ^ 32 }
+    requires there { to + count ≤ length own.old + length shared.old }
+    requires up { from ≤ to }
+    ensures words { own.new ++ shared.new ≡ plain.paste to
+        (plain.block (own.old ++ shared.old) from count) (own.old ++ shared.old) }
+    ensures own { length own.new ≡ length own.old }
+    ensures shared { length shared.new ≡ length shared.old }
+{
+    for i in (0..count).rev() {
+        let n = read(own, shared, from + i);
+        write(own, shared, to + i, n);
+    }
+}
+
+/// Copies so many words, which are all read before the first one is written.
+pub(crate) fn copy(own: &mut [i32], shared: &mut [i32], to: usize, from: usize, count: usize)
+    requires { length own.old + length shared.old < 2 ^ 32 }
+    ensures words { own.new ++ shared.new ≡ plain.paste to
+        (plain.block (own.old ++ shared.old) from count) (own.old ++ shared.old) }
+    ensures own { length own.new ≡ length own.old }
+    ensures shared { length shared.new ≡ length shared.old }
+{
+    let all = own.len() + shared.len();
+    let there = count.min(all.saturating_sub(to));
+    if there == 0 {
+        return;
+    }
+    if to <= from {
+        copy_down(own, shared, to, from, there);
+    } else {
+        copy_up(own, shared, to, from, there);
+    }
+}
+
+// So many more blocks like the one of this size.
+fn repeat(own: &mut [i32], shared: &mut [i32], at: usize, size: usize, count: usize)
+    requires words { length own.old + length shared.old < 2 ^ 32 }
+    requires at { at < 2 ^ 34 }
+    requires size { size < 2 ^ 32 }
+    ensures words { own.new ++ shared.new ≡ plain.repeated at size count (own.old ++ shared.old) }
+    ensures own { length own.new ≡ length own.old }
+    ensures shared { length shared.new ≡ length shared.old }
+{
+    if size == 0 {
+        return;
+    }
+    let all = own.len() + shared.len();
+    let mut from = at;
+    for _i in 0..count {
+        if all <= from + size {
+            return;
+        }
+        copy(own, shared, from + size, from, size);
+        from += size;
+    }
+}
+
+fn start_by(own: &mut [i32], shared: &mut [i32], base: usize, start: Start)
+    requires words { length own.old + length shared.old < 2 ^ 32 }
+    requires base { base < 2 ^ 33 }
+    ensures words { own.new ++ shared.new ≡ plain.started_by base (view.start start)
+        (own.old ++ shared.old) }
+    ensures own { length own.new ≡ length own.old }
+    ensures shared { length shared.new ≡ length shared.old }
+{
+    match start {
+        Start::Fill { at, count, value } => {
+            fill(own, shared, base + at as usize, count as usize, value);
+        }
+        Start::Repeat { at, size, count } => {
+            let more = count.saturating_sub(1) as usize;
+            repeat(own, shared, base + at as usize, size as usize, more);
+        }
+    }
+}
+
+/// Makes words start as a plan says, which counts from a base.
+pub(crate) fn start(own: &mut [i32], shared: &mut [i32], base: usize, plan: &[Start])
+    requires words { length own.old + length shared.old < 2 ^ 32 }
+    requires base { base < 2 ^ 33 }
+    ensures words { own.new ++ shared.new ≡ plain.started base (map view.start plan.now)
+        (own.old ++ shared.old) }
+    ensures own { length own.new ≡ length own.old }
+    ensures shared { length shared.new ≡ length shared.old }
+{
+    for step in plan {
+        start_by(own, shared, base, *step);
+    }
+}
+
+/// Copies so many words from elsewhere.
+pub(crate) fn bring(own: &mut [i32], to: usize, source: &[i32], from: usize, count: usize)
+    requires { from < 2 ^ 33 }
+    ensures { own.new ≡ plain.paste to (plain.block source.now from count) own.old }
+{
+    let there = count.min(own.len().saturating_sub(to));
+    for i in 0..there {
+        own[to + i] = word(source, from + i);
+    }
+}

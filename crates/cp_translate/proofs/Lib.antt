@@ -1,0 +1,14 @@
+pub mod Answered
+pub mod Beginning
+pub mod PartsMade
+pub mod TermsMade
+pub mod ArgumentsMade
+pub mod CallsMade
+pub mod Emitting
+pub mod Storing
+pub mod Labelling
+pub mod Performing
+pub mod Sequencing
+pub mod Counting
+pub mod Cases
+pub mod Initialising

@@ -1,0 +1,374 @@
+use Rattle.std.proofs.Common.{◌≡◌, ◌∷◌, ◌++◌, ◌+◌, ◌∙◌, [], Some, pos, ℕ, List, add-one, ap, arith, codes, drop, length, length-append, map, refl, slice_get, subst, sym}
+use Rattle.std.specs.Str.{bytes_eq}
+use Rattle.std.specs.Int.{w32}
+use Rattle.std.proofs.lemmas.Int.{to_z-of_z}
+use Rattle.std.proofs.lemmas.List.{at_drop_more, drop_all}
+use Rattle.cp_model.specs.Abstract as a
+use Rattle.cp_model.specs.Abstract.{NoExpression}
+use Rattle.cp_model.specs.Calls.{callee}
+use Rattle.cp_model.specs.Erase as erase
+use Rattle.cp_model.specs.Expressions.{name_of}
+use Rattle.cp_model.specs.Types.{base_of_type}
+use Rattle.cp_typing.specs.StaticTypes.{expression_type}
+use Rattle.cp_code.specs.Scopes.{environment}
+use Rattle.cp_code.specs.Sites.{first_parameter}
+use Rattle.cp_scope.specs.Standing.{simple_of}
+use Rattle.cp_model.specs.Syntax as syntax
+use Rattle.cp_model.specs.Syntax.{chain_of}
+use Rattle.cp_model.specs.View as tree
+use Rattle.cp_model.specs.declared.tree.Expression.{Expression}
+use Rattle.cp_code.specs.CodedTerms.{CodedArguments, argument_of, coded_arguments, coded_spot, coded_term, coded_variable, function_named, lone_term, name_or_item, no_arguments, parameters_of, term_of_name, with_argument}
+use Rattle.cp_code.specs.Terms.{Function, Number, Standard}
+use Rattle.cp_emit.specs.Emission.{coded_call}
+use Rattle.cp_scope.proofs.Unrefused.{if_ok}
+use Rattle.cp_emit.specs.declared.call.MadeTerm.{MadeTerm}
+use Rattle.cp_threaded.proofs.Wide.{narrow}
+use Rattle.cp_translate.specs.Translated.{AreArguments, IsPlace, IsTerm}
+use Rattle.cp_translate.proofs.ArgumentsMade.{Finishes, all_made, declared_at, got, none_made, one_made}
+use Rattle.cp_translate.proofs.CallsMade.{called_as, called_by, first_at, nothing_passed, standard_as, standard_empty, standard_other, valued}
+use Rattle.cp_translate.proofs.TermsMade.{first_of, lone_made, name_designated, part_designated, part_held, seen_as}
+use Rattle.cp_model.proofs.Views.{view_call, view_chain, view_character, view_designator, view_field, view_index, view_not, view_number, view_operation, view_signed}
+use Rattle.cp_translate.proofs.translator.Translator.+terms.Goals as goal
+
+pub chain-loop-o-preserved : goal.chain-loop-o-preserved
+chain-loop-o-preserved t c = λ s low before e scope first.
+    let so_far = c.loop-o.invariant s low before e scope first in
+    let f = so_far.0 in
+    let o = c.o-item.result in
+    let i = c.loop-o.o-index in
+    let rest = c.args.rest.now in
+    let operand = tree.expression o.operand in
+    let step : chain_of f (map tree.operation (drop i rest)) ≡ chain_of f (map tree.operation (o ∷ drop (i + 1) rest)) =
+    at_drop_more (λ os. chain_of f (map tree.operation os)) rest i o c.loop-o-test.true
+    ∙ ap (λ p. chain_of f (map tree.operation (p ∷ drop (i + 1) rest))) (sym c.o-item.is) in
+    let view = ap (λ p. chain_of f (p ∷ map tree.operation (drop (i + 1) rest))) (view_operation o) in
+    let right =
+    subst (λ n. IsTerm (map coded_call c.loop-o.calls.items) c.term.new.calls.items c.in_ok-right.right (coded_term s (erase.expression operand) n))
+    so_far.1.temps (c.in_ok-right.ensures s scope) in (
+      syntax.Binary f o.operator o.at operand,
+      c.in_ok-left.ensures before c.loop-o.calls.items c.term.new.calls.items (coded_term s (erase.expression f) low)
+          (coded_term s (erase.expression operand) (coded_term s (erase.expression f) low).temps) so_far.1 right,
+      sym (step ∙ view) ∙ so_far.2,
+    )
+
+pub chain-returns : goal.chain-returns
+chain-returns t c = λ s low before e scope first.
+    let so_far = c.loop-o.invariant s low before e scope first in
+    let all = c.args.rest.now in
+    let end : so_far.0 ≡ chain_of e (map tree.operation all) =
+    sym (ap (λ os. chain_of so_far.0 (map tree.operation os)) (drop_all c.loop-o.o-index all c.loop-o-test.false)) ∙ so_far.2 in
+    subst (λ x. IsTerm before c.loop-o.calls.items c.loop-o.left (coded_term s (erase.expression x) low)) end so_far.1
+
+pub select_elements-loop-i-preserved : goal.select_elements-loop-i-preserved
+select_elements-loop-i-preserved t c = λ s low before d scope place.
+    let so_far = c.loop-i.invariant s low before d scope place in
+    let p = so_far.0 in
+    let o = c.i-item.result in
+    let i = c.loop-i.i-index in
+    let all = c.args.indices.now in
+    let e = erase.expression (tree.expression o.value) in
+    let step : erase.indexed p (tree.indices_of (map tree.index (drop i all))) ≡ erase.indexed p (tree.indices_of (map tree.index (o ∷ drop (i + 1) all))) =
+    at_drop_more (λ os. erase.indexed p (tree.indices_of (map tree.index os))) all i o c.loop-i-test.true
+    ∙ ap (λ q. erase.indexed p (tree.indices_of (map tree.index (q ∷ drop (i + 1) all)))) (sym c.i-item.is) in
+    let view = ap (λ q. erase.indexed p (tree.indices_of (q ∷ map tree.index (drop (i + 1) all)))) (view_index o) in (
+      a.At p e,
+      c.in_ok-made.ensures s low before c.loop-i.calls.items c.term.new.calls.items p e scope so_far.1 (c.in_ok-index.ensures s scope),
+      sym (step ∙ view) ∙ so_far.2,
+    )
+
+pub select_elements-returns : goal.select_elements-returns
+select_elements-returns t c = λ s low before d scope place.
+    let so_far = c.loop-i.invariant s low before d scope place in
+    let all = c.args.indices.now in
+    let end : so_far.0 ≡ erase.indexed d (tree.indices_of (map tree.index all)) =
+    sym (ap (λ os. erase.indexed so_far.0 (tree.indices_of (map tree.index os))) (drop_all c.loop-i.i-index all c.loop-i-test.false)) ∙ so_far.2 in
+    subst (λ x. IsPlace c.args.self.now.scope s low before c.loop-i.calls.items x c.loop-i.made) end so_far.1
+
+pub select-returns-in-Field : goal.select-returns-in-Field
+select-returns-in-Field t c =
+    let calls = c.args.calls.now.items in
+    rw c.in-Field.is
+    (if_ok c.field.result (λ made h s low before d scope place.
+    subst (λ y. IsPlace c.args.self.now.scope s low before calls (erase.select d y) made) (sym (view_field c.in-Field.at c.in-Field.name))
+    ((rw c.as_bytes.ensures at h) calls s low before d scope place)) c.field.ensures)
+
+pub spot-loop-selector-init : goal.spot-loop-selector-init
+spot-loop-selector-init t c = λ s scope. (
+  a.Plain c.args.d.now.root.name,
+  rw c.as_bytes.ensures at (c.in_ok-made.ensures s c.args.calls.now.items scope),
+  ap (λ ys. erase.selected (a.Plain c.args.d.now.root.name) (tree.selectors_of (map tree.selector ys))) c.deref-selector-items.ensures.value
+      ∙ sym (ap erase.designator (view_designator c.args.d.now)),
+)
+
+pub spot-loop-selector-preserved : goal.spot-loop-selector-preserved
+spot-loop-selector-preserved t c = λ s scope.
+    let so_far = c.loop-selector.invariant s scope in
+    let p = so_far.0 in
+    let o = c.selector-item.result in
+    let i = c.loop-selector.selector-index in
+    let all = c.deref-selector-items.result.now in
+    let step : erase.selected p (tree.selectors_of (map tree.selector (drop i all))) ≡ erase.selected p (tree.selectors_of (map tree.selector (o ∷ drop (i + 1) all))) =
+    at_drop_more (λ os. erase.selected p (tree.selectors_of (map tree.selector os))) all i o c.loop-selector-test.true
+    ∙ ap (λ q. erase.selected p (tree.selectors_of (map tree.selector (q ∷ drop (i + 1) all)))) (sym c.selector-item.is) in (
+      erase.select p (tree.selector o),
+      c.in_ok-made-2.ensures s c.args.low (map coded_call c.args.calls.now.items) p scope so_far.1,
+      sym step ∙ so_far.2,
+    )
+
+pub spot-returns : goal.spot-returns
+spot-returns t c = λ s scope.
+    let so_far = c.loop-selector.invariant s scope in
+    let all = c.deref-selector-items.result.now in
+    let end : so_far.0 ≡ erase.designator (tree.designator c.args.d.now) =
+    sym (ap (λ os. erase.selected so_far.0 (tree.selectors_of (map tree.selector os))) (drop_all c.loop-selector.selector-index all c.loop-selector-test.false))
+    ∙ so_far.2 in
+    subst (λ x. IsPlace c.args.self.now.scope s c.args.low (map coded_call c.args.calls.now.items) c.loop-selector.calls.items x c.loop-selector.made) end
+    so_far.1
+
+pub place_term-returns-in_default : goal.place_term-returns-in_default
+place_term-returns-in_default t c = λ s scope.
+    let d = c.args.d.now in
+    let calls = c.args.calls.now.items in
+    let none : d.selectors.items ≡ [] =
+    sym c.deref.ensures.value ∙ drop_all 0 c.deref.result.now (rw c.in_default.is at c.first.ensures.item.3) in
+    let named = name_designated d none in
+    let made : MadeTerm = record { term = c.in_ok-term.term; temps = c.args.low } in
+    subst (λ x. IsTerm (map coded_call calls) calls made (name_or_item s x (coded_spot s x c.args.low) c.args.low)) (sym named)
+    (lone_made calls made (term_of_name s d.root.name) c.args.low (rw c.as_bytes.ensures at (c.in_ok-term.ensures s scope)) refl)
+
+pub place_term-returns : goal.place_term-returns
+place_term-returns t c =
+    let d = c.args.d.now in
+    let x = erase.designator (tree.designator d) in
+    let before = map coded_call c.args.calls.now.items in
+    let after = c.spot.new.calls.items in
+    let low = c.args.low in
+    let some = first_of c.deref.result.now c.in-Some.first.now c.in-Some.ensures.value in
+    let all : d.selectors.items ≡ c.in-Some.first.now ∷ drop 1 c.deref.result.now = sym c.deref.ensures.value ∙ some in
+    let part = part_designated d c.in-Some.first.now (drop 1 c.deref.result.now) all c.in_ok-refuse_no_index.ensures in
+    if_ok c.item.result
+    (λ made h s scope.
+    subst (IsTerm before after made) (sym (part_held s x (coded_spot s x low) low part)) (h before after (coded_spot s x low) (c.in_ok-made.ensures s scope).spot))
+    c.item.ensures
+
+pub term-returns-in-Number : goal.term-returns-in-Number
+term-returns-in-Number t c = λ s scope.
+    let calls = c.args.calls.now.items in
+    let n : narrow c.from.result ≡ pos c.in-Number.value = to_z-of_z w32 c.from.result (record { sfits = c.from.type_inv }) ∙ c.from.ensures in
+    seen_as (map coded_call calls) calls c.number.result s c.args.low (tree.expression c.args.e.now) (syntax.Number c.in-Number.at c.in-Number.value)
+    (rw c.in-Number.is (view_number c.in-Number.at c.in-Number.value))
+    (subst (λ m. IsTerm (map coded_call calls) calls c.number.result (lone_term (Number m) c.args.low)) n (c.number.ensures calls))
+
+pub term-returns-in-Character : goal.term-returns-in-Character
+term-returns-in-Character t c = λ s scope.
+    let calls = c.args.calls.now.items in
+    let n : narrow c.from-in-Character.result ≡ pos c.in-Character.ordinal =
+    to_z-of_z w32 c.from-in-Character.result (record { sfits = c.from-in-Character.type_inv }) ∙ c.from-in-Character.ensures in
+    seen_as (map coded_call calls) calls c.number-in-Character.result s c.args.low (tree.expression c.args.e.now)
+    (syntax.Character c.in-Character.at c.in-Character.ordinal) (rw c.in-Character.is (view_character c.in-Character.at c.in-Character.ordinal))
+    (subst (λ m. IsTerm (map coded_call calls) calls c.number-in-Character.result (lone_term (Number m) c.args.low)) n (c.number-in-Character.ensures calls))
+
+pub term-returns-in_ok-made-in-Not : goal.term-returns-in_ok-made-in-Not
+term-returns-in_ok-made-in-Not t c =
+    let before = map coded_call c.args.calls.now.items in
+    let after = c.term-in-Not.new.calls.items in
+    let e = tree.expression c.in-Not.operand.value in
+    let v : tree.expression c.args.e.now ≡ syntax.Not c.in-Not.at e = rw c.in-Not.is (view_not c.in-Not.at c.in-Not.operand) in
+    if_ok c.not.result (λ made h s scope.
+    seen_as before after made s c.args.low (tree.expression c.args.e.now) (syntax.Not c.in-Not.at e) v
+    (h before after (coded_term s (erase.expression e) c.args.low) (rw c.deref-in-Not.ensures at (c.in_ok-made-in-Not.ensures s scope)))) c.not.ensures
+
+pub term-returns-in_ok-made-in-Signed : goal.term-returns-in_ok-made-in-Signed
+term-returns-in_ok-made-in-Signed t c =
+    let before = map coded_call c.args.calls.now.items in
+    let after = c.term-in-Signed.new.calls.items in
+    let sign = c.in-Signed.sign in
+    let e = tree.expression c.in-Signed.operand.value in
+    let v : tree.expression c.args.e.now ≡ syntax.Signed sign c.in-Signed.at e = rw c.in-Signed.is (view_signed sign c.in-Signed.at c.in-Signed.operand) in
+    if_ok c.with_sign.result (λ made h s scope.
+    seen_as before after made s c.args.low (tree.expression c.args.e.now) (syntax.Signed sign c.in-Signed.at e) v
+    (h before after s (erase.expression e) c.args.low (rw c.deref-in-Signed.ensures at (c.in_ok-made-in-Signed.ensures s scope)))) c.with_sign.ensures
+
+pub term-returns-in_ok-made-in-Chain : goal.term-returns-in_ok-made-in-Chain
+term-returns-in_ok-made-in-Chain t c =
+    let before = map coded_call c.args.calls.now.items in
+    let after = c.chain.new.calls.items in
+    let e = tree.expression c.in-Chain.first.value in
+    let os = map tree.operation c.in-Chain.rest.items in
+    let v : tree.expression c.args.e.now ≡ chain_of e os = rw c.in-Chain.is (view_chain c.in-Chain.first c.in-Chain.rest) in
+    if_ok c.chain.result (λ made h s scope.
+    seen_as before after made s c.args.low (tree.expression c.args.e.now) (chain_of e os) v
+    ((rw c.deref-in-Chain-2.ensures.value at h) s c.args.low before e scope (rw c.deref-in-Chain.ensures at (c.in_ok-made-in-Chain.ensures s scope))))
+    c.chain.ensures
+
+pub arguments-loop-e-init : goal.arguments-loop-e-init
+arguments-loop-e-init t c =
+    let made = c.no_arguments-made.result in
+    let calls = c.args.calls.now.items in
+    let es = erase.expressions (tree.expressions_of (map tree.expression c.args.es.now)) in record {
+      count = ap length c.no_arguments-made.ensures.arguments;
+      so_far = λ s ps scope declared.
+          subst (λ n. Finishes (map coded_call calls) calls made (coded_arguments s es ps c.args.at n) (coded_arguments s es ps c.args.at c.args.low))
+          (sym c.no_arguments-made.ensures.temps)
+          (none_made calls made (coded_arguments s es ps c.args.at c.args.low) c.no_arguments-made.ensures.arguments);
+    }
+
+pub arguments-loop-e-preserved : goal.arguments-loop-e-preserved
+arguments-loop-e-preserved t c =
+    let types = c.args.self.now.scope.tables.now.types in
+    let k = c.loop-e.e-index in
+    let all = c.args.es.now in
+    let o = c.e-item.result in
+    let e = erase.expression (tree.expression o) in
+    let made = c.loop-e.made in
+    let next = c.in_ok-next.next in
+    let after = c.argument.new.calls.items in
+    let longer : length c.push.new.self.items ≡ length (made.arguments.items ++ next.argument ∷ []) = ap length c.in_ok-push.ensures.items in
+    let read = got c.args.parameters.now c.len.result c.get.result c.in_ok-parameter.parameter c.get.ensures.lookup.3 c.in_ok-parameter.ensures.ok_part in
+    let same : k ≡ c.len.result = omega (arith, c.len.ensures, c.loop-e.invariant.count, made.arguments.ok.0) in
+    let there : slice_get c.args.parameters.now k ≡ Some c.in_ok-parameter.parameter.now = ap (slice_get c.args.parameters.now) same ∙ read in record {
+      count = omega (arith, longer, length-append made.arguments.items (next.argument ∷ []), c.loop-e.invariant.count);
+      so_far = λ s ps scope declared.
+          let p = declared_at types c.args.parameters.now ps k c.in_ok-parameter.parameter.now declared there in
+          let v = p.declared in
+          let split : drop k ps ≡ v ∷ drop (k + 1) ps = p.split ∙ ap (λ n. v ∷ drop n ps) (sym (add-one k)) in
+          let one = c.in_ok-next.ensures s v.1 scope p.reference p.type in
+          let behind = c.in_ok-at.ensures s v.1 scope p.reference p.type in
+          let x = argument_of s.globals v.1 c.loop-e.at (coded_term s e made.temps) (coded_variable s e made.temps) in
+          let rest : ℕ → ℕ → CodedArguments = λ at low. coded_arguments s (erase.expressions (tree.expressions_of (map tree.expression (drop (k + 1) all)))) (drop (k + 1) ps) at low in
+          let left : List Expression → CodedArguments = λ es. coded_arguments s (erase.expressions (tree.expressions_of (map tree.expression es))) (drop k ps) c.loop-e.at made.temps in
+          let step : left (drop k all) ≡ with_argument x (rest c.in_ok-at.at next.temps) =
+          at_drop_more left all k o c.loop-e-test.true
+          ∙ (ap (λ q. left (q ∷ drop (k + 1) all)) (sym c.e-item.is)
+          ∙ (ap (λ qs. coded_arguments s (erase.expressions (tree.expressions_of (map tree.expression (o ∷ drop (k + 1) all)))) qs c.loop-e.at made.temps) split
+          ∙ (λ i. with_argument x (rest (sym behind i) (sym one.temps i))))) in
+          one_made (map coded_call c.args.calls.now.items) c.loop-e.calls.items after made (record { arguments = c.push.new.self; temps = next.temps }) next x
+          (rest c.in_ok-at.at next.temps)
+          (coded_arguments s (erase.expressions (tree.expressions_of (map tree.expression all))) ps c.args.at c.args.low)
+          (subst (λ r. Finishes (map coded_call c.args.calls.now.items) c.loop-e.calls.items made r
+          (coded_arguments s (erase.expressions (tree.expressions_of (map tree.expression all))) ps c.args.at c.args.low)) step
+          (c.loop-e.invariant.so_far s ps scope declared)) one c.in_ok-push.ensures.items;
+    }
+
+pub arguments-returns : goal.arguments-returns
+arguments-returns t c = λ s ps scope declared.
+    let k = c.loop-e.e-index in
+    let all = c.args.es.now in
+    let made = c.loop-e.made in
+    let before = map coded_call c.args.calls.now.items in
+    let whole = coded_arguments s (erase.expressions (tree.expressions_of (map tree.expression all))) ps c.args.at c.args.low in
+    let left : List Expression → CodedArguments = λ es. coded_arguments s (erase.expressions (tree.expressions_of (map tree.expression es))) (drop k ps) c.loop-e.at made.temps in
+    all_made before c.loop-e.calls.items made whole
+    (subst (λ es. Finishes before c.loop-e.calls.items made (left es) whole) (drop_all k all c.loop-e-test.false)
+    (c.loop-e.invariant.so_far s ps scope declared))
+
+pub user_call-returns : goal.user_call-returns
+user_call-returns t c =
+    let before = map coded_call c.args.calls.now.items in
+    let es = erase.expressions (tree.expressions_of (map tree.expression c.args.es.now)) in
+    let routine = c.args.callee.now.routine.table.now in
+    let types = c.args.self.now.scope.tables.now.types in
+    if_ok c.function_call.result
+    (λ made h s d scope is.
+    let declared = is.routine.table.parameters in
+    let at : c.words_before.result ≡ first_parameter d = c.words_before.ensures s.globals types d.routine is.routine.table in
+    let xs = (rw c.deref.ensures.value at c.in_ok-xs.ensures) s (parameters_of s d) scope declared in
+    h s d before (coded_arguments s es (parameters_of s d) (first_parameter d) c.args.low) scope is
+    (subst (λ n. AreArguments before c.arguments.new.calls.items c.in_ok-xs.xs (coded_arguments s es (parameters_of s d) n c.args.low)) at xs))
+    c.function_call.ensures
+
+pub standard_call-returns-then-is_empty_test : goal.standard_call-returns-then-is_empty_test
+standard_call-returns-then-is_empty_test t c =
+    let before = map coded_call c.args.calls.now.items in
+    let after = c.argument_spot.new.calls.items in
+    let all = c.args.es.now in
+    let low = c.args.low in
+    let o = c.e-item.result in
+    let e = erase.expression (tree.expression o) in
+    let es = erase.expressions (tree.expressions_of (map tree.expression (drop 1 all))) in
+    let split : all ≡ o ∷ drop 1 all = first_at all o c.in-len1-up.len_at_least c.e-item.is in
+    if_ok c.empty.result
+    (λ made h s d scope none named.
+    let known = ap (λ x. bytes_eq x (codes "empty")) (sym named) ∙ (sym c.is_empty_test.ensures ∙ c.if-is_empty_test.true) in
+    let b = base_of_type (expression_type (environment s) e) in
+    subst (λ xs. IsTerm before after made (coded_term s (erase.called d (erase.expressions (tree.expressions_of (map tree.expression xs)))) low)) (sym split)
+    (subst (IsTerm before after made)
+    (sym (standard_as s d e es low none ∙ standard_empty (name_of d) b (coded_term s e low) (coded_variable s e low) known))
+    (h before after (coded_variable s e low) (c.in_ok-made.ensures s scope))))
+    c.empty.ensures
+
+pub standard_call-returns : goal.standard_call-returns
+standard_call-returns t c =
+    let before = map coded_call c.args.calls.now.items in
+    let after = c.term.new.calls.items in
+    let all = c.args.es.now in
+    let low = c.args.low in
+    let o = c.e-item.result in
+    let e = erase.expression (tree.expression o) in
+    let es = erase.expressions (tree.expressions_of (map tree.expression (drop 1 all))) in
+    let split : all ≡ o ∷ drop 1 all = first_at all o c.in-len1-up.len_at_least c.e-item.is in
+    if_ok c.apply.result
+    (λ made h s d scope none named.
+    let known = ap (λ x. bytes_eq x (codes "empty")) (sym named) ∙ (sym c.is_empty_test.ensures ∙ c.if-is_empty_test.false) in
+    let b = base_of_type (expression_type (environment s) e) in
+    let f = c.in_ok-function.ensures s scope ∙ ap (λ x. function_named x b) named in
+    subst (λ xs. IsTerm before after made (coded_term s (erase.called d (erase.expressions (tree.expressions_of (map tree.expression xs)))) low)) (sym split)
+    (subst (IsTerm before after made)
+    (sym (standard_as s d e es low none ∙ standard_other (name_of d) b (coded_term s e low) (coded_variable s e low) known))
+    (subst (λ (g : Function). IsTerm before after made (record (coded_term s e low) { term = Standard g (coded_term s e low).term })) f
+    (h before after (coded_term s e low) (c.in_ok-made-2.ensures s scope)))))
+    c.apply.ensures
+
+pub use_term-returns-in-Some : goal.use_term-returns-in-Some
+use_term-returns-in-Some t c =
+    let calls = c.args.calls.now.items in
+    let d = erase.designator (tree.designator c.args.d.now) in
+    let after = c.function_call.new.calls.items in
+    let low = c.args.low in
+    if_ok c.function_call.result
+    (λ made h s scope.
+    let found = called_by c.args.self.now.scope s c.in-Some.callee (callee (environment s) d) (rw c.in-Some.is at (c.in_ok-callee.ensures s scope)) in
+    subst (IsTerm (map coded_call calls) after made) (sym (called_as s d NoExpression low found.callee found.is))
+    (h s found.callee (map coded_call calls) (no_arguments low) scope found.stands
+    (nothing_passed calls c.no_arguments-none.result low c.no_arguments-none.ensures.arguments c.no_arguments-none.ensures.temps)))
+    c.function_call.ensures
+
+pub argument-returns-in_ok-made-in-Some : goal.argument-returns-in_ok-made-in-Some
+argument-returns-in_ok-made-in-Some t c = λ s v scope reference stands.
+    let before = map coded_call c.args.calls.now.items in
+    let after = c.term.new.calls.items in
+    let e = erase.expression (tree.expression c.args.e.now) in
+    let simple = (rw (c.tables.ensures, c.in-Some.is) at c.simple.ensures) v.type stands in
+    valued before after c.simple_value.result s.globals v c.args.at (coded_term s e c.args.low) (coded_variable s e c.args.low) (simple_of c.in-Some.simple)
+    (sym reference ∙ c.if-parameter.false) simple
+    (c.simple_value.ensures before after s.globals (coded_term s e c.args.low) (coded_variable s e c.args.low) (c.in_ok-made-in-Some.ensures s scope))
+
+pub argument-returns-in_ok-made-in-None : goal.argument-returns-in_ok-made-in-None
+argument-returns-in_ok-made-in-None t c =
+    let before = map coded_call c.args.calls.now.items in
+    let after = c.argument_spot-in-None.new.calls.items in
+    let e = erase.expression (tree.expression c.args.e.now) in
+    if_ok c.copy_argument.result
+    (λ made h s v scope reference stands.
+    let other = (rw (c.tables.ensures, c.in-None.is) at c.simple.ensures) v.type stands in
+    valued before after made s.globals v c.args.at (coded_term s e c.args.low) (coded_variable s e c.args.low) v.type
+    (sym reference ∙ c.if-parameter.false) refl
+    (h before after s v.type (coded_term s e c.args.low) (coded_variable s e c.args.low) scope stands other (c.in_ok-made-in-None.ensures s scope)))
+    c.copy_argument.ensures
+
+pub term-returns-in-Some : goal.term-returns-in-Some
+term-returns-in-Some t c =
+    let before = map coded_call c.args.calls.now.items in
+    let after = c.user_call.new.calls.items in
+    let low = c.args.low in
+    let d = tree.designator c.in-Call.d in
+    let es = tree.expressions_of (map tree.expression c.in-Call.es.items) in
+    let v : tree.expression c.args.e.now ≡ syntax.Call d es = rw c.in-Call.is (view_call c.in-Call.d c.in-Call.es) in
+    if_ok c.user_call.result
+    (λ made h s scope.
+    let found = called_by c.args.self.now.scope s c.in-Some.callee (callee (environment s) (erase.designator d))
+    (rw c.in-Some.is at (c.in_ok-callee-in-Call.ensures s scope)) in
+    seen_as before after made s low (tree.expression c.args.e.now) (syntax.Call d es) v
+    (subst (IsTerm before after made) (sym (called_as s (erase.designator d) (erase.expressions es) low found.callee found.is))
+    ((rw c.deref.ensures.value at h) s found.callee scope found.stands)))
+    c.user_call.ensures

@@ -1,0 +1,33 @@
+use Rattle.std.proofs.Common.{rules, ◌∙◌, ap}
+use Rattle.std.specs.Int.{w32}
+use Rattle.std.specs.Prelude.{FitsSigned}
+use Rattle.std.proofs.lemmas.Int.{to_z-of_z}
+use Rattle.cp_threaded.proofs.Wide.{narrow}
+use Rattle.cp_model.specs.Erase as erase
+use Rattle.cp_model.specs.View as tree
+use Rattle.cp_code.specs.CodedTerms.{coded_variable}
+use Rattle.cp_code.specs.Programs as op
+use Rattle.cp_threaded.specs.declared.operation.Operation.TheVariants as operation
+use Rattle.cp_translate.proofs.Answered.{both_ok}
+use Rattle.cp_translate.proofs.Emitting.{entered}
+use Rattle.cp_typing.specs.StaticTypes.{expression_type}
+use Rattle.cp_code.specs.CodedStatements.{high_of, low_of}
+use Rattle.cp_code.specs.Scopes.{environment}
+use Rattle.cp_translate.proofs.translator.Translator.accept.Goals as goal
+
+pub returns : goal.returns
+returns c =
+    both_ok c.emit.result
+    (λ place at emits s scope.
+    let x = c.in_ok-simple-2.simple in
+    let low : FitsSigned w32 x.low = search rules in
+    let high : FitsSigned w32 x.high = search rules in
+    let e = erase.expression (tree.expression c.args.e.now) in
+    let t = expression_type (environment s) e in
+    let d = coded_variable s e c.args.low in
+    let made = rw c.new-calls.ensures.items at (c.in_ok-made.ensures s scope) in
+    let same = rw c.in_ok-simple-2.ensures.ok_part at (c.in_ok-simple.ensures s scope) in
+    entered c.args.emitter.now c.emit.new.self place c.argument_spot.new.calls.items d.calls
+    (operation.Accept c.in_ok-made.made.spot (narrow x.low) (narrow x.high) c.args.next) (op.Accept d.spot (low_of t) (high_of t) c.args.next)
+    made.calls (λ i. op.Accept (made.spot i) ((to_z-of_z w32 x.low low ∙ ap low_of same) i) ((to_z-of_z w32 x.high high ∙ ap high_of same) i) c.args.next) at emits)
+    c.emit.ensures.entry c.emit.ensures.emits

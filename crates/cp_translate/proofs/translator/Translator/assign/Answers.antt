@@ -1,0 +1,30 @@
+use Rattle.std.proofs.Common.{◌∙◌, subst, sym}
+use Rattle.cp_model.specs.Erase as erase
+use Rattle.cp_model.specs.View as tree
+use Rattle.cp_code.specs.CodedStatements.{assign_by}
+use Rattle.cp_emit.specs.Emission.{place_of}
+use Rattle.cp_scope.proofs.Unrefused.{if_ok}
+use Rattle.cp_translate.specs.Statements.{Enters}
+use Rattle.cp_translate.proofs.translator.Translator.assign.Goals as goal
+
+pub returns-then-branch : goal.returns-then-branch
+returns-then-branch c =
+    let d = erase.designator (tree.designator c.args.d.now) in
+    let e = erase.expression (tree.expression c.args.e.now) in
+    let old = c.args.emitter.now in
+    if_ok c.set_result.result
+    (λ entry h s scope.
+    subst (λ b. Enters old c.set_result.new.emitter entry (assign_by s d e c.args.low (place_of old) c.args.next b))
+    (sym c.if-branch.true ∙ c.in_ok-is_result.ensures s scope) (h s scope))
+    c.set_result.ensures
+
+pub returns-else-branch : goal.returns-else-branch
+returns-else-branch c =
+    let d = erase.designator (tree.designator c.args.d.now) in
+    let e = erase.expression (tree.expression c.args.e.now) in
+    let old = c.args.emitter.now in
+    if_ok c.store.result
+    (λ entry h s scope.
+    subst (λ b. Enters old c.store.new.emitter entry (assign_by s d e c.args.low (place_of old) c.args.next b))
+    (sym c.if-branch.false ∙ c.in_ok-is_result.ensures s scope) (h s scope))
+    c.store.ensures

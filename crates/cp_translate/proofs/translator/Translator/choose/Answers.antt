@@ -1,0 +1,21 @@
+use Rattle.std.proofs.Common.{map}
+use Rattle.cp_model.specs.Erase as erase
+use Rattle.cp_model.specs.View as tree
+use Rattle.cp_code.specs.CodedTerms.{coded_term}
+use Rattle.cp_code.specs.Programs as op
+use Rattle.cp_threaded.specs.declared.operation.Operation.TheVariants as operation
+use Rattle.cp_translate.proofs.Answered.{both_ok}
+use Rattle.cp_translate.proofs.Emitting.{entered}
+use Rattle.cp_code.specs.CodedStatements.{table_of}
+use Rattle.cp_threaded.specs.Labels.{arm}
+use Rattle.cp_translate.proofs.translator.Translator.choose.Goals as goal
+
+pub returns : goal.returns
+returns c =
+    both_ok c.emit.result
+    (λ place at emits s scope.
+    let made = rw c.new-calls.ensures.items at (c.in_ok-made.ensures s scope) in
+    let d = coded_term s (erase.expression (tree.expression c.args.e.now)) c.args.low in
+    entered c.args.emitter.now c.emit.new.self place c.term.new.calls.items d.calls (operation.Case c.in_ok-made.made.term c.in_ok-table.table)
+    (op.Case d.term (table_of (map arm c.args.arms.items))) made.calls (λ i. op.Case (made.term i) (c.in_ok-table.ensures.table i)) at emits)
+    c.emit.ensures.entry c.emit.ensures.emits

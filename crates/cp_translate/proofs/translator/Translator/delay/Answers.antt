@@ -1,0 +1,18 @@
+use Rattle.cp_model.specs.Erase as erase
+use Rattle.cp_model.specs.View as tree
+use Rattle.cp_code.specs.CodedTerms.{coded_variable}
+use Rattle.cp_code.specs.Programs as op
+use Rattle.cp_threaded.specs.declared.operation.Operation.TheVariants as operation
+use Rattle.cp_translate.proofs.Answered.{both_ok}
+use Rattle.cp_translate.proofs.Emitting.{entered}
+use Rattle.cp_translate.proofs.translator.Translator.delay.Goals as goal
+
+pub returns : goal.returns
+returns c =
+    both_ok c.emit.result
+    (λ place at emits s scope.
+    let made = rw c.new-calls.ensures.items at (c.in_ok-made.ensures s scope) in
+    let d = coded_variable s (erase.expression (tree.expression c.args.e.now)) c.args.low in
+    entered c.args.emitter.now c.emit.new.self place c.argument_spot.new.calls.items d.calls (operation.Delay c.in_ok-made.made.spot c.args.next)
+    (op.Delay d.spot c.args.next) made.calls (λ i. op.Delay (made.spot i) c.args.next) at emits)
+    c.emit.ensures.entry c.emit.ensures.emits

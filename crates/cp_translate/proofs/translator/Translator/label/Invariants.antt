@@ -1,0 +1,13 @@
+use Rattle.std.proofs.Common.{◌≡◌, drop, map, reverse}
+use Rattle.cp_model.specs.Erase as erase
+use Rattle.cp_code.specs.CodedStatements.{arms_at}
+use Rattle.cp_code.specs.Scopes as code
+use Rattle.cp_scope.specs.Scopes.{IsScope}
+use Rattle.cp_threaded.specs.Labels.{arm}
+use Rattle.cp_translate.proofs.translator.Translator.label.Given as goal
+
+-- The labels from this one on were added.
+abbrev pub invariant-loop-i : goal.invariant-loop-i
+invariant-loop-i l =
+    (s : code.Scope) → IsScope l.self.scope s
+    → map arm (reverse l.arms.items) ≡ arms_at s.globals l.place (map erase.constant (drop l.i l.labels)) (map arm (reverse l.fn.arms.items))

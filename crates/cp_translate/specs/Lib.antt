@@ -1,0 +1,3 @@
+pub mod Translated
+pub mod Statements
+pub mod Initialisation

@@ -1,0 +1,82 @@
+-- When what was made of terms, spots and arguments is what the compiler's definition makes of them.
+use Rattle.std.specs.Prelude.{◌≡◌, ℕ, List, ◌++◌, map}
+use Rattle.cp_model.specs.Abstract as a
+use Rattle.cp_model.specs.Abstract.{Name}
+use Rattle.cp_model.specs.Erase as erase
+use Rattle.cp_model.specs.Syntax as syntax
+use Rattle.cp_model.specs.Syntax.{chain_of}
+use Rattle.cp_code.specs.CodedTerms as coded
+use Rattle.cp_code.specs.CodedTerms.{coded_arguments, coded_spot, coded_term, coded_variable}
+use Rattle.cp_code.specs.Scopes as code
+use Rattle.cp_threaded.specs.View as view
+use Rattle.cp_scope.specs.declared.scope.Scope.{Scope}
+use Rattle.cp_scope.specs.Places.{PlaceIs}
+use Rattle.cp_scope.specs.Scopes.{IsScope}
+use Rattle.cp_emit.specs.Emission.{coded_call}
+use Rattle.cp_emit.specs.declared.call.MadeTerm.{MadeTerm}
+use Rattle.cp_emit.specs.declared.emitter.CodedCall.{CodedCall}
+use Rattle.cp_translate.specs.declared.made.MadeArgument.{MadeArgument}
+use Rattle.cp_translate.specs.declared.made.MadeArguments.{MadeArguments}
+use Rattle.cp_translate.specs.declared.made.MadeSpot.{MadeSpot}
+
+-- ---- What was made, with the calls behind those from before
+
+pub record IsTerm (before : List coded.CodedCall) (after : List CodedCall) (made : MadeTerm) (t : coded.CodedTerm)
+    : Type 0 where
+  pub term : view.term made.term ≡ t.term
+  pub calls : map coded_call after ≡ before ++ t.calls
+  pub temps : made.temps ≡ t.temps
+
+pub record IsSpot (before : List coded.CodedCall) (after : List CodedCall) (made : MadeSpot) (t : coded.CodedSpot)
+    : Type 0 where
+  pub spot : view.spot made.spot ≡ t.spot
+  pub calls : map coded_call after ≡ before ++ t.calls
+  pub temps : made.temps ≡ t.temps
+
+pub record IsArgument (before : List coded.CodedCall) (after : List CodedCall)
+    (made : MadeArgument) (t : coded.CodedArgument) : Type 0 where
+  pub argument : view.argument made.argument ≡ t.argument
+  pub calls : map coded_call after ≡ before ++ t.calls
+  pub temps : made.temps ≡ t.temps
+
+pub record AreArguments (before : List coded.CodedCall) (after : List CodedCall)
+    (made : MadeArguments) (t : coded.CodedArguments) : Type 0 where
+  pub arguments : map view.argument made.arguments.items ≡ t.arguments
+  pub calls : map coded_call after ≡ before ++ t.calls
+  pub temps : made.temps ≡ t.temps
+
+-- The spot of a designator, and the type of its place.
+pub record IsPlace (scope : Scope) (s : code.Scope) (low : ℕ) (before : List coded.CodedCall) (after : List CodedCall)
+    (d : a.Designator) (made : MadeSpot) : Type 0 where
+  pub spot : IsSpot before after made (coded_spot s d low)
+  pub typed : PlaceIs scope s made.of d
+
+-- ---- What functions make
+
+-- The term of an expression, in each scope that has this table.
+abbrev pub TermOf : Scope → List CodedCall → List CodedCall → a.Expression → ℕ → MadeTerm → Type 0
+TermOf scope old new e low made =
+    (s : code.Scope) → IsScope scope s → IsTerm (map coded_call old) new made (coded_term s e low)
+
+-- The variable that is an argument.
+abbrev pub VariableOf : Scope → List CodedCall → List CodedCall → a.Expression → ℕ → MadeSpot → Type 0
+VariableOf scope old new e low made =
+    (s : code.Scope) → IsScope scope s → IsSpot (map coded_call old) new made (coded_variable s e low)
+
+abbrev pub SpotOf : Scope → List CodedCall → List CodedCall → a.Designator → ℕ → MadeSpot → Type 0
+SpotOf scope old new d low made =
+    (s : code.Scope) → IsScope scope s → IsPlace scope s low (map coded_call old) new d made
+
+-- A part of the place that was made before.
+abbrev pub PartOf : Scope → List CodedCall → List CodedCall → MadeSpot → (a.Designator → a.Designator) → MadeSpot
+    → Type 0
+PartOf scope old new of part made =
+    (s : code.Scope) (low : ℕ) (before : List coded.CodedCall) (d : a.Designator) → IsScope scope s
+    → IsPlace scope s low before old d of → IsPlace scope s low before new (part d) made
+
+-- An operand that was made before, and the operators and operands after it.
+abbrev pub ChainOf : Scope → List CodedCall → List CodedCall → MadeTerm → List syntax.Operation → MadeTerm → Type 0
+ChainOf scope old new first rest made =
+    (s : code.Scope) (low : ℕ) (before : List coded.CodedCall) (e : syntax.Expression) → IsScope scope s
+    → IsTerm before old first (coded_term s (erase.expression e) low)
+    → IsTerm before new made (coded_term s (erase.expression (chain_of e rest)) low)

@@ -1,0 +1,100 @@
+//! What is passed to parameters.
+
+ghost use Rattle.std.specs.Prelude.{◌≡◌, ◌+◌, false, List, IfOk};
+ghost use Rattle.cp_model.specs.Declarations.{Variable};
+ghost use Rattle.cp_model.specs.Types.{GlobalScope, ResolvedType};
+ghost use Rattle.cp_code.specs.CodedTerms as coded;
+ghost use Rattle.cp_code.specs.CodedTerms.{by_value};
+ghost use Rattle.cp_code.specs.Layout.{local_words};
+ghost use Rattle.cp_code.specs.Scopes as code;
+ghost use Rattle.cp_code.specs.Terms as plain;
+ghost use Rattle.cp_emit.specs.declared.emitter.CodedCall.{CodedCall};
+ghost use Rattle.cp_scope.specs.Expressions.{is_simple};
+ghost use Rattle.cp_scope.specs.Scopes.{IsScope};
+ghost use Rattle.cp_scope.specs.Standing.{Stands, simple_of};
+ghost use Rattle.cp_translate.specs.Translated.{IsArgument, IsSpot, IsTerm};
+
+use crate::made::{MadeArgument, MadeSpot};
+use crate::translator::Translator;
+use cp_emit::call::MadeTerm;
+use cp_scope::{CompileError, Declared, Simple};
+use cp_threaded::operation::Argument;
+
+/// A reference to a variable.
+pub fn reference(at: u32, made: MadeSpot) -> MadeArgument
+    ensures { (before : List coded.CodedCall) (after : List CodedCall) (c : coded.CodedSpot)
+        → IsSpot before after made c → IsArgument before after result
+        (record { argument = plain.Reference at c.spot; calls = c.calls; temps = c.temps }) }
+{
+    MadeArgument {
+        argument: Argument::Reference { at, to: made.spot },
+        temps: made.temps,
+    }
+}
+
+/// A value of a simple type.
+pub fn simple_value(at: u32, simple: Simple, made: MadeTerm) -> MadeArgument
+    ensures { (before : List coded.CodedCall) (after : List CodedCall) (g : GlobalScope)
+        (t : coded.CodedTerm) (c : coded.CodedSpot) → IsTerm before after made t
+        → IsArgument before after result (by_value g (simple_of simple.entry) at t c) }
+{
+    MadeArgument {
+        argument: Argument::Value {
+            at,
+            low: simple.low,
+            high: simple.high,
+            term: made.term,
+        },
+        temps: made.temps,
+    }
+}
+
+impl<'s, 't> Translator<'s, 't> {
+    /// The words of a variable of a type that isn't simple.
+    pub fn copy_argument(
+        &self,
+        at: u32,
+        of: usize,
+        made: MadeSpot,
+    ) -> Result<MadeArgument, CompileError>
+        ensures { IfOk result (λ r. (before : List coded.CodedCall) (after : List CodedCall)
+            (s : code.Scope) (type : ResolvedType) (t : coded.CodedTerm) (c : coded.CodedSpot)
+            → IsScope self.now.scope s → Stands self.now.scope.tables.now.types of type
+            → is_simple type ≡ false → IsSpot before after made c
+            → IsArgument before after r (by_value s.globals type at t c)) }
+    {
+        Ok(MadeArgument {
+            argument: Argument::Copy {
+                at,
+                size: self.words(of)?,
+                from: made.spot,
+            },
+            temps: made.temps,
+        })
+    }
+
+    // How many words a parameter takes in an activation.
+    fn local_words(&self, parameter: &Declared) -> Result<u32, CompileError>
+        ensures { IfOk result (λ n. (s : code.Scope) (v : Variable) → IsScope self.now.scope s
+            → parameter.now.by_reference ≡ v.by_reference
+            → Stands self.now.scope.tables.now.types parameter.now.of v.type
+            → n ≡ local_words s.globals v) }
+    {
+        let layouts = &self.scope.tables().layouts;
+        match layouts.local_words(parameter.by_reference, parameter.of) {
+            Some(words) => Ok(words),
+            None => Err(CompileError::Unaccepted),
+        }
+    }
+
+    /// Where the parameter after this one lies.
+    pub fn next_parameter(&self, at: u32, parameter: &Declared) -> Result<u32, CompileError>
+        ensures { IfOk result (λ n. (s : code.Scope) (v : Variable) → IsScope self.now.scope s
+            → parameter.now.by_reference ≡ v.by_reference
+            → Stands self.now.scope.tables.now.types parameter.now.of v.type
+            → n ≡ at + local_words s.globals v) }
+    {
+        let words = self.local_words(parameter)?;
+        at.checked_add(words).ok_or(CompileError::Unaccepted)
+    }
+}

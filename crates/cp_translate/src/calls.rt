@@ -1,0 +1,131 @@
+//! Calls of routines.
+
+ghost use Rattle.std.specs.Prelude.{◌≡◌, List, Option, IfOk, map};
+ghost use Rattle.cp_model.specs.Abstract.{Routine};
+ghost use Rattle.cp_model.specs.Calls as model;
+ghost use Rattle.cp_model.specs.Components as components;
+ghost use Rattle.cp_model.specs.Declarations.{declarations};
+ghost use Rattle.cp_model.specs.Types.{GlobalScope};
+ghost use Rattle.cp_typing.specs.Needs.{result_words};
+ghost use Rattle.cp_code.specs.CodedTerms as coded;
+ghost use Rattle.cp_code.specs.Layout as layout;
+ghost use Rattle.cp_code.specs.Scopes as code;
+ghost use Rattle.cp_code.specs.Scopes.{environment, part_start, right_start, target_of};
+ghost use Rattle.cp_emit.specs.declared.emitter.CodedCall.{CodedCall};
+ghost use Rattle.cp_scope.specs.Routines.{RoutineStands};
+ghost use Rattle.cp_scope.specs.Scopes.{IsCallee, IsScope};
+ghost use Rattle.cp_scope.specs.Systems.{ComponentIs, IsComponent};
+ghost use Rattle.cp_scope.specs.declared.types.Types.{Types};
+ghost use Rattle.cp_threaded.specs.View as view;
+ghost use Rattle.cp_translate.specs.Translated.{AreArguments, IsTerm};
+
+use crate::made::MadeArguments;
+use crate::translator::Translator;
+use cp_emit::CodedCall;
+use cp_emit::call::{MadeTerm, make_call};
+use cp_model::tree::Sort;
+use cp_scope::{Callee, CompileError, Component, RoutineTable, small_number};
+use cp_threaded::operation::{Argument, Call, Target};
+
+/// How many words lie in front of the parameters of a routine: that of its result, if it is a function.
+pub fn words_before(routine: &RoutineTable) -> u32
+    ensures { (g : GlobalScope) (types : Types) (r : Routine) → RoutineStands g types routine.now r
+        → result ≡ result_words r.result }
+{
+    if routine.result.is_some() { 1 } else { 0 }
+}
+
+impl<'s, 't> Translator<'s, 't> {
+    // Where a class lies in the component.
+    fn class_at(&self, name: &[u8]) -> Result<u32, CompileError>
+        ensures { IfOk result (λ at. (s : code.Scope) → IsScope self.now.scope s
+            → at ≡ part_start (layout.member s.globals s.system name.now)) }
+    {
+        let part = self.scope.member(name).ok_or(CompileError::Unaccepted)?;
+        part.at.ok_or(CompileError::Unaccepted)
+    }
+
+    // Where a right lies in the component.
+    fn right_at(&self, name: &[u8]) -> Result<u32, CompileError>
+        ensures { IfOk result (λ at. (s : code.Scope) → IsScope self.now.scope s
+            → at ≡ right_start (layout.right s.globals s.system name.now)) }
+    {
+        let right = self.scope.right(name).ok_or(CompileError::Unaccepted)?;
+        small_number(right.at)
+    }
+
+    /// The component whose routine is called, where it is named.
+    pub fn component_target(&self, of: Component) -> Result<Target, CompileError>
+        ensures { IfOk result (λ t. (s : code.Scope) (n : components.Component)
+            → IsScope self.now.scope s → IsComponent self.now.scope.tables.now.types
+            (declarations s.globals s.system.parameters)
+            (declarations s.globals s.system.variables) of.entry n
+            → view.target t ≡ target_of (environment s) (Some n)) }
+    {
+        let types = &self.scope.tables().types;
+        let system = types.system(of.system).ok_or(CompileError::Unaccepted)?;
+        match (system.sort, of.is_parameter) {
+            (Sort::Class, false) => Ok(Target::Class(self.class_at(of.name)?)),
+            (Sort::Class, true) => Ok(Target::ClassRight(self.right_at(of.name)?)),
+            (Sort::Monitor, false) => {
+                let number = small_number(of.monitors)?.checked_add(1);
+                Ok(Target::Monitor(number.ok_or(CompileError::Unaccepted)?))
+            }
+            (Sort::Monitor, true) => Ok(Target::MonitorRight(self.right_at(of.name)?)),
+            (Sort::Process, _) => Ok(Target::Own),
+        }
+    }
+
+    /// The component whose routine is called.
+    pub fn target(&self, of: Option<Component>) -> Result<Target, CompileError>
+        ensures { IfOk result (λ t. (s : code.Scope) (n : Option components.Component)
+            → IsScope self.now.scope s → ComponentIs self.now.scope.tables.now.types
+            (declarations s.globals s.system.parameters)
+            (declarations s.globals s.system.variables) of.entry n
+            → view.target t ≡ target_of (environment s) n) }
+    {
+        match of {
+            None => Ok(Target::Own),
+            Some(component) => self.component_target(component),
+        }
+    }
+
+    /// A call of a routine with these arguments.
+    pub fn call(
+        &self,
+        callee: &Callee,
+        arguments: Vec<Argument>,
+        low: u32,
+    ) -> Result<Call, CompileError>
+        ensures { IfOk result (λ r. (s : code.Scope) (c : model.Callee) → IsScope self.now.scope s
+            → IsCallee self.now.scope s callee.now c
+            → view.call r ≡ coded.call_of s (code.unit_of s c) (target_of (environment s) c.of)
+            (map view.argument arguments.items) low) }
+    {
+        Ok(Call {
+            routine: self.scope.unit_of(callee)?,
+            target: self.target(callee.of)?,
+            arguments,
+            words: self.scope.words()?,
+            temps: low,
+        })
+    }
+
+    /// A call of a function with these arguments, whose value goes to the next temp.
+    pub fn function_call(
+        &self,
+        callee: &Callee,
+        xs: MadeArguments,
+        low: u32,
+        calls: &mut Vec<CodedCall>,
+    ) -> Result<MadeTerm, CompileError>
+        ensures { IfOk result (λ made. (s : code.Scope) (c : model.Callee)
+            (before : List coded.CodedCall) (ys : coded.CodedArguments) → IsScope self.now.scope s
+            → IsCallee self.now.scope s callee.now c
+            → AreArguments before calls.old.items xs ys
+            → IsTerm before calls.new.items made (coded.function_call s c ys low)) }
+    {
+        let call = self.call(callee, xs.arguments, low)?;
+        make_call(self.alloc, calls, call, xs.temps)
+    }
+}

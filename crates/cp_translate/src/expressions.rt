@@ -1,0 +1,314 @@
+//! Expressions and designators.
+//!
+//! An expression, its designators and its arguments lead to one another; what doesn't stands in modules of its own.
+
+ghost use Rattle.std.specs.Prelude.{◌≡◌, None, IfOk, List, map};
+ghost use Rattle.cp_model.specs.Abstract as a;
+ghost use Rattle.cp_model.specs.Abstract.{Name};
+ghost use Rattle.cp_model.specs.Calls as model;
+ghost use Rattle.cp_model.specs.Calls.{callee};
+ghost use Rattle.cp_model.specs.Declarations.{Variable};
+ghost use Rattle.cp_model.specs.Erase as erase;
+ghost use Rattle.cp_model.specs.Expressions.{name_of};
+ghost use Rattle.cp_model.specs.View as tree;
+ghost use Rattle.cp_code.specs.CodedTerms.{argument_of, coded_arguments, coded_spot, coded_term, coded_variable, function_call, name_or_item, parameters_of};
+ghost use Rattle.cp_code.specs.Scopes as code;
+ghost use Rattle.cp_code.specs.Scopes.{environment};
+ghost use Rattle.cp_code.specs.Sites.{first_parameter};
+ghost use Rattle.cp_emit.specs.Emission.{coded_call};
+ghost use Rattle.cp_emit.specs.declared.emitter.CodedCall.{CodedCall};
+ghost use Rattle.cp_scope.specs.Scopes.{IsCallee, IsScope};
+ghost use Rattle.cp_scope.specs.Standing.{Stands};
+ghost use Rattle.cp_scope.specs.Variables.{AreDeclared, declared_entry};
+ghost use Rattle.cp_translate.specs.Translated.{AreArguments, ChainOf, IsArgument, IsTerm, PartOf, SpotOf, TermOf, VariableOf};
+
+use crate::arguments::{reference, simple_value};
+use crate::calls::words_before;
+use crate::made::{MadeArgument, MadeArguments, MadeSpot, no_arguments};
+use crate::standard::{is_empty_test, lone_name};
+use crate::translator::Translator;
+use cp_emit::CodedCall;
+use cp_emit::call::MadeTerm;
+use cp_model::tree::{Designator, Expression, Index, Operation, Selector};
+use cp_scope::{Callee, CompileError, Declared, refuse_no_index};
+
+impl<'s, 't> Translator<'s, 't> {
+    /// The term of an expression, whose calls are made before. The values of calls go to the temps from `low` on.
+    #[cycle(terms)]
+    pub fn term(
+        &self,
+        e: &Expression,
+        low: u32,
+        calls: &mut Vec<CodedCall>,
+    ) -> Result<MadeTerm, CompileError>
+        ensures { IfOk result (TermOf self.now.scope calls.old.items calls.new.items
+            (erase.expression (tree.expression e.now)) low) }
+    {
+        match e {
+            Expression::Number { value, .. } => Ok(self.number(i32::from(*value), low)),
+            Expression::Character { ordinal, .. } => Ok(self.number(i32::from(*ordinal), low)),
+            Expression::Designated(d) => self.use_term(d, low, calls),
+            Expression::Call(d, es) => match self.scope.callee(d)? {
+                Some(callee) => self.user_call(&callee, es, low, calls),
+                None => self.standard_call(lone_name(d)?, es, low, calls),
+            },
+            Expression::Parenthesized { inner, .. } => self.term(inner, low, calls),
+            Expression::Not { operand, .. } => {
+                let made = self.term(operand, low, calls)?;
+                self.not(made)
+            }
+            Expression::Signed { sign, operand, .. } => {
+                let made = self.term(operand, low, calls)?;
+                self.with_sign(*sign, made)
+            }
+            Expression::Chain { first, rest } => {
+                let made = self.term(first, low, calls)?;
+                self.chain(made, rest, calls)
+            }
+        }
+    }
+
+    // The operators after an operand, and their right operands.
+    #[cycle(terms)]
+    fn chain(
+        &self,
+        first: MadeTerm,
+        rest: &[Operation],
+        calls: &mut Vec<CodedCall>,
+    ) -> Result<MadeTerm, CompileError>
+        ensures { IfOk result (ChainOf self.now.scope calls.old.items calls.new.items first
+            (map tree.operation rest.now)) }
+    {
+        let mut left = first;
+        for o in rest {
+            let right = self.term(&o.operand, left.temps, calls)?;
+            left = self.binary(left, o.operator, right)?;
+        }
+        Ok(left)
+    }
+
+    // A designator that is used as a value: a call without arguments, or what a name or a place holds.
+    #[cycle(terms)]
+    fn use_term(
+        &self,
+        d: &Designator,
+        low: u32,
+        calls: &mut Vec<CodedCall>,
+    ) -> Result<MadeTerm, CompileError>
+        ensures { IfOk result (TermOf self.now.scope calls.old.items calls.new.items
+            (a.Use (erase.designator (tree.designator d.now))) low) }
+    {
+        match self.scope.callee(d)? {
+            Some(callee) => {
+                let none = no_arguments(self.alloc, low);
+                self.function_call(&callee, none, low, calls)
+            }
+            None => self.place_term(d, low, calls),
+        }
+    }
+
+    // What a name or a place holds.
+    #[cycle(terms)]
+    fn place_term(
+        &self,
+        d: &Designator,
+        low: u32,
+        calls: &mut Vec<CodedCall>,
+    ) -> Result<MadeTerm, CompileError>
+        ensures { IfOk result (λ made. (s : code.Scope) → IsScope self.now.scope s
+            → IsTerm (map coded_call calls.old.items) calls.new.items made
+            (name_or_item s (erase.designator (tree.designator d.now))
+            (coded_spot s (erase.designator (tree.designator d.now)) low) low)) }
+    {
+        let Some(first) = d.selectors.first() else {
+            let term = self.named_term(d.root.name.as_bytes())?;
+            return Ok(MadeTerm { term, temps: low });
+        };
+        refuse_no_index(first)?;
+        let made = self.spot(d, low, calls)?;
+        self.item(made)
+    }
+
+    /// The spot of a designator.
+    #[cycle(terms)]
+    pub fn spot(
+        &self,
+        d: &Designator,
+        low: u32,
+        calls: &mut Vec<CodedCall>,
+    ) -> Result<MadeSpot, CompileError>
+        ensures { IfOk result (SpotOf self.now.scope calls.old.items calls.new.items
+            (erase.designator (tree.designator d.now)) low) }
+    {
+        let mut made = self.variable(d.root.name.as_bytes(), low)?;
+        for selector in &d.selectors {
+            made = self.select(made, selector, calls)?;
+        }
+        Ok(made)
+    }
+
+    // A part of what was designated so far.
+    #[cycle(terms)]
+    fn select(
+        &self,
+        of: MadeSpot,
+        selector: &Selector,
+        calls: &mut Vec<CodedCall>,
+    ) -> Result<MadeSpot, CompileError>
+        ensures { IfOk result (PartOf self.now.scope calls.old.items calls.new.items of
+            (λ d. erase.select d (tree.selector selector.now))) }
+    {
+        match selector {
+            Selector::Field { name, .. } => self.field(of, name.name.as_bytes()),
+            Selector::Indexed(indices) => self.select_elements(of, indices, calls),
+        }
+    }
+
+    #[cycle(terms)]
+    fn select_elements(
+        &self,
+        of: MadeSpot,
+        indices: &[Index],
+        calls: &mut Vec<CodedCall>,
+    ) -> Result<MadeSpot, CompileError>
+        ensures { IfOk result (PartOf self.now.scope calls.old.items calls.new.items of
+            (λ d. erase.indexed d (tree.indices_of (map tree.index indices.now)))) }
+    {
+        let mut made = of;
+        for i in indices {
+            let index = self.term(&i.value, made.temps, calls)?;
+            made = self.element(made, index)?;
+        }
+        Ok(made)
+    }
+
+    /// The spot of an argument that is a variable. What is no designator is refused.
+    #[cycle(terms)]
+    pub fn argument_spot(
+        &self,
+        e: &Expression,
+        low: u32,
+        calls: &mut Vec<CodedCall>,
+    ) -> Result<MadeSpot, CompileError>
+        ensures { IfOk result (VariableOf self.now.scope calls.old.items calls.new.items
+            (erase.expression (tree.expression e.now)) low) }
+    {
+        match e {
+            Expression::Designated(d) => self.spot(d, low, calls),
+            Expression::Parenthesized { inner, .. } => self.argument_spot(inner, low, calls),
+            _ => Err(CompileError::Unaccepted),
+        }
+    }
+
+    // A call of a user's function.
+    #[cycle(terms)]
+    fn user_call(
+        &self,
+        callee: &Callee,
+        es: &[Expression],
+        low: u32,
+        calls: &mut Vec<CodedCall>,
+    ) -> Result<MadeTerm, CompileError>
+        ensures { IfOk result (λ made. (s : code.Scope) (c : model.Callee)
+            → IsScope self.now.scope s → IsCallee self.now.scope s callee.now c
+            → IsTerm (map coded_call calls.old.items) calls.new.items made (function_call s c
+            (coded_arguments s
+            (erase.expressions (tree.expressions_of (map tree.expression es.now)))
+            (parameters_of s c) (first_parameter c) low) low)) }
+    {
+        let table = callee.routine.table;
+        let xs = self.arguments(&table.parameters, es, words_before(table), low, calls)?;
+        self.function_call(callee, xs, low, calls)
+    }
+
+    // A standard function of the first argument.
+    #[cycle(terms)]
+    fn standard_call(
+        &self,
+        name: &[u8],
+        es: &[Expression],
+        low: u32,
+        calls: &mut Vec<CodedCall>,
+    ) -> Result<MadeTerm, CompileError>
+        ensures { IfOk result (λ made. (s : code.Scope) (d : a.Designator)
+            → IsScope self.now.scope s → callee (environment s) d ≡ None → name.now ≡ name_of d
+            → IsTerm (map coded_call calls.old.items) calls.new.items made (coded_term s
+            (erase.called d
+            (erase.expressions (tree.expressions_of (map tree.expression es.now)))) low)) }
+    {
+        let [e, ..] = es else {
+            return Err(CompileError::Unaccepted);
+        };
+        if is_empty_test(name) {
+            let made = self.argument_spot(e, low, calls)?;
+            return self.empty(made);
+        }
+        let made = self.term(e, low, calls)?;
+        self.apply(self.function(name, e)?, made)
+    }
+
+    /// The arguments for parameters of which the first lies so many words from the first of the new activation.
+    #[cycle(terms)]
+    pub fn arguments(
+        &self,
+        parameters: &[Declared],
+        es: &[Expression],
+        at: u32,
+        low: u32,
+        calls: &mut Vec<CodedCall>,
+    ) -> Result<MadeArguments, CompileError>
+        ensures { IfOk result (λ made. (s : code.Scope) (ps : List (Name × Variable))
+            → IsScope self.now.scope s → AreDeclared self.now.scope.tables.now.types
+            (map declared_entry parameters.now) ps
+            → AreArguments (map coded_call calls.old.items) calls.new.items made
+            (coded_arguments s
+            (erase.expressions (tree.expressions_of (map tree.expression es.now))) ps at low)) }
+    {
+        let mut made = no_arguments(self.alloc, low);
+        let mut at = at;
+        for e in es {
+            let parameter = parameters
+                .get(made.arguments.len())
+                .ok_or(CompileError::Unaccepted)?;
+            let next = self.argument(parameter, at, e, made.temps, calls)?;
+            at = self.next_parameter(at, parameter)?;
+            made.arguments.push(next.argument)?;
+            made.temps = next.temps;
+        }
+        Ok(made)
+    }
+
+    // The argument for a parameter: a reference, a simple value or a copy.
+    #[cycle(terms)]
+    fn argument(
+        &self,
+        parameter: &Declared,
+        at: u32,
+        e: &Expression,
+        low: u32,
+        calls: &mut Vec<CodedCall>,
+    ) -> Result<MadeArgument, CompileError>
+        ensures { IfOk result (λ made. (s : code.Scope) (v : Variable) → IsScope self.now.scope s
+            → parameter.now.by_reference ≡ v.by_reference
+            → Stands self.now.scope.tables.now.types parameter.now.of v.type
+            → IsArgument (map coded_call calls.old.items) calls.new.items made
+            (argument_of s.globals v at
+            (coded_term s (erase.expression (tree.expression e.now)) low)
+            (coded_variable s (erase.expression (tree.expression e.now)) low))) }
+    {
+        if parameter.by_reference {
+            let made = self.argument_spot(e, low, calls)?;
+            return Ok(reference(at, made));
+        }
+        match self.scope.tables().types.simple(Some(parameter.of)) {
+            Some(simple) => {
+                let made = self.term(e, low, calls)?;
+                Ok(simple_value(at, simple, made))
+            }
+            None => {
+                let made = self.argument_spot(e, low, calls)?;
+                self.copy_argument(at, parameter.of, made)
+            }
+        }
+    }
+}

@@ -1,0 +1,40 @@
+//! What is made of designators and arguments. The calls before it are kept apart, behind those that were made before.
+
+ghost use Rattle.std.specs.Prelude.{◌≡◌, []};
+
+use cp_threaded::operation::Argument;
+use cp_threaded::term::Spot;
+use std::alloc::Global;
+
+/// The spot of a designator, the first temp after the values of its calls, and the number of the type of its place.
+#[derive(Debug, Drop)]
+pub struct MadeSpot {
+    pub spot: Spot,
+    pub temps: u32,
+    pub of: Option<usize>,
+}
+
+/// What is passed to a parameter, and the first temp after the values of its calls.
+#[derive(Debug, Drop)]
+pub struct MadeArgument {
+    pub argument: Argument,
+    pub temps: u32,
+}
+
+/// What is passed to parameters, and the first temp after the values of their calls.
+#[derive(Debug, Drop)]
+pub struct MadeArguments {
+    pub arguments: Vec<Argument>,
+    pub temps: u32,
+}
+
+/// Nothing is passed, and no call is made before.
+pub fn no_arguments(alloc: Global, low: u32) -> MadeArguments
+    ensures arguments { result.arguments.items ≡ [] }
+    ensures temps { result.temps ≡ low }
+{
+    MadeArguments {
+        arguments: Vec::new(alloc),
+        temps: low,
+    }
+}

@@ -1,0 +1,108 @@
+//! What names are made to: places where variables begin, constants and the clock.
+
+ghost use Rattle.std.specs.Prelude.{◌≡◌, ℕ, Option, IfOk, option_map};
+ghost use Rattle.cp_model.specs.Declarations.{Variable};
+ghost use Rattle.cp_model.specs.Names.{lookup};
+ghost use Rattle.cp_code.specs.CodedTerms.{ordinal_or_zero, root_or_first, term_of_name};
+ghost use Rattle.cp_code.specs.Layout as layout;
+ghost use Rattle.cp_code.specs.Scopes as code;
+ghost use Rattle.cp_code.specs.Scopes.{root_named, root_of_local, root_or_member};
+ghost use Rattle.cp_code.specs.Terms as plain;
+ghost use Rattle.cp_scope.specs.Layouts.{PartIs};
+ghost use Rattle.cp_scope.specs.Locals.{LocalIs};
+ghost use Rattle.cp_scope.specs.Scopes.{IsScope};
+ghost use Rattle.cp_scope.specs.declared.types.Types.{Types};
+ghost use Rattle.cp_threaded.specs.View as view;
+ghost use Rattle.cp_typing.specs.StaticTypes.{is_clock};
+
+use crate::translator::Translator;
+use cp_scope::{CompileError, Local, Part};
+use cp_threaded::term::{Root, Term};
+
+// Whether a name is that of the clock.
+fn is_clock(name: &[u8]) -> bool
+    ensures { result ≡ is_clock name.now }
+{
+    name == b"realtime".as_slice()
+}
+
+// Where a parameter or variable of a routine begins.
+fn root_of_local(local: Local) -> Result<Root, CompileError>
+    ensures { IfOk result (λ r. (types : Types) (q : ℕ × Variable)
+        → LocalIs types (Some local) (Some q) → view.root r ≡ root_of_local q) }
+{
+    let at = local.at.ok_or(CompileError::Unaccepted)?;
+    if local.by_reference {
+        Ok(Root::Through {
+            parameter: at,
+            plus: 0,
+        })
+    } else {
+        Ok(Root::Local(at))
+    }
+}
+
+// Where a member of a component begins.
+fn root_of_member(part: Part) -> Result<Root, CompileError>
+    ensures { IfOk result (λ r. (types : Types) (q : layout.Part)
+        → PartIs types (Some part) (Some q) → view.root r ≡ plain.Member q.0) }
+{
+    let at = part.at.ok_or(CompileError::Unaccepted)?;
+    Ok(Root::Member(at))
+}
+
+// Where a variable begins: one of the routine, or else one of the component.
+fn root_of(local: Option<Local>, part: Option<Part>) -> Result<Option<Root>, CompileError>
+    ensures { IfOk result (λ r. (types : Types) (l : Option (ℕ × Variable))
+        (m : Option layout.Part) → LocalIs types local l → PartIs types part m
+        → option_map view.root r ≡ root_or_member l m) }
+{
+    match (local, part) {
+        (Some(local), _) => Ok(Some(root_of_local(local)?)),
+        (None, Some(part)) => Ok(Some(root_of_member(part)?)),
+        (None, None) => Ok(None),
+    }
+}
+
+impl<'s, 't> Translator<'s, 't> {
+    /// Where the variable of a name begins, if the name is that of one.
+    pub fn root(&self, name: &[u8]) -> Result<Option<Root>, CompileError>
+        ensures { IfOk result (λ r. (s : code.Scope) → IsScope self.now.scope s
+            → option_map view.root r ≡ root_named s name.now) }
+    {
+        root_of(self.scope.local(name), self.scope.member(name))
+    }
+
+    /// Where the variable of a name begins. A name of none is refused.
+    pub fn variable_root(&self, name: &[u8]) -> Result<Root, CompileError>
+        ensures { IfOk result (λ r. (s : code.Scope) → IsScope self.now.scope s
+            → view.root r ≡ root_or_first (root_named s name.now)) }
+    {
+        self.root(name)?.ok_or(CompileError::Unaccepted)
+    }
+
+    // The value of a constant. A name of none is refused.
+    fn constant(&self, name: &[u8]) -> Result<Term, CompileError>
+        ensures { IfOk result (λ t. (s : code.Scope) → IsScope self.now.scope s
+            → view.term t ≡ plain.Number (ordinal_or_zero (lookup name.now s.globals.constants))) }
+    {
+        match self.scope.tables().names.constants.find(name) {
+            Some(value) => Ok(Term::number(self.alloc, value.ordinal)),
+            None => Err(CompileError::Unaccepted),
+        }
+    }
+
+    /// What a name alone is the value of: the clock, a variable or a constant.
+    pub fn named_term(&self, name: &[u8]) -> Result<Term, CompileError>
+        ensures { IfOk result (λ t. (s : code.Scope) → IsScope self.now.scope s
+            → view.term t ≡ term_of_name s name.now) }
+    {
+        if is_clock(name) {
+            return Ok(Term::realtime(self.alloc));
+        }
+        match self.root(name)? {
+            Some(root) => Ok(Term::variable(self.alloc, root)),
+            None => self.constant(name),
+        }
+    }
+}

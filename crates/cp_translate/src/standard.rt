@@ -1,0 +1,112 @@
+//! Standard functions.
+
+ghost use Rattle.std.specs.Prelude.{◌≡◌, List, IfOk, codes};
+ghost use Rattle.std.specs.Str.{bytes_eq};
+ghost use Rattle.cp_model.specs.Erase as erase;
+ghost use Rattle.cp_model.specs.Expressions.{name_of};
+ghost use Rattle.cp_model.specs.Types as types;
+ghost use Rattle.cp_model.specs.Types.{base_of_type};
+ghost use Rattle.cp_model.specs.View as tree;
+ghost use Rattle.cp_typing.specs.StaticTypes.{expression_type};
+ghost use Rattle.cp_code.specs.CodedTerms as coded;
+ghost use Rattle.cp_code.specs.CodedTerms.{function_named};
+ghost use Rattle.cp_code.specs.Scopes as code;
+ghost use Rattle.cp_code.specs.Scopes.{environment};
+ghost use Rattle.cp_code.specs.Terms as plain;
+ghost use Rattle.cp_emit.specs.declared.emitter.CodedCall.{CodedCall};
+ghost use Rattle.cp_scope.specs.Scopes.{IsScope};
+ghost use Rattle.cp_scope.specs.Standing.{base_of};
+ghost use Rattle.cp_threaded.specs.View as view;
+ghost use Rattle.cp_translate.specs.Translated.{IsSpot, IsTerm};
+
+use crate::made::MadeSpot;
+use crate::translator::Translator;
+use cp_emit::call::MadeTerm;
+use cp_model::tree::{Designator, Expression};
+use cp_scope::{Base, CompileError, base_type, first_ordinal, last_ordinal};
+use cp_threaded::term::{Function, Term};
+
+/// The name that a designator is. A part is refused.
+pub fn lone_name(d: &Designator) -> Result<&[u8], CompileError>
+    ensures { IfOk result (λ x. x.now ≡ name_of (erase.designator (tree.designator d.now))) }
+{
+    if d.selectors.is_empty() {
+        Ok(d.root.name.as_bytes())
+    } else {
+        Err(CompileError::Unaccepted)
+    }
+}
+
+/// Whether a name is that of the function of queues.
+pub fn is_empty_test(name: &[u8]) -> bool
+    ensures { result ≡ bytes_eq name.now (codes "empty") }
+{
+    name == b"empty".as_slice()
+}
+
+// So many values further on, within the bounds of a base type.
+fn shift(by: i32, base: Base) -> Result<Function, CompileError>
+    ensures { IfOk result (λ f. view.function f
+        ≡ plain.Shift by (types.first_ordinal (base_of base.entry))
+        (types.last_ordinal (base_of base.entry))) }
+{
+    Ok(Function::Shift {
+        by,
+        low: first_ordinal(base),
+        high: last_ordinal(base)?,
+    })
+}
+
+impl<'s, 't> Translator<'s, 't> {
+    /// The base type of the value of an expression.
+    pub fn base(&self, e: &Expression) -> Result<Base<'t>, CompileError>
+        ensures { IfOk result (λ b. (s : code.Scope) → IsScope self.now.scope s → base_of b
+            ≡ base_of_type (expression_type (environment s)
+            (erase.expression (tree.expression e.now)))) }
+    {
+        Ok(base_type(self.scope.expression_type(e)?))
+    }
+
+    /// The standard function of one simple value that a name is.
+    pub fn function(&self, name: &[u8], e: &Expression) -> Result<Function, CompileError>
+        ensures { IfOk result (λ f. (s : code.Scope) → IsScope self.now.scope s
+            → view.function f ≡ function_named name.now (base_of_type
+            (expression_type (environment s) (erase.expression (tree.expression e.now))))) }
+    {
+        if name == b"abs".as_slice() {
+            Ok(Function::Abs)
+        } else if name == b"succ".as_slice() {
+            shift(1, self.base(e)?)
+        } else if name == b"pred".as_slice() {
+            shift(-1, self.base(e)?)
+        } else if name == b"ord".as_slice() {
+            Ok(Function::Ord)
+        } else {
+            Ok(Function::Chr)
+        }
+    }
+
+    /// A standard function of a value.
+    pub fn apply(&self, function: Function, made: MadeTerm) -> Result<MadeTerm, CompileError>
+        ensures { IfOk result (λ n. (before : List coded.CodedCall) (after : List CodedCall)
+            (t : coded.CodedTerm) → IsTerm before after made t → IsTerm before after n
+            (record t { term = plain.Standard (view.function function) t.term })) }
+    {
+        Ok(MadeTerm {
+            term: made.term.standard(self.alloc, function)?,
+            temps: made.temps,
+        })
+    }
+
+    /// Whether a queue is empty.
+    pub fn empty(&self, made: MadeSpot) -> Result<MadeTerm, CompileError>
+        ensures { IfOk result (λ n. (before : List coded.CodedCall) (after : List CodedCall)
+            (c : coded.CodedSpot) → IsSpot before after made c → IsTerm before after n
+            (record { term = plain.Empty c.spot; calls = c.calls; temps = c.temps })) }
+    {
+        Ok(MadeTerm {
+            term: Term::empty(self.alloc, made.spot)?,
+            temps: made.temps,
+        })
+    }
+}

@@ -1,0 +1,213 @@
+//! Statements.
+//!
+//! A list of statements is emitted from its last to its first, so that an operation knows the place to which it leads. The operation
+//! that closes a loop comes first, at the place to which the loop's body leads; it is complete once the body stands.
+
+ghost use Rattle.std.specs.Prelude.{ℕ, IfOk, map};
+ghost use Rattle.cp_model.specs.Abstract as a;
+ghost use Rattle.cp_model.specs.Erase as erase;
+ghost use Rattle.cp_model.specs.View as tree;
+ghost use Rattle.cp_translate.specs.Statements.{ArmsOf, StatementOf};
+
+use crate::translator::Translator;
+use cp_emit::Emitter;
+use cp_model::tree::{Arm, Direction, Expression, Identifier, Statement};
+use cp_scope::CompileError;
+use cp_threaded::arm::Arm as CodedArm;
+use cp_threaded::operation::Operation;
+
+impl<'s, 't> Translator<'s, 't> {
+    /// Emits the operations of a statement, which lead to the next, and answers where they are entered. Temps are free from `low` on.
+    #[cycle(statements)]
+    pub fn statement(
+        &self,
+        s: &Statement,
+        low: u32,
+        next: u32,
+        emitter: &mut Emitter,
+    ) -> Result<u32, CompileError>
+        ensures { IfOk result (StatementOf self.now.scope emitter.old emitter.new
+            (erase.statement (tree.statement s.now)) low next) }
+    {
+        match s {
+            Statement::Empty => Ok(next),
+            Statement::Assign { target, value, .. } => {
+                self.assign(target, value, low, next, emitter)
+            }
+            Statement::Call(d, es) => self.perform(d, es, low, next, emitter),
+            Statement::Compound(list) => self.statements(list, low, next, emitter),
+            Statement::If { condition, then } => {
+                let yes = self.statement(then, low, next, emitter)?;
+                self.test(condition, low, yes, next, emitter)
+            }
+            Statement::IfElse {
+                condition,
+                then,
+                otherwise,
+            } => {
+                let no = self.statement(otherwise, low, next, emitter)?;
+                let yes = self.statement(then, low, next, emitter)?;
+                self.test(condition, low, yes, no, emitter)
+            }
+            Statement::Case { selector, arms } => self.case(arms, selector, low, next, emitter),
+            Statement::While { condition, body } => {
+                self.while_loop(body, condition, low, next, emitter)
+            }
+            Statement::Repeat { body, condition } => {
+                self.repeat(body, condition, low, next, emitter)
+            }
+            Statement::For {
+                variable,
+                from,
+                direction,
+                last,
+                body,
+            } => self.for_loop(body, variable, from, *direction, last, low, next, emitter),
+            Statement::Cycle(list) => self.cycle(list, low, emitter),
+            Statement::Init { items, .. } => self.initialise(items, low, next, emitter),
+        }
+    }
+
+    /// Statements, one after another.
+    #[cycle(statements)]
+    pub fn statements(
+        &self,
+        list: &[Statement],
+        low: u32,
+        next: u32,
+        emitter: &mut Emitter,
+    ) -> Result<u32, CompileError>
+        ensures { IfOk result (StatementOf self.now.scope emitter.old emitter.new
+            (erase.statements (tree.statements_of (map tree.statement list.now))) low next) }
+    {
+        let mut entry = next;
+        for i in (0..list.len()).rev() {
+            entry = self.statement(&list[i], low, entry, emitter)?;
+        }
+        Ok(entry)
+    }
+
+    #[cycle(statements)]
+    fn case(
+        &self,
+        list: &[Arm],
+        selector: &Expression,
+        low: u32,
+        next: u32,
+        emitter: &mut Emitter,
+    ) -> Result<u32, CompileError>
+        ensures { IfOk result (StatementOf self.now.scope emitter.old emitter.new
+            (a.Case (erase.expression (tree.expression selector.now))
+            (erase.arms (tree.arms_of (map tree.arm list.now)))) low next) }
+    {
+        let arms = self.arms(list, low, next, emitter)?;
+        self.choose(selector, arms, low, emitter)
+    }
+
+    // The statements of a `case`, and where each of their labels leads.
+    #[cycle(statements)]
+    fn arms(
+        &self,
+        list: &[Arm],
+        low: u32,
+        next: u32,
+        emitter: &mut Emitter,
+    ) -> Result<Vec<CodedArm>, CompileError>
+        ensures { IfOk result (λ arms. ArmsOf self.now.scope emitter.old emitter.new
+            (erase.arms (tree.arms_of (map tree.arm list.now))) low next arms.items) }
+    {
+        let mut arms = Vec::new(self.alloc);
+        for i in (0..list.len()).rev() {
+            let arm = &list[i];
+            let entry = self.statement(&arm.body, low, next, emitter)?;
+            self.label(&arm.labels, entry, &mut arms)?;
+        }
+        arms.reverse();
+        Ok(arms)
+    }
+
+    #[cycle(statements)]
+    fn while_loop(
+        &self,
+        body: &Statement,
+        condition: &Expression,
+        low: u32,
+        next: u32,
+        emitter: &mut Emitter,
+    ) -> Result<u32, CompileError>
+        ensures { IfOk result (StatementOf self.now.scope emitter.old emitter.new
+            (a.While (erase.expression (tree.expression condition.now))
+            (erase.statement (tree.statement body.now))) low next) }
+    {
+        let place = emitter.place()?;
+        let entry = self.test(condition, low, 0, next, emitter)?;
+        let first = self.statement(body, low, entry, emitter)?;
+        emitter.close_loop(place, first);
+        Ok(entry)
+    }
+
+    #[cycle(statements)]
+    fn repeat(
+        &self,
+        list: &[Statement],
+        condition: &Expression,
+        low: u32,
+        next: u32,
+        emitter: &mut Emitter,
+    ) -> Result<u32, CompileError>
+        ensures { IfOk result (StatementOf self.now.scope emitter.old emitter.new
+            (a.Repeat (erase.statements (tree.statements_of (map tree.statement list.now)))
+            (erase.expression (tree.expression condition.now))) low next) }
+    {
+        let place = emitter.place()?;
+        let entry = self.test(condition, low, next, 0, emitter)?;
+        let first = self.statements(list, low, entry, emitter)?;
+        emitter.close_repeat(place, first);
+        Ok(first)
+    }
+
+    // A `for` keeps its counter and its last value in two temps while its body runs.
+    #[cycle(statements)]
+    fn for_loop(
+        &self,
+        body: &Statement,
+        variable: &Identifier,
+        from: &Expression,
+        direction: Direction,
+        last: &Expression,
+        low: u32,
+        next: u32,
+        emitter: &mut Emitter,
+    ) -> Result<u32, CompileError>
+        ensures { IfOk result (StatementOf self.now.scope emitter.old emitter.new
+            (a.For variable.now.name (erase.is_down direction)
+            (erase.expression (tree.expression from.now))
+            (erase.expression (tree.expression last.now))
+            (erase.statement (tree.statement body.now))) low next) }
+    {
+        let inner = low.checked_add(2).ok_or(CompileError::Unaccepted)?;
+        let mut counting = self.counting(variable.name.as_bytes(), direction, low, next)?;
+        let place = emitter.push(Operation::ForNext(counting))?;
+        let first = self.statement(body, inner, place, emitter)?;
+        emitter.close_loop(place, first);
+        counting.body = first;
+        self.start_counting(counting, from, last, emitter)
+    }
+
+    #[cycle(statements)]
+    fn cycle(
+        &self,
+        list: &[Statement],
+        low: u32,
+        emitter: &mut Emitter,
+    ) -> Result<u32, CompileError>
+        ensures { IfOk result (λ entry. (next : ℕ) → StatementOf self.now.scope emitter.old
+            emitter.new (a.Cycle (erase.statements (tree.statements_of
+            (map tree.statement list.now)))) low next entry) }
+    {
+        let place = emitter.push(Operation::Cycle { body: 0 })?;
+        let first = self.statements(list, low, place, emitter)?;
+        emitter.close_loop(place, first);
+        Ok(place)
+    }
+}
