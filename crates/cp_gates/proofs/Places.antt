@@ -1,5 +1,5 @@
 -- Gates and stages by number, and what changes where one of them is set.
-use Rattle.std.proofs.Common.{◌≡◌, ◌≤◌, ◌<◌, ◌-◌, ℕ, zero, suc, List, [], ◌∷◌, Option, None, Some, slice_get, slice_set, map, length, true, false, refl, ap, sym, ◌∙◌, arith}
+use Rattle.std.proofs.Common.{◌≡◌, ◌≤◌, ◌<◌, ◌-◌, ℕ, zero, suc, List, [], ◌∷◌, Option, None, Some, slice_get, slice_set, map, length, false, refl, ap, sym, ◌∙◌, arith}
 use Rattle.std.specs.Prelude.{option_map, remove, slice_index_or}
 use Rattle.std.proofs.lemmas.Option.{slice_get-get_or, slice_get-map, slice_get_past}
 use Rattle.std.proofs.lemmas.List.{map-set}
@@ -10,19 +10,19 @@ use Rattle.cp_process.specs.declared.outside.Gate.{Gate}
 use Rattle.cp_process.specs.declared.outside.Stage.{Stage}
 use Rattle.cp_gates.specs.KernelOf.{unset_gate}
 
-abbrev gate_or_unset : Option model.Gate → model.Gate
+abbrev pub gate_or_unset : Option model.Gate → model.Gate
 gate_or_unset None = unset_gate
 gate_or_unset (Some g) = g
 
-abbrev stage_or_begun : Option plain.Stage → plain.Stage
+abbrev pub stage_or_begun : Option plain.Stage → plain.Stage
 stage_or_begun None = plain.Begun
 stage_or_begun (Some g) = g
 
-gate_looked : (x : Option model.Gate) → elim x [ None ↦ unset_gate | Some g ↦ g ] ≡ gate_or_unset x
+pub gate_looked : (x : Option model.Gate) → elim x [ None ↦ unset_gate | Some g ↦ g ] ≡ gate_or_unset x
 gate_looked None = refl
 gate_looked (Some g) = refl
 
-stage_looked : (x : Option plain.Stage) → elim x [ None ↦ plain.Begun | Some g ↦ g ] ≡ stage_or_begun x
+pub stage_looked : (x : Option plain.Stage) → elim x [ None ↦ plain.Begun | Some g ↦ g ] ≡ stage_or_begun x
 stage_looked None = refl
 stage_looked (Some g) = refl
 

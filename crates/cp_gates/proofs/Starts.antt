@@ -5,7 +5,6 @@ use Rattle.cp_code.specs.Programs as code
 use Rattle.cp_steps.specs.KernelSteps as plain
 use Rattle.cp_steps.specs.Machines as machines
 use Rattle.cp_process.specs.States as states
-use Rattle.cp_process.specs.declared.outside.Stage.{Stage}
 use Rattle.cp_gates.specs.KernelOf.{Bytes, bytes_or_none, unset_gate}
 use Rattle.cp_process.specs.declared.outside.Stage.TheVariants as stage
 

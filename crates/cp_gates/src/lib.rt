@@ -6,9 +6,11 @@
 //! - `kernel`, `starting`: the kernel, and how it starts.
 //! - `reading`: what is read of it.
 //! - `effects`: what a step leaves to the kernel.
+//! - `turns`: one step of the kernel.
 #![tactic(auto)]
 
 mod effects;
 pub mod kernel;
 pub mod reading;
 mod starting;
+mod turns;

@@ -49,6 +49,13 @@ impl Kernel {
         }
     }
 
+    /// Whether process p has begun, and neither asks nor is delayed.
+    pub fn is_begun(&self, p: u32) -> bool
+        ensures { result ≡ plain.is_begun (plain.stage_of (kernel_of self.now).stages p) }
+    {
+        matches!(self.stage(p), Stage::Begun)
+    }
+
     /// The shared word at a place. A missing one reads as 0.
     pub fn word(&self, at: usize) -> i32
         ensures { result ≡ word (kernel_of self.now).shared at }
