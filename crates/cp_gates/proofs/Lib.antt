@@ -1,0 +1,5 @@
+pub mod Asking
+pub mod Parting
+pub mod Places
+pub mod Starts
+pub mod Stepping

@@ -1,0 +1,50 @@
+-- What a kernel has at the start, element by element.
+use Rattle.std.proofs.Common.{◌≡◌, ◌<◌, ℕ, zero, suc, ℤ, List, [], ◌∷◌, ◌++◌, Some, slice_get, slice_set, map, length, drop, refl, ap, sym, ◌∙◌, arith}
+use Rattle.std.specs.Prelude.{replicate, slice_index_or}
+use Rattle.cp_code.specs.Programs as code
+use Rattle.cp_steps.specs.KernelSteps as plain
+use Rattle.cp_steps.specs.Machines as machines
+use Rattle.cp_process.specs.States as states
+use Rattle.cp_gates.specs.KernelOf.{Bytes, bytes_or_none, unset_gate}
+use Rattle.cp_process.specs.declared.outside.Stage.TheVariants as stage
+
+pub one_more : {X Y : Type 0} (f : X → Y) (xs : List X) (n : ℕ) (x : X) (y : Y) → map f xs ≡ replicate n y → f x ≡ y
+    → map f (xs ++ x ∷ []) ≡ replicate (suc n) y
+one_more f [] zero x y all is = ap (λ z. z ∷ []) is
+one_more f [] (suc n) x y all is = absurd (cc)
+one_more f (z ∷ xs) zero x y all is = absurd (cc)
+one_more f (z ∷ xs) (suc n) x y all is =
+    let first = ap (λ ys. slice_index_or ys 0 y) all in
+    let rest = ap (λ ys. drop 1 ys) all in
+    (λ i. first i ∷ one_more f xs n x y rest is i)
+
+unstarted : (processes : List code.Process)
+    → map states.stage (replicate (length processes) stage.Unstarted) ≡ map (λ y. plain.Unstarted) processes
+unstarted [] = refl
+unstarted (x ∷ xs) = ap (λ gs. plain.Unstarted ∷ gs) (unstarted xs)
+
+pub first_begun : (processes : List code.Process) (count : ℕ) → length processes ≡ count
+    → map states.stage (slice_set (replicate count stage.Unstarted) 0 stage.Begun) ≡ machines.first_stages processes
+first_begun [] count is = ap (λ n. map states.stage (slice_set (replicate n stage.Unstarted) 0 stage.Begun)) (sym is)
+first_begun (x ∷ xs) count is =
+    ap (λ n. map states.stage (slice_set (replicate n stage.Unstarted) 0 stage.Begun)) (sym is) ∙ ap (λ gs. plain.Begun ∷ gs) (unstarted xs)
+
+pub next_monitor : (ms : List code.Monitor) (i : ℕ) → i < length ms
+    → (m : code.Monitor) × (slice_get ms i ≡ Some m) × (drop i ms ≡ m ∷ drop (suc i) ms)
+next_monitor [] i below = absurd (omega (arith, below))
+next_monitor (m ∷ ms) zero below = (m, refl, refl)
+next_monitor (m ∷ ms) (suc i) below = next_monitor ms i (omega (arith, below))
+
+pub none_left : (ms : List code.Monitor) (ws : List ℤ) → machines.first_shared (drop (length ms) ms) ws ≡ ws
+none_left [] ws = refl
+none_left (m ∷ ms) ws = none_left ms ws
+
+pub unset_of : (ms : List code.Monitor) (n : ℕ) → n ≡ length ms → replicate n unset_gate ≡ map (λ (m : code.Monitor). unset_gate) ms
+unset_of [] n is = ap (λ k. replicate k unset_gate) is
+unset_of (m ∷ ms) n is = ap (λ k. replicate k unset_gate) is ∙ ap (λ gs. unset_gate ∷ gs) (unset_of ms (length ms) refl)
+
+pub empty_of : (vs : List Bytes) (n i : ℕ) → map (λ (v : Bytes). v.items) vs ≡ replicate n [] → bytes_or_none (slice_get vs i) ≡ []
+empty_of [] n i all = refl
+empty_of (v ∷ vs) zero i all = absurd (cc)
+empty_of (v ∷ vs) (suc n) zero all = ap (λ xs. slice_index_or xs 0 []) all
+empty_of (v ∷ vs) (suc n) (suc i) all = empty_of vs n i (ap (λ xs. drop 1 xs) all)

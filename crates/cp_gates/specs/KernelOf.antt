@@ -1,0 +1,63 @@
+-- The code's kernel, and it beside the private state of the process whose turn it is, as the plain data of the definitions.
+use Rattle.std.specs.Prelude.{◌≡◌, ℕ, ◌+◌, ◌-◌, ◌≤◌, true, length, List, [], Option, None, Some, Vec, map, slice_get, All, vec_len, vec_capacity}
+use Rattle.std.specs.Global.{Global}
+use Rattle.cp_model.specs.States as model
+use Rattle.cp_steps.specs.KernelSteps as plain
+use Rattle.cp_process.specs.States as states
+use Rattle.cp_process.specs.States.{private_of}
+use Rattle.cp_process.specs.declared.private.Private.{Private}
+use Rattle.cp_process.specs.declared.outside.Gate.{Gate}
+use Rattle.cp_gates.specs.declared.kernel.Kernel.{Kernel}
+
+-- ---- The kernel
+
+abbrev pub kernel_of : Kernel → plain.Kernel
+kernel_of k = record {
+  shared = k.shared.items;
+  gates = map states.gate k.gates.items;
+  stages = map states.stage k.stages.items;
+}
+
+abbrev pub turning : Kernel → Private → List ℕ → plain.Turning
+turning k x input = record { kernel = kernel_of k; own = private_of x input }
+
+-- Nobody holds the gate of a monitor that isn't initialised, or asks for it.
+abbrev pub unset_gate : model.Gate
+unset_gate = record { holder = model.Unset; askers = [] }
+
+-- ---- Transcripts
+
+abbrev pub Bytes : Type 0
+Bytes = Vec ℕ Global
+
+abbrev pub bytes_or_none : Option (Bytes) → List ℕ
+bytes_or_none None = []
+bytes_or_none (Some v) = v.items
+
+-- The transcript of process p, as far as the kernel has it.
+abbrev pub transcript_of : Kernel → ℕ → List ℕ
+transcript_of k p = bytes_or_none (slice_get k.transcripts.items (p - 1))
+
+-- ---- Room
+
+-- There is room for so many more askers of a gate.
+abbrev pub HasRoomToAsk : ℕ → Gate → Type 0
+HasRoomToAsk n g = vec_len g.askers + n ≤ vec_capacity g.askers
+
+-- The same of each gate.
+abbrev pub HasRoomForAskers : Kernel → ℕ → Type 0
+HasRoomForAskers k n = All (HasRoomToAsk n) k.gates.items
+
+-- The transcript of process p has room for the output that its private state holds.
+abbrev pub HasRoomForOutput : Kernel → ℕ → Private → Type 0
+HasRoomForOutput k p x = (v : Bytes) → slice_get k.transcripts.items (p - 1) ≡ Some v → vec_len v + vec_len x.output ≤ vec_capacity v
+
+-- ---- Processes
+
+-- There is a process of this number.
+pub record IsAmong (k : Kernel) (p : ℕ) : Type 0 where
+  pub first : 1 ≤ p
+  pub last : p ≤ length k.stages.items
+
+abbrev pub IsBegun : Kernel → ℕ → Type 0
+IsBegun k p = plain.is_begun (plain.stage_of (map states.stage k.stages.items) p) ≡ true

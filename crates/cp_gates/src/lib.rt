@@ -1,0 +1,16 @@
+//! The kernel of the whole language: gates, stages of processes, shared words and transcripts.
+//!
+//! For any program and any state its calls are the functions on plain data that cp_steps defines (`specs/KernelOf.antt` says of what
+//! data). No effect of a step takes memory.
+//!
+//! - `kernel`, `starting`: the kernel, and how it starts.
+//! - `reading`: what is read of it.
+//! - `effects`: what a step leaves to the kernel.
+//! - `turns`: one step of the kernel.
+#![tactic(auto)]
+
+mod effects;
+pub mod kernel;
+pub mod reading;
+mod starting;
+mod turns;

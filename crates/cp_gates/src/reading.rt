@@ -1,0 +1,78 @@
+//! What is read of the kernel.
+
+ghost use Rattle.std.specs.Prelude.{◌≡◌};
+ghost use Rattle.cp_code.specs.Starts.{word};
+ghost use Rattle.cp_process.specs.States.{holder as holder_view, stage as stage_view};
+ghost use Rattle.cp_steps.specs.KernelSteps as plain;
+ghost use Rattle.cp_gates.specs.KernelOf.{kernel_of, transcript_of};
+
+use crate::kernel::Kernel;
+use cp_process::outside::{Holder, Stage};
+
+impl Kernel {
+    /// Who holds the gate of monitor m. That of one that isn't there is unset.
+    pub fn holder(&self, m: u32) -> Holder
+        ensures { holder_view result ≡ (plain.gate_of (kernel_of self.now).gates m).holder }
+    {
+        if m == 0 {
+            return Holder::Unset;
+        }
+        match self.gates.get(m as usize - 1) {
+            Some(gate) => gate.holder,
+            None => Holder::Unset,
+        }
+    }
+
+    /// Who asks for the gate of monitor m, in the order in which they asked.
+    pub fn askers(&self, m: u32) -> &[u32]
+        ensures { result.now ≡ (plain.gate_of (kernel_of self.now).gates m).askers }
+    {
+        if m == 0 {
+            return &[];
+        }
+        match self.gates.get(m as usize - 1) {
+            Some(gate) => &gate.askers,
+            None => &[],
+        }
+    }
+
+    /// How far process p is. One that isn't there has begun.
+    pub fn stage(&self, p: u32) -> Stage
+        ensures { stage_view result ≡ plain.stage_of (kernel_of self.now).stages p }
+    {
+        if p == 0 {
+            return Stage::Begun;
+        }
+        match self.stages.get(p as usize - 1) {
+            Some(stage) => *stage,
+            None => Stage::Begun,
+        }
+    }
+
+    /// Whether process p has begun, and neither asks nor is delayed.
+    pub fn is_begun(&self, p: u32) -> bool
+        ensures { result ≡ plain.is_begun (plain.stage_of (kernel_of self.now).stages p) }
+    {
+        matches!(self.stage(p), Stage::Begun)
+    }
+
+    /// The shared word at a place. A missing one reads as 0.
+    pub fn word(&self, at: usize) -> i32
+        ensures { result ≡ word (kernel_of self.now).shared at }
+    {
+        match self.shared.get(at) {
+            Some(n) => *n,
+            None => 0,
+        }
+    }
+
+    /// The transcript of process p, without the output that its private state still holds.
+    pub fn transcript(&self, p: usize) -> &[u8]
+        ensures { result.now ≡ transcript_of self.now p }
+    {
+        match self.transcripts.get(p.saturating_sub(1)) {
+            Some(transcript) => transcript.as_slice(),
+            None => &[],
+        }
+    }
+}

@@ -1,0 +1,117 @@
+//! How the kernel starts.
+
+ghost use Rattle.std.specs.Prelude.{◌≡◌, ◌-◌, ◌<◌, ◌^◌, ◌∷◌, ℕ, List, [], IfOk, Some, map, pos, replicate, length, slice_get};
+ghost use Rattle.cp_code.specs.Programs as code;
+ghost use Rattle.cp_process.specs.States as states;
+ghost use Rattle.cp_steps.specs.Machines as plain;
+ghost use Rattle.cp_threaded.specs.View as view;
+ghost use Rattle.cp_gates.specs.KernelOf.{Bytes, kernel_of, transcript_of, unset_gate};
+
+use crate::kernel::Kernel;
+use cp_process::outside::{Gate, Holder, Stage};
+use cp_process::starting::start_words;
+use cp_threaded::program::Program;
+use std::alloc::{AllocError, Global};
+
+/// There are fewer shared words than this.
+const TOO_MANY: usize = 1 << 30;
+
+// The words of the monitor of this number start as its plan says.
+fn start_monitor(program: &Program, number: usize, words: &mut [i32])
+    requires { length words.old < 2 ^ 30 }
+    ensures words { (rest : List code.Monitor) (m : code.Monitor)
+        → slice_get (view.program program.now).monitors
+        (number - 1) ≡ Some m
+        → plain.first_shared rest words.new ≡ plain.first_shared
+        (m ∷ rest) words.old }
+    ensures length { length words.new ≡ length words.old }
+{
+    if let Some(monitor) = program.monitor(number) {
+        let starts = program.starts(monitor.plan);
+        start_words(words, monitor.start as usize, starts);
+    }
+}
+
+// The words of all monitors start as their plans say.
+fn start_monitors(program: &Program, words: &mut [i32])
+    requires { length words.old < 2 ^ 30 }
+    ensures words { words.new ≡ plain.first_shared (view.program program.now).monitors words.old }
+    ensures length { length words.new ≡ length words.old }
+{
+    for i in 0..program.monitors() {
+        start_monitor(program, i + 1, words);
+    }
+}
+
+fn first_shared(alloc: Global, program: &Program) -> Result<Vec<i32>, AllocError>
+    ensures words { IfOk result (λ ws. let p = view.program program.now in
+        ws.items ≡ plain.first_shared p.monitors (replicate p.shared (pos 0))) }
+    ensures few { IfOk result (λ ws. length ws.items < 2 ^ 30) }
+{
+    let count = program.shared() as usize;
+    if TOO_MANY <= count {
+        return Err(AllocError);
+    }
+    let mut words = Vec::from_elem(alloc, 0, count)?;
+    start_monitors(program, &mut words);
+    Ok(words)
+}
+
+// So many gates of monitors that aren't initialised.
+fn unset_gates(alloc: Global, count: usize) -> Result<Vec<Gate>, AllocError>
+    ensures { IfOk result (λ all. map states.gate all.items ≡ replicate count unset_gate) }
+{
+    let mut all = Vec::with_capacity(alloc, count)?;
+    for _i in 0..count {
+        all.push(Gate {
+            holder: Holder::Unset,
+            askers: Vec::new(alloc),
+        })?;
+    }
+    Ok(all)
+}
+
+// The initial process, which is the first of so many, has begun.
+fn first_stages(alloc: Global, count: usize) -> Result<Vec<Stage>, AllocError>
+    ensures stages { IfOk result (λ all. (processes : List code.Process) → length processes ≡ count
+        → map states.stage all.items ≡ plain.first_stages processes) }
+    ensures count { IfOk result (λ all. length all.items ≡ count) }
+{
+    let mut all = Vec::from_elem(alloc, Stage::Unstarted, count)?;
+    let Some(first) = all.get_mut(0) else {
+        return Ok(all);
+    };
+    *first = Stage::Begun;
+    Ok(all)
+}
+
+fn empty_transcripts(alloc: Global, count: usize) -> Result<Vec<Vec<u8>>, AllocError>
+    ensures { IfOk result (λ all. map (λ (v : Bytes). v.items) all.items ≡ replicate count []) }
+{
+    let mut all = Vec::with_capacity(alloc, count)?;
+    for _i in 0..count {
+        all.push(Vec::new(alloc))?;
+    }
+    Ok(all)
+}
+
+impl Kernel {
+    /// The kernel at the start: no monitor is initialised, and of the processes only the initial one has begun.
+    ///
+    /// # Errors
+    ///
+    /// `AllocError` where memory runs out, or where there are 2^30 shared words.
+    pub fn new(alloc: Global, program: &Program) -> Result<Kernel, AllocError>
+        ensures start { IfOk result (λ k. (tick : ℕ) (inputs : ℕ → List ℕ)
+            → kernel_of k ≡ (plain.first_machine (view.program program.now) tick inputs).kernel) }
+        ensures transcripts { IfOk result (λ k. (p : ℕ) → transcript_of k p ≡ []) }
+    {
+        let processes = program.processes();
+        Ok(Kernel {
+            shared: first_shared(alloc, program)?,
+            gates: unset_gates(alloc, program.monitors())?,
+            stages: first_stages(alloc, processes)?,
+            transcripts: empty_transcripts(alloc, processes)?,
+        })
+    }
+}
