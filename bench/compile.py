@@ -53,7 +53,7 @@ TEXTS = {
     'cases': repeated('var x:integer;begin ', 'case x of 1:x:=2;2,3:x:=1;900:x:=x end;', 'end.'),
     'loops': repeated('var i,j:integer;begin ', 'for i:=1 to 9 do while j<i do j:=j+1;', 'end.'),
     'routines': named('', 'procedure NAME(x:integer);var y:integer;begin y:=x end;', 'begin end.'),
-    'calls of functions': repeated('function f(x:integer):integer;begin f:=x end;var x:integer;begin ', 'x:=f(x)+f(f(1));', 'end.'),
+    'calls of functions': repeated('var x:integer;function f(x:integer):integer;begin f:=x end;begin ', 'x:=f(x)+f(f(1));', 'end.'),
     'process types': named('type ', 'NAME=process;var x:integer;begin x:=1 end;', 'begin end.'),
     'record types': named('type ', 'NAME=record a,b:integer;c:char end;', 'begin end.'),
     'init items': repeated('type p=process;begin end;var x:p;begin init x', ',x', ' end.'),
