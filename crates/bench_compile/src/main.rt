@@ -22,7 +22,12 @@ fn turns(rt: &HostRuntime) -> io::Result<u32> {
 
 fn report(rt: &HostRuntime, tree: &Tree) -> io::Result<()> {
     match compile(rt.alloc(), tree) {
-        Ok(program) => println!(rt; "{} monitors, {} processes, {} shared words", program.monitors(), program.processes(), program.shared()),
+        Ok(program) => println!(rt;
+            "{} monitors, {} processes, {} shared words",
+            program.monitors(),
+            program.processes(),
+            program.shared()
+        ),
         Err(error) => println!(rt; "{error:?}"),
     }
 }

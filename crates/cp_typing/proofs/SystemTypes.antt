@@ -387,7 +387,8 @@ module _ (env : Environment) (g : GlobalScope) (rs : Types) (ys : List a.System)
     stage = stage_behind;
     typed = λ i w h. only i w h;
     in_order = λ k l. (
-      (later_on g scope_behind k later_behind l, type_is_typed g (later_same g), l.types x.name type (first_there x.name type g.types)), tt,
+      (later_on g scope_behind k later_behind l, type_is_typed g (later_same g), l.types x.name type (first_there x.name type g.types)),
+      tt,
     );
   })
     where
