@@ -1,5 +1,5 @@
 -- Whole rounds of the machine as plain data: its start, turns, waking, and the end of a round.
-use Rattle.std.specs.Prelude.{ℕ, zero, suc, ◌+◌, ◌-◌, ◌/◌, ◌%◌, ℤ, pos, List, [], ◌∷◌, None, Some, if◌then◌else◌, nat_eq, map, replicate, slice_get, slice_set}
+use Rattle.std.specs.Prelude.{ℕ, zero, suc, ◌+◌, ◌-◌, ◌/◌, ◌%◌, ℤ, pos, List, [], ◌∷◌, ◌++◌, None, Some, if◌then◌else◌, nat_eq, map, replicate, slice_get, slice_set}
 use Rattle.cp_model.specs.States.{Unset}
 use Rattle.cp_code.specs.Programs as code
 use Rattle.cp_code.specs.Programs.{CodeUnit, Program}
@@ -8,11 +8,13 @@ use Rattle.cp_steps.specs.PrivateStates.{Activity, NotBegun, PrivateState, Runni
 use Rattle.cp_steps.specs.Steps.{private_steps}
 use Rattle.cp_steps.specs.KernelSteps.{Begun, Fresh, Kernel, Stage, Turning, Unstarted, kernel_steps, stage_of}
 
+-- Private states and transcripts by process. What a process wrote stays in its private state until its kernel turn.
 pub record Machine : Type 0 where
   pub program : Program
   pub tick : ℕ
   pub kernel : Kernel
   pub parts : List PrivateState
+  pub transcripts : List (List ℕ)
   pub rounds : ℕ
 
 -- ---- The start
@@ -72,6 +74,7 @@ first_machine program tick inputs = record {
     stages = first_stages program.processes;
   };
   parts = first_parts program inputs 1 program.processes;
+  transcripts = map (λ x. []) program.processes;
   rounds = 0;
 }
 
@@ -87,8 +90,15 @@ abbrev pub private_turn : ℕ → Machine → ℕ → Machine
 private_turn n m p =
     with_part p m (λ o. record m { parts = slice_set m.parts (p - 1) (private_steps m.program (clock m) n o) })
 
+abbrev pub transcript_of : List (List ℕ) → ℕ → List ℕ
+transcript_of transcripts p = elim (slice_get transcripts (p - 1)) [ None ↦ [] | Some bytes ↦ bytes ]
+
 abbrev pub after_kernel_turn : Machine → ℕ → Turning → Machine
-after_kernel_turn m p x = record m { kernel = x.kernel; parts = slice_set m.parts (p - 1) x.own }
+after_kernel_turn m p x = record m {
+  kernel = x.kernel;
+  parts = slice_set m.parts (p - 1) (record x.own { output = [] });
+  transcripts = slice_set m.transcripts (p - 1) (transcript_of m.transcripts p ++ x.own.output);
+}
 
 abbrev pub kernel_turn : ℕ → Machine → ℕ → Machine
 kernel_turn n m p =

@@ -1,7 +1,7 @@
 -- The state of the meaning that a machine shows: what its report tells of.
 --
 -- Where a variable lies is what the relation of private states says of it. What is left to do isn't reported.
-use Rattle.std.specs.Prelude.{ℕ, ◌-◌, ℤ, List, [], ◌∷◌, Option, None, Some, if◌then◌else◌, length, nat_eq, slice_get}
+use Rattle.std.specs.Prelude.{ℕ, ◌-◌, ℤ, List, [], ◌∷◌, ◌++◌, Option, None, Some, if◌then◌else◌, length, nat_eq, slice_get}
 use Rattle.cp_model.specs.Abstract.{Monitor}
 use Rattle.cp_model.specs.Types.{Queue, ResolvedType, Simple}
 use Rattle.cp_model.specs.Components.{monitor_location}
@@ -17,7 +17,7 @@ use Rattle.cp_code.specs.Layout.{Part}
 use Rattle.cp_code.specs.Starts.{word}
 use Rattle.cp_steps.specs.PrivateStates.{Activity, Ended, Faulted, NotBegun, PrivateState, Running, Waiting}
 use Rattle.cp_steps.specs.KernelSteps.{Asking, Begun, Delayed, Fresh, Stage, Unstarted, gate_of, stage_of}
-use Rattle.cp_steps.specs.Machines.{Machine}
+use Rattle.cp_steps.specs.Machines.{Machine, transcript_of}
 use Rattle.cp_steps.specs.Means.{queued}
 use Rattle.cp_steps.specs.Addresses.{Ground, OwnWords, lies}
 
@@ -104,7 +104,7 @@ abbrev pub state_of : Setup → Machine → State
 state_of setup m = record {
   store = value_of setup m;
   continuation = λ p. [];
-  transcript = λ p. part_of m p (λ o. o.output) [];
+  transcript = λ p. transcript_of m.transcripts p ++ part_of m p (λ o. o.output) [];
   consumed = λ p. part_of m p (λ o. o.consumed) 0;
   status = λ p. part_of m p (λ o. status_of setup m (stage_of m.kernel.stages p) o.activity) status.Unstarted;
   gates = gate_of m.kernel.gates;
