@@ -80,3 +80,4 @@ pub mod InitSteps
 pub mod InitMonitors
 pub mod Puts
 pub mod Passing
+pub mod ReportLines

@@ -13,3 +13,6 @@ pub mod Beginning
 pub mod KernelOf
 pub mod Laws
 pub mod EffectOf
+pub mod Reports
+pub mod InState
+pub mod RoundLaws
