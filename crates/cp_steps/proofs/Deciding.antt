@@ -45,12 +45,12 @@ use Rattle.cp_steps.proofs.Ending.{body_ends, process_ends}
 use Rattle.cp_steps.proofs.FirstCalls.{TermAdvances, term_next}
 use Rattle.cp_steps.proofs.GatesHeld.{gate_is_held}
 use Rattle.cp_steps.proofs.Heres.{Sees}
-use Rattle.cp_code.specs.Terms.{Argument}
 use Rattle.cp_steps.proofs.InitMonitors.{monitor_inits}
 use Rattle.cp_steps.proofs.InitSteps.{init_steps}
 use Rattle.cp_steps.proofs.LeftKept.{held_within, left_kept}
 use Rattle.cp_steps.proofs.NextCalls.{AllMade, Calling}
 use Rattle.cp_steps.proofs.ProcessRights.{no_class_rights}
+use Rattle.cp_steps.proofs.ProcessSteps.{process_inits}
 use Rattle.cp_steps.proofs.ResultSteps.{result_steps}
 use Rattle.cp_steps.proofs.Returning.{return_steps, text_is}
 use Rattle.cp_steps.proofs.Standards.{By, accept_steps, delay_steps, display_steps, one, wait_steps}
@@ -78,16 +78,8 @@ other_sort z y e h = subst (SameSort z) e h
 abbrev pub Reaches : Ground → State → Type 0
 Reaches G s = (o : Owner) → in_reach G.p (marked_monitors (s.continuation G.p)) o ≡ true → in_sight G o ≡ true
 
--- What the `init` of a process makes of a private state, with all words in reach.
-abbrev pub ProcessesStart : Ground → State → Outside → List ℕ → PrivateState → Type 0
-ProcessesStart G s w before o =
-    AroundAll G s w → (x : Name) (es : a.Expressions) (env : Environment) (k : List Task) (Y : Ready G s w before o (a.Init x es) env k) (r : ℕ) (xs : List Argument) (count m : ℕ)
-    → operation_at G.program o.place ≡ Some (op.InitProcess r xs count m)
-    → InitsBy (site G Y.now.on.running) (known G s w before o (Do (a.Init x es) env) k Y.now) Y.now.on.left.2.3.2 es (op.InitProcess r xs count m) o.place Y.now.on.left.2.3.0 Y.now.on.left.2.0 Y.now.on.left.2.1
-    → PartOf G (after_step s G.p (execute (context G.setup s G.p) (configuration s G.p) Y.now.on.running.env k (a.Init x es))) before (act G.program w o (op.InitProcess r xs count m)).0
-
 module _ (G : Ground) (s : State) (w : Outside) (before : List ℕ) (o : PrivateState) (F : StandsFor G.program G.setup) (texts : F.texts ≡ G.texts) (part : PartOf G s before o) (I : Invariant s)
-    (around : Around G s w) (reaches : Reaches G s) (processes_start : ProcessesStart G s w before o) where
+    (around : Around G s w) (reaches : Reaches G s) where
   units : UnitsStand G
   units n u t unit text =
       subst (λ ts. UnitStands G.program ts (scope G) u t) texts (F.units n u t unit (ap (λ ts. slice_get ts n) texts ∙ text))
@@ -165,7 +157,23 @@ module _ (G : Ground) (s : State) (w : Outside) (before : List ℕ) (o : Private
       (λ K. monitor_inits G s w before o x es env k I.store units K Y call m h (no_class_rights G F.typed) (declares_here Y.now.on.running Y.now.on.runs))
   inits x es env k Y (op.InitProcess r xs count m) there h =
       inits_by_kernel x es env k Y (op.InitProcess r xs count m) there refl (λ e. other_sort a.Class a.Process (sym e ∙ h.0) tt)
-      (λ K. processes_start K x es env k Y r xs count m there h)
+      (λ K. process_inits (record {
+        stands = F;
+        texts = texts;
+        stored = I.store;
+        around = K;
+        name = x;
+        given = es;
+        env = env;
+        rest = k;
+        ready = Y;
+        declares = declares_here Y.now.on.running Y.now.on.runs;
+        number = r;
+        passes = xs;
+        words = count;
+        next = m;
+        by = h;
+      }))
   inits x es env k Y _ there h = absurd h
 
   statement_steps : (st : a.Statement) (env : Environment) (k : List Task) → Ready G s w before o st env k → Stepped G s w before o

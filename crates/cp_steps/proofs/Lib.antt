@@ -71,6 +71,8 @@ pub mod Naming
 pub mod StartStores
 pub mod Starting
 pub mod Declares
+pub mod Waiting
+pub mod Beside
 pub mod InitRights
 pub mod InitSettled
 pub mod Opening
@@ -78,5 +80,7 @@ pub mod Targets
 pub mod CallSteps
 pub mod InitSteps
 pub mod InitMonitors
+pub mod InitProcesses
+pub mod ProcessSteps
 pub mod Puts
 pub mod Passing

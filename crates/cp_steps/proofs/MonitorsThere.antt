@@ -36,10 +36,10 @@ module _ (program : Program) (setup : Setup) (F : StandsFor program setup) where
   stands_there (suc k) s h =
       F.monitors (suc k) (omega arith) (omega (arith, there_below (components_of setup Monitor) k s h, counted Monitor (initial_variables setup)))
 
-  start_is : (m : ℕ) (M : MonitorStands program F.texts setup m) → monitor_start program m ≡ M.row.start
+  pub start_is : (m : ℕ) (M : MonitorStands program F.texts setup m) → monitor_start program m ≡ M.row.start
   start_is m M = λ i. elim (M.there i) as (λ z. ℕ) [ None ↦ 0 | Some x ↦ x.start ]
 
-  system_is : (m : ℕ) (s : System) → system_of_monitor setup m ≡ Some s → (M : MonitorStands program F.texts setup m) → M.system ≡ s
+  pub system_is : (m : ℕ) (s : System) → system_of_monitor setup m ≡ Some s → (M : MonitorStands program F.texts setup m) → M.system ≡ s
   system_is m s h M = same M.system s (sym M.is_system ∙ h)
     where
       or : System → Option System → System

@@ -92,7 +92,7 @@ of_monitor Monitor h = refl
 of_monitor Process h = absurd (true≢false (sym h))
 of_monitor Class h = absurd (true≢false (sym h))
 
-process_without : (setup : Setup) → WellTyped setup → (p : ℕ) (s : System) → system_of_process setup p ≡ Some s → HasNoClassRight (globals setup.tree) s
+pub process_without : (setup : Setup) → WellTyped setup → (p : ℕ) (s : System) → system_of_process setup p ≡ Some s → HasNoClassRight (globals setup.tree) s
 process_without setup W zero s h = absurd (some_is_not_none s (sym h))
 process_without setup W (suc zero) s h = subst (HasNoClassRight (globals setup.tree)) (same_some setup.tree.initial s h) none
   where
