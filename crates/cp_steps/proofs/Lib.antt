@@ -27,6 +27,8 @@ pub mod LeftKept
 pub mod Pushing
 pub mod Answered
 pub mod RunningOn
+pub mod QuietOperations
+pub mod Effects
 pub mod Stepping
 pub mod Alone
 pub mod Sights
@@ -39,6 +41,8 @@ pub mod Choosing
 pub mod Assigning
 pub mod Counting
 pub mod Standards
+pub mod QueueTypes
+pub mod Queues
 pub mod Delaying
 pub mod GatesHeld
 pub mod Continuing

@@ -29,7 +29,7 @@ NoClassRights G =
     ((s : System) → system_of_process G.setup G.p ≡ Some s → HasNoClassRight (scope G) s)
     × ((m : ℕ) (s : System) → system_of_monitor G.setup m ≡ Some s → HasNoClassRight (scope G) s)
 
-system_at : (vs : List (Name × Variable)) (k : ℕ) (s : System) → component_at vs k ≡ Some s → (v : Name × Variable) × IsIn v vs × (component_in v.1.type ≡ Some s)
+pub system_at : (vs : List (Name × Variable)) (k : ℕ) (s : System) → component_at vs k ≡ Some s → (v : Name × Variable) × IsIn v vs × (component_in v.1.type ≡ Some s)
 system_at [] k s h = absurd (some_is_not_none s (sym h))
 system_at (v ∷ vs) zero s h = (v, inl refl, h)
 system_at (v ∷ vs) (suc k) s h = let r = system_at vs k s h in (r.0, inr r.1, r.2)

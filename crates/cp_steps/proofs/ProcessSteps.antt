@@ -26,10 +26,12 @@ use Rattle.cp_steps.specs.PartOf.{DataMeans, PartOf, RunsOn}
 use Rattle.cp_steps.proofs.Beside.{Beside, runs_beside}
 use Rattle.cp_steps.proofs.Copying.{copied_length, copied_outside}
 use Rattle.cp_steps.proofs.InitOffsets.{offset_within}
-use Rattle.cp_steps.proofs.InitProcesses.{Bound, BothFault, BothInit, BothStart, InitOfProcess, Kept, body, both_init, here, moved, names, one, passed, room, row_stands, same_system, system, to, top}
+use Rattle.cp_steps.proofs.InitProcesses.{BothFault, BothInit, BothStart, Bound, InitOfProcess, Kept, body, both_init, here, is, moved, names, one, passed, room, row_stands, same_system, system, to, top}
 use Rattle.cp_steps.proofs.RunningOn.{runs_moved, runs_over}
 use Rattle.cp_steps.proofs.Stepping.{beyond, stopped, went}
 use Rattle.cp_steps.proofs.Waiting.{parameters_are, waits_apart}
+use Rattle.cp_steps.proofs.Effects.{EffectAgrees, Means}
+use Rattle.cp_steps.proofs.MonitorsThere.{process_below}
 
 -- Another process that is started is no matter of a private state.
 pub started_part : (G : Ground) (before : List ℕ) (after : PrivateState) (r : ℕ) (j : List Task) (x : Status) (u : State) → (r ≡ G.p → ⊥) → PartOf G u before after → PartOf G (start_process r j x u) before after
@@ -155,3 +157,13 @@ module _ {G : Ground} {s : State} {w : Outside} {before : List ℕ} {o : Private
         where
           left : List Task
           left = body Z
+
+  pub process_effect : EffectAgrees G w.own (execute (context G.setup s G.p) (configuration s G.p) (here Z) Z.rest (a.Init Z.name Z.given)) (act G.program w o (op.InitProcess Z.number Z.passes Z.words Z.next)).1
+  process_effect = by _ _ (both_init Z)
+    where
+      by : (R : StepResult) (M : Acting) → BothInit Z R M → EffectAgrees G w.own R M.1
+      by R M (BothFault n f us result acting same kept) =
+          subst (λ z. EffectAgrees G w.own z M.1) (sym result) (ap (λ (z : Acting). z.1) acting)
+      by R M (BothStart ws us free result acting B) =
+          subst (λ z. EffectAgrees G w.own z M.1) (sym result)
+          (subst (λ (z : Acting). Means G w.own (stage.Starts Z.number (body Z)) z.1) (sym acting) (refl, process_below G.setup Z.number (system Z) (is Z)))

@@ -120,6 +120,10 @@ monitor_seen G m h = by G.sight G.monitors_lie h
     by OwnWords lie h = absurd (true≢false (sym h))
     by AllWords lie h = (lie, refl)
 
+-- With all words in reach, where they lie is known.
+pub all_lie : (G : Ground) → G.sight ≡ AllWords → MonitorsLie G.program G.setup
+all_lie G all = (monitor_seen G 0 (ap (λ v. sees v G.p (OfMonitor 0)) all)).0
+
 pub own_in_whole : (G : Ground) → G.own ≤ whole G
 own_in_whole G = by G.sight
   where
