@@ -22,7 +22,6 @@ use Rattle.cp_model.specs.declared.state.Fault.TheVariants as fault
 use Rattle.cp_model.proofs.StateMaps.{with_at_here}
 use Rattle.cp_code.specs.Terms.{Spot}
 use Rattle.cp_code.specs.Programs as op
-use Rattle.cp_code.specs.StandsFor.{system_of_process}
 use Rattle.cp_code.specs.Starts.{word}
 use Rattle.cp_steps.specs.PrivateStates as private
 use Rattle.cp_steps.specs.PrivateStates.{Outside, PrivateState, go_to, private_outcome, provided, set_word, with_result}
@@ -34,9 +33,10 @@ use Rattle.cp_steps.proofs.Doing.{Ready, place_here, statement_steps}
 use Rattle.cp_steps.proofs.Heres.{seen_mine}
 use Rattle.cp_steps.proofs.RunningOn.{runs_moved, runs_stacked, runs_stored}
 use Rattle.cp_steps.proofs.Separate.{cell_inside}
-use Rattle.cp_steps.proofs.Stacks.{Stack, all_lie}
+use Rattle.cp_steps.proofs.Stacks.{all_lie}
 use Rattle.cp_steps.proofs.Standards.{By, argument_none, arrived, delays, not_called, one, used_none}
 use Rattle.cp_steps.proofs.Stepping.{AroundAll, Now, Stepped, faulted, gate_passed}
+use Rattle.cp_steps.proofs.EffectsKept.{runs_numbered}
 use Rattle.cp_steps.proofs.Effects.{EffectAgrees, LeavesIt, Means, WentOn, going, provided_leaves, told}
 use Rattle.cp_steps.proofs.MonitorsThere.{monitor_below}
 use Rattle.cp_steps.proofs.GatesHeld.{gates_there}
@@ -46,19 +46,6 @@ use Rattle.cp_steps.proofs.Queues.{QueuesShared}
 use Rattle.cp_model.proofs.ExpressionReach.{IfGives}
 use Rattle.cp_steps.specs.KernelOf.{kernel_ground}
 use Rattle.cp_steps.specs.Left.{IsGate, innermost_gate}
-
--- A process that runs has a system type, so it is not 0.
-numbered : (G : Ground) (top : ℕ) (xs : List Activation) → Stack G top xs → (n : ℕ) → G.p ≡ n → 1 ≤ n
-numbered G top [] (s, is, fits) zero e = absurd (none (sym (ap (system_of_process G.setup) e) ∙ is))
-  where
-    none : ◌≡◌ {A = Option System} None (Some s) → ⊥
-    none h = subst is_none h tt
-      where
-        is_none : Option System → Type 0
-        is_none None = Unit {0}
-        is_none (Some y) = ⊥
-numbered G top [] h (suc n) e = omega arith
-numbered G top (x ∷ xs) h n e = numbered G x.base xs h.1 n e
 
 queued_number : (p : ℕ) → 1 ≤ p → queued (pos p) ≡ Some p
 queued_number zero h = absurd (omega (arith, h))
@@ -94,7 +81,7 @@ module _ (G : Ground) (s : State) (w : Outside) (before : List ℕ) (o : Private
       N = Y.now
 
       holds : queued (pos o.number) ≡ Some G.p
-      holds = ap (λ z. queued (pos z)) N.part.number ∙ queued_number G.p (numbered G _ xs (runs_stacked G s.store o (first ∷ k) N.on).stack G.p refl)
+      holds = ap (λ z. queued (pos z)) N.part.number ∙ queued_number G.p (runs_numbered G s.store o (first ∷ k) N.on).0
 
   tested : (q : Location) (at : ℕ) → in_sight G q.owner ≡ true → lies G xs q ≡ Some (at, Queue) → (z : ℤ)
       → PartOf G (after_step s G.p (enqueue G.p (configuration s G.p) k q m (queued z))) before

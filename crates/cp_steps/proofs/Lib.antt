@@ -50,6 +50,7 @@ pub mod ContinueSteps
 pub mod GatesKept
 pub mod StagesKept
 pub mod KernelKept
+pub mod EffectsKept
 pub mod KernelAround
 pub mod Ending
 pub mod Returning

@@ -22,6 +22,11 @@ abbrev pub Stack : Ground → ℕ → List Activation → Type 0
 Stack G top [] = (s : System) × (system_of_process G.setup G.p ≡ Some s) × (component_words (scope G) s ≤ top)
 Stack G top (x ∷ xs) = (x.base + activation_words (scope G) x.routine ≤ top) × Stack G x.base xs
 
+-- So the process has a system type.
+pub process_of_stack : (G : Ground) (top : ℕ) (xs : List Activation) → Stack G top xs → (s : System) × (system_of_process G.setup G.p ≡ Some s)
+process_of_stack G top [] h = (h.0, h.1)
+process_of_stack G top (x ∷ xs) h = process_of_stack G x.base xs h.1
+
 -- They lie among the process's own words.
 pub record Stacked (G : Ground) (top : ℕ) (xs : List Activation) : Type 0 where
   pub stack : Stack G top xs
