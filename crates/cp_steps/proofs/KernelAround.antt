@@ -1,5 +1,5 @@
 -- What kernel steps read of gates and stages is the state's, where the kernel is that of the state.
-use Rattle.std.proofs.Common.{◌≡◌, ℕ, zero, suc, ◌-◌, ◌≤◌, ◌<◌, List, [], ◌∷◌, length, Option, Some, None, refl, ap, sym, ◌∙◌, arith}
+use Rattle.std.proofs.Common.{◌≡◌, ℕ, suc, ◌-◌, ◌≤◌, Option, Some, None, refl, ap, sym, ◌∙◌, arith}
 use Rattle.std.specs.Prelude.{slice_get}
 use Rattle.cp_model.specs.Configurations as status
 use Rattle.cp_model.specs.Configurations.{Status}
@@ -12,9 +12,9 @@ use Rattle.cp_steps.specs.KernelOf.{KernelOf, StageMeans, kernel_ground}
 use Rattle.cp_steps.specs.KernelSteps.{Asking, Begun, Delayed, Fresh, Kernel, Stage, Unstarted, gate_of, is_set, is_started, stage_of}
 use Rattle.cp_steps.specs.Passing.{monitor_start}
 use Rattle.cp_steps.specs.PrivateStates.{Outside}
-use Rattle.cp_steps.proofs.Finding.{some_is_not_none}
 use Rattle.cp_steps.proofs.Layouts.{same_some}
 pub use Rattle.cp_steps.proofs.MonitorsThere.{monitor_below, process_below}
+use Rattle.cp_steps.proofs.MonitorsThere.{row_below}
 use Rattle.cp_steps.proofs.Stepping.{AroundAll}
 
 same_set : (h : Holder) → is_set h ≡ states.is_set h
@@ -32,11 +32,6 @@ same_started G status.Ended Begun h = refl
 same_started G status.Waiting Begun h = refl
 same_started G (status.Faulted n) Begun h = refl
 same_started G _ _ h = absurd h
-
-row_below : (rows : List code.Monitor) (i : ℕ) (x : code.Monitor) → slice_get rows i ≡ Some x → i < length rows
-row_below [] i x h = absurd (some_is_not_none x (sym h))
-row_below (r ∷ rows) zero x h = omega arith
-row_below (r ∷ rows) (suc i) x h = omega (arith, row_below rows i x h)
 
 module _ (G : Ground) (F : StandsFor G.program G.setup) where
   -- The first word of each monitor is a shared one, or behind the last.

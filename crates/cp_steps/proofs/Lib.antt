@@ -75,6 +75,8 @@ pub mod PartLeaves
 pub mod Naming
 pub mod StartStores
 pub mod Starting
+pub mod SharedStarts
+pub mod KernelStarts
 pub mod Declares
 pub mod Waiting
 pub mod Beside
