@@ -51,6 +51,8 @@ pub mod GatesKept
 pub mod StagesKept
 pub mod KernelKept
 pub mod EffectsKept
+pub mod PartsBeside
+pub mod RoundEnds
 pub mod KernelAround
 pub mod Ending
 pub mod Returning
