@@ -197,6 +197,7 @@ module _ (g : GlobalScope) (program : Program) (texts : List UnitText) where
               typed.distinct,
               typed.variables,
               code,
+              typed.parameters,
             );
             grows = begins_on start.units c.units (c.units ++ unit ∷ []) so.grows (record { rest = unit ∷ []; is = refl });
             count = length-append c.units (unit ∷ []) ∙ omega (arith, so.count);

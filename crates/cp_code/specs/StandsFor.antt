@@ -8,7 +8,7 @@ use Rattle.cp_model.specs.Environments.{Environment, local_variables, permanent_
 use Rattle.cp_model.specs.Locations.{Location, Owner}
 use Rattle.cp_model.specs.Report.{components_of}
 use Rattle.cp_model.specs.States.{Setup, monitor_count, process_count}
-use Rattle.cp_typing.specs.Declared.{Distinct, Each, RoutineVariable}
+use Rattle.cp_typing.specs.Declared.{Distinct, Each, RoutineParameter, RoutineVariable}
 use Rattle.cp_typing.specs.WellTyped.{WellTyped, text_systems}
 use Rattle.cp_code.specs.Programs as code
 use Rattle.cp_code.specs.Programs.{CodeUnit, EndBody, End, Operation, Program, Return}
@@ -47,13 +47,15 @@ abbrev pub end_of : Sort → Operation
 end_of Process = End
 end_of _ = EndBody
 
--- Its code stands for the text, wherever the component lies and whoever owns the activation. The names of its variables are distinct.
+-- Its code stands for the text, wherever the component lies and whoever owns the activation. The names of its variables are distinct, and
+-- its parameters and variables are of types that those of a routine may have.
 abbrev pub UnitStands : Program → List UnitText → GlobalScope → CodeUnit → UnitText → Type 0
 UnitStands program texts g u (RoutineOf s r) =
     Starts g r u × (activation_words g r ≤ u.words) × Distinct (local_variables g r ++ permanent_variables g s)
     × Each (RoutineVariable g) (declarations g r.variables)
     × ((at : Location) (o : Owner) → (end : ℕ) × (operation_at program end ≡ Some (Return (is_function r.result)))
     × CodeFor (site_of program texts u (RoutineOf s r) (routine_environment g s r at o)) nothing_known r.body u.start end 0)
+    × Each (RoutineParameter g (is_function r.result)) (declarations g r.parameters)
 UnitStands program texts g u (BodyOf s) =
     (u.starts ≡ []) × Distinct (permanent_variables g s)
     × ((at : Location) → (end : ℕ) × (operation_at program end ≡ Some (end_of s.sort))

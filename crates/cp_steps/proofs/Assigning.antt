@@ -27,7 +27,7 @@ use Rattle.cp_steps.specs.Means.{PlaceAgrees}
 use Rattle.cp_steps.specs.Addresses.{Ground, activations, in_sight, lies, seen}
 use Rattle.cp_steps.specs.Left.{site}
 use Rattle.cp_steps.specs.PartOf.{PartOf, RunsOn}
-use Rattle.cp_steps.proofs.Doing.{Ready, known, place_here, statement_steps, value_here}
+use Rattle.cp_steps.proofs.Doing.{Ready, known, place_here, quietly, statement_steps, value_here}
 use Rattle.cp_steps.proofs.Evaluates.{ordinal_is}
 use Rattle.cp_steps.proofs.Finding.{in_context_none, or_else_none}
 use Rattle.cp_steps.proofs.Heres.{seen_mine}
@@ -75,6 +75,7 @@ set_steps G s w before o d e env k Y to lower upper c n there h =
     (by _ _ _ _
     (place_here G s w before o (Do (a.Assign d e) env) k N N.sees d to (Simple h.0 lower upper h.2) o.place h.3 N.on.left.2.1 h.4 h.8 (in_context_none (λ y. a.Assign y e) (call_in_designator here (a.Literal 0) d) none.0))
     (value_here G s w before o (Do (a.Assign d e) env) k N N.sees e c h.1 h.3 N.on.left.2.3.0 h.4 N.on.running.unit.temps h.9 (in_context_none (a.Assign d) (first_call here (a.Literal 0) e) none.1)))
+    (quietly G s w before o (a.Assign d e) env k Y (op.Set to lower upper c n) tt tt)
   where
     goes : Writes → StepResult
     goes ws = own_step (with_writes (configuration s G.p) ws k)

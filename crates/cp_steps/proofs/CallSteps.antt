@@ -19,7 +19,7 @@ use Rattle.cp_model.specs.Environments.{Environment, local_variables, permanent_
 use Rattle.cp_model.specs.Invariant.{StoreInvariant}
 use Rattle.cp_model.specs.Locations.{OfActivation, root}
 use Rattle.cp_model.specs.Names.{lookup}
-use Rattle.cp_model.specs.States.{State, configuration, context}
+use Rattle.cp_model.specs.States.{State, context}
 use Rattle.cp_model.specs.Turns.{after_step}
 use Rattle.cp_model.specs.Stores.{Store, forget, put_all}
 use Rattle.cp_model.specs.Types.{GlobalScope}
@@ -57,9 +57,10 @@ use Rattle.cp_steps.proofs.NextCalls.{CallReady}
 use Rattle.cp_steps.proofs.Opening.{HoldsValues, opened}
 use Rattle.cp_steps.proofs.Passing.{Has, ParameterHas, parameter_at}
 use Rattle.cp_steps.proofs.StartLeaves.{IsSimple}
-use Rattle.cp_steps.proofs.Stepping.{Now, Stepped, both_step, kernel_step}
+use Rattle.cp_steps.proofs.Stepping.{AroundAll, Now, Stepped, both_step, does, kernel_step}
 use Rattle.cp_steps.proofs.Targets.{monitor_is, target_is}
 use Rattle.cp_steps.proofs.Stacks.{own_in_whole}
+use Rattle.cp_steps.proofs.Effects.{EffectAgrees}
 
 -- ---- parameters
 
@@ -180,8 +181,12 @@ function_steps G s w before o i l N sees I units v temp after base C j found lef
     target_here : calls.Target
     target_here = target (context G.setup s G.p) s.store N.on.running.env v.callee.of
 
-    called : TargetIs G s.store target_here (component_called G.program w o C.call.target) (system_of_callee N.on.running.env v.callee.of)
-        → PartOf G (after_step s G.p (calls.call (context G.setup s G.p) (configuration s G.p) v (i ∷ l))) before (act G.program w o (op.Function C.call temp after)).0
+    Called : Type 0
+    Called =
+        PartOf G (after_step s G.p (does G s (actions.Calls v (i ∷ l)))) before (act G.program w o (op.Function C.call temp after)).0
+        × EffectAgrees G w.own (does G s (actions.Calls v (i ∷ l))) (act G.program w o (op.Function C.call temp after)).1
+
+    called : TargetIs G s.store target_here (component_called G.program w o C.call.target) (system_of_callee N.on.running.env v.callee.of) → Called
     called T =
         let back : Back = record { place = after; into = temp } in
         let W : Waits G o (i ∷ l) (i ∷ l) N.on.running o.place C.low N.on.live = record { same = refl; means = λ store words. refl; marks = refl; left = left; kept_fit = omega (arith, C.calls.runs.fits.temps) } in
@@ -204,10 +209,16 @@ function_steps G s w before o i l N sees I units v temp after base C j found lef
     by : (b : Bool) → is_monitor C.call.target ≡ b → Stepped G s w before o
     by true e =
         kernel_step G s w before o i l N (actions.Calls v (i ∷ l)) (op.Function C.call temp after) acts (kinds ∙ e) C.op e
-        (λ K. called (monitor_is G s w before o i l N sees I K declares v.callee.of C.call.target C.calls.target (λ n is. callee_of N.on.running.env C.named v.callee n C.calls.means is) e))
+        (λ K. (enters K).0) (λ K. (enters K).1)
+      where
+        enters : AroundAll G s w → Called
+        enters K = called (monitor_is G s w before o i l N sees I K declares v.callee.of C.call.target C.calls.target (λ n is. callee_of N.on.running.env C.named v.callee n C.calls.means is) e)
     by false e =
         both_step G s w before o i l N (actions.Calls v (i ∷ l)) (op.Function C.call temp after) acts (kinds ∙ e) C.op e
-        (called (target_is G s w before o i l N sees I v.callee.of C.call.target C.calls.target e))
+        both.0 (λ K. both.1)
+      where
+        both : Called
+        both = called (target_is G s w before o i l N sees I v.callee.of C.call.target C.calls.target e)
 
 -- A procedure statement, of which no call is left in the arguments.
 pub procedure_steps : (G : Ground) (s : State) (w : Outside) (before : List ℕ) (o : PrivateState) (d : a.Designator) (es : a.Expressions) (env : Environment) (k : List Task) → StoreInvariant s.store → UnitsStand G
@@ -237,8 +248,12 @@ procedure_steps G s w before o d es env k I units Y call n there h declares = by
     kinds : is_monitor_call h.0 ≡ is_monitor call.target
     kinds = kinds_agree Y.now.on.running.env h.0 call.target h.2.target
 
-    called : TargetIs G s.store (target (context G.setup s G.p) s.store here h.0.of) (component_called G.program w o call.target) (system_of_callee here h.0.of)
-        → PartOf G (after_step s G.p (calls.call (context G.setup s G.p) (configuration s G.p) v k)) before (act G.program w o (op.Procedure call n)).0
+    Called : Type 0
+    Called =
+        PartOf G (after_step s G.p (does G s (actions.Calls v k))) before (act G.program w o (op.Procedure call n)).0
+        × EffectAgrees G w.own (does G s (actions.Calls v k)) (act G.program w o (op.Procedure call n)).1
+
+    called : TargetIs G s.store (target (context G.setup s G.p) s.store here h.0.of) (component_called G.program w o call.target) (system_of_callee here h.0.of) → Called
     called T =
         let N = Y.now in
         let i = Do (a.Perform d es) env in
@@ -265,7 +280,13 @@ procedure_steps G s w before o d es env k I units Y call n there h declares = by
     by : (b : Bool) → is_monitor call.target ≡ b → Stepped G s w before o
     by true e =
         kernel_step G s w before o (Do (a.Perform d es) env) k Y.now (actions.Calls v k) (op.Procedure call n) acts (kinds ∙ e) there e
-        (λ K. called (monitor_is G s w before o (Do (a.Perform d es) env) k Y.now Y.now.sees I K declares h.0.of call.target h.2.target (λ m is. callee_of here d h.0 m h.2.means is) e))
+        (λ K. (enters K).0) (λ K. (enters K).1)
+      where
+        enters : AroundAll G s w → Called
+        enters K = called (monitor_is G s w before o (Do (a.Perform d es) env) k Y.now Y.now.sees I K declares h.0.of call.target h.2.target (λ m is. callee_of here d h.0 m h.2.means is) e)
     by false e =
         both_step G s w before o (Do (a.Perform d es) env) k Y.now (actions.Calls v k) (op.Procedure call n) acts (kinds ∙ e) there e
-        (called (target_is G s w before o (Do (a.Perform d es) env) k Y.now Y.now.sees I h.0.of call.target h.2.target e))
+        both.0 (λ K. both.1)
+      where
+        both : Called
+        both = called (target_is G s w before o (Do (a.Perform d es) env) k Y.now Y.now.sees I h.0.of call.target h.2.target e)

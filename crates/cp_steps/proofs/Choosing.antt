@@ -23,7 +23,7 @@ use Rattle.cp_steps.specs.Steps.{go_to_arm}
 use Rattle.cp_steps.specs.Addresses.{Ground}
 use Rattle.cp_steps.specs.Left.{site}
 use Rattle.cp_steps.specs.PartOf.{PartOf}
-use Rattle.cp_steps.proofs.Doing.{Ready, statement_steps, value_here}
+use Rattle.cp_steps.proofs.Doing.{Ready, quietly, statement_steps, value_here}
 use Rattle.cp_steps.proofs.Evaluates.{ordinal_is}
 use Rattle.cp_steps.proofs.Finding.{in_context_none}
 use Rattle.cp_steps.proofs.RunningOn.{runs_pushed}
@@ -52,6 +52,7 @@ case_steps G s w before o e arms env k Y =
     statement_steps G s w before o (a.Case e arms) env k Y (op.Case h.1 h.3) refl refl (ap (operation_at G.program) Y.place ∙ h.4) refl
     (by _ _ (value_here G s w before o (Do (a.Case e arms) env) k N N.sees e h.1 h.2 o.place h.0 N.on.left.2.1 N.on.running.unit.temps h.5
     (in_context_none (λ y. a.Case y arms) (first_call N.on.running.env (a.Literal 0) e) Y.none)))
+    (quietly G s w before o (a.Case e arms) env k Y (op.Case h.1 h.3) tt tt)
   where
     here : Environment
     here = Y.now.on.running.env

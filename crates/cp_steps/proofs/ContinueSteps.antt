@@ -38,7 +38,7 @@ use Rattle.cp_steps.specs.Addresses.{Activation, Ground, activation_at, activati
 use Rattle.cp_steps.specs.Left.{IsGate, gate_number}
 use Rattle.cp_steps.specs.PartOf.{ActivationMeans, IfFrame, PartOf, ResultMeans, RunsOn}
 use Rattle.cp_steps.proofs.Continuing.{Innermost, innermost, part_same, resumed_part}
-use Rattle.cp_steps.proofs.Doing.{Ready, place_here, statement_steps}
+use Rattle.cp_steps.proofs.Doing.{Ready, executed, place_here, statement_steps}
 use Rattle.cp_steps.proofs.GatesHeld.{is_held_at_least, monitor_numbered}
 use Rattle.cp_steps.proofs.Heres.{seen_mine}
 use Rattle.cp_steps.proofs.Layouts.{same_some}
@@ -48,6 +48,9 @@ use Rattle.cp_steps.proofs.Separate.{cell_no_result}
 use Rattle.cp_steps.proofs.Standards.{By, argument_none, continues, not_called, one, rests, used_none}
 use Rattle.cp_steps.proofs.Stepping.{Now, Stepped, faulted, went}
 use Rattle.cp_steps.proofs.Writing.{changed_other, integer_is}
+use Rattle.cp_steps.proofs.Effects.{EffectAgrees, going, return_leaves, then_means, told}
+use Rattle.cp_steps.proofs.MonitorsThere.{monitor_below}
+use Rattle.cp_steps.specs.Steps.{act}
 
 module _ (G : Ground) (s : State) (w : Outside) (before : List ℕ) (o : PrivateState) (f : private.Frame) (fs : List private.Frame) (x : Name) (env : Environment) (k : List Task) (d : a.Designator)
     (Y : Ready G s w before (record o { frames = f ∷ fs }) (a.Perform (a.Plain x) (one (a.Use d))) env k)
@@ -214,6 +217,21 @@ module _ (G : Ground) (s : State) (w : Outside) (before : List ℕ) (o : Private
           (sym (ap steps.is_held (I.left.2.0 ∙ ap gate_number i) ∙ is_held_at_least m (monitor_numbered G m (subst (IsGate G) i I.left.2.2))))
           (returns_at_once m (process_in_queue (s.store q)) (Continues f.gate (word P.words at)))
 
+      -- Who stood in the queue goes on, and the gate is the one that the frame keeps.
+      resumes_told : (gate : Option ℕ) → I.gate ≡ gate → EffectAgrees G w.own (calls.continue (configuration s G.p) q (Some (I.env, gate, I.rest))) (does (steps.is_held f.gate)).1
+      resumes_told None i =
+          subst (λ b. EffectAgrees G w.own (own_step (configuration s G.p)) (does (steps.is_held b)).1) (sym (I.left.2.0 ∙ ap gate_number i)) tt
+      resumes_told (Some m) i =
+          subst (λ b. EffectAgrees G w.own (calls.continue (configuration s G.p) q (Some (I.env, Some m, I.rest))) (does b).1)
+          (sym (ap steps.is_held (I.left.2.0 ∙ ap gate_number i) ∙ is_held_at_least m (monitor_numbered G m is_gate)))
+          (told G w.own s before Y.now.ready _ (Continues f.gate (word P.words at)) _ (returns_at_once m (process_in_queue (s.store q)) (Continues f.gate (word P.words at)))
+          (then_means G w.own (Continues f.gate (word P.words at)) (returns cleared I.env I.rest) (resumes m (process_in_queue (s.store q)))
+          (λ after. (sym (I.left.2.0 ∙ ap gate_number i), monitor_below G.setup m is_gate.0 is_gate.1, ap process_in_queue (Y.now.on.data_means.cells q at Queue mine is))))
+          (return_leaves P (set_word P at (pos 0)) f fs function (Continues f.gate (word P.words at)) (going G s before P Y.now.part Y.now.ready)))
+        where
+          is_gate : IsGate G (Some m)
+          is_gate = subst (IsGate G) i I.left.2.2
+
 -- Whatever gate is held.
 pub continue_steps : (G : Ground) (s : State) (w : Outside) (before : List ℕ) (o : PrivateState) (x : Name) (env : Environment) (k : List Task) (d : a.Designator)
     (Y : Ready G s w before o (a.Perform (a.Plain x) (one (a.Use d))) env k) (queue : Spot) (function : Bool)
@@ -222,33 +240,41 @@ pub continue_steps : (G : Ground) (s : State) (w : Outside) (before : List ℕ) 
     → Stepped G s w before o
 continue_steps G s w before o x env k d Y queue function h names =
     statement_steps G s w before o (a.Perform (a.Plain x) (one (a.Use d))) env k Y (op.Continue queue function) (not_called Y.now.on.running.env (a.Plain x) (one (a.Use d)) h.1.0.0) refl h.0 refl
-    (subst (λ z. PartOf G (after_step s G.p z) before (steps.with_place w o queue (λ at. steps.continue o at function)).0)
-    (sym (continues (context G.setup s G.p) (configuration s G.p) Y.now.on.running.env k x (a.Use d) h.1.0.1 h.1.0.2 h.1.0.3))
-    (by_place _ _
-    (place_here G s w before o (Do (a.Perform (a.Plain x) (one (a.Use d))) env) k Y.now Y.now.sees d queue Queue o.place Y.now.on.left.2.3.0 Y.now.on.left.2.1 Y.now.on.running.unit.temps h.1.2
-    (used_none G s w before o x env k Y.now.on.running.env d (argument_none G s w before o x env k Y.now.on.running.env (a.Use d) Y.none)))))
+    both.0 (λ all. both.1)
   where
     first : Task
     first = Do (a.Perform (a.Plain x) (one (a.Use d))) env
+
+    -- What is shown of both, at the routine that runs.
+    Both : StepResult → private.Acting → Type 0
+    Both r e = PartOf G (after_step s G.p r) before e.0 × EffectAgrees G w.own r e.1
 
     by_frames : (gs : List private.Frame) (Y : Ready G s w before (record o { frames = gs }) (a.Perform (a.Plain x) (one (a.Use d))) env k)
         → Innermost G o.temps o.limit Y.now.on.running gs Y.now.on.running.unit.temps k
         → ((g : Frame) (t : Name) → Y.now.on.running.env.frame ≡ Some g → g.routine.result ≡ Some t → local (scope G) g.routine g.routine.name ≡ None)
         → ((g : Frame) × (Y.now.on.running.env.frame ≡ Some g) × (function ≡ is_function g.routine.result))
         → (q : Location) (at : ℕ) → in_sight G q.owner ≡ true → lies G (activations o.base gs (first ∷ k)) q ≡ Some (at, Queue)
-        → PartOf G (after_step s G.p (calls.continue (configuration s G.p) q (innermost_call k))) before (steps.continue (record o { frames = gs }) at function).0
+        → Both (calls.continue (configuration s G.p) q (innermost_call k)) (steps.continue (record o { frames = gs }) at function)
     by_frames [] Y I names runs q at mine is = absurd I.left
     by_frames (f ∷ fs) Y I names runs q at mine is =
-        subst (λ z. PartOf G (after_step s G.p (calls.continue (configuration s G.p) q z)) before (steps.continue (record o { frames = f ∷ fs }) at function).0) (sym I.is)
-        (continued G s w before o f fs x env k d Y I q at mine is names function runs I.gate refl)
+        subst (λ z. Both (calls.continue (configuration s G.p) q z) (steps.continue (record o { frames = f ∷ fs }) at function)) (sym I.is)
+        (continued G s w before o f fs x env k d Y I q at mine is names function runs I.gate refl, resumes_told G s w before o f fs x env k d Y I q at mine is names function runs I.gate refl)
 
     by_place : (p : Outcome Place) (r : Result ℕ machine.Fault) → PlaceAgrees (seen (in_sight G) G (activations o.base o.frames (first ∷ k))) Queue p r
-        → PartOf G (after_step s G.p (and_then p (λ at. calls.continue (configuration s G.p) at.at (innermost_call k)))) before (with_result o r (λ at. steps.continue o at function)).0
+        → Both (and_then p (λ at. calls.continue (configuration s G.p) at.at (innermost_call k))) (with_result o r (λ at. steps.continue o at function))
     by_place (Gives q) (Ok at) g =
         let z = seen_mine (in_sight G) G (activations o.base o.frames (first ∷ k)) q.at (at, Queue) g.0 in
         by_frames o.frames Y
         (innermost G o.temps o.limit Y.now.on.running h.1.3.0 h.1.3.1 nothing_known o.frames Y.now.on.left.2.0 Y.now.on.left.2.1 Y.now.on.running.unit.temps k Y.now.on.left.2.2 Y.now.on.left.2.4)
         names h.1.3 q.at at z.0 z.1
-    by_place (Fault i) (Err e) g = faulted G s w before o first k Y.now i e g
+    by_place (Fault i) (Err e) g = (faulted G s w before o first k Y.now i e g, refl)
     by_place (Gives v) (Err e) g = absurd g
     by_place (Fault i) (Ok at) g = absurd g
+
+    both : Both (executed G s w before o (a.Perform (a.Plain x) (one (a.Use d))) env k Y) (act G.program w o (op.Continue queue function))
+    both =
+        subst (λ z. Both z (steps.with_place w o queue (λ at. steps.continue o at function)))
+        (sym (continues (context G.setup s G.p) (configuration s G.p) Y.now.on.running.env k x (a.Use d) h.1.0.1 h.1.0.2 h.1.0.3))
+        (by_place _ _
+        (place_here G s w before o first k Y.now Y.now.sees d queue Queue o.place Y.now.on.left.2.3.0 Y.now.on.left.2.1 Y.now.on.running.unit.temps h.1.2
+        (used_none G s w before o x env k Y.now.on.running.env d (argument_none G s w before o x env k Y.now.on.running.env (a.Use d) Y.none))))

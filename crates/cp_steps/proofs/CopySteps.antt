@@ -35,7 +35,7 @@ use Rattle.cp_steps.specs.PartOf.{PartOf, RunsOn, components}
 use Rattle.cp_steps.proofs.Apart.{cell_has_word, cell_head}
 use Rattle.cp_steps.proofs.Bounds.{part_fits}
 use Rattle.cp_steps.proofs.Copying.{activation_changed, changed_keeps, copied_length, copied_outside, copied_word, data_changed, leaf_writes, read_below, simple_cell, simple_holds, structure_writes}
-use Rattle.cp_steps.proofs.Doing.{Ready, known, place_here, statement_steps, view}
+use Rattle.cp_steps.proofs.Doing.{Ready, known, place_here, quietly, statement_steps, view}
 use Rattle.cp_steps.proofs.Evaluates.{value_reads}
 use Rattle.cp_steps.proofs.Finding.{in_context_none, or_else_none}
 use Rattle.cp_steps.proofs.Heres.{seen_mine}
@@ -121,6 +121,7 @@ copy_steps G s w before o d e env k Y to from size n there h =
     (by _ _ _ _
     (place_here G s w before o first k N N.sees d to h.0 o.place h.1 N.on.left.2.1 h.2 h.10 (in_context_none (λ y. a.Assign y (a.Use e)) (call_in_designator here (a.Literal 0) d) none.0))
     (place_here G s w before o first k N N.sees e from h.0 h.1 N.on.left.2.3.0 h.2 N.on.running.unit.temps h.11 (in_context_none a.Use (call_in_designator here (a.Literal 0) e) found.0))))
+    (quietly G s w before o (a.Assign d (a.Use e)) env k Y (op.CopyWords to from size n) tt tt)
   where
     i : Task
     i = Do (a.Assign d (a.Use e)) env

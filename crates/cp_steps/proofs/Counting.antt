@@ -26,20 +26,22 @@ use Rattle.cp_code.specs.Starts.{word}
 use Rattle.cp_code.specs.TermsFor.{Agrees, nothing_known}
 use Rattle.cp_code.specs.StatementsFor.{CodeFor, Counts}
 use Rattle.cp_steps.specs.PrivateStates.{Outside, PrivateState, go_to, private_outcome, set_temp, set_word, with_result}
-use Rattle.cp_steps.specs.Steps.{count_to, first_count}
+use Rattle.cp_steps.specs.Steps.{act, count_to, first_count}
 use Rattle.cp_steps.specs.Values.{root_place}
 use Rattle.cp_steps.specs.Addresses.{Ground, activations, in_sight}
 use Rattle.cp_steps.specs.Left.{ForLeft, Left, Runs, innermost_gate, site}
 use Rattle.cp_steps.specs.PartOf.{ActivationsMean, DataMeans, PartOf, RunsOn}
 use Rattle.cp_steps.proofs.Assigning.{stores}
-use Rattle.cp_steps.proofs.Doing.{Ready, acts_itself, place_here, statement_steps, value_here, view}
+use Rattle.cp_steps.proofs.Doing.{Ready, acts_itself, place_here, quietly, statement_steps, value_here, view}
 use Rattle.cp_steps.proofs.Evaluates.{ordinal_is}
 use Rattle.cp_steps.proofs.Finding.{in_context_none, or_else_none}
 use Rattle.cp_steps.proofs.Heres.{Sees}
 use Rattle.cp_steps.proofs.LeftKept.{SameBelow, left_kept}
 use Rattle.cp_steps.proofs.Pushing.{activations_push, marks_push, mean_push, push_left}
 use Rattle.cp_steps.proofs.RunningOn.{left_afresh, runs_moved, runs_written}
-use Rattle.cp_steps.proofs.Stepping.{Now, Stepped, both_step, clock_of, faulted, went}
+use Rattle.cp_steps.proofs.Stepping.{Now, Stepped, both_step, clock_of, does, faulted, went}
+use Rattle.cp_steps.proofs.Effects.{quiet_agrees}
+use Rattle.cp_steps.proofs.QuietOperations.{either_quiet, for_quiet, operation_quiet}
 
 -- The counter and the last value come into their temps, and the body is left in front of the next test.
 pub counted_on : (G : Ground) (store : Store) (o : PrivateState) (i k : List Task) (R : RunsOn G store o i) (x : Name) (down : Bool) (st : a.Statement) (c : op.Counting) (next low test : ℕ) (n last : ℤ)
@@ -139,6 +141,7 @@ for_steps G s w before o x down e f st env k Y =
     (by _ _ _ _
     (value_here G s w before o (Do (a.For x down e f st) env) k N N.sees e h.2 h.4 o.place h.5 N.on.left.2.1 h.6 h.13 (in_context_none (λ y. a.For x down y f st) (first_call here (a.Literal 0) e) none.0))
     (value_here G s w before o (Do (a.For x down e f st) env) k N N.sees f h.3 h.4 h.5 h.0 h.6 N.on.running.unit.temps h.14 (in_context_none (λ y. a.For x down e y st) (first_call here (a.Literal 0) f) none.1)))
+    (quietly G s w before o (a.For x down e f st) env k Y (op.For h.1 h.2 h.3) tt tt)
   where
     here : Environment
     here = Y.now.on.running.env
@@ -195,6 +198,9 @@ for_next_steps G s w before o x down n last st env k N =
     ∙ (ap (computed F.counting.down n) (ap (word o.temps) (omega (arith, N.on.temp, F.counts.temp)) ∙ F.last_is)
     ∙ ap (λ z. computed z n last) F.counts.way)))
     (by (same_integer n last)))
+    (λ all. quiet_agrees G w.own (does G s (Acts (ForNext x down n last st N.on.running.env) k)) (act G.program w o (op.ForNext F.counting)).1
+    (either_quiet (same_integer n last) _ _ tt (for_quiet (context G.setup s G.p) (configuration s G.p) N.on.running.env k x down (next_counter down n) last st))
+    (operation_quiet G.program w o (op.ForNext F.counting) tt))
   where
     F : ForLeft (site G N.on.running) o.temps N.on.running.temp x down n last st o.place N.on.left.1.0 N.on.left.1.1
     F = N.on.left.1.3

@@ -13,8 +13,7 @@ use Rattle.cp_model.specs.Environments.{Environment, Frame}
 use Rattle.cp_model.specs.Invariant.{EnvironmentIn, Invariant, TaskIn, TasksInReach}
 use Rattle.cp_model.specs.Locations.{OfActivation, Owner}
 use Rattle.cp_model.specs.Reach.{in_reach}
-use Rattle.cp_model.specs.States.{State, configuration, context}
-use Rattle.cp_model.specs.StatementSteps.{execute}
+use Rattle.cp_model.specs.States.{State}
 use Rattle.cp_model.specs.Turns.{after_step}
 use Rattle.cp_model.proofs.StoreInvariants.{references_in_reach}
 use Rattle.cp_code.specs.Programs as op
@@ -27,7 +26,7 @@ use Rattle.cp_code.specs.StatementsFor.{AssignsBy, InitsBy, PerformsBy}
 use Rattle.cp_steps.specs.PrivateStates as machine
 use Rattle.cp_steps.specs.PrivateStates.{Outside, PrivateState}
 use Rattle.cp_steps.specs.Steps.{act, is_kernel_operation}
-use Rattle.cp_steps.specs.Addresses.{Ground, in_sight, scope}
+use Rattle.cp_steps.specs.Addresses.{Ground, activations, in_sight, scope}
 use Rattle.cp_steps.specs.Left.{Left, Running, Runs, held_below, innermost_gate, kept_below, site}
 use Rattle.cp_steps.specs.PartOf.{PartOf, RunsOn}
 use Rattle.cp_steps.proofs.AssignCalls.{StatementAdvances}
@@ -40,17 +39,17 @@ use Rattle.cp_steps.proofs.Counting.{for_next_steps, for_steps}
 use Rattle.cp_steps.proofs.Declared.{no_local_result}
 use Rattle.cp_steps.proofs.Declares.{Declares, runs_declares}
 use Rattle.cp_steps.proofs.Delaying.{delay_in_monitor}
-use Rattle.cp_steps.proofs.Doing.{Ready, acts_itself, known}
+use Rattle.cp_steps.proofs.Doing.{Ready, acts_itself, executed, known}
 use Rattle.cp_steps.proofs.Ending.{body_ends, process_ends}
 use Rattle.cp_steps.proofs.FirstCalls.{TermAdvances, term_next}
 use Rattle.cp_steps.proofs.GatesHeld.{gate_is_held}
 use Rattle.cp_steps.proofs.Heres.{Sees}
-use Rattle.cp_code.specs.Terms.{Argument}
 use Rattle.cp_steps.proofs.InitMonitors.{monitor_inits}
 use Rattle.cp_steps.proofs.InitSteps.{init_steps}
 use Rattle.cp_steps.proofs.LeftKept.{held_within, left_kept}
 use Rattle.cp_steps.proofs.NextCalls.{AllMade, Calling}
 use Rattle.cp_steps.proofs.ProcessRights.{no_class_rights}
+use Rattle.cp_steps.proofs.ProcessSteps.{process_effect, process_inits}
 use Rattle.cp_steps.proofs.ResultSteps.{result_steps}
 use Rattle.cp_steps.proofs.Returning.{return_steps, text_is}
 use Rattle.cp_steps.proofs.Standards.{By, accept_steps, delay_steps, display_steps, one, wait_steps}
@@ -58,6 +57,9 @@ use Rattle.cp_steps.proofs.StatementCalls.{own_place, statement_next}
 use Rattle.cp_steps.proofs.Stepping.{Around, AroundAll, IfPlaced, Now, Stepped, kernel_step}
 use Rattle.cp_steps.proofs.Testing.{cycle_steps, if_steps, repeat_steps, while_steps}
 use Rattle.cp_code.specs.Terms.{Spot}
+use Rattle.cp_steps.proofs.Effects.{EffectAgrees}
+use Rattle.cp_steps.proofs.InitProcesses.{InitOfProcess}
+use Rattle.cp_steps.proofs.Queues.{activations_none, queues_shared}
 
 -- The end mark of a routine stands in the environment that runs.
 end_environment : (G : Ground) (temps : List ℤ) (limit : ℕ) (K : Knowns) (R : Running) (fs : List machine.Frame) (place low : ℕ) (env : Environment) (gate : Option ℕ) (k : List Task)
@@ -78,16 +80,8 @@ other_sort z y e h = subst (SameSort z) e h
 abbrev pub Reaches : Ground → State → Type 0
 Reaches G s = (o : Owner) → in_reach G.p (marked_monitors (s.continuation G.p)) o ≡ true → in_sight G o ≡ true
 
--- What the `init` of a process makes of a private state, with all words in reach.
-abbrev pub ProcessesStart : Ground → State → Outside → List ℕ → PrivateState → Type 0
-ProcessesStart G s w before o =
-    AroundAll G s w → (x : Name) (es : a.Expressions) (env : Environment) (k : List Task) (Y : Ready G s w before o (a.Init x es) env k) (r : ℕ) (xs : List Argument) (count m : ℕ)
-    → operation_at G.program o.place ≡ Some (op.InitProcess r xs count m)
-    → InitsBy (site G Y.now.on.running) (known G s w before o (Do (a.Init x es) env) k Y.now) Y.now.on.left.2.3.2 es (op.InitProcess r xs count m) o.place Y.now.on.left.2.3.0 Y.now.on.left.2.0 Y.now.on.left.2.1
-    → PartOf G (after_step s G.p (execute (context G.setup s G.p) (configuration s G.p) Y.now.on.running.env k (a.Init x es))) before (act G.program w o (op.InitProcess r xs count m)).0
-
 module _ (G : Ground) (s : State) (w : Outside) (before : List ℕ) (o : PrivateState) (F : StandsFor G.program G.setup) (texts : F.texts ≡ G.texts) (part : PartOf G s before o) (I : Invariant s)
-    (around : Around G s w) (reaches : Reaches G s) (processes_start : ProcessesStart G s w before o) where
+    (around : Around G s w) (reaches : Reaches G s) where
   units : UnitsStand G
   units n u t unit text =
       subst (λ ts. UnitStands G.program ts (scope G) u t) texts (F.units n u t unit (ap (λ ts. slice_get ts n) texts ∙ text))
@@ -117,6 +111,8 @@ module _ (G : Ground) (s : State) (w : Outside) (before : List ℕ) (o : Private
       by : (ms : List ℕ) → marked_monitors k ≡ ms → Stepped G s w before o
       by [] e = delay_steps G s w before o x env k (ap marked_monitors Y.now.left ∙ e, Y.now.on.gate ∙ ap innermost_gate e) d Y queue n h
       by (m ∷ ms) e = delay_in_monitor G s w before o x env k m ms (gate_is_held G s.store o (Do (a.Perform (a.Plain x) (one (a.Use d))) env ∷ k) m ms Y.now.on e) e d Y queue n h
+          (λ K. queues_shared G F.typed (activations o.base o.frames (Do (a.Perform (a.Plain x) (one (a.Use d))) env ∷ k))
+          (activations_none G units o.temps o.limit o.base _ Y.now.on.running o.frames o.place Y.now.on.running.unit.temps (Do (a.Perform (a.Plain x) (one (a.Use d))) env ∷ k) Y.now.on.runs Y.now.on.left))
 
   assigns : (d : a.Designator) (e : a.Expression) (env : Environment) (k : List Task) (Y : Ready G s w before o (a.Assign d e) env k) (x : Operation) → operation_at G.program o.place ≡ Some x
       → AssignsBy (site G Y.now.on.running) (known G s w before o (Do (a.Assign d e) env) k Y.now) d e x o.place Y.now.on.left.2.3.0 Y.now.on.left.2.0 Y.now.on.left.2.1
@@ -140,13 +136,14 @@ module _ (G : Ground) (s : State) (w : Outside) (before : List ℕ) (o : Private
   -- The `init` of a monitor or a process is the kernel's.
   inits_by_kernel : (x : Name) (es : a.Expressions) (env : Environment) (k : List Task) (Y : Ready G s w before o (a.Init x es) env k) (y : Operation) → operation_at G.program o.place ≡ Some y
       → is_kernel_operation y ≡ true → (Y.now.on.left.2.3.2.system.sort ≡ a.Class → ⊥)
-      → (AroundAll G s w → PartOf G (after_step s G.p (execute (context G.setup s G.p) (configuration s G.p) Y.now.on.running.env k (a.Init x es))) before (act G.program w o y).0)
+      → (AroundAll G s w → PartOf G (after_step s G.p (executed G s w before o (a.Init x es) env k Y)) before (act G.program w o y).0)
+      → (AroundAll G s w → EffectAgrees G w.own (executed G s w before o (a.Init x es) env k Y) (act G.program w o y).1)
       → Stepped G s w before o
-  inits_by_kernel x es env k Y y there own no_class shown =
+  inits_by_kernel x es env k Y y there own no_class shown effect =
       kernel_step G s w before o (Do (a.Init x es) env) k Y.now (Acts (Do (a.Init x es) here) k) y
       (ap (λ e. action (Do (a.Init x es) e ∷ k)) Y.now.on.left.0 ∙ acts_itself (Do (a.Init x es) here) k (ap (in_context (λ z. Do z here)) Y.none) refl)
       (ap (λ (z : Option Component). not (elim z as (λ y. Bool) [ None ↦ true | Some c ↦ same_sort a.Class c.system.sort ])) Y.now.on.left.2.3.4 ∙ by Y.now.on.left.2.3.2.system.sort no_class)
-      there own shown
+      there own shown effect
     where
       here : Environment
       here = Y.now.on.running.env
@@ -162,10 +159,33 @@ module _ (G : Ground) (s : State) (w : Outside) (before : List ℕ) (o : Private
   inits x es env k Y (op.InitClass call m) there h = init_steps G s w before o x es env k I.store units Y call m there h (no_class_rights G F.typed) (declares_here Y.now.on.running Y.now.on.runs)
   inits x es env k Y (op.InitMonitor call m) there h =
       inits_by_kernel x es env k Y (op.InitMonitor call m) there refl (λ e. other_sort a.Class a.Monitor (sym e ∙ h.0) tt)
-      (λ K. monitor_inits G s w before o x es env k I.store units K Y call m h (no_class_rights G F.typed) (declares_here Y.now.on.running Y.now.on.runs))
+      (λ K. (opened K).0) (λ K. (opened K).1)
+    where
+      opened : (K : AroundAll G s w) → PartOf G (after_step s G.p (executed G s w before o (a.Init x es) env k Y)) before (act G.program w o (op.InitMonitor call m)).0
+          × EffectAgrees G w.own (executed G s w before o (a.Init x es) env k Y) (act G.program w o (op.InitMonitor call m)).1
+      opened K = monitor_inits G s w before o x es env k I.store units K Y call m h (no_class_rights G F.typed) (declares_here Y.now.on.running Y.now.on.runs)
   inits x es env k Y (op.InitProcess r xs count m) there h =
       inits_by_kernel x es env k Y (op.InitProcess r xs count m) there refl (λ e. other_sort a.Class a.Process (sym e ∙ h.0) tt)
-      (λ K. processes_start K x es env k Y r xs count m there h)
+      (λ K. process_inits (starting K)) (λ K. process_effect (starting K))
+    where
+      starting : AroundAll G s w → InitOfProcess G s w before o
+      starting K = record {
+        stands = F;
+        texts = texts;
+        stored = I.store;
+        around = K;
+        name = x;
+        given = es;
+        env = env;
+        rest = k;
+        ready = Y;
+        declares = declares_here Y.now.on.running Y.now.on.runs;
+        number = r;
+        passes = xs;
+        words = count;
+        next = m;
+        by = h;
+      }
   inits x es env k Y _ there h = absurd h
 
   statement_steps : (st : a.Statement) (env : Environment) (k : List Task) → Ready G s w before o st env k → Stepped G s w before o

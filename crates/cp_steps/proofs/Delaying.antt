@@ -1,5 +1,5 @@
 -- `delay` inside a monitor: the process stands in the queue, whose word holds its number.
-use Rattle.std.proofs.Common.{◌≡◌, ℕ, zero, suc, ◌+◌, ◌≤◌, ◌<◌, ℤ, pos, negsuc, List, [], ◌∷◌, length, true, Option, Some, None, Result, Ok, Err, refl, ap, sym, subst, ◌∙◌, arith}
+use Rattle.std.proofs.Common.{Err, List, None, Ok, Option, Result, Some, [], ap, arith, length, negsuc, pos, refl, subst, suc, sym, true, zero, ℕ, ℤ, ◌+◌, ◌-◌, ◌<◌, ◌∙◌, ◌∷◌, ◌≡◌, ◌≤◌}
 use Rattle.std.specs.Prelude.{if◌then◌else◌, int_le, nat_lt}
 use Rattle.std.proofs.lemmas.Bool.{lt-leb, lt-ltb, true≢false}
 use Rattle.cp_model.specs.Abstract as a
@@ -22,34 +22,30 @@ use Rattle.cp_model.specs.declared.state.Fault.TheVariants as fault
 use Rattle.cp_model.proofs.StateMaps.{with_at_here}
 use Rattle.cp_code.specs.Terms.{Spot}
 use Rattle.cp_code.specs.Programs as op
-use Rattle.cp_code.specs.StandsFor.{system_of_process}
 use Rattle.cp_code.specs.Starts.{word}
 use Rattle.cp_steps.specs.PrivateStates as private
 use Rattle.cp_steps.specs.PrivateStates.{Outside, PrivateState, go_to, private_outcome, provided, set_word, with_result}
 use Rattle.cp_steps.specs.Steps as steps
 use Rattle.cp_steps.specs.Means.{PlaceAgrees, queued}
-use Rattle.cp_steps.specs.Addresses.{Activation, Ground, activations, in_sight, lies, seen, whole}
+use Rattle.cp_steps.specs.Addresses.{Activation, AllWords, Ground, activations, in_sight, lies, seen, whole}
 use Rattle.cp_steps.specs.PartOf.{PartOf, RunsOn}
 use Rattle.cp_steps.proofs.Doing.{Ready, place_here, statement_steps}
 use Rattle.cp_steps.proofs.Heres.{seen_mine}
 use Rattle.cp_steps.proofs.RunningOn.{runs_moved, runs_stacked, runs_stored}
 use Rattle.cp_steps.proofs.Separate.{cell_inside}
-use Rattle.cp_steps.proofs.Stacks.{Stack}
+use Rattle.cp_steps.proofs.Stacks.{all_lie}
 use Rattle.cp_steps.proofs.Standards.{By, argument_none, arrived, delays, not_called, one, used_none}
-use Rattle.cp_steps.proofs.Stepping.{Now, Stepped, faulted, gate_passed}
-
--- A process that runs has a system type, so it is not 0.
-numbered : (G : Ground) (top : ℕ) (xs : List Activation) → Stack G top xs → (n : ℕ) → G.p ≡ n → 1 ≤ n
-numbered G top [] (s, is, fits) zero e = absurd (none (sym (ap (system_of_process G.setup) e) ∙ is))
-  where
-    none : ◌≡◌ {A = Option System} None (Some s) → ⊥
-    none h = subst is_none h tt
-      where
-        is_none : Option System → Type 0
-        is_none None = Unit {0}
-        is_none (Some y) = ⊥
-numbered G top [] h (suc n) e = omega arith
-numbered G top (x ∷ xs) h n e = numbered G x.base xs h.1 n e
+use Rattle.cp_steps.proofs.Stepping.{AroundAll, Now, Stepped, faulted, gate_passed}
+use Rattle.cp_steps.proofs.EffectsKept.{runs_numbered}
+use Rattle.cp_steps.proofs.Effects.{EffectAgrees, LeavesIt, Means, WentOn, going, provided_leaves, told}
+use Rattle.cp_steps.proofs.MonitorsThere.{monitor_below}
+use Rattle.cp_steps.proofs.GatesHeld.{gates_there}
+use Rattle.cp_steps.proofs.Joining.{unshifted}
+use Rattle.cp_steps.proofs.Sights.{same_lies}
+use Rattle.cp_steps.proofs.Queues.{QueuesShared}
+use Rattle.cp_model.proofs.ExpressionReach.{IfGives}
+use Rattle.cp_steps.specs.KernelOf.{kernel_ground}
+use Rattle.cp_steps.specs.Left.{IsGate, innermost_gate}
 
 queued_number : (p : ℕ) → 1 ≤ p → queued (pos p) ≡ Some p
 queued_number zero h = absurd (omega (arith, h))
@@ -85,7 +81,7 @@ module _ (G : Ground) (s : State) (w : Outside) (before : List ℕ) (o : Private
       N = Y.now
 
       holds : queued (pos o.number) ≡ Some G.p
-      holds = ap (λ z. queued (pos z)) N.part.number ∙ queued_number G.p (numbered G _ xs (runs_stacked G s.store o (first ∷ k) N.on).stack G.p refl)
+      holds = ap (λ z. queued (pos z)) N.part.number ∙ queued_number G.p (runs_numbered G s.store o (first ∷ k) N.on).0
 
   tested : (q : Location) (at : ℕ) → in_sight G q.owner ≡ true → lies G xs q ≡ Some (at, Queue) → (z : ℤ)
       → PartOf G (after_step s G.p (enqueue G.p (configuration s G.p) k q m (queued z))) before
@@ -96,16 +92,20 @@ module _ (G : Ground) (s : State) (w : Outside) (before : List ℕ) (o : Private
       (faulted G s w before o first k Y.now 5 fault.QueueTaken refl)
   tested q at mine is (negsuc r) = stood q at mine is
 
+  -- The queue is among the words in reach.
+  among : (q : Location) (at : ℕ) → in_sight G q.owner ≡ true → lies G xs q ≡ Some (at, Queue) → nat_lt at (length o.words) ≡ true
+  among q at mine is =
+      let inside : at + 0 < whole G = cell_inside G xs _ (runs_stacked G s.store o (first ∷ k) Y.now.on) q at Queue 0 mine refl is in
+      lt-ltb at (length o.words) (omega (arith, inside, Y.now.on.count))
+
   by_place : (P : Outcome Place) (r : Result ℕ machine.Fault) → PlaceAgrees (seen (in_sight G) G xs) Queue P r
       → PartOf G (after_step s G.p (and_then P (λ at. delay G.p (configuration s G.p) k at.at (marked_monitors k)))) before (with_result o r (λ at. steps.delay o at n)).0
   by_place (Gives q) (Ok at) g =
       let f = seen_mine (in_sight G) G xs q.at (at, Queue) g.0 in
-      let inside : at + 0 < whole G = cell_inside G xs _ (runs_stacked G s.store o (first ∷ k) Y.now.on) q.at at Queue 0 f.0 refl f.1 in
-      let there : nat_lt at (length o.words) ≡ true = lt-ltb at (length o.words) (omega (arith, inside, Y.now.on.count)) in
       subst (λ z. PartOf G (after_step s G.p (delay G.p (configuration s G.p) k q.at z)) before (steps.delay o at n).0) (sym marks)
       (subst (λ b. PartOf G (after_step s G.p (enqueue G.p (configuration s G.p) k q.at m (process_in_queue (s.store q.at)))) before
       (if b then (if nat_lt at (length o.words) then tests at else private_outcome o) else private_outcome o).0) (sym held)
-      (subst (λ b. PartOf G (after_step s G.p (enqueue G.p (configuration s G.p) k q.at m (process_in_queue (s.store q.at)))) before (if b then tests at else private_outcome o).0) (sym there)
+      (subst (λ b. PartOf G (after_step s G.p (enqueue G.p (configuration s G.p) k q.at m (process_in_queue (s.store q.at)))) before (if b then tests at else private_outcome o).0) (sym (among q.at at f.0 f.1))
       (subst (λ v. PartOf G (after_step s G.p (enqueue G.p (configuration s G.p) k q.at m (process_in_queue v))) before (tests at).0) (sym (Y.now.on.data_means.cells q.at at Queue f.0 f.1))
       (tested q.at at f.0 f.1 (word o.words at)))))
     where
@@ -115,12 +115,52 @@ module _ (G : Ground) (s : State) (w : Outside) (before : List ℕ) (o : Private
   by_place (Gives v) (Err f) g = absurd g
   by_place (Fault i) (Ok at) g = absurd g
 
-  pub delay_in_monitor : Stepped G s w before o
-  delay_in_monitor =
+  -- ---- what is left to the kernel
+
+  -- Where queues lie in monitors alone.
+  module _ (K : AroundAll G s w) (shared : QueuesShared G xs) where
+    -- The word of the queue, among the shared ones.
+    queue_lies : (q : Location) (at : ℕ) → in_sight G q.owner ≡ true → lies G xs q ≡ Some (at, Queue) → lies (kernel_ground G.program G.texts G.setup) [] q ≡ Some (at - w.own, Queue)
+    queue_lies q at mine is =
+        let lie = all_lie G K.sight in
+        let u = unshifted G lie xs q at Queue (shared q at is) (same_lies G AllWords lie xs q ∙ is) in
+        u.2 ∙ ap (λ z. Some (z, Queue)) (omega (arith, u.1, Y.now.around.own))
+
+    delays_it : (q : Location) (at : ℕ) → in_sight G q.owner ≡ true → lies G xs q ≡ Some (at, Queue) → (z : Option ℕ)
+        → IfGives (λ y. Means G w.own y.1 (private.Delays o.gate at)) (enqueue G.p (configuration s G.p) k q m z)
+    delays_it q at mine is (Some r) = tt
+    delays_it q at mine is None = (sym (Y.now.on.gate ∙ ap innermost_gate marks), monitor_below G.setup m is_gate.0 is_gate.1, queue_lies q at mine is)
+      where
+        is_gate : IsGate G (Some m)
+        is_gate = gates_there G o.temps o.limit _ Y.now.on.running o.frames o.place Y.now.on.running.unit.temps (first ∷ k) m ms Y.now.on.left marks
+
+    leaves_it : (at : ℕ) → nat_lt at (length o.words) ≡ true → LeavesIt (private.Delays o.gate at) (steps.delay o at n)
+    leaves_it at there =
+        subst (λ b. LeavesIt (private.Delays o.gate at) (if b then (if nat_lt at (length o.words) then tests at else private_outcome o) else private_outcome o)) (sym held)
+        (subst (λ b. LeavesIt (private.Delays o.gate at) (if b then tests at else private_outcome o)) (sym there)
+        (provided_leaves (int_le (word o.words at) (pos 0)) o fault.QueueTaken (private.Delays o.gate at) (stands at, private.Delays o.gate at) (WentOn refl (going G s before o Y.now.part Y.now.ready))))
+      where
+        tests : ℕ → private.Acting
+        tests at = provided (int_le (word o.words at) (pos 0)) o fault.QueueTaken (stands at, private.Delays o.gate at)
+
+    effect_by_place : (P : Outcome Place) (r : Result ℕ machine.Fault) → PlaceAgrees (seen (in_sight G) G xs) Queue P r
+        → EffectAgrees G w.own (and_then P (λ at. delay G.p (configuration s G.p) k at.at (marked_monitors k))) (with_result o r (λ at. steps.delay o at n)).1
+    effect_by_place (Gives q) (Ok at) g =
+        let f = seen_mine (in_sight G) G xs q.at (at, Queue) g.0 in
+        told G w.own s before Y.now.ready (delay G.p (configuration s G.p) k q.at (marked_monitors k)) (private.Delays o.gate at) (steps.delay o at n) (by_place (Gives q) (Ok at) g)
+        (subst (λ z. IfGives (λ y. Means G w.own y.1 (private.Delays o.gate at)) (delay G.p (configuration s G.p) k q.at z)) (sym marks) (delays_it q.at at f.0 f.1 (process_in_queue (s.store q.at))))
+        (leaves_it at (among q.at at f.0 f.1))
+    effect_by_place (Fault i) (Err f) g = refl
+    effect_by_place (Gives v) (Err f) g = absurd g
+    effect_by_place (Fault i) (Ok at) g = absurd g
+
+  pub delay_in_monitor : (AroundAll G s w → QueuesShared G xs) → Stepped G s w before o
+  delay_in_monitor shared =
       let N = Y.now in
+      let is = sym (delays (context G.setup s G.p) (configuration s G.p) N.on.running.env k x (a.Use d) h.1.0.1 h.1.0.2 h.1.0.3) in
+      let placed =
+      place_here G s w before o first k N N.sees d queue Queue o.place N.on.left.2.3.0 N.on.left.2.1 N.on.running.unit.temps h.1.3
+      (used_none G s w before o x env k N.on.running.env d (argument_none G s w before o x env k N.on.running.env (a.Use d) Y.none)) in
       statement_steps G s w before o (a.Perform (a.Plain x) (one (a.Use d))) env k Y (op.Delay queue n) (not_called N.on.running.env (a.Plain x) (one (a.Use d)) h.1.0.0) refl h.0 refl
-      (subst (λ z. PartOf G (after_step s G.p z) before (steps.with_place w o queue (λ at. steps.delay o at n)).0)
-      (sym (delays (context G.setup s G.p) (configuration s G.p) N.on.running.env k x (a.Use d) h.1.0.1 h.1.0.2 h.1.0.3))
-      (by_place _ _
-      (place_here G s w before o first k N N.sees d queue Queue o.place N.on.left.2.3.0 N.on.left.2.1 N.on.running.unit.temps h.1.3
-      (used_none G s w before o x env k N.on.running.env d (argument_none G s w before o x env k N.on.running.env (a.Use d) Y.none)))))
+      (subst (λ z. PartOf G (after_step s G.p z) before (steps.with_place w o queue (λ at. steps.delay o at n)).0) is (by_place _ _ placed))
+      (λ K. subst (λ z. EffectAgrees G w.own z (steps.with_place w o queue (λ at. steps.delay o at n)).1) is (effect_by_place K (shared K) _ _ placed))

@@ -4,6 +4,7 @@ use Rattle.cp_model.specs.Abstract as a
 use Rattle.cp_model.specs.Abstract.{BaseType}
 use Rattle.cp_model.specs.Actions.{Action, Acts, Calls, action, is_kernel_action}
 use Rattle.cp_model.specs.Calls.{call_in_designator, call_in_statement, call_in_task, first_call, in_context, procedure_call}
+use Rattle.cp_model.specs.Configurations.{StepResult}
 use Rattle.cp_model.specs.Continuations.{Do, Task}
 use Rattle.cp_model.specs.Environments.{Environment}
 use Rattle.cp_model.specs.Expressions.{place, value}
@@ -23,11 +24,13 @@ use Rattle.cp_steps.specs.Means.{PlaceAgrees}
 use Rattle.cp_steps.specs.Addresses.{Ground, activations, in_sight, seen}
 use Rattle.cp_steps.specs.Left.{held_below, site}
 use Rattle.cp_steps.specs.PartOf.{PartOf, RunsOn}
+use Rattle.cp_steps.proofs.Effects.{EffectAgrees, quiet_agrees}
 use Rattle.cp_steps.proofs.Evaluates.{place_agrees, value_agrees}
 use Rattle.cp_steps.proofs.Heres.{Sees}
+use Rattle.cp_steps.proofs.QuietOperations.{IsQuietOperation, IsQuietStatement, operation_quiet, statement_quiet}
 use Rattle.cp_steps.proofs.RunningOn.{runs_here, runs_moved}
 use Rattle.cp_steps.proofs.StatementCalls.{own_place}
-use Rattle.cp_steps.proofs.Stepping.{Now, Stepped, both_step, clock_of}
+use Rattle.cp_steps.proofs.Stepping.{AroundAll, Now, Stepped, both_step, clock_of}
 
 -- What a task does that makes no call.
 pub acts_itself : (i : Task) (k : List Task) → call_in_task (a.Literal 0) i ≡ None → procedure_call i ≡ None → action (i ∷ k) ≡ Acts i k
@@ -66,14 +69,23 @@ module _ (G : Ground) (s : State) (w : Outside) (before : List ℕ) (o : Private
   abbrev pub here : Environment
   here = Y.now.on.running.env
 
+  abbrev pub executed : StepResult
+  executed = execute (context G.setup s G.p) (configuration s G.p) here k st
+
   pub statement_steps : (y : Operation) → procedure_call (Do st here) ≡ None → is_kernel_action (Acts (Do st here) k) ≡ false
       → operation_at G.program o.place ≡ Some y → steps.is_kernel_operation y ≡ false
-      → PartOf G (after_step s G.p (execute (context G.setup s G.p) (configuration s G.p) here k st)) before (act G.program w o y).0
+      → PartOf G (after_step s G.p executed) before (act G.program w o y).0
+      → (AroundAll G s w → EffectAgrees G w.own executed (act G.program w o y).1)
       → Stepped G s w before o
-  statement_steps y procedure private there own P =
+  statement_steps y procedure private there own P effect =
       both_step G s w before o (Do st env) k Y.now (Acts (Do st here) k) y
       (ap (λ e. action (Do st e ∷ k)) Y.now.on.left.0 ∙ acts_itself (Do st here) k (ap (in_context (λ z. Do z here)) Y.none) procedure)
-      private there own P
+      private there own P effect
+
+  -- Nothing is left to the kernel, whatever gate is held.
+  pub quietly : (y : Operation) → IsQuietStatement st → IsQuietOperation y → AroundAll G s w → EffectAgrees G w.own executed (act G.program w o y).1
+  quietly y statement operation all =
+      quiet_agrees G w.own executed (act G.program w o y).1 (statement_quiet (context G.setup s G.p) (configuration s G.p) here k st statement) (operation_quiet G.program w o y operation)
 
   -- What comes after the statement is left to do.
   pub goes_next : RunsOn G s.store (go_to Y.now.on.left.2.0 o) k

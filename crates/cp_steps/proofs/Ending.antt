@@ -16,6 +16,7 @@ use Rattle.cp_steps.specs.PartOf.{DataMeans}
 use Rattle.cp_steps.proofs.Doing.{acts_itself}
 use Rattle.cp_steps.proofs.RunningOn.{left_afresh}
 use Rattle.cp_steps.proofs.Stepping.{Now, Stepped, both_step, gate_left, went}
+use Rattle.cp_steps.proofs.Effects.{leaves}
 
 -- The end of a process.
 pub process_ends : (G : Ground) (s : State) (w : Outside) (before : List ℕ) (o : PrivateState) (k : List Task) → Now G s w before o EndProcess k → Stepped G s w before o
@@ -31,6 +32,7 @@ process_ends G s w before o k N =
       data_means = λ begun. subst (λ x. DataMeans G (activations o.base o.frames x) (in_sight G) s.store o.words) (sym (with_at_here G.p k s.continuation)) N.on.data_means;
       runs_on = λ goes. absurd goes;
     }
+    (λ all. tt)
 
 -- The end of the body of a class or a monitor: its `init` is done.
 pub body_ends : (G : Ground) (s : State) (w : Outside) (before : List ℕ) (o : PrivateState) (gate : Option ℕ) (k : List Task) → Now G s w before o (EndBody gate) k → Stepped G s w before o
@@ -60,3 +62,4 @@ body_ends G s w before o gate k N = by o.frames N
           given = N.on.given.1;
         }
         record { number = refl; input = refl; consumed = refl; output = refl; activity = refl }))
+        (λ all. leaves G w.own gate f.gate N.on.left.2.0 N.on.left.2.2)

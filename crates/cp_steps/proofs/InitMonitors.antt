@@ -2,19 +2,19 @@
 use Rattle.std.proofs.Common.{suc, zero, Bool, List, None, Option, Some, [], ap, arith, false, inl, inr, length, refl, subst, sym, true, ℕ, ℤ, ◌+◌, ◌<◌, ◌∙◌, ◌∷◌, ◌≡◌, ◌≤◌, ◌⊎◌}
 use Rattle.std.specs.Prelude.{if◌then◌else◌, not}
 use Rattle.cp_model.specs.Abstract as a
-use Rattle.cp_model.specs.Abstract.{Class, Name, Sort, System}
+use Rattle.cp_model.specs.Abstract.{Class, Monitor, Name, Sort, System}
 use Rattle.cp_model.specs.Arguments.{bind, init_argument_writes}
-use Rattle.cp_model.specs.Components.{Component, name_location}
-use Rattle.cp_model.specs.Configurations.{StepResult, own_step, with_continuation}
+use Rattle.cp_model.specs.Components.{Component, declared_monitor, monitor_location, monitor_right, name_location}
+use Rattle.cp_model.specs.Configurations.{Opens, StepResult, own_step, with_continuation}
 use Rattle.cp_model.specs.Continuations.{Do, EndBody, Task, marked_monitors, push}
 use Rattle.cp_model.specs.Calls.{call_in_arguments}
 use Rattle.cp_model.specs.Declarations.{Variable, declarations, is_component}
 use Rattle.cp_model.specs.Environments.{Environment}
 use Rattle.cp_model.specs.Initialisation.{body_environment, init_component}
 use Rattle.cp_model.specs.Invariant.{StoreInvariant}
-use Rattle.cp_model.specs.Locations.{Location}
+use Rattle.cp_model.specs.Locations.{Location, OfMonitor}
 use Rattle.cp_model.specs.Outcomes.{Fault, Gives, Outcome, and_then}
-use Rattle.cp_model.specs.States.{State, configuration, context}
+use Rattle.cp_model.specs.States.{HeldBy, State, configuration, context, is_set}
 use Rattle.cp_model.specs.Stores.{Store, Writes, put_all}
 use Rattle.cp_model.specs.Turns.{after_step}
 use Rattle.cp_model.specs.declared.state.Fault.TheVariants as fault
@@ -28,20 +28,20 @@ use Rattle.cp_typing.specs.Words.{words}
 use Rattle.cp_code.specs.Layout.{Part}
 use Rattle.cp_code.specs.Sites as sites
 use Rattle.cp_code.specs.Sites.{BodyOf, Site, TargetOf, operation_at}
-use Rattle.cp_code.specs.StandsFor.{UnitStands, end_of}
+use Rattle.cp_code.specs.StandsFor.{UnitStands, end_of, system_of_monitor}
 use Rattle.cp_code.specs.Starts.{block, paste}
 use Rattle.cp_code.specs.StatementsFor.{InitArgumentsFor, InitsBy}
 use Rattle.cp_code.specs.TermsFor.{Knowns, nothing_known}
 use Rattle.cp_steps.specs.PrivateStates as machine
 use Rattle.cp_steps.specs.PrivateStates.{Acting, Outside, PrivateState, fault_in, private_outcome, provided, set_word}
-use Rattle.cp_steps.specs.Passing.{Passing, component_called, pass_all, when_passed}
-use Rattle.cp_steps.specs.Calling.{Back, enter, frame_of, has_room, settle}
-use Rattle.cp_steps.specs.Addresses.{Activation, ClassLies, Ground, HasRights, activations, component_type, in_sight, lies, scope, seen, whole}
+use Rattle.cp_steps.specs.Passing.{Called, Passing, component_called, monitor_called, monitor_start, pass_all, when_passed}
+use Rattle.cp_steps.specs.Calling.{Back, enter, frame_of, has_room, init_monitor, innermost, settle}
+use Rattle.cp_steps.specs.Addresses.{Activation, ClassHasRights, ClassLies, Ground, HasRights, MonitorLies, activations, component_type, in_sight, lies, scope, seen, whole, words_seen}
 use Rattle.cp_steps.specs.Left.{Left, Running, Runs, innermost_gate, site}
 use Rattle.cp_steps.specs.PartOf.{ActivationsMean, DataMeans, PartOf, RunsOn}
 use Rattle.cp_steps.proofs.Apart.{IsCell}
 use Rattle.cp_steps.proofs.CallSteps.{UnitsStand}
-use Rattle.cp_steps.proofs.Doing.{Ready, known}
+use Rattle.cp_steps.proofs.Doing.{Ready, executed, known}
 use Rattle.cp_steps.proofs.Pushing.{activations_push, marks_push, mean_push, push_left}
 use Rattle.cp_steps.proofs.Copying.{copied_length}
 use Rattle.cp_steps.proofs.Declared.{distinct_first}
@@ -51,30 +51,21 @@ use Rattle.cp_steps.proofs.InitOffsets.{Offset}
 use Rattle.cp_steps.proofs.InitPassing.{InitAgrees, InitBound, passes_init}
 use Rattle.cp_steps.proofs.InitRights.{given}
 use Rattle.cp_steps.proofs.InitSettled.{component_below, init_count, init_offsets, init_settled, init_values}
-use Rattle.cp_steps.proofs.Placing.{Placed}
+use Rattle.cp_steps.proofs.Placing.{Placed, monitor_placed}
 use Rattle.cp_steps.proofs.ProcessRights.{NoClassRights}
 use Rattle.cp_steps.proofs.Rooms.{room_for}
 use Rattle.cp_steps.proofs.RunningOn.{left_afresh, runs_here, runs_over, runs_stacked}
 use Rattle.cp_steps.proofs.Settling.{Settled, runs_settled}
 use Rattle.cp_steps.proofs.Stacks.{Stacked, own_in_whole}
-use Rattle.cp_steps.proofs.Stepping.{beyond, clock_of, faulted, stopped, went}
-use Rattle.cp_model.specs.Components.{declared_monitor, monitor_location, monitor_right}
-use Rattle.cp_model.specs.Configurations.{Opens}
+use Rattle.cp_steps.proofs.Stepping.{AroundAll, beyond, clock_of, faulted, stopped, went}
 use Rattle.cp_model.specs.Gates.{set_gate}
-use Rattle.cp_model.specs.Locations.{OfMonitor}
-use Rattle.cp_model.specs.States.{HeldBy, is_set}
-use Rattle.cp_model.specs.Abstract.{Monitor}
-use Rattle.cp_model.specs.StatementSteps.{execute}
-use Rattle.cp_code.specs.StandsFor.{system_of_monitor}
 use Rattle.cp_steps.specs.Addresses as addresses
-use Rattle.cp_steps.specs.Addresses.{ClassHasRights, MonitorLies, words_seen}
-use Rattle.cp_steps.specs.Passing.{Called, monitor_called, monitor_start}
-use Rattle.cp_steps.specs.Calling.{init_monitor, innermost}
 use Rattle.cp_steps.specs.Steps.{act}
 use Rattle.cp_steps.proofs.GatesHeld.{monitor_numbered}
-use Rattle.cp_steps.proofs.Placing.{monitor_placed}
-use Rattle.cp_steps.proofs.Stepping.{AroundAll}
 use Rattle.cp_steps.proofs.Targets.{no_class_begins}
+use Rattle.cp_steps.proofs.Effects.{EffectAgrees, LeavesIt, Means, WentOn, going, passed_leaves, provided_leaves, then_means, told}
+use Rattle.cp_steps.proofs.MonitorsThere.{monitor_below}
+use Rattle.cp_model.proofs.ExpressionReach.{IfGives}
 
 abbrev body_of_monitor : Ground → System → ℕ → Environment
 body_of_monitor G s m = record { globals = scope G; system = s; component = monitor_location m; frame = None }
@@ -182,15 +173,10 @@ pub monitor_inits : (G : Ground) (s : State) (w : Outside) (before : List ℕ) (
     → (Y : Ready G s w before o (a.Init x es) env k) (call : Call) (next : ℕ)
     → InitsBy (site G Y.now.on.running) (known G s w before o (Do (a.Init x es) env) k Y.now) Y.now.on.left.2.3.2 es (op.InitMonitor call next) o.place Y.now.on.left.2.3.0 Y.now.on.left.2.0 Y.now.on.left.2.1
     → NoClassRights G → Declares G Y.now.on.running.env
-    → PartOf G (after_step s G.p (execute (context G.setup s G.p) (configuration s G.p) Y.now.on.running.env k (a.Init x es))) before (act G.program w o (op.InitMonitor call next)).0
+    → PartOf G (after_step s G.p (executed G s w before o (a.Init x es) env k Y)) before (act G.program w o (op.InitMonitor call next)).0
+    × EffectAgrees G w.own (executed G s w before o (a.Init x es) env k Y) (act G.program w o (op.InitMonitor call next)).1
 monitor_inits G s w before o x es env k I units K Y call next h none declares =
-    subst (λ (z : Option Component). PartOf G (after_step s G.p (elim z as (λ y. StepResult) [ None ↦ own_step (with_continuation (configuration s G.p) k) | Some c ↦ init_component c.system.sort (context G.setup s G.p) (configuration s G.p) here k es c ])) before computed)
-    (sym Y.now.on.left.2.3.4)
-    (subst (λ z. PartOf G (after_step s G.p (init_component z (context G.setup s G.p) (configuration s G.p) here k es n)) before computed) (sym h.0)
-    (subst (λ b. PartOf G (after_step s G.p (inits (if b then monitor_right (s.store (name_location here n)) else declared_monitor here n) (declarations here.globals n.system.parameters))) before computed) (sym h.2.own)
-    (subst (λ g. PartOf G (after_step s G.p (inits m (declarations g n.system.parameters))) before computed) (sym Y.now.on.runs.globals)
-    (subst (PartOf G (after_step s G.p (inits m passed)) before) (sym (ap (λ z. (init_monitor G.program w o call z next).0) gate_is ∙ has_unit))
-    (subst (λ b. PartOf G (after_step s G.p (inits m passed)) before (provided (not b) o fault.InitialisedTwice passing).0) (sym (K.set_is m)) (by (is_set (s.gates m).holder)))))))
+    (part, told G w.own s before Y.now.ready (executed G s w before o (a.Init x es) env k Y) (machine.Opens m) (act G.program w o (op.InitMonitor call next)) part means leaves_it)
   where
     here : Environment
     here = Y.now.on.running.env
@@ -256,14 +242,14 @@ monitor_inits G s w before o x es env k I units K Y call next h none declares =
     below_whole : c.component ≤ whole G
     below_whole = omega (arith, Y.now.around.own, K.starts m, ap (λ v. words_seen v G.program G.own) K.sight)
 
-    has_unit : (init_monitor G.program w o call m next).0 ≡ (provided (not c.is_set) o fault.InitialisedTwice passing).0
+    has_unit : init_monitor G.program w o call m next ≡ provided (not c.is_set) o fault.InitialisedTwice passing
     has_unit =
-        (λ z. (elim (h.2.runs.there z) as (λ y. Acting) [
+        (λ z. elim (h.2.runs.there z) as (λ y. Acting) [
           | None ↦ private_outcome o
           | Some u ↦ if has_room w o call u c.component then provided (not c.is_set) o fault.InitialisedTwice (when_passed (pass_all w (o.base + call.words) c.component call.arguments o) (λ p.
               (enter (settle p (o.base + call.words) c.component (length call.arguments)) c u call back, machine.Opens m))) else private_outcome o
-        ]).0)
-        ∙ ap (λ b. (if b then provided (not c.is_set) o fault.InitialisedTwice passing else private_outcome o).0) room
+        ])
+        ∙ ap (λ b. if b then provided (not c.is_set) o fault.InitialisedTwice passing else private_outcome o) room
       where
         room : has_room w o call h.2.runs.unit c.component ≡ true
         room =
@@ -373,3 +359,37 @@ monitor_inits G s w before o x es env k I units K Y call next h none declares =
         (provided (not b) o fault.InitialisedTwice passing).0
     by true = faulted G s w before o first k Y.now 7 fault.InitialisedTwice refl
     by false = inner (bind (λ l v e. init_argument_writes n.system.sort (clock_of G s) here s.store l v.type e) at passed es) (pass_all w (o.base + call.words) c.component call.arguments o) passed_ok
+
+    part : PartOf G (after_step s G.p (executed G s w before o (a.Init x es) env k Y)) before (act G.program w o (op.InitMonitor call next)).0
+    part =
+        subst (λ (z : Option Component). PartOf G (after_step s G.p (elim z as (λ y. StepResult) [ None ↦ own_step (with_continuation (configuration s G.p) k) | Some c ↦ init_component c.system.sort (context G.setup s G.p) (configuration s G.p) here k es c ])) before computed)
+        (sym Y.now.on.left.2.3.4)
+        (subst (λ z. PartOf G (after_step s G.p (init_component z (context G.setup s G.p) (configuration s G.p) here k es n)) before computed) (sym h.0)
+        (subst (λ b. PartOf G (after_step s G.p (inits (if b then monitor_right (s.store (name_location here n)) else declared_monitor here n) (declarations here.globals n.system.parameters))) before computed) (sym h.2.own)
+        (subst (λ g. PartOf G (after_step s G.p (inits m (declarations g n.system.parameters))) before computed) (sym Y.now.on.runs.globals)
+        (subst (λ (y : Acting). PartOf G (after_step s G.p (inits m passed)) before y.0) (sym (ap (λ z. init_monitor G.program w o call z next) gate_is ∙ has_unit))
+        (subst (λ b. PartOf G (after_step s G.p (inits m passed)) before (provided (not b) o fault.InitialisedTwice passing).0) (sym (K.set_is m)) (by (is_set (s.gates m).holder)))))))
+
+    means : IfGives (λ y. Means G w.own y.1 (machine.Opens m)) (executed G s w before o (a.Init x es) env k Y)
+    means =
+        subst (λ (z : Option Component). Opening (elim z as (λ y. StepResult) [ None ↦ own_step (with_continuation (configuration s G.p) k) | Some c ↦ init_component c.system.sort (context G.setup s G.p) (configuration s G.p) here k es c ]))
+        (sym Y.now.on.left.2.3.4)
+        (subst (λ z. Opening (init_component z (context G.setup s G.p) (configuration s G.p) here k es n)) (sym h.0)
+        (subst (λ b. Opening (inits (if b then monitor_right (s.store (name_location here n)) else declared_monitor here n) (declarations here.globals n.system.parameters))) (sym h.2.own)
+        (opens (is_set (s.gates m).holder))))
+      where
+        Opening : StepResult → Type 0
+        Opening r = IfGives (λ y. Means G w.own y.1 (machine.Opens m)) r
+
+        bound : Outcome Writes
+        bound = bind (λ l v e. init_argument_writes n.system.sort (clock_of G s) here s.store l v.type e) at (declarations here.globals n.system.parameters) es
+
+        opens : (b : Bool) → Opening (if b then Fault 7 else and_then bound after_writes)
+        opens true = tt
+        opens false = then_means G w.own (machine.Opens m) bound after_writes (λ ws. (refl, monitor_below G.setup m n.system is))
+
+    leaves_it : LeavesIt (machine.Opens m) (act G.program w o (op.InitMonitor call next))
+    leaves_it =
+        subst (LeavesIt (machine.Opens m)) (sym (ap (λ z. init_monitor G.program w o call z next) gate_is ∙ has_unit))
+        (provided_leaves (not c.is_set) o fault.InitialisedTwice (machine.Opens m) passing
+        (passed_leaves w (o.base + call.words) c.component call.arguments o (machine.Opens m) begun (going G s before o Y.now.part Y.now.ready) (λ p on. WentOn refl on)))

@@ -5,13 +5,13 @@ use Rattle.cp_model.specs.Abstract as a
 use Rattle.cp_model.specs.Abstract.{Class, Name, Sort, System}
 use Rattle.cp_model.specs.Arguments.{bind, init_argument_writes}
 use Rattle.cp_model.specs.CallSteps.{is_initialised}
-use Rattle.cp_model.specs.Components.{Component, class_or_here, component_named, name_location, same_sort}
+use Rattle.cp_model.specs.Components.{Component, class_location, class_or_here, component_named, name_location, same_sort}
 use Rattle.cp_model.specs.Configurations.{StepResult, own_step, with_continuation}
 use Rattle.cp_model.specs.Continuations.{Do, EndBody, Task, marked_monitors, push}
 use Rattle.cp_model.specs.Calls.{call_in_arguments}
 use Rattle.cp_model.specs.Declarations.{Variable, declarations, is_component, reported_members}
 use Rattle.cp_model.specs.Environments.{Environment}
-use Rattle.cp_model.specs.Initialisation.{body_environment, init_component}
+use Rattle.cp_model.specs.Initialisation.{body_environment, init_arguments, init_component}
 use Rattle.cp_model.specs.Integers.{same_integer}
 use Rattle.cp_model.specs.Invariant.{StoreInvariant}
 use Rattle.cp_model.specs.Locations.{Location}
@@ -36,7 +36,7 @@ use Rattle.cp_code.specs.Starts.{block, paste, word}
 use Rattle.cp_code.specs.StatementsFor.{InitArgumentsFor, InitsBy}
 use Rattle.cp_code.specs.TermsFor.{Knowns, nothing_known}
 use Rattle.cp_steps.specs.PrivateStates as machine
-use Rattle.cp_steps.specs.PrivateStates.{Acting, Outside, PrivateState, fault_in, private_outcome, provided, set_word}
+use Rattle.cp_steps.specs.PrivateStates.{Acting, Effect, Outside, PrivateState, fault_in, private_outcome, provided, set_word}
 use Rattle.cp_steps.specs.Passing.{Passing, component_called, pass_all, when_passed}
 use Rattle.cp_steps.specs.Calling.{Back, class_at, enter, frame_of, has_room, init_class, settle}
 use Rattle.cp_steps.specs.Addresses.{Activation, ClassLies, Ground, HasRights, activations, component_type, in_sight, lies, scope, seen, whole}
@@ -66,6 +66,9 @@ use Rattle.cp_steps.proofs.Stacks.{Stacked, own_in_whole}
 use Rattle.cp_steps.proofs.Stepping.{Stepped, beyond, clock_of, faulted, stopped, went}
 use Rattle.cp_steps.proofs.Targets.{class_lies, lies_below, mark_is}
 use Rattle.cp_steps.specs.Means.{MarkMeans}
+use Rattle.cp_steps.proofs.Effects.{quiet_agrees}
+use Rattle.cp_steps.proofs.QuietOperations.{either_quiet, operation_quiet, then_quiet}
+use Rattle.cp_model.proofs.QuietSteps.{Quietly}
 
 -- The body of a class.
 abbrev body_of_class : Ground → System → Location → Environment
@@ -181,6 +184,13 @@ init_steps G s w before o x es env k I units Y call next there h none declares =
     (subst (λ z. PartOf G (after_step s G.p (init_component z (context G.setup s G.p) (configuration s G.p) here k es n)) before computed) (sym h.0)
     (subst (λ b. PartOf G (after_step s G.p (inits (if b then class_or_here (name_location here n) (s.store (name_location here n)) else name_location here n) (declarations here.globals n.system.parameters) es)) before computed) (sym h.2.own)
     (by_target call.target target_for refl))))
+    (λ all. quiet_agrees G w.own _ computed_effect
+    (subst (λ (z : Option Component). Quietly (elim z as (λ y. StepResult) [ None ↦ own_step (with_continuation (configuration s G.p) k) | Some m ↦ init_component m.system.sort (context G.setup s G.p) (configuration s G.p) here k es m ]))
+    (sym Y.now.on.left.2.3.4)
+    (subst (λ z. Quietly (init_component z (context G.setup s G.p) (configuration s G.p) here k es n)) (sym h.0)
+    (either_quiet (is_initialised (s.store (class_location here s.store n))) _ _ tt
+    (then_quiet (init_arguments (context G.setup s G.p) (configuration s G.p) here es n (class_location here s.store n)) _ (λ ws. tt)))))
+    (operation_quiet G.program w o (op.InitClass call next) tt))
   where
     here : Environment
     here = Y.now.on.running.env
@@ -190,6 +200,9 @@ init_steps G s w before o x es env k I units Y call next there h none declares =
 
     computed : PrivateState
     computed = (init_class G.program w o call (component_called G.program w o call.target).component next).0
+
+    computed_effect : Effect
+    computed_effect = (init_class G.program w o call (component_called G.program w o call.target).component next).1
 
     private : not (elim (component_named here x) as (λ y. Bool) [ None ↦ true | Some c ↦ same_sort a.Class c.system.sort ]) ≡ false
     private =

@@ -33,7 +33,7 @@ use Rattle.cp_code.specs.Sites.{RoutineOf, first_parameter, parameters, system_o
 use Rattle.cp_code.specs.StandsFor.{UnitStands}
 use Rattle.cp_code.specs.Starts.{started}
 use Rattle.cp_code.specs.TermsFor.{ArgumentsFor}
-use Rattle.cp_steps.specs.PrivateStates.{Acting, Enters, Outside, PrivateState, fault_in, private_outcome, provided}
+use Rattle.cp_steps.specs.PrivateStates.{Acting, Effect, Enters, Outside, PrivateState, fault_in, private_outcome, provided}
 use Rattle.cp_steps.specs.Passing.{Called, Passing, component_called, pass_all, when_passed}
 use Rattle.cp_steps.specs.Calling.{Back, call_step, enter, frame_of, gate_effect, has_room, start_words}
 use Rattle.cp_steps.specs.Addresses.{ClassHasRights, ComponentLies, Ground, activations, in_sight, scope, seen, whole}
@@ -52,6 +52,8 @@ use Rattle.cp_steps.proofs.Separate.{part_below}
 use Rattle.cp_steps.proofs.Stepping.{Now, beyond, clock_of, faulted, gate_entered, stopped, went}
 use Rattle.cp_steps.proofs.Writing.{location_is, owner_is, same_owner_itself}
 use Rattle.cp_steps.proofs.Stacks.{own_in_whole}
+use Rattle.cp_steps.proofs.Effects.{EffectAgrees, LeavesIt, Means, WentOn, enters, going, passed_leaves, provided_leaves, then_means, told}
+use Rattle.cp_model.specs.Configurations.{StepResult}
 
 -- ---- writes of one owner
 
@@ -124,12 +126,13 @@ module _ (G : Ground) (s : State) (w : Outside) (before : List ℕ) (o : Private
     pub caller : CallerAt G call.routine kept live v.callee.routine.result (frame_of o (component_called G.program w o call.target) back) place
     pub opens : Opens runs.unit
 
+  -- What a call does, in the meaning.
+  abbrev pub called : Environment → StepResult
+  called e = calls.call (context G.setup s G.p) (configuration s G.p) (record v { environment = e }) k
+
   pub invoked : (from last low high : ℕ) → Invocation from last low high
-      → PartOf G (after_step s G.p (calls.call (context G.setup s G.p) (configuration s G.p) v k)) before (call_step G.program w o call back).0
-  invoked from last low high I =
-      subst (λ e. PartOf G (defined e) before (call_step G.program w o call back).0) (sym I.where_is)
-      (subst (PartOf G (defined N.on.running.env) before) (sym computed)
-      (subst (λ b. PartOf G (defined N.on.running.env) before (provided b o fault.NotInitialised passing).0) (sym I.target_is.set_is) (by t.is_callable refl)))
+      → PartOf G (after_step s G.p (called v.environment)) before (call_step G.program w o call back).0 × EffectAgrees G w.own (called v.environment) (call_step G.program w o call back).1
+  invoked from last low high I = (part, told G w.own s before N.ready (called v.environment) entered_gate (call_step G.program w o call back) part means leaves_it)
     where
       t : calls.Target
       t = target (context G.setup s G.p) s.store N.on.running.env v.callee.of
@@ -143,11 +146,14 @@ module _ (G : Ground) (s : State) (w : Outside) (before : List ℕ) (o : Private
       top : ℕ
       top = o.base + (site G N.on.running).words
 
+      entered_gate : Effect
+      entered_gate = gate_effect c.gate Enters
+
       defined : Environment → State
-      defined e = after_step s G.p (calls.call (context G.setup s G.p) (configuration s G.p) (record v { environment = e }) k)
+      defined e = after_step s G.p (called e)
 
       entering_by : CodeUnit → PrivateState → Acting
-      entering_by u p = (enter (start_words (o.base + call.words) u p) c u call back, gate_effect c.gate Enters)
+      entering_by u p = (enter (start_words (o.base + call.words) u p) c u call back, entered_gate)
 
       passing : Acting
       passing = when_passed (pass_all w (o.base + call.words) (o.base + call.words) call.arguments o) (entering_by I.runs.unit)
@@ -158,13 +164,33 @@ module _ (G : Ground) (s : State) (w : Outside) (before : List ℕ) (o : Private
           (omega (arith, N.on.base, N.around.own, N.on.runs.words_fit, I.runs.fits.words, I.runs.words)) (omega (arith, N.on.temp, N.on.runs.temps_fit, I.runs.fits.temps, I.runs.temps))
           (omega (arith, I.target_is.there, N.on.count))
 
-      computed : (call_step G.program w o call back).0 ≡ (provided c.is_set o fault.NotInitialised passing).0
+      computed : call_step G.program w o call back ≡ provided c.is_set o fault.NotInitialised passing
       computed =
-          (λ z. (elim (I.runs.there z) as (λ x. Acting) [
+          (λ z. elim (I.runs.there z) as (λ x. Acting) [
             | None ↦ private_outcome o
             | Some u ↦ if has_room w o call u c.component then provided c.is_set o fault.NotInitialised (when_passed (pass_all w (o.base + call.words) (o.base + call.words) call.arguments o) (entering_by u)) else private_outcome o
-          ]).0)
-          ∙ ap (λ b. (if b then provided c.is_set o fault.NotInitialised passing else private_outcome o).0) room
+          ])
+          ∙ ap (λ b. if b then provided c.is_set o fault.NotInitialised passing else private_outcome o) room
+
+      -- The meaning enters the gate that the frame keeps.
+      means : IfGives (λ y. Means G w.own y.1 entered_gate) (called v.environment)
+      means = subst (λ e. IfGives (λ y. Means G w.own y.1 entered_gate) (called e)) (sym I.where_is) (here t.is_callable refl)
+        where
+          bound : Outcome Writes
+          bound = bind (argument_writes (clock_of G s) N.on.running.env s.store) (root owner) (parameters (site G N.on.running) v.callee) v.arguments
+
+          after : Writes → StepResult
+          after ws = Gives (called_configuration (configuration s G.p) (record v { environment = N.on.running.env }) k t owner ws)
+
+          here : (b : Bool) → t.is_callable ≡ b → IfGives (λ y. Means G w.own y.1 entered_gate) (if b then and_then bound after else Fault 6)
+          here true e = then_means G w.own entered_gate bound after (λ ws. enters G w.own t.gate c.gate I.target_is.gate (I.target_is.is_gate e))
+          here false e = tt
+
+      leaves_it : LeavesIt entered_gate (call_step G.program w o call back)
+      leaves_it =
+          subst (LeavesIt entered_gate) (sym computed)
+          (provided_leaves c.is_set o fault.NotInitialised entered_gate passing
+          (passed_leaves w (o.base + call.words) (o.base + call.words) call.arguments o entered_gate (entering_by I.runs.unit) (going G s before o N.part N.ready) (λ p on. WentOn refl on)))
 
       deep : depth k ≡ length (activations o.base o.frames (i ∷ l))
       deep =
@@ -278,3 +304,9 @@ module _ (G : Ground) (s : State) (w : Outside) (before : List ℕ) (o : Private
               subst (λ x. PartOf G (after_step s G.p (Gives (called_configuration (configuration s G.p) (record v { environment = N.on.running.env }) k t owner ws))) before (elim x as (λ y. Acting) [ None ↦ entering_by I.runs.unit P.own | Some f ↦ fault_in P.own f ]).0) (sym h.0)
               (subst (λ p. PartOf G (after_step s G.p (Gives (called_configuration (configuration s G.p) (record v { environment = N.on.running.env }) k t owner ws))) before (entering_by I.runs.unit p).0) (sym h.1)
               (entered ws P.own.words inside h.2 e))
+
+      part : PartOf G (defined v.environment) before (call_step G.program w o call back).0
+      part =
+          subst (λ e. PartOf G (defined e) before (call_step G.program w o call back).0) (sym I.where_is)
+          (subst (λ (x : Acting). PartOf G (defined N.on.running.env) before x.0) (sym computed)
+          (subst (λ b. PartOf G (defined N.on.running.env) before (provided b o fault.NotInitialised passing).0) (sym I.target_is.set_is) (by t.is_callable refl)))

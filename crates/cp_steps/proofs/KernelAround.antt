@@ -1,22 +1,20 @@
 -- What kernel steps read of gates and stages is the state's, where the kernel is that of the state.
-use Rattle.std.proofs.Common.{◌≡◌, ℕ, zero, suc, ◌-◌, ◌≤◌, ◌<◌, List, [], ◌∷◌, length, Option, Some, None, refl, ap, sym, ◌∙◌, arith}
+use Rattle.std.proofs.Common.{◌≡◌, ℕ, suc, ◌-◌, ◌≤◌, Option, Some, None, refl, ap, sym, ◌∙◌, arith}
 use Rattle.std.specs.Prelude.{slice_get}
-use Rattle.cp_model.specs.Abstract.{Monitor, Process, System}
 use Rattle.cp_model.specs.Configurations as status
 use Rattle.cp_model.specs.Configurations.{Status}
-use Rattle.cp_model.specs.Report.{components_of}
 use Rattle.cp_model.specs.States as states
-use Rattle.cp_model.specs.States.{Free, Gate, HeldBy, Holder, Setup, State, Unset, initial_variables, monitor_count, process_count}
+use Rattle.cp_model.specs.States.{Free, Gate, HeldBy, Holder, State, Unset}
 use Rattle.cp_code.specs.Programs as code
-use Rattle.cp_code.specs.StandsFor.{StandsFor, system_of_monitor, system_of_process}
+use Rattle.cp_code.specs.StandsFor.{StandsFor}
 use Rattle.cp_steps.specs.Addresses.{AllWords, Ground}
 use Rattle.cp_steps.specs.KernelOf.{KernelOf, StageMeans, kernel_ground}
 use Rattle.cp_steps.specs.KernelSteps.{Asking, Begun, Delayed, Fresh, Kernel, Stage, Unstarted, gate_of, is_set, is_started, stage_of}
 use Rattle.cp_steps.specs.Passing.{monitor_start}
 use Rattle.cp_steps.specs.PrivateStates.{Outside}
-use Rattle.cp_steps.proofs.Finding.{some_is_not_none}
 use Rattle.cp_steps.proofs.Layouts.{same_some}
-use Rattle.cp_steps.proofs.MonitorsThere.{counted, there_below}
+pub use Rattle.cp_steps.proofs.MonitorsThere.{monitor_below, process_below}
+use Rattle.cp_steps.proofs.MonitorsThere.{row_below}
 use Rattle.cp_steps.proofs.Stepping.{AroundAll}
 
 same_set : (h : Holder) → is_set h ≡ states.is_set h
@@ -34,21 +32,6 @@ same_started G status.Ended Begun h = refl
 same_started G status.Waiting Begun h = refl
 same_started G (status.Faulted n) Begun h = refl
 same_started G _ _ h = absurd h
-
--- The numbers of monitors and processes are within their counts.
-pub monitor_below : (setup : Setup) (m : ℕ) (y : System) → system_of_monitor setup m ≡ Some y → (1 ≤ m) × (m ≤ monitor_count setup)
-monitor_below setup zero y h = absurd (some_is_not_none y (sym h))
-monitor_below setup (suc m) y h = (omega arith, omega (arith, there_below (components_of setup Monitor) m y h, counted Monitor (initial_variables setup)))
-
-pub process_below : (setup : Setup) (p : ℕ) (y : System) → system_of_process setup p ≡ Some y → (1 ≤ p) × (p ≤ process_count setup)
-process_below setup zero y h = absurd (some_is_not_none y (sym h))
-process_below setup (suc zero) y h = (omega arith, omega arith)
-process_below setup (suc (suc p)) y h = (omega arith, omega (arith, there_below (components_of setup Process) p y h, counted Process (initial_variables setup)))
-
-row_below : (rows : List code.Monitor) (i : ℕ) (x : code.Monitor) → slice_get rows i ≡ Some x → i < length rows
-row_below [] i x h = absurd (some_is_not_none x (sym h))
-row_below (r ∷ rows) zero x h = omega arith
-row_below (r ∷ rows) (suc i) x h = omega (arith, row_below rows i x h)
 
 module _ (G : Ground) (F : StandsFor G.program G.setup) where
   -- The first word of each monitor is a shared one, or behind the last.

@@ -27,6 +27,8 @@ pub mod LeftKept
 pub mod Pushing
 pub mod Answered
 pub mod RunningOn
+pub mod QuietOperations
+pub mod Effects
 pub mod Stepping
 pub mod Alone
 pub mod Sights
@@ -39,6 +41,8 @@ pub mod Choosing
 pub mod Assigning
 pub mod Counting
 pub mod Standards
+pub mod QueueTypes
+pub mod Queues
 pub mod Delaying
 pub mod GatesHeld
 pub mod Continuing
@@ -46,6 +50,9 @@ pub mod ContinueSteps
 pub mod GatesKept
 pub mod StagesKept
 pub mod KernelKept
+pub mod EffectsKept
+pub mod PartsBeside
+pub mod RoundEnds
 pub mod KernelAround
 pub mod Ending
 pub mod Returning
@@ -70,7 +77,11 @@ pub mod PartLeaves
 pub mod Naming
 pub mod StartStores
 pub mod Starting
+pub mod SharedStarts
+pub mod KernelStarts
 pub mod Declares
+pub mod Waiting
+pub mod Beside
 pub mod InitRights
 pub mod InitSettled
 pub mod Opening
@@ -78,6 +89,8 @@ pub mod Targets
 pub mod CallSteps
 pub mod InitSteps
 pub mod InitMonitors
+pub mod InitProcesses
+pub mod ProcessSteps
 pub mod Puts
 pub mod Passing
 pub mod ReportLines

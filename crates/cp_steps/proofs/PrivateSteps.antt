@@ -18,7 +18,7 @@ use Rattle.cp_steps.specs.PrivateStates as machine
 use Rattle.cp_steps.specs.PrivateStates.{Activity, Outside, PrivateState}
 use Rattle.cp_steps.specs.Steps as steps
 use Rattle.cp_steps.specs.Steps.{act_on, alone}
-use Rattle.cp_steps.specs.Addresses.{AllWords, Ground, OwnWords, Sight, sees, words_seen}
+use Rattle.cp_steps.specs.Addresses.{Ground, OwnWords, sees, words_seen}
 use Rattle.cp_steps.specs.Laws.{PrivateStepIsStep, ground_of}
 use Rattle.cp_steps.specs.Left.{innermost_gate}
 use Rattle.cp_steps.specs.PartOf.{GoesOn, PartOf, RunsOn, status_of}
@@ -87,18 +87,11 @@ reach_own p (OfProcess q) h = h
 reach_own p (OfActivation q d) h = h
 reach_own p (OfMonitor m) h = absurd (true≢false (sym h))
 
-other_sight : OwnWords ≡ AllWords → ⊥
-other_sight e = subst is_own_words e tt
-  where
-    is_own_words : Sight → Type 0
-    is_own_words OwnWords = Unit {0}
-    is_own_words AllWords = ⊥
-
 ready_alone : (G : Ground) (s : State) (before : List ℕ) (o : PrivateState) (F : StandsFor G.program G.setup) → F.texts ≡ G.texts → G.sight ≡ OwnWords → PartOf G s before o → Invariant s
     → s.status G.p ≡ stage.Ready → marked_monitors (s.continuation G.p) ≡ [] → o.activity ≡ machine.Running → StepsAlone G s before o
 ready_alone G s before o F texts sight part I ready marks running =
     steps_alone G s before o part ready marks running gate
-    (ready_steps G s w before o F texts part I (record { clock = refl; own = part.count ∙ ap (λ v. words_seen v G.program G.own) sight }) reaches (λ K. absurd (other_sight (sym sight ∙ K.sight))) (s.continuation G.p) refl ready on)
+    (ready_steps G s w before o F texts part I (record { clock = refl; own = part.count ∙ ap (λ v. words_seen v G.program G.own) sight }) reaches (s.continuation G.p) refl ready on)
   where
     w : Outside
     w = alone (realtime (clock_of G s)) o

@@ -29,7 +29,7 @@ NoClassRights G =
     ((s : System) → system_of_process G.setup G.p ≡ Some s → HasNoClassRight (scope G) s)
     × ((m : ℕ) (s : System) → system_of_monitor G.setup m ≡ Some s → HasNoClassRight (scope G) s)
 
-system_at : (vs : List (Name × Variable)) (k : ℕ) (s : System) → component_at vs k ≡ Some s → (v : Name × Variable) × IsIn v vs × (component_in v.1.type ≡ Some s)
+pub system_at : (vs : List (Name × Variable)) (k : ℕ) (s : System) → component_at vs k ≡ Some s → (v : Name × Variable) × IsIn v vs × (component_in v.1.type ≡ Some s)
 system_at [] k s h = absurd (some_is_not_none s (sym h))
 system_at (v ∷ vs) zero s h = (v, inl refl, h)
 system_at (v ∷ vs) (suc k) s h = let r = system_at vs k s h in (r.0, inr r.1, r.2)
@@ -92,7 +92,7 @@ of_monitor Monitor h = refl
 of_monitor Process h = absurd (true≢false (sym h))
 of_monitor Class h = absurd (true≢false (sym h))
 
-process_without : (setup : Setup) → WellTyped setup → (p : ℕ) (s : System) → system_of_process setup p ≡ Some s → HasNoClassRight (globals setup.tree) s
+pub process_without : (setup : Setup) → WellTyped setup → (p : ℕ) (s : System) → system_of_process setup p ≡ Some s → HasNoClassRight (globals setup.tree) s
 process_without setup W zero s h = absurd (some_is_not_none s (sym h))
 process_without setup W (suc zero) s h = subst (HasNoClassRight (globals setup.tree)) (same_some setup.tree.initial s h) none
   where

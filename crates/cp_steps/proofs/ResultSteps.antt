@@ -32,7 +32,7 @@ use Rattle.cp_steps.specs.Steps.{act}
 use Rattle.cp_steps.specs.Addresses.{Ground}
 use Rattle.cp_steps.specs.Left.{site}
 use Rattle.cp_steps.specs.PartOf.{PartOf, RunsOn}
-use Rattle.cp_steps.proofs.Doing.{Ready, known, statement_steps, value_here}
+use Rattle.cp_steps.proofs.Doing.{Ready, known, quietly, statement_steps, value_here}
 use Rattle.cp_steps.proofs.Evaluates.{ordinal_is}
 use Rattle.cp_steps.proofs.Finding.{in_context_none}
 use Rattle.cp_steps.proofs.Resulting.{runs_resulted}
@@ -51,6 +51,7 @@ result_steps G s w before o x e env k F Y lower upper c n there h =
     (act G.program w o (op.SetResult lower upper c n)).0) (sym place_is)
     (by _ _ (value_here G s w before o (Do (a.Assign (a.Plain x) e) env) k N N.sees e c h.0 o.place N.on.left.2.3.0 N.on.left.2.1 N.on.running.unit.temps h.3
     (in_context_none (a.Assign (a.Plain x)) (first_call N.on.running.env (a.Literal 0) e) Y.none))))
+    (quietly G s w before o (a.Assign (a.Plain x) e) env k Y (op.SetResult lower upper c n) tt tt)
   where
     here : Environment
     here = Y.now.on.running.env

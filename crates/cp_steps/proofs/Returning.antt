@@ -6,7 +6,7 @@ use Rattle.cp_model.specs.Abstract as a
 use Rattle.cp_model.specs.Abstract.{Name, System}
 use Rattle.cp_model.specs.Actions.{Acts}
 use Rattle.cp_model.specs.Calls.{Found, call_in_statement, first_call, in_context}
-use Rattle.cp_model.specs.CallSteps.{result_location, return_value, returns, with_answer}
+use Rattle.cp_model.specs.CallSteps.{leaving, result_location, return_value, returns, with_answer}
 use Rattle.cp_model.specs.Configurations.{Configuration, own_step}
 use Rattle.cp_model.specs.Continuations.{Do, EndBody, EndCall, EndProcess, ForNext, RepeatTest, Task, WhileTest, marked_monitors}
 use Rattle.cp_model.specs.Environments.{Environment, Frame}
@@ -38,9 +38,11 @@ use Rattle.cp_steps.proofs.Keeping.{activation_kept, activations_kept, data_kept
 use Rattle.cp_steps.proofs.Layouts.{same_some}
 use Rattle.cp_steps.proofs.LeftKept.{left_kept, left_raised}
 use Rattle.cp_steps.proofs.Stacks.{Stack, Stacked, stacked}
-use Rattle.cp_steps.proofs.Stepping.{Now, Stepped, both_step, faulted, gates_left, went}
+use Rattle.cp_steps.proofs.Stepping.{Now, Stepped, both_step, does, faulted, gates_left, went}
 use Rattle.cp_steps.proofs.Writing.{integer_is, owner_is}
 use Rattle.cp_steps.proofs.Given.{all_kept}
+use Rattle.cp_steps.proofs.Effects.{going, leaves, return_leaves, then_means, told}
+use Rattle.cp_steps.specs.Steps.{act}
 
 -- ---- an activation less
 
@@ -257,10 +259,15 @@ return_steps G s w before o env gate k N names = by o.frames N
     by (f ∷ fs) N =
         let P = record o { frames = f ∷ fs } in
         let r = N.on.left.1 in
-        both_step G s w before P (EndCall env gate) k N (Acts (EndCall env gate) k) (op.Return (is_function r.frame.routine.result)) (acts_itself (EndCall env gate) k refl refl) refl r.return refl
-        (gates_left G s before gate (returns (configuration s G.p) env k) _
-        (subst (λ x. PartOf G (gone G s w before o f fs env gate k N (frame_returns (configuration s G.p) env k x)) before (return_with P P f fs (is_function r.frame.routine.result) (gate_effect f.gate machine.Leaves)).0) (sym (here G s w before o f fs env gate k N))
-        (returned r.frame.routine.result refl)))
+        let function = is_function r.frame.routine.result in
+        let part =
+        gates_left G s before gate (returns (configuration s G.p) env k) _
+        (subst (λ x. PartOf G (gone G s w before o f fs env gate k N (frame_returns (configuration s G.p) env k x)) before (return_with P P f fs function (gate_effect f.gate machine.Leaves)).0) (sym (here G s w before o f fs env gate k N))
+        (returned r.frame.routine.result refl)) in
+        both_step G s w before P (EndCall env gate) k N (Acts (EndCall env gate) k) (op.Return function) (acts_itself (EndCall env gate) k refl refl) refl r.return refl part
+        (λ all. told G w.own s before N.ready (does G s (Acts (EndCall env gate) k)) (gate_effect f.gate machine.Leaves) (act G.program w P (op.Return function)) part
+        (then_means G w.own (gate_effect f.gate machine.Leaves) (returns (configuration s G.p) env k) (λ after. Gives (after, leaving gate)) (λ after. leaves G w.own gate f.gate N.on.left.2.0 N.on.left.2.2))
+        (return_leaves P P f fs function (gate_effect f.gate machine.Leaves) (going G s before P N.part N.ready)))
       where
         returned : (x : Option Name) → N.on.left.1.frame.routine.result ≡ x
             → PartOf G (gone G s w before o f fs env gate k N (result_returns (configuration s G.p) env k N.on.left.1.frame x)) before

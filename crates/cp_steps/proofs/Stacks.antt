@@ -22,6 +22,11 @@ abbrev pub Stack : Ground → ℕ → List Activation → Type 0
 Stack G top [] = (s : System) × (system_of_process G.setup G.p ≡ Some s) × (component_words (scope G) s ≤ top)
 Stack G top (x ∷ xs) = (x.base + activation_words (scope G) x.routine ≤ top) × Stack G x.base xs
 
+-- So the process has a system type.
+pub process_of_stack : (G : Ground) (top : ℕ) (xs : List Activation) → Stack G top xs → (s : System) × (system_of_process G.setup G.p ≡ Some s)
+process_of_stack G top [] h = (h.0, h.1)
+process_of_stack G top (x ∷ xs) h = process_of_stack G x.base xs h.1
+
 -- They lie among the process's own words.
 pub record Stacked (G : Ground) (top : ℕ) (xs : List Activation) : Type 0 where
   pub stack : Stack G top xs
@@ -119,6 +124,10 @@ monitor_seen G m h = by G.sight G.monitors_lie h
     by : (v : Sight) → WhereMonitorsLie v G.program G.setup → sees v G.p (OfMonitor m) ≡ true → MonitorsLie G.program G.setup × (words_seen v G.program G.own ≡ G.own + G.program.shared)
     by OwnWords lie h = absurd (true≢false (sym h))
     by AllWords lie h = (lie, refl)
+
+-- With all words in reach, where they lie is known.
+pub all_lie : (G : Ground) → G.sight ≡ AllWords → MonitorsLie G.program G.setup
+all_lie G all = (monitor_seen G 0 (ap (λ v. sees v G.p (OfMonitor 0)) all)).0
 
 pub own_in_whole : (G : Ground) → G.own ≤ whole G
 own_in_whole G = by G.sight

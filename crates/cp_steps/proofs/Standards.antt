@@ -1,6 +1,6 @@
 -- Whole private steps of the standard procedures but `continue`. Outside all monitors `delay` does nothing.
-use Rattle.std.proofs.Common.{◌≡◌, ℕ, ℤ, List, [], ◌∷◌, ◌++◌, Bool, true, false, Option, Some, None, Result, Ok, Err, refl, ap, sym, subst, ◌∙◌}
-use Rattle.std.specs.Prelude.{codes, if◌then◌else◌}
+use Rattle.std.proofs.Common.{Bool, Err, List, None, Ok, Option, Result, Some, [], ap, false, pos, refl, subst, sym, true, ℕ, ℤ, ◌++◌, ◌∙◌, ◌∷◌, ◌≡◌}
+use Rattle.std.specs.Prelude.{codes, if◌then◌else◌, int_le, length, nat_lt}
 use Rattle.std.specs.Str.{bytes_eq}
 use Rattle.cp_model.specs.Abstract as a
 use Rattle.cp_model.specs.Abstract.{BaseType, Boolean, Char, Integer, Name}
@@ -13,7 +13,7 @@ use Rattle.cp_model.specs.Configurations.{Configuration, Context, StepResult, de
 use Rattle.cp_model.specs.Continuations.{Do, Task, marked_monitors}
 use Rattle.cp_model.specs.Decimal.{decimal}
 use Rattle.cp_model.specs.Environments.{Environment}
-use Rattle.cp_model.specs.Expressions.{place}
+use Rattle.cp_model.specs.Expressions.{place, value}
 use Rattle.cp_model.specs.Outcomes.{Fault, Gives, Outcome, and_then}
 use Rattle.cp_model.specs.Parts.{private_status}
 use Rattle.cp_model.specs.Places.{Place, TypedValue, simple_value}
@@ -24,6 +24,7 @@ use Rattle.cp_model.specs.Stores.{Ordinal, Store, Writes, put}
 use Rattle.cp_model.specs.Turns.{after_step}
 use Rattle.cp_model.specs.Types.{Queue, Simple}
 use Rattle.cp_model.specs.declared.state.Fault as machine
+use Rattle.cp_model.specs.declared.state.Fault.TheVariants as faults
 use Rattle.cp_model.proofs.StateMaps.{with_at_here}
 use Rattle.cp_code.specs.Terms.{Spot, Term}
 use Rattle.cp_code.specs.Programs as op
@@ -31,7 +32,7 @@ use Rattle.cp_code.specs.Sites.{operation_at}
 use Rattle.cp_code.specs.TermsFor.{Agrees}
 use Rattle.cp_code.specs.StatementsFor.{IsByte, PerformsBy}
 use Rattle.cp_steps.specs.PrivateStates as private
-use Rattle.cp_steps.specs.PrivateStates.{Activity, Outside, PrivateState, go_to, private_outcome, provided, set_word, with_result}
+use Rattle.cp_steps.specs.PrivateStates.{Activity, Outside, PrivateState, go_to, private_outcome, provided, set_word, view_of, with_result}
 use Rattle.cp_steps.specs.Steps as steps
 use Rattle.cp_steps.specs.Means.{PlaceAgrees}
 use Rattle.cp_steps.specs.Addresses.{Ground, activations, in_sight, seen}
@@ -43,6 +44,11 @@ use Rattle.cp_steps.proofs.Evaluates.{ordinal_is}
 use Rattle.cp_steps.proofs.Finding.{in_context_none, or_else_none}
 use Rattle.cp_steps.proofs.RunningOn.{runs_moved, runs_written}
 use Rattle.cp_steps.proofs.Stepping.{IsFree, Now, Stepped, clock_of, faulted, went}
+use Rattle.cp_steps.proofs.Effects.{quiet_agrees}
+use Rattle.cp_steps.proofs.QuietOperations.{operation_quiet, then_quiet, with_result_quiet}
+use Rattle.cp_model.proofs.QuietSteps.{Quietly}
+use Rattle.cp_steps.specs.Values.{place_of}
+use Rattle.cp_code.specs.Starts.{word}
 
 -- What runs on does so whatever was displayed, taken and waited for.
 abbrev runs_beside : (G : Ground) (store : Store) (o : PrivateState) (k : List Task) (x : Activity) (output : List ℕ) (consumed : ℕ)
@@ -152,6 +158,9 @@ module _ (G : Ground) (s : State) (w : Outside) (before : List ℕ) (o : Private
       (subst (λ z. PartOf G (after_step s G.p z) before (steps.with_value w o c (λ m. steps.display o m as_byte n)).0) (sym (displays (context G.setup s G.p) (configuration s G.p) N.on.running.env k x e h.1.1.1))
       (by _ _ (value_here G s w before o (Do (a.Perform (a.Plain x) (one e)) env) k N N.sees e c h.1.0 o.place N.on.left.2.3.0 N.on.left.2.1 N.on.running.unit.temps h.1.4
       (argument_none N.on.running.env e Y.none))))
+      (λ all. quiet_agrees G w.own _ (steps.with_value w o c (λ m. steps.display o m as_byte n)).1
+      (subst Quietly (sym (displays (context G.setup s G.p) (configuration s G.p) N.on.running.env k x e h.1.1.1)) (then_quiet (value (clock_of G s) N.on.running.env s.store e) shown (λ v. tt)))
+      (operation_quiet G.program w o (op.Display c as_byte n) tt))
     where
       shown : TypedValue → StepResult
       shown v = own_step (record (configuration s G.p) { continuation = k; transcript = s.transcript G.p ++ display_text v })
@@ -189,6 +198,11 @@ module _ (G : Ground) (s : State) (w : Outside) (before : List ℕ) (o : Private
       (subst (λ z. PartOf G (after_step s G.p (and_then (place (clock_of G s) N.on.running.env s.store d) (taking o.input z))) before (steps.with_place w o to (λ at. steps.accept o at lower upper n)).0) N.part.consumed
       (by _ _ (place_here G s w before o (Do (a.Perform (a.Plain x) (one (a.Use d))) env) k N N.sees d to (Simple Char lower upper h.1.0) o.place N.on.left.2.3.0 N.on.left.2.1 N.on.running.unit.temps h.1.4
       (used_none N.on.running.env d (argument_none N.on.running.env (a.Use d) Y.none)))))))
+      (λ all. quiet_agrees G w.own _ (steps.with_place w o to (λ at. steps.accept o at lower upper n)).1
+      (subst Quietly (sym (accepts (context G.setup s G.p) (configuration s G.p) N.on.running.env k x (a.Use d) h.1.1.1 h.1.1.2))
+      (then_quiet (place (clock_of G s) N.on.running.env s.store d) (taking (G.setup.inputs G.p) (s.consumed G.p))
+      (λ at. then_quiet (writes_of at.at at.type (simple_value Char (next_input (G.setup.inputs G.p) (s.consumed G.p)))) (writing (G.setup.inputs G.p) (s.consumed G.p)) (λ ws. tt))))
+      (operation_quiet G.program w o (op.Accept to lower upper n) tt))
     where
       writing : List ℕ → ℕ → Writes → StepResult
       writing input c ws = own_step (record (with_writes (configuration s G.p) ws k) { consumed = next_place input c })
@@ -248,6 +262,20 @@ module _ (G : Ground) (s : State) (w : Outside) (before : List ℕ) (o : Private
       (queue_rests free d Y (λ at. delay G.p (configuration s G.p) k at.at (marked_monitors k)) _ (λ at. ap (delay G.p (configuration s G.p) k at.at) (ap marked_monitors (sym N.left) ∙ free.0)) _ _
       (place_here G s w before o (Do (a.Perform (a.Plain x) (one (a.Use d))) env) k N N.sees d queue Queue o.place N.on.left.2.3.0 N.on.left.2.1 N.on.running.unit.temps h.1.3
       (used_none N.on.running.env d (argument_none N.on.running.env (a.Use d) Y.none)))))
+      (λ all. quiet_agrees G w.own _ (steps.with_place w o queue (λ at. steps.delay o at n)).1
+      (subst Quietly (sym (delays (context G.setup s G.p) (configuration s G.p) N.on.running.env k x (a.Use d) h.1.0.1 h.1.0.2 h.1.0.3))
+      (then_quiet (place (clock_of G s) N.on.running.env s.store d) (λ at. delay G.p (configuration s G.p) k at.at (marked_monitors k))
+      (λ at. subst (λ ms. Quietly (delay G.p (configuration s G.p) k at.at ms)) (sym (ap marked_monitors (sym N.left) ∙ free.0)) tt)))
+      (with_result_quiet o (place_of (view_of w o) queue) (λ at. steps.delay o at n) (λ at. unheld at)))
+    where
+      unheld : (at : ℕ) → (steps.delay o at n).1 ≡ private.NoEffect
+      unheld at = ap (λ g. (if steps.is_held g then held_delay at else private_outcome o).1) free.1
+        where
+          held_delay : ℕ → private.Acting
+          held_delay at =
+              if nat_lt at (length o.words)
+              then provided (int_le (word o.words at) (pos 0)) o faults.QueueTaken (go_to n (set_word o at (pos o.number)), private.Delays o.gate at)
+              else private_outcome o
 
   pub wait_steps : (Y : Ready G s w before o (a.Perform (a.Plain x) a.NoExpression) env k) (n : ℕ) → By a.NoExpression Y (op.Wait n) → Stepped G s w before o
   wait_steps Y n h =
@@ -260,3 +288,4 @@ module _ (G : Ground) (s : State) (w : Outside) (before : List ℕ) (o : Private
       (subst (RunsOn G s.store (go_to n (record o { activity = private.Waiting }))) (sym (with_at_here G.p k s.continuation))
       (runs_beside G s.store (go_to n o) k private.Waiting o.output o.consumed
       (subst (λ z. RunsOn G s.store (go_to z o) k) (sym h.1.1) (goes_next G s w before o (a.Perform (a.Plain x) a.NoExpression) env k Y)))))
+      (λ all. tt)

@@ -46,7 +46,7 @@ use Rattle.cp_steps.proofs.Writing.{is_cell}
 use Rattle.std.proofs.lemmas.List.{length-replicate, get_or-replicate}
 
 -- A right that was never set.
-absent_right : (G : Ground) (t : ResolvedType) (n : ℕ) → RightMeans G t Absent n (pos 0)
+pub absent_right : (G : Ground) (t : ResolvedType) (n : ℕ) → RightMeans G t Absent n (pos 0)
 absent_right G (ComponentOf s inner) n = by s.sort
   where
     by : (z : Sort) → RightOf G s z Absent n (pos 0)
@@ -59,9 +59,9 @@ absent_right G (RecordOf ms) n = tt
 absent_right G Queue n = tt
 absent_right G NoType n = tt
 
-owns : (setup : Setup) → WellTyped setup → (p : ℕ) (s : System) → system_of_process setup p ≡ Some s → Owns setup p s
+owns : (setup : Setup) → WellTyped setup → (p : ℕ) (s : System) → system_of_process setup p ≡ Some s → Owns setup (OfProcess p) s
 owns setup typed zero s h = absurd (some_is_not_none s (sym h))
-owns setup typed (suc zero) s h = subst (Owns setup 1) (same_some setup.tree.initial s h) (initial_owns setup typed)
+owns setup typed (suc zero) s h = subst (Owns setup (OfProcess 1)) (same_some setup.tree.initial s h) (initial_owns setup typed)
 owns setup typed (suc (suc k)) s h = process_owns setup typed k s h
 
 -- ---- one process
@@ -79,7 +79,7 @@ module _ (program : Program) (setup : Setup) (F : StandsFor program setup) (p : 
   abbrev G : Ground
   G = ground_of program setup F p (length own.words)
 
-  O : Owns setup p P.system
+  O : Owns setup (OfProcess p) P.system
   O = owns setup F.typed p P.system P.is_system
 
   count : length own.words ≡ P.row.words + P.unit.words

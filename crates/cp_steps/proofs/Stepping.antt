@@ -1,7 +1,7 @@
 -- What every private step has in common, in the meaning and in the machine.
-use Rattle.std.proofs.Common.{Bool, List, Some, [], ap, arith, false, inl, inr, length, refl, subst, sym, true, ℕ, ℤ, ◌++◌, ◌<◌, ◌∙◌, ◌∷◌, ◌≡◌, ◌≤◌, ◌⊎◌}
+use Rattle.std.proofs.Common.{List, Some, [], ap, arith, false, inl, inr, length, subst, sym, true, ℕ, ℤ, ◌++◌, ◌<◌, ◌∙◌, ◌∷◌, ◌≡◌, ◌≤◌, ◌⊎◌}
 use Rattle.cp_model.specs.Actions.{Action, action, is_kernel_action}
-use Rattle.cp_model.specs.Configurations.{Asking, Configuration, Delayed, Ended, Faulted, Fresh, Ready, Status, Unstarted, Waiting, own_step}
+use Rattle.cp_model.specs.Configurations.{Asking, Configuration, Faulted, Ready, StepResult, own_step}
 use Rattle.cp_model.specs.Continuations.{EndBody, EndProcess, Task, marked_monitors}
 use Rattle.cp_model.specs.Operators.{Clock, realtime}
 use Rattle.cp_model.specs.Outcomes.{Fault, Gives, Outcome, and_then}
@@ -24,11 +24,12 @@ use Rattle.cp_steps.specs.Steps as steps
 use Rattle.cp_steps.specs.Steps.{act, act_on, alone}
 use Rattle.cp_steps.specs.Addresses.{AllWords, Ground, activations, in_sight, whole}
 use Rattle.cp_steps.specs.PartOf.{DataMeans, PartOf, RunsOn, status_of}
+use Rattle.cp_steps.proofs.Effects.{EffectAgrees, ready_same}
 use Rattle.cp_steps.proofs.Heres.{Sees}
-use Rattle.std.proofs.lemmas.Bool.{eqb-true, true≢false}
+use Rattle.std.proofs.lemmas.Bool.{true≢false}
 use Rattle.cp_model.specs.Gates.{enter, made_ready, pass_to}
 use Rattle.cp_model.specs.CallSteps.{entering, leaving}
-use Rattle.std.specs.Prelude.{nat_eq, if◌then◌else◌, Option, None}
+use Rattle.std.specs.Prelude.{Option, None}
 
 -- What is said of tasks that stand in an environment.
 abbrev pub IfPlaced : Task → Type 0 → Type 0
@@ -70,17 +71,22 @@ pub record Now (G : Ground) (s : State) (w : Outside) (before : List ℕ) (o : P
 abbrev pub IsFree : Ground → State → PrivateState → Type 0
 IsFree G s o = (marked_monitors (s.continuation G.p) ≡ []) × (o.gate ≡ 0)
 
+-- What an action of the process does.
+abbrev pub does : Ground → State → Action → StepResult
+does G s x = take_action (context G.setup s G.p) (configuration s G.p) x
+
 -- What the meaning makes of a state by its next action.
 abbrev pub acted : Ground → State → State
-acted G s = after_step s G.p (take_action (context G.setup s G.p) (configuration s G.p) (action (s.continuation G.p)))
+acted G s = after_step s G.p (does G s (action (s.continuation G.p)))
 
 -- The machine's operation and the meaning's action are both the kernel's, or neither is. Where neither is, or all words are in reach, the
--- private state after the machine's step is that of the process after the meaning's.
+-- private state after the machine's step is that of the process after the meaning's. With all words in reach both leave the same to the kernel.
 pub record Stepped (G : Ground) (s : State) (w : Outside) (before : List ℕ) (o : PrivateState) : Type 0 where
   pub operation : Operation
   pub there : operation_at G.program o.place ≡ Some operation
   pub same_kind : is_kernel_action (action (s.continuation G.p)) ≡ steps.is_kernel_operation operation
   pub part : (steps.is_kernel_operation operation ≡ false) ⊎ AroundAll G s w → PartOf G (acted G s) before (act G.program w o operation).0
+  pub effect : AroundAll G s w → EffectAgrees G w.own (does G s (action (s.continuation G.p))) (act G.program w o operation).1
 
 -- ---- what comes of them
 
@@ -122,17 +128,6 @@ module _ (G : Ground) (s : State) (before : List ℕ) (o : PrivateState) (part :
     runs_on = λ goes. absurd goes;
   }
 
--- A process that is made ready is in no other private state.
-private_ready : (x : Status) → private_status (made_ready x) ≡ private_status x
-private_ready (Asking m) = refl
-private_ready (Delayed m q) = refl
-private_ready Unstarted = refl
-private_ready Fresh = refl
-private_ready Ready = refl
-private_ready Ended = refl
-private_ready Waiting = refl
-private_ready (Faulted n) = refl
-
 -- A gate that is passed on is no matter of a private state.
 pub gate_passed : (G : Ground) (before : List ℕ) (after : PrivateState) (m : ℕ) (rs : List ℕ) (u : State) → PartOf G u before after → PartOf G (pass_to m rs u) before after
 gate_passed G before after m [] u P = record {
@@ -157,11 +152,7 @@ gate_passed G before after m (r ∷ rs) u P = record {
 }
   where
     same : private_status (with_at r (made_ready (u.status r)) u.status G.p) ≡ private_status (u.status G.p)
-    same = by (nat_eq r G.p) refl
-      where
-        by : (b : Bool) → nat_eq r G.p ≡ b → private_status (if b then made_ready (u.status r) else u.status G.p) ≡ private_status (u.status G.p)
-        by true e = private_ready (u.status r) ∙ ap (λ z. private_status (u.status z)) (eqb-true r G.p e)
-        by false e = refl
+    same = ready_same r G.p u.status
 
 pub gate_left : (G : Ground) (s : State) (before : List ℕ) (gate : Option ℕ) (after : PrivateState) (config : Configuration)
     → PartOf G (after_step s G.p (own_step config)) before after → PartOf G (after_step s G.p (Gives (config, leaving gate))) before after
@@ -203,13 +194,15 @@ module _ (G : Ground) (s : State) (w : Outside) (before : List ℕ) (o : Private
   -- A step of each.
   pub both_step : (x : Action) (y : Operation) → action (i ∷ k) ≡ x → is_kernel_action x ≡ false
       → operation_at G.program o.place ≡ Some y → steps.is_kernel_operation y ≡ false
-      → PartOf G (after_step s G.p (take_action (context G.setup s G.p) (configuration s G.p) x)) before (act G.program w o y).0
+      → PartOf G (after_step s G.p (does G s x)) before (act G.program w o y).0
+      → (AroundAll G s w → EffectAgrees G w.own (does G s x) (act G.program w o y).1)
       → Stepped G s w before o
-  both_step x y acts private there own P = record {
+  both_step x y acts private there own P effect = record {
     operation = y;
     there = there;
     same_kind = ap is_kernel_action acts_here ∙ (private ∙ sym own);
-    part = λ e. subst (λ z. PartOf G (after_step s G.p (take_action (context G.setup s G.p) (configuration s G.p) z)) before (act G.program w o y).0) (sym acts_here) P;
+    part = λ e. subst (λ z. PartOf G (after_step s G.p (does G s z)) before (act G.program w o y).0) (sym acts_here) P;
+    effect = λ all. subst (λ z. EffectAgrees G w.own (does G s z) (act G.program w o y).1) (sym acts_here) (effect all);
   }
     where
       acts_here : action (s.continuation G.p) ≡ x
@@ -218,16 +211,18 @@ module _ (G : Ground) (s : State) (w : Outside) (before : List ℕ) (o : Private
   -- A step of the kernel, with all words in reach.
   pub kernel_step : (x : Action) (y : Operation) → action (i ∷ k) ≡ x → is_kernel_action x ≡ true
       → operation_at G.program o.place ≡ Some y → steps.is_kernel_operation y ≡ true
-      → (AroundAll G s w → PartOf G (after_step s G.p (take_action (context G.setup s G.p) (configuration s G.p) x)) before (act G.program w o y).0)
+      → (AroundAll G s w → PartOf G (after_step s G.p (does G s x)) before (act G.program w o y).0)
+      → (AroundAll G s w → EffectAgrees G w.own (does G s x) (act G.program w o y).1)
       → Stepped G s w before o
-  kernel_step x y acts kernel there own P = record {
+  kernel_step x y acts kernel there own P effect = record {
     operation = y;
     there = there;
     same_kind = ap is_kernel_action acts_here ∙ (kernel ∙ sym own);
     part = λ e. elim e [
       | inl other ↦ absurd (true≢false (sym own ∙ other))
-      | inr all ↦ subst (λ z. PartOf G (after_step s G.p (take_action (context G.setup s G.p) (configuration s G.p) z)) before (act G.program w o y).0) (sym acts_here) (P all)
+      | inr all ↦ subst (λ z. PartOf G (after_step s G.p (does G s z)) before (act G.program w o y).0) (sym acts_here) (P all)
     ];
+    effect = λ all. subst (λ z. EffectAgrees G w.own (does G s z) (act G.program w o y).1) (sym acts_here) (effect all);
   }
     where
       acts_here : action (s.continuation G.p) ≡ x

@@ -22,11 +22,15 @@ use Rattle.cp_steps.specs.PrivateStates.{Outside, PrivateState, go_to, private_o
 use Rattle.cp_steps.specs.Addresses.{Ground}
 use Rattle.cp_steps.specs.Left.{Left}
 use Rattle.cp_steps.specs.PartOf.{PartOf, RunsOn}
-use Rattle.cp_steps.proofs.Doing.{Ready, acts_itself, statement_steps, value_here}
+use Rattle.cp_steps.proofs.Doing.{Ready, acts_itself, quietly, statement_steps, value_here}
 use Rattle.cp_steps.proofs.Evaluates.{ordinal_is}
 use Rattle.cp_steps.proofs.Finding.{in_context_none}
 use Rattle.cp_steps.proofs.RunningOn.{runs_moved, runs_pushed}
-use Rattle.cp_steps.proofs.Stepping.{Now, Stepped, both_step, faulted, went}
+use Rattle.cp_steps.proofs.Stepping.{Now, Stepped, both_step, clock_of, does, faulted, went}
+use Rattle.cp_steps.proofs.Effects.{quiet_agrees}
+use Rattle.cp_steps.proofs.QuietOperations.{operation_quiet, then_quiet}
+use Rattle.cp_steps.specs.Steps.{act}
+use Rattle.cp_model.specs.Expressions.{value}
 
 module _ (G : Ground) (s : State) (w : Outside) (before : List ℕ) (o : PrivateState) (i : Task) (k : List Task) (N : Now G s w before o i k) where
   -- Where the two outcomes of a test lead.
@@ -57,6 +61,7 @@ if_steps G s w before o e t u env k Y =
     (runs_pushed G s.store o (Do (a.If e t u) env ∷ k) k u h.4 left.2.0 left.2.1 N.on refl refl refl h.8 left.2.4 left.2.2)
     _ _ (value_here G s w before o (Do (a.If e t u) env) k N N.sees e h.1 h.2 o.place h.0 left.2.1 N.on.running.unit.temps h.6
     (in_context_none (λ y. a.If y t u) (first_call N.on.running.env (a.Literal 0) e) Y.none)))
+    (quietly G s w before o (a.If e t u) env k Y (op.Test h.1 h.3 h.4) tt tt)
 
 pub while_steps : (G : Ground) (s : State) (w : Outside) (before : List ℕ) (o : PrivateState) (now e : a.Expression) (st : a.Statement) (env : Environment) (k : List Task)
     → (N : Now G s w before o (WhileTest now e st env) k) → o.place ≡ N.on.left.1.3.last → first_call N.on.running.env (a.Literal 0) now ≡ None → Stepped G s w before o
@@ -91,6 +96,8 @@ while_steps G s w before o now e st env k N at none =
     (runs_pushed G s.store o (WhileTest now e st env ∷ k) (WhileTest e e st here ∷ k) st W.way W.start h.1 N.on refl refl refl W.again again h.2)
     (runs_moved G s.store o (WhileTest now e st env ∷ k) k h.0 h.1 N.on refl refl refl h.4 h.2)
     _ _ (value_here G s w before o (WhileTest now e st env) k N N.sees now W.term W.base o.place W.last h.1 N.on.running.unit.temps W.rest none))
+    (λ all. quiet_agrees G w.own (does G s (Acts (WhileTest now e st here) k)) (act G.program w o (op.Test W.term W.way h.0)).1
+    (then_quiet (value (clock_of G s) here s.store now) _ (λ v. tt)) (operation_quiet G.program w o (op.Test W.term W.way h.0) tt))
 
 pub repeat_steps : (G : Ground) (s : State) (w : Outside) (before : List ℕ) (o : PrivateState) (now : a.Expression) (st : a.Statement) (e : a.Expression) (env : Environment) (k : List Task)
     → (N : Now G s w before o (RepeatTest now st e env) k) → o.place ≡ N.on.left.1.3.last → first_call N.on.running.env (a.Literal 0) now ≡ None → Stepped G s w before o
@@ -125,6 +132,8 @@ repeat_steps G s w before o now st e env k N at none =
     (runs_moved G s.store o (RepeatTest now st e env ∷ k) k h.0 h.1 N.on refl refl refl h.4 h.2)
     (runs_pushed G s.store o (RepeatTest now st e env ∷ k) (RepeatTest e st e here ∷ k) st W.way W.start h.1 N.on refl refl refl W.again again h.2)
     _ _ (value_here G s w before o (RepeatTest now st e env) k N N.sees now W.term W.base o.place W.last h.1 N.on.running.unit.temps W.rest none))
+    (λ all. quiet_agrees G w.own (does G s (Acts (RepeatTest now st e here) k)) (act G.program w o (op.Test W.term h.0 W.way)).1
+    (then_quiet (value (clock_of G s) here s.store now) _ (λ v. tt)) (operation_quiet G.program w o (op.Test W.term h.0 W.way) tt))
 
 pub cycle_steps : (G : Ground) (s : State) (w : Outside) (before : List ℕ) (o : PrivateState) (st : a.Statement) (env : Environment) (k : List Task)
     → Ready G s w before o (a.Cycle st) env k → Stepped G s w before o
@@ -139,3 +148,4 @@ cycle_steps G s w before o st env k Y =
     (went G s before o N.part s.store (go_to h.0 o) (push st here (Do (a.Cycle st) here ∷ k))
     (runs_pushed G s.store o (Do (a.Cycle st) env ∷ k) (Do (a.Cycle st) here ∷ k) st h.0 o.place left.2.1 N.on refl refl refl h.2 stays left.2.2)
     record { number = refl; input = refl; consumed = refl; output = refl; activity = refl })
+    (quietly G s w before o (a.Cycle st) env k Y (op.Cycle h.0) tt tt)
