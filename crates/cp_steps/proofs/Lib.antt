@@ -94,3 +94,4 @@ pub mod ProcessSteps
 pub mod Puts
 pub mod Passing
 pub mod ReportLines
+pub mod ReportQueues

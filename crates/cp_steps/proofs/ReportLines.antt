@@ -26,11 +26,11 @@ use Rattle.cp_steps.proofs.PartLeaves.{Named, NamedMembers}
 
 -- ---- lists
 
-join_append : {A : Type 0} (xs ys zs : List A) → (xs ++ ys) ++ zs ≡ xs ++ (ys ++ zs)
+pub join_append : {A : Type 0} (xs ys zs : List A) → (xs ++ ys) ++ zs ≡ xs ++ (ys ++ zs)
 join_append [] ys zs = refl
 join_append (x ∷ xs) ys zs = ap (λ l. x ∷ l) (join_append xs ys zs)
 
-append_none : {A : Type 0} (xs : List A) → xs ++ [] ≡ xs
+pub append_none : {A : Type 0} (xs : List A) → xs ++ [] ≡ xs
 append_none [] = refl
 append_none (x ∷ xs) = ap (λ l. x ∷ l) (append_none xs)
 

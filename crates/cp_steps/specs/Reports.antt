@@ -2,7 +2,7 @@
 --
 -- The words of a variable are those of its leaves, in the order in which they are reported. So one walk over the type reads all of
 -- them: `words` says how many each part has.
-use Rattle.std.specs.Prelude.{ℕ, zero, suc, ℤ, ◌+◌, ◌-◌, ◌++◌, List, [], ◌∷◌, None, Some, codes, flat_map, if◌then◌else◌, nat_eq, slice_get}
+use Rattle.std.specs.Prelude.{ℕ, suc, ℤ, ◌+◌, ◌-◌, ◌++◌, List, [], ◌∷◌, None, Some, codes, flat_map, if◌then◌else◌, nat_eq, slice_get}
 use Rattle.cp_model.specs.Abstract.{Class, Monitor, Name, Process, Sort}
 use Rattle.cp_model.specs.Decimal.{natural}
 use Rattle.cp_model.specs.Declarations.{Variable, globals, reported_members}
@@ -81,18 +81,15 @@ head_of g _ = 0
 abbrev pub visit_component : GlobalScope → Visit → ℕ → ResolvedType → Text
 visit_component g v at t = visit_members g v [] (at + head_of g t) (component_members t)
 
-abbrev pub type_at : List (Name × Variable) → ℕ → ResolvedType
-type_at [] k = NoType
-type_at (v ∷ vs) zero = v.1.type
-type_at (v ∷ vs) (suc k) = type_at vs k
+-- Of these monitors, numbered from n.
+abbrev pub queues_text : GlobalScope → Program → ℕ → ℕ → List (Name × Variable) → Text
+queues_text g program at n [] = []
+queues_text g program at n (v ∷ vs) =
+    visit_component g (queue_visit at) (monitor_start program n) v.1.type ++ queues_text g program at (suc n) vs
 
-abbrev pub monitor_type : Setup → ℕ → ResolvedType
-monitor_type setup n = type_at (components_of setup Monitor) (n - 1)
-
--- The path of the queue of monitor n that is this one of the shared words.
-abbrev pub queue_text : Setup → Program → ℕ → ℕ → Text
-queue_text setup program n at =
-    visit_component (globals setup.tree) (queue_visit at) (monitor_start program n) (monitor_type setup n)
+-- The path of the queue that is this one of the shared words.
+abbrev pub queue_text : Setup → Program → ℕ → Text
+queue_text setup program at = queues_text (globals setup.tree) program at 1 (components_of setup Monitor)
 
 -- ---- Processes
 
@@ -109,7 +106,7 @@ stage_text setup program Fresh a = codes "fresh"
 stage_text setup program Begun a = activity_text a
 stage_text setup program (Asking n) a = codes "asking " ++ monitor_name setup n
 stage_text setup program (Delayed n at) a =
-    codes "delayed " ++ (monitor_name setup n ++ (codes " " ++ queue_text setup program n at))
+    codes "delayed " ++ (monitor_name setup n ++ (codes " " ++ queue_text setup program at))
 
 abbrev pub head_line : ℕ → Name → Text → Text
 head_line p x status = line (codes "process " ++ (natural p ++ (codes " " ++ (x ++ (codes " " ++ status)))))
