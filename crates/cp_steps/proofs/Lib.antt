@@ -95,3 +95,6 @@ pub mod Puts
 pub mod Passing
 pub mod ReportLines
 pub mod ReportQueues
+pub mod ReportParts
+pub mod ReportStatus
+pub mod Reporting

@@ -125,7 +125,7 @@ module _ (g : GlobalScope) (target : ℕ) where
     type_beside path at (ComponentOf s ms) o = class_beside at s ms (visit_members g V path (at + head_words g s) ms) o (λ h. members_beside path (at + head_words g s) ms h)
     type_beside path at NoType o = refl
 
-    members_beside : (path : Path) (at : ℕ) (ms : Members) → Beside at (words_of_members g ms) → visit_members g V path at ms ≡ []
+    pub members_beside : (path : Path) (at : ℕ) (ms : Members) → Beside at (words_of_members g ms) → visit_members g V path at ms ≡ []
     members_beside path at NoMembers o = refl
     members_beside path at (MoreMembers x t ms) o =
         nothing_more _ _ (type_beside (path ++ ByName x ∷ []) at t (first_beside at (words g t) (words_of_members g ms) o))

@@ -1,5 +1,7 @@
-//! The laws of private steps and turns, and of the start. Their statements stand in `specs/Laws.antt`.
+//! The laws of private steps and turns, of the start, and of reports. Their statements stand in `specs/Laws.antt` and
+//! `specs/RoundLaws.antt`.
 
+ghost use Rattle.cp_steps.specs.RoundLaws.{ReportIsReport};
 ghost use Rattle.cp_steps.specs.Laws.{PrivateStepIsStep, PrivateTurnIsTurn, StartIsPart};
 
 /// Where a private state is that of its process in a state with the invariant, the machine's private step makes it that of the
@@ -14,4 +16,9 @@ pub fn private_steps()
 /// from the start on, is as one that has not begun.
 pub fn start()
     ensures parts { StartIsPart }
+{}
+
+/// What is read off the words of a machine, between two rounds, is the report of the state that it is in.
+pub fn reports()
+    ensures read { ReportIsReport }
 {}

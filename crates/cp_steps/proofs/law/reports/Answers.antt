@@ -1,0 +1,5 @@
+use Rattle.cp_steps.proofs.Reporting.{report_is_report}
+use Rattle.cp_steps.proofs.law.reports.Goals as goal
+
+pub returns : goal.returns
+returns c = record { read = report_is_report }
