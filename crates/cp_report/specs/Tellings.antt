@@ -1,0 +1,26 @@
+-- What is told of a simple part or a queue.
+use Rattle.std.specs.Prelude.{ℕ, ℤ, ◌++◌, codes}
+use Rattle.cp_model.specs.Decimal.{decimal}
+use Rattle.cp_model.specs.Locations.{Path}
+use Rattle.cp_model.specs.Report.{Text, line, occupant_text}
+use Rattle.cp_steps.specs.Means.{queued}
+use Rattle.cp_steps.specs.Reports.{Visit, lines_visit, queue_visit}
+use Rattle.cp_report.specs.declared.telling.Leaf.{Leaf}
+use Rattle.cp_report.specs.declared.telling.Leaf.TheVariants as leaf
+use Rattle.cp_report.specs.declared.telling.Telling.{Telling}
+use Rattle.cp_report.specs.declared.telling.Telling.TheVariants as telling
+
+abbrev pub visit_of : Telling → Visit
+visit_of (telling.Lines words) = lines_visit words.now
+visit_of (telling.PathOf at) = queue_visit at
+
+abbrev pub told : Visit → Leaf → Path → ℕ → Text
+told v leaf.Simple path at = v.simple path at
+told v leaf.Queue path at = v.queue path at
+
+-- The lines of a value and of a queue, by the text of the path.
+abbrev pub value_line_of : Text → ℤ → Text
+value_line_of path n = line (codes "var " ++ (path ++ (codes " = " ++ decimal n)))
+
+abbrev pub queue_line_of : Text → ℤ → Text
+queue_line_of path n = line (codes "queue " ++ (path ++ (codes " = " ++ occupant_text (queued n))))

@@ -1,0 +1,91 @@
+//! What is told of a simple part or a queue that is visited.
+
+ghost use Rattle.std.specs.Prelude.{◌≡◌, ◌++◌, [], OnOk, if◌then◌else◌};
+ghost use Rattle.cp_code.specs.Starts.{word as plain_word};
+ghost use Rattle.cp_model.specs.Locations.{Path};
+ghost use Rattle.cp_model.specs.Report.{path_text};
+ghost use Rattle.cp_report.specs.Tellings.{queue_line_of, told, value_line_of, visit_of};
+
+use crate::text::{push_integer, push_occupant};
+use std::alloc::AllocError;
+
+/// What is visited.
+#[derive(Clone, Copy, Debug)]
+pub enum Leaf {
+    Simple,
+    Queue,
+}
+
+/// What a walk tells.
+#[derive(Clone, Copy)]
+pub enum Telling<'w> {
+    /// A line with the value of each, which is in these words.
+    Lines(&'w [i32]),
+    /// The path of the queue that lies at this place.
+    PathOf(usize),
+}
+
+// The word at a place. A missing one reads as 0.
+fn word(words: &[i32], at: usize) -> i32
+    ensures { result ≡ plain_word words.now at }
+{
+    match words.get(at) {
+        Some(n) => *n,
+        None => 0,
+    }
+}
+
+fn push_value_line(out: &mut Vec<u8>, path: &[u8], n: i32) -> Result<(), AllocError>
+    ensures { OnOk result (out.new.items ≡ out.old.items ++ value_line_of path.now n) }
+{
+    out.extend_from_slice(b"var ")?;
+    out.extend_from_slice(path)?;
+    out.extend_from_slice(b" = ")?;
+    push_integer(out, i64::from(n))?;
+    out.extend_from_slice(b"\n")
+}
+
+fn push_queue_line(out: &mut Vec<u8>, path: &[u8], n: i32) -> Result<(), AllocError>
+    ensures { OnOk result (out.new.items ≡ out.old.items ++ queue_line_of path.now n) }
+{
+    out.extend_from_slice(b"queue ")?;
+    out.extend_from_slice(path)?;
+    out.extend_from_slice(b" = ")?;
+    push_occupant(out, n)?;
+    out.extend_from_slice(b"\n")
+}
+
+impl<'w> Telling<'w> {
+    /// Adds what is told of a simple part or a queue at a place. The path is told by its text.
+    pub fn tell(
+        &self,
+        out: &mut Vec<u8>,
+        leaf: Leaf,
+        path: &[u8],
+        at: usize,
+    ) -> Result<(), AllocError>
+        ensures { OnOk result ((p : Path) → path_text p ≡ path.now
+            → out.new.items ≡ out.old.items ++ told (visit_of self.now) leaf p at) }
+    {
+        match *self {
+            Telling::Lines(words) => match leaf {
+                Leaf::Simple => push_value_line(out, path, word(words, at)),
+                Leaf::Queue => push_queue_line(out, path, word(words, at)),
+            },
+            Telling::PathOf(target) => match leaf {
+                Leaf::Simple => Ok(()),
+                Leaf::Queue => push_path_if(out, at == target, path),
+            },
+        }
+    }
+}
+
+fn push_path_if(out: &mut Vec<u8>, is_it: bool, path: &[u8]) -> Result<(), AllocError>
+    ensures { OnOk result (out.new.items ≡ out.old.items ++ (if is_it then path.now else [])) }
+{
+    if is_it {
+        out.extend_from_slice(path)
+    } else {
+        Ok(())
+    }
+}

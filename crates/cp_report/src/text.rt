@@ -1,0 +1,65 @@
+//! Numbers and bytes as text.
+
+ghost use Rattle.std.specs.Prelude.{◌≡◌, ◌<◌, ◌++◌, OnOk, false, flat_map};
+ghost use Rattle.cp_model.specs.Decimal.{decimal, natural};
+ghost use Rattle.cp_model.specs.Report.{escaped, hex_digit, occupant_text};
+ghost use Rattle.cp_steps.specs.Means.{queued};
+
+use itoa::Buffer;
+use std::alloc::AllocError;
+
+/// Adds the decimal digits of a number.
+pub fn push_natural(out: &mut Vec<u8>, n: u64) -> Result<(), AllocError>
+    ensures { OnOk result (out.new.items ≡ out.old.items ++ natural n) }
+{
+    let mut buffer = Buffer::new();
+    out.extend_from_slice(buffer.format(n).as_bytes())
+}
+
+/// Adds the decimal digits of an integer.
+pub(crate) fn push_integer(out: &mut Vec<u8>, n: i64) -> Result<(), AllocError>
+    ensures { OnOk result (out.new.items ≡ out.old.items ++ decimal n) }
+{
+    let mut buffer = Buffer::new();
+    out.extend_from_slice(buffer.format(n).as_bytes())
+}
+
+/// Adds the number of the process that stands in a queue, or a dash.
+pub(crate) fn push_occupant(out: &mut Vec<u8>, n: i32) -> Result<(), AllocError>
+    ensures { OnOk result (out.new.items ≡ out.old.items ++ occupant_text (queued n)) }
+{
+    if n > 0 {
+        push_natural(out, n as u64)
+    } else {
+        out.extend_from_slice(b"-")
+    }
+}
+
+/// A hexadecimal digit, in lower case.
+pub fn hex(n: u8) -> u8
+    requires { n < 16 }
+    ensures { result ≡ hex_digit n }
+{
+    if n < 10 { b'0' + n } else { b'a' - 10 + n }
+}
+
+// A byte of a transcript, or its escape.
+fn push_escaped(out: &mut Vec<u8>, byte: u8) -> Result<(), AllocError>
+    ensures { OnOk result (out.new.items ≡ out.old.items ++ escaped byte) }
+{
+    if 32 <= byte && byte <= 126 && byte != b'\'' && byte != b'\\' {
+        out.extend_from_slice(&[byte])
+    } else {
+        out.extend_from_slice(&[b'\\', hex(byte / 16), hex(byte % 16)])
+    }
+}
+
+/// Adds the bytes of a transcript, or their escapes.
+pub(crate) fn push_all_escaped(out: &mut Vec<u8>, bytes: &[u8]) -> Result<(), AllocError>
+    ensures { OnOk result (out.new.items ≡ out.old.items ++ flat_map escaped bytes.now) }
+{
+    for byte in bytes {
+        push_escaped(out, *byte)?;
+    }
+    Ok(())
+}
