@@ -51,7 +51,9 @@ pub mod GatesKept
 pub mod StagesKept
 pub mod KernelKept
 pub mod EffectsKept
+pub mod NeverUnset
 pub mod PartsBeside
+pub mod OthersParts
 pub mod RoundEnds
 pub mod KernelAround
 pub mod Ending
