@@ -54,6 +54,7 @@ pub mod EffectsKept
 pub mod NeverUnset
 pub mod PartsBeside
 pub mod OthersParts
+pub mod KernelBeside
 pub mod RoundEnds
 pub mod KernelAround
 pub mod Ending
