@@ -55,6 +55,8 @@ pub mod NeverUnset
 pub mod PartsBeside
 pub mod OthersParts
 pub mod KernelBeside
+pub mod Stopping
+pub mod EndsAlone
 pub mod RoundEnds
 pub mod KernelAround
 pub mod Ending
