@@ -79,11 +79,11 @@ pub data LeavesIt (e : machine.Effect) (r : Acting) : Type 0 where
   WentOn : r.1 ≡ e → (HasFaulted r.0.activity → ⊥) → LeavesIt e r
   Stopped : r.1 ≡ NoEffect → HasFaulted r.0.activity → LeavesIt e r
 
-abbrev HasFailed : PrivateStatus → Type 0
+abbrev pub HasFailed : PrivateStatus → Type 0
 HasFailed (Failed n) = Unit {0}
 HasFailed _ = ⊥
 
-failed : (x : Activity) → HasFaulted x → HasFailed (status_of x)
+pub failed : (x : Activity) → HasFaulted x → HasFailed (status_of x)
 failed (machine.Faulted f) h = tt
 failed _ h = absurd h
 
@@ -168,7 +168,7 @@ private_after s p ready c x = by x
         inner (Faulted n) is = is_ready
 
 -- What goes on hasn't failed.
-unfailed : (s : State) (p : ℕ) → s.status p ≡ Ready → (c : Configuration) (x : Effect) → HasFailed (private_status ((after_step s p (Gives (c, x))).status p)) → ⊥
+pub unfailed : (s : State) (p : ℕ) → s.status p ≡ Ready → (c : Configuration) (x : Effect) → HasFailed (private_status ((after_step s p (Gives (c, x))).status p)) → ⊥
 unfailed s p ready c x h = by x (subst HasFailed (private_after s p ready c x) h)
   where
     by : (x : Effect) → HasFailed (private_by x) → ⊥

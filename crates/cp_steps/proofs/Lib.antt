@@ -57,6 +57,7 @@ pub mod OthersParts
 pub mod KernelBeside
 pub mod Stopping
 pub mod EndsAlone
+pub mod KernelTurning
 pub mod RoundEnds
 pub mod KernelAround
 pub mod Ending
