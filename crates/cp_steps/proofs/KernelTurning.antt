@@ -35,7 +35,7 @@ use Rattle.cp_steps.specs.EffectOf.{IsNumber}
 use Rattle.cp_steps.specs.KernelOf.{KernelOf, StageMeans, is_shared, kernel_ground}
 use Rattle.cp_steps.specs.KernelSteps as plain
 use Rattle.cp_steps.specs.KernelSteps.{Begun, Kernel, Stage, Turning, apply_effect, is_begun, is_due, joined, needs_kernel, outside, parted, stage_of}
-use Rattle.cp_steps.specs.Laws.{ground_of}
+use Rattle.cp_steps.specs.Laws.{TurningOf, ground_of}
 use Rattle.cp_steps.specs.Left.{Left, Running, innermost_gate, site}
 use Rattle.cp_steps.specs.PartOf.{DataMeans, GoesOn, PartOf, RunsOn, status_of}
 use Rattle.cp_steps.proofs.Deciding.{Reaches, ready_steps}
@@ -132,10 +132,6 @@ begun_still o y after (Finishes is e) = subst (λ x. HasBegun (status_of x)) (sy
 abbrev IsFinished : PrivateStatus → Type 0
 IsFinished parts.Finished = Unit {0}
 IsFinished _ = ⊥
-
--- A private state and a kernel are those of a state.
-abbrev pub Both : (program : Program) (setup : Setup) → StandsFor program setup → (p own : ℕ) → List ℕ → State → Turning → Type 0
-Both program setup F p own before u x = PartOf (ground_of program setup F p own) u before x.own × KernelOf program F.texts setup u x.kernel
 
 module _ (program : Program) (setup : Setup) (F : StandsFor program setup) (p own : ℕ) (s : State) (before : List ℕ) (o : PrivateState) (k : Kernel)
     (I : Invariant s) (number : IsNumber (process_count setup) p) (P : PartOf (ground_of program setup F p own) s before o) (K : KernelOf program F.texts setup s k) where
@@ -237,9 +233,9 @@ module _ (program : Program) (setup : Setup) (F : StandsFor program setup) (p ow
     module _ (J : StoreInvariant u.store) where
       -- Parted again, whether it runs on or not.
       halves : (top : ℕ) → Stacked H top xs → HasBegun (status_of r.0.activity) → (GoesOn r.0.activity → RunsOn G u.store (record r.0 { words = take own r.0.words }) (u.continuation p))
-          → Both program setup F p own before u (parted n x r)
-      halves top stack begun runs = (
-        record {
+          → TurningOf program setup F p own u before (parted n x r)
+      halves top stack begun runs = record {
+        part = record {
           number = after.number;
           input = after.input;
           consumed = after.consumed;
@@ -248,15 +244,15 @@ module _ (program : Program) (setup : Setup) (F : StandsFor program setup) (p ow
           count = ap (λ z. length (take z r.0.words)) P.count ∙ own_count G refl lie u.store J r.0.words xs top stack after.count D;
           data_means = λ later. subst (λ z. DataMeans G xs (in_sight G) u.store (take z r.0.words)) (sym P.count) (data_own G refl lie u.store J r.0.words xs top stack after.count D);
           runs_on = λ goes. subst (λ z. RunsOn G u.store (record r.0 { words = take z r.0.words }) (u.continuation p)) (sym P.count) (runs goes);
-        },
-        record {
+        };
+        kernel = record {
           word_count = ap length (effect_shared n o.number r.1 edited) ∙ (ap (λ z. length (drop z r.0.words)) P.count ∙ shared_count G refl lie u.store J r.0.words xs top stack after.count D);
           gates_stand = subst (λ z. Stand H u (apply_effect n z r.1 edited)) (sym P.number)
               (effects_kept H s w before (joined x) S all number ready edited (stand_beside H s k (drop n r.0.words) K.gates_stand));
           data_means = subst (DataMeans (kernel_ground program F.texts setup) [] is_shared u.store) (sym (effect_shared n o.number r.1 edited))
               (subst (λ z. DataMeans (kernel_ground program F.texts setup) [] is_shared u.store (drop z r.0.words)) (sym P.count) (data_shared G refl lie u.store J r.0.words xs top stack after.count D));
-        },
-      )
+        };
+      }
         where
           lie : MonitorsLie program setup
           lie = monitors_lie program setup F
@@ -289,10 +285,10 @@ module _ (program : Program) (setup : Setup) (F : StandsFor program setup) (p ow
       is_end (Acts EndProcess l) h = tt
       is_end (Acts i l) h = absurd (h (action_endless (context setup s p) (configuration s p) (Acts i l) (λ e. e)))
 
-      turned : Due (s.continuation p) ≡ true → Both program setup F p own before u (parted n x r)
+      turned : Due (s.continuation p) ≡ true → TurningOf program setup F p own u before (parted n x r)
       turned due = by (act_stops program w (joined x) S.operation running)
         where
-          by : Stops (joined x) S.operation r.0 → Both program setup F p own before u (parted n x r)
+          by : Stops (joined x) S.operation r.0 → TurningOf program setup F p own u before (parted n x r)
           by (On goes) =
               halves _ (runs_stacked H u.store r.0 (u.continuation p) (after.runs_on goes)) (begun_still (joined x) S.operation r.0 (On goes))
               (λ again. runs_parted G refl (monitors_lie program setup F) u.store J r.0 (u.continuation p) (after.runs_on goes))
@@ -306,20 +302,20 @@ module _ (program : Program) (setup : Setup) (F : StandsFor program setup) (p ow
               absurd (no_end G o.temps o.limit _ R.running o.frames o.place R.running.unit.temps (s.continuation p) R.left due
               (is_end (action (s.continuation p)) (not_finished (does H s (action (s.continuation p))) (after.status ∙ ap status_of is))))
 
-    ready_turns : Both program setup F p own before (meaning.kernel_step setup s p) (plain.kernel_step program clock x)
+    ready_turns : TurningOf program setup F p own (meaning.kernel_step setup s p) before (plain.kernel_step program clock x)
     ready_turns = by (Due (s.continuation p)) refl
       where
-        by : (b : Bool) → Due (s.continuation p) ≡ b → Both program setup F p own before (meaning.kernel_step setup s p) (plain.kernel_step program clock x)
+        by : (b : Bool) → Due (s.continuation p) ≡ b → TurningOf program setup F p own (meaning.kernel_step setup s p) before (plain.kernel_step program clock x)
         by true e =
-            subst (λ v. Both program setup F p own before v (plain.kernel_step program clock x)) (sym is_step)
-            (subst (Both program setup F p own before u) (sym (λ i. if (due_is ∙ e) i then parted n x (taken i) else x))
+            subst (λ v. TurningOf program setup F p own v before (plain.kernel_step program clock x)) (sym is_step)
+            (subst (TurningOf program setup F p own u before) (sym (λ i. if (due_is ∙ e) i then parted n x (taken i) else x))
             (turned (subst (λ (v : State). StoreInvariant v.store) is_step (kernel_step_keeps setup s p I).store) e))
           where
             is_step : meaning.kernel_step setup s p ≡ u
             is_step = ap (λ z. if_kernel z (step setup s p) s) (kind_is ∙ ap (λ b. if b then meaning.Kernel else meaning.Private) e)
         by false e =
-            subst (λ v. Both program setup F p own before v (plain.kernel_step program clock x)) (sym (ap (λ z. if_kernel z (step setup s p) s) (kind_is ∙ ap (λ b. if b then meaning.Kernel else meaning.Private) e)))
-            (subst (Both program setup F p own before s) (sym (ap (λ b. if b then parted n x (step_with program w (joined x)) else x) (due_is ∙ e))) (P, K))
+            subst (λ v. TurningOf program setup F p own v before (plain.kernel_step program clock x)) (sym (ap (λ z. if_kernel z (step setup s p) s) (kind_is ∙ ap (λ b. if b then meaning.Kernel else meaning.Private) e)))
+            (subst (TurningOf program setup F p own s before) (sym (ap (λ b. if b then parted n x (step_with program w (joined x)) else x) (due_is ∙ e))) record { part = P; kernel = K })
 
 -- ---- all statuses
 
@@ -336,13 +332,13 @@ not_begun o program k held = by (machine.is_running o.activity)
 
 -- Where the private state is that of its process, and the kernel the kernel's, in a state with the invariant, the machine's kernel step makes
 -- them those of the state after the meaning's.
-pub kernel_step_is_step : (program : Program) (setup : Setup) (F : StandsFor program setup) (p own : ℕ) (s : State) (before : List ℕ) (o : PrivateState) (k : Kernel)
+pub kernel_step_turns : (program : Program) (setup : Setup) (F : StandsFor program setup) (p own : ℕ) (s : State) (before : List ℕ) (o : PrivateState) (k : Kernel)
     → Invariant s → IsNumber (process_count setup) p → PartOf (ground_of program setup F p own) s before o → KernelOf program F.texts setup s k
-    → Both program setup F p own before (meaning.kernel_step setup s p) (plain.kernel_step program (realtime (running_clock setup s)) (record { kernel = k; own = o }))
-kernel_step_is_step program setup F p own s before o k I number P K = by (s.status p) refl
+    → TurningOf program setup F p own (meaning.kernel_step setup s p) before (plain.kernel_step program (realtime (running_clock setup s)) (record { kernel = k; own = o }))
+kernel_step_turns program setup F p own s before o k I number P K = by (s.status p) refl
   where
     Result : Type 0
-    Result = Both program setup F p own before (meaning.kernel_step setup s p) (plain.kernel_step program (realtime (running_clock setup s)) (record { kernel = k; own = o }))
+    Result = TurningOf program setup F p own (meaning.kernel_step setup s p) before (plain.kernel_step program (realtime (running_clock setup s)) (record { kernel = k; own = o }))
 
     same : (x : Status) → s.status p ≡ x → private_status x ≡ status_of o.activity
     same x is = ap private_status (sym is) ∙ P.status
@@ -350,11 +346,11 @@ kernel_step_is_step program setup F p own s before o k I number P K = by (s.stat
     -- Neither steps.
     rests : (x : Status) → s.status p ≡ x → kind_of x (s.continuation p) ≡ meaning.NoStep → is_due program (record { kernel = k; own = o }) ≡ false → Result
     rests x is none idle =
-        subst (λ v. Both program setup F p own before v (plain.kernel_step program (realtime (running_clock setup s)) (record { kernel = k; own = o })))
+        subst (λ v. TurningOf program setup F p own v before (plain.kernel_step program (realtime (running_clock setup s)) (record { kernel = k; own = o })))
         (sym (ap (λ z. if_kernel z (step setup s p) s) (ap (λ z. kind_of z (s.continuation p)) is ∙ none)))
-        (subst (Both program setup F p own before s)
+        (subst (TurningOf program setup F p own s before)
         (sym (ap (λ b. if b then parted (length o.words) (record { kernel = k; own = o }) (step_with program (outside (realtime (running_clock setup s)) (record { kernel = k; own = o })) (joined (record { kernel = k; own = o }))) else record { kernel = k; own = o }) idle))
-        (P, K))
+        record { part = P; kernel = K })
 
     still : (x : Status) → s.status p ≡ x → kind_of x (s.continuation p) ≡ meaning.NoStep → (IsRunning (private_status x) → ⊥) → Result
     still x is none idle = rests x is none (not_running o (λ h. idle (subst IsRunning (sym (same x is)) h)) program k)

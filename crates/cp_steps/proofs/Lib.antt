@@ -58,6 +58,7 @@ pub mod KernelBeside
 pub mod Stopping
 pub mod EndsAlone
 pub mod KernelTurning
+pub mod KernelTurns
 pub mod RoundEnds
 pub mod KernelAround
 pub mod Ending

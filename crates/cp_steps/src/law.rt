@@ -1,6 +1,8 @@
-//! The laws of private steps and turns, and of the start. Their statements stand in `specs/Laws.antt`.
+//! The laws of steps and turns, and of the start. Their statements stand in `specs/Laws.antt`.
 
-ghost use Rattle.cp_steps.specs.Laws.{PrivateStepIsStep, PrivateTurnIsTurn, StartIsPart};
+ghost use Rattle.cp_steps.specs.Laws.{KernelStepIsStep, KernelTurnIsTurn, KernelTurnKeepsParts, PrivateStepIsStep};
+ghost use Rattle.cp_steps.specs.Laws.{PrivateTurnIsTurn, PrivateTurnKeepsKernel, PrivateTurnKeepsParts};
+ghost use Rattle.cp_steps.specs.Laws.{StartIsKernel, StartIsPart};
 
 /// Where a private state is that of its process in a state with the invariant, the machine's private step makes it that of the
 /// process in the state after the meaning's, and so does a turn of so many steps. A function without a body: a caller has the
@@ -10,8 +12,23 @@ pub fn private_steps()
     ensures turn { PrivateTurnIsTurn }
 {}
 
+/// Where a kernel is that of a state with the invariant, and a private state that of its process, the machine's kernel step makes
+/// them those of the state after the meaning's, and so does a turn of so many steps.
+pub fn kernel_steps()
+    ensures step { KernelStepIsStep }
+    ensures turn { KernelTurnIsTurn }
+{}
+
+/// By a turn of one process the private states of the others stay their own, and by a private turn so does the kernel.
+pub fn others()
+    ensures kernel { KernelTurnKeepsParts }
+    ensures private { PrivateTurnKeepsParts }
+    ensures shared { PrivateTurnKeepsKernel }
+{}
+
 /// The first private state of each process is that of the process in the start of the meaning. Each but the first process, which runs
-/// from the start on, is as one that has not begun.
+/// from the start on, is as one that has not begun. The first kernel is that of the start.
 pub fn start()
     ensures parts { StartIsPart }
+    ensures kernel { StartIsKernel }
 {}

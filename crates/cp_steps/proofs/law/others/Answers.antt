@@ -1,0 +1,9 @@
+use Rattle.cp_steps.proofs.KernelTurns.{kernel_turn_keeps_parts, private_turn_keeps_kernel, private_turn_keeps_parts}
+use Rattle.cp_steps.proofs.law.others.Goals as goal
+
+pub returns : goal.returns
+returns c = record {
+  kernel = kernel_turn_keeps_parts;
+  private = private_turn_keeps_parts;
+  shared = private_turn_keeps_kernel;
+}
