@@ -59,6 +59,7 @@ pub mod Stopping
 pub mod EndsAlone
 pub mod KernelTurning
 pub mod KernelTurns
+pub mod RoundParts
 pub mod RoundEnds
 pub mod KernelAround
 pub mod Ending

@@ -127,7 +127,7 @@ module _ (G : Ground) (store after : Store) (same : (l : Location) → is_own G.
   shared_ground = kernel_ground G.program G.texts G.setup
 
   -- A class lies in the process itself, or in a monitor.
-  given_beside : KeepsGiven G store after
+  pub given_beside : KeepsGiven G store after
   given_beside at s n sort is has = by at.owner at.path refl refl is
     where
       t : ResolvedType
