@@ -84,3 +84,10 @@ pub mod InitProcesses
 pub mod ProcessSteps
 pub mod Puts
 pub mod Passing
+pub mod PassedWords
+pub mod Spares
+pub mod SparingCalls
+pub mod StartsNone
+pub mod SparingStatements
+pub mod SparingInits
+pub mod Sparing
