@@ -88,6 +88,9 @@ pub mod PassedWords
 pub mod Spares
 pub mod SparingCalls
 pub mod StartsNone
+pub mod StartedUnread
+pub mod StartsNobody
+pub mod OthersKept
 pub mod SparingStatements
 pub mod SparingInits
 pub mod Sparing
