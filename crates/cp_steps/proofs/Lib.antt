@@ -91,6 +91,8 @@ pub mod StartsNone
 pub mod StartedUnread
 pub mod StartsNobody
 pub mod OthersKept
+pub mod OtherGround
+pub mod BodyBegins
 pub mod SparingStatements
 pub mod SparingInits
 pub mod Sparing
