@@ -93,6 +93,10 @@ pub mod StartsNobody
 pub mod OthersKept
 pub mod OtherGround
 pub mod BodyBegins
+pub mod ParametersGiven
+pub mod BeginsKept
+pub mod BeginsStarted
+pub mod ProcessBegins
 pub mod SparingStatements
 pub mod SparingInits
 pub mod Sparing
