@@ -75,7 +75,7 @@ put_outside t (w ∷ ws) st l h n = put_outside t ws (put w.0 w.1 st) l h.1 n �
     by true e = absurd (true≢false (sym h.0 ∙ (ap (λ (k : Location). t k.owner) (location_is w.0 l e) ∙ n)))
     by false e = refl
 
-locals_two : (g : GlobalScope) (xs ys : List (Name × declared.Variable)) → locals_words g (xs ++ ys) ≡ locals_words g xs + locals_words g ys
+pub locals_two : (g : GlobalScope) (xs ys : List (Name × declared.Variable)) → locals_words g (xs ++ ys) ≡ locals_words g xs + locals_words g ys
 locals_two g [] ys = omega arith
 locals_two g (x ∷ xs) ys = let e = locals_two g xs ys in omega (arith, e)
 
