@@ -2,7 +2,7 @@
 --
 -- With the words of all monitors behind its own ones, the private state is the process's, so the step is one of those that are proved.
 -- After it the words are parted again. The kernel's gates and stages are kept, since the effect is the meaning's.
-use Rattle.std.proofs.Common.{◌≡◌, inr, ℕ, zero, suc, ◌+◌, ◌-◌, ℤ, Bool, true, false, List, [], ◌∷◌, length, Option, Some, None, refl, ap, sym, subst, ◌∙◌, arith}
+use Rattle.std.proofs.Common.{◌≡◌, inr, ℕ, ◌+◌, ℤ, Bool, true, false, List, [], ◌∷◌, length, Option, Some, None, refl, ap, sym, subst, ◌∙◌, arith}
 use Rattle.std.specs.Prelude.{◌||◌, drop, if◌then◌else◌, take}
 use Rattle.std.proofs.lemmas.Bool.{true≢false}
 use Rattle.cp_model.specs.Actions.{Action, Acts, Calls, Rests, action, is_kernel_action}
@@ -17,12 +17,11 @@ use Rattle.cp_model.specs.Operators.{realtime}
 use Rattle.cp_model.specs.Outcomes.{Fault, Gives}
 use Rattle.cp_model.specs.Parts as parts
 use Rattle.cp_model.specs.Parts.{HasBegun, PrivateStatus, private_status}
-use Rattle.cp_model.specs.States.{Free, HeldBy, Holder, Setup, State, Unset, configuration, context, monitor_count, process_count, running_clock}
+use Rattle.cp_model.specs.States.{Setup, State, configuration, context, monitor_count, process_count, running_clock}
 use Rattle.cp_model.specs.Turns as meaning
 use Rattle.cp_model.specs.Turns.{after_step, if_kernel, kind, kind_of, step}
 use Rattle.cp_model.proofs.StateInvariant.{kernel_step_keeps}
 use Rattle.cp_model.proofs.StateMaps.{with_at_here}
-use Rattle.cp_code.specs.Layout.{natural}
 use Rattle.cp_code.specs.Programs.{Operation, Program}
 use Rattle.cp_code.specs.StandsFor.{StandsFor}
 use Rattle.cp_code.specs.TermsFor.{Knowns}
@@ -49,6 +48,7 @@ use Rattle.cp_steps.proofs.KernelKept.{begun}
 use Rattle.cp_steps.proofs.MonitorsThere.{monitors_lie}
 use Rattle.cp_steps.proofs.Parting.{data_own, data_shared, own_count, runs_parted, shared_count}
 use Rattle.cp_steps.proofs.PrivateSteps.{IsRunning, running_is, still_is}
+use Rattle.cp_steps.proofs.ProcessBegins.{effect_shared}
 use Rattle.cp_steps.proofs.RunningOn.{runs_stacked}
 use Rattle.cp_steps.proofs.Sights.{with_sight}
 use Rattle.cp_steps.proofs.Stacks.{Stacked}
@@ -57,7 +57,7 @@ use Rattle.cp_steps.proofs.Stopping.{Fails, Finishes, On, Stops, act_stops}
 
 -- ---- whose step is next
 
-abbrev Due : List Task → Bool
+abbrev pub Due : List Task → Bool
 Due k = holds_gate stage.Ready k || is_kernel_action (action k)
 
 -- A process at its end mark has no kernel step.
@@ -80,38 +80,6 @@ no_end G temps limit K R fs place low (i ∷ k) left due end = by i left due (of
     by (EndCall env gate) left due end = end
     by (EndBody gate) left due end = end
 
--- ---- the shared words
-
-pass_shared : (m : ℕ) (rs : List ℕ) (k : Kernel) → (plain.pass_to m rs k).shared ≡ k.shared
-pass_shared m [] k = refl
-pass_shared m (r ∷ rs) k = refl
-
--- Effects change no shared word.
-effect_shared : (own p : ℕ) (e : machine.Effect) (k : Kernel) → (apply_effect own p e k).shared ≡ k.shared
-effect_shared own p machine.NoEffect k = refl
-effect_shared own p (machine.Enters m) k = by (plain.gate_of k.gates m).holder
-  where
-    by : (h : Holder) → (plain.enter_gate p m h k).shared ≡ k.shared
-    by (HeldBy q) = refl
-    by Free = refl
-    by Unset = refl
-effect_shared own p (machine.Leaves m) k = pass_shared m (plain.gate_of k.gates m).askers k
-effect_shared own p (machine.Delays m q) k = pass_shared m (plain.gate_of k.gates m).askers (plain.set_stage p (plain.Delayed m (q - own)) k)
-effect_shared own p (machine.Continues m r) k = by (natural r)
-  where
-    by : (n : ℕ) → (plain.resume m n k).shared ≡ k.shared
-    by zero = pass_shared m (plain.gate_of k.gates m).askers k
-    by (suc n) = refl
-effect_shared own p (machine.Opens m) k = refl
-effect_shared own p (machine.Starts r) k = by (stage_of k.stages r)
-  where
-    by : (g : Stage) → (plain.start_process r g k).shared ≡ k.shared
-    by plain.Unstarted = refl
-    by plain.Fresh = refl
-    by plain.Begun = refl
-    by (plain.Asking m) = refl
-    by (plain.Delayed m q) = refl
-
 -- ---- one step
 
 -- What goes on, or has stopped, has begun.
@@ -133,30 +101,42 @@ abbrev IsFinished : PrivateStatus → Type 0
 IsFinished parts.Finished = Unit {0}
 IsFinished _ = ⊥
 
+-- Who doesn't run has no step.
+not_running : (o : PrivateState) → (IsRunning (status_of o.activity) → ⊥) → (program : Program) (k : Kernel) → is_due program (record { kernel = k; own = o }) ≡ false
+not_running o still program k = ap (λ b. if b then (if is_begun (stage_of k.stages o.number) then needs_kernel o (operation_of program o) else false) else false) (still_is o.activity still)
+
+-- Who asks, or is delayed, has no step.
+not_begun : (o : PrivateState) (program : Program) (k : Kernel) → is_begun (stage_of k.stages o.number) ≡ false → is_due program (record { kernel = k; own = o }) ≡ false
+not_begun o program k held = by (machine.is_running o.activity)
+  where
+    by : (b : Bool) → (if b then (if is_begun (stage_of k.stages o.number) then needs_kernel o (operation_of program o) else false) else false) ≡ false
+    by true = ap (λ b. if b then needs_kernel o (operation_of program o) else false) held
+    by false = refl
+
 module _ (program : Program) (setup : Setup) (F : StandsFor program setup) (p own : ℕ) (s : State) (before : List ℕ) (o : PrivateState) (k : Kernel)
     (I : Invariant s) (number : IsNumber (process_count setup) p) (P : PartOf (ground_of program setup F p own) s before o) (K : KernelOf program F.texts setup s k) where
-  abbrev G : Ground
+  abbrev pub G : Ground
   G = ground_of program setup F p own
 
-  abbrev H : Ground
+  abbrev pub H : Ground
   H = with_sight G AllWords (monitors_lie program setup F)
 
-  abbrev clock : ℕ
+  abbrev pub clock : ℕ
   clock = realtime (running_clock setup s)
 
-  abbrev x : Turning
+  abbrev pub x : Turning
   x = record { kernel = k; own = o }
 
-  abbrev w : Outside
+  abbrev pub w : Outside
   w = outside clock x
 
-  around : Around H s w
+  pub around : Around H s w
   around = record { clock = refl; own = P.count }
 
-  all : AroundAll H s w
+  pub all : AroundAll H s w
   all = around_all H F refl s k K w (λ m. refl) (λ r. refl)
 
-  reaches : Reaches H s
+  pub reaches : Reaches H s
   reaches (OfProcess q) h = h
   reaches (OfActivation q d) h = h
   reaches (OfMonitor m) h = refl
@@ -165,10 +145,10 @@ module _ (program : Program) (setup : Setup) (F : StandsFor program setup) (p ow
     R : RunsOn G s.store o (s.continuation p)
     R = P.runs_on (subst GoesOn (sym running) tt)
 
-    joins : RunsOn H s.store (joined x) (s.continuation p)
+    pub joins : RunsOn H s.store (joined x) (s.continuation p)
     joins = runs_joined G refl (monitors_lie program setup F) s.store o (s.continuation p) R k.shared K.word_count K.data_means
 
-    part_joined : PartOf H s before (joined x)
+    pub part_joined : PartOf H s before (joined x)
     part_joined = record {
       number = P.number;
       input = P.input;
@@ -180,7 +160,7 @@ module _ (program : Program) (setup : Setup) (F : StandsFor program setup) (p ow
       runs_on = λ goes. joins;
     }
 
-    S : Stepped H s w before (joined x)
+    pub S : Stepped H s w before (joined x)
     S = ready_steps H s w before (joined x) F refl part_joined I around reaches (s.continuation p) refl ready joins
 
     -- ---- whose step it is
@@ -190,7 +170,7 @@ module _ (program : Program) (setup : Setup) (F : StandsFor program setup) (p ow
         ap (stage_of k.stages) P.number
         ∙ begun (kernel_ground program F.texts setup) (monitor_count setup) (process_count setup) s k own p number ready K.gates_stand
 
-    due_is : is_due program x ≡ Due (s.continuation p)
+    pub due_is : is_due program x ≡ Due (s.continuation p)
     due_is =
         (λ i. if machine.is_running (running i) then (if is_begun (stage_begun i) then needs_kernel o (S.there i) else false) else false)
         ∙ by (marked_monitors (s.continuation p)) refl
@@ -204,7 +184,7 @@ module _ (program : Program) (setup : Setup) (F : StandsFor program setup) (p ow
             ap (λ b. if b then true else steps.is_kernel_operation S.operation) (gate_is_held G s.store o (s.continuation p) m ms R e)
             ∙ ap (λ ms. (elim ms as (λ z. Bool) [ [] ↦ false | m ∷ rest ↦ true ]) || is_kernel_action (action (s.continuation p))) (sym e)
 
-    kind_is : kind s p ≡ (if Due (s.continuation p) then meaning.Kernel else meaning.Private)
+    pub kind_is : kind s p ≡ (if Due (s.continuation p) then meaning.Kernel else meaning.Private)
     kind_is = ap (λ z. kind_of z (s.continuation p)) ready
 
     -- ---- the step
@@ -218,7 +198,7 @@ module _ (program : Program) (setup : Setup) (F : StandsFor program setup) (p ow
     after : PartOf H u before r.0
     after = S.part (inr all)
 
-    taken : step_with program w (joined x) ≡ r
+    pub taken : step_with program w (joined x) ≡ r
     taken = ap (act_on program w (joined x)) S.there
 
     abbrev n : ℕ
@@ -302,78 +282,70 @@ module _ (program : Program) (setup : Setup) (F : StandsFor program setup) (p ow
               absurd (no_end G o.temps o.limit _ R.running o.frames o.place R.running.unit.temps (s.continuation p) R.left due
               (is_end (action (s.continuation p)) (not_finished (does H s (action (s.continuation p))) (after.status ∙ ap status_of is))))
 
-    ready_turns : TurningOf program setup F p own (meaning.kernel_step setup s p) before (plain.kernel_step program clock x)
-    ready_turns = by (Due (s.continuation p)) refl
-      where
-        by : (b : Bool) → Due (s.continuation p) ≡ b → TurningOf program setup F p own (meaning.kernel_step setup s p) before (plain.kernel_step program clock x)
-        by true e =
-            subst (λ v. TurningOf program setup F p own v before (plain.kernel_step program clock x)) (sym is_step)
-            (subst (TurningOf program setup F p own u before) (sym (λ i. if (due_is ∙ e) i then parted n x (taken i) else x))
-            (turned (subst (λ (v : State). StoreInvariant v.store) is_step (kernel_step_keeps setup s p I).store) e))
-          where
-            is_step : meaning.kernel_step setup s p ≡ u
-            is_step = ap (λ z. if_kernel z (step setup s p) s) (kind_is ∙ ap (λ b. if b then meaning.Kernel else meaning.Private) e)
-        by false e =
-            subst (λ v. TurningOf program setup F p own v before (plain.kernel_step program clock x)) (sym (ap (λ z. if_kernel z (step setup s p) s) (kind_is ∙ ap (λ b. if b then meaning.Kernel else meaning.Private) e)))
-            (subst (TurningOf program setup F p own s before) (sym (ap (λ b. if b then parted n x (step_with program w (joined x)) else x) (due_is ∙ e))) record { part = P; kernel = K })
+  -- ---- all statuses
 
--- ---- all statuses
+  -- Neither steps, or both do.
+  pub data Which : Type 0 where
+    Rest : meaning.kernel_step setup s p ≡ s → plain.kernel_step program clock x ≡ x → Which
+    Step : (ready : s.status p ≡ stage.Ready) (running : o.activity ≡ machine.Running) → Due (s.continuation p) ≡ true → meaning.kernel_step setup s p ≡ step setup s p
+        → plain.kernel_step program clock x ≡ parted (length o.words) x (r ready running) → Which
 
-not_running : (o : PrivateState) → (IsRunning (status_of o.activity) → ⊥) → (program : Program) (k : Kernel) → is_due program (record { kernel = k; own = o }) ≡ false
-not_running o still program k = ap (λ b. if b then (if is_begun (stage_of k.stages o.number) then needs_kernel o (operation_of program o) else false) else false) (still_is o.activity still)
+  ready_which : s.status p ≡ stage.Ready → o.activity ≡ machine.Running → Which
+  ready_which ready running = by (Due (s.continuation p)) refl
+    where
+      defined : (b : Bool) → Due (s.continuation p) ≡ b → meaning.kernel_step setup s p ≡ if_kernel (if b then meaning.Kernel else meaning.Private) (step setup s p) s
+      defined b e = ap (λ z. if_kernel z (step setup s p) s) (kind_is ready running ∙ ap (λ c. if c then meaning.Kernel else meaning.Private) e)
 
--- Who asks, or is delayed, has no step.
-not_begun : (o : PrivateState) (program : Program) (k : Kernel) → is_begun (stage_of k.stages o.number) ≡ false → is_due program (record { kernel = k; own = o }) ≡ false
-not_begun o program k held = by (machine.is_running o.activity)
-  where
-    by : (b : Bool) → (if b then (if is_begun (stage_of k.stages o.number) then needs_kernel o (operation_of program o) else false) else false) ≡ false
-    by true = ap (λ b. if b then needs_kernel o (operation_of program o) else false) held
-    by false = refl
+      by : (b : Bool) → Due (s.continuation p) ≡ b → Which
+      by true e = Step ready running e (defined true e) (λ i. if (due_is ready running ∙ e) i then parted (length o.words) x (taken ready running i) else x)
+      by false e = Rest (defined false e) (ap (λ c. if c then parted (length o.words) x (step_with program w (joined x)) else x) (due_is ready running ∙ e))
 
--- Where the private state is that of its process, and the kernel the kernel's, in a state with the invariant, the machine's kernel step makes
--- them those of the state after the meaning's.
-pub kernel_step_turns : (program : Program) (setup : Setup) (F : StandsFor program setup) (p own : ℕ) (s : State) (before : List ℕ) (o : PrivateState) (k : Kernel)
-    → Invariant s → IsNumber (process_count setup) p → PartOf (ground_of program setup F p own) s before o → KernelOf program F.texts setup s k
-    → TurningOf program setup F p own (meaning.kernel_step setup s p) before (plain.kernel_step program (realtime (running_clock setup s)) (record { kernel = k; own = o }))
-kernel_step_turns program setup F p own s before o k I number P K = by (s.status p) refl
-  where
-    Result : Type 0
-    Result = TurningOf program setup F p own (meaning.kernel_step setup s p) before (plain.kernel_step program (realtime (running_clock setup s)) (record { kernel = k; own = o }))
+  pub which : Which
+  which = by (s.status p) refl
+    where
+      same : (y : Status) → s.status p ≡ y → private_status y ≡ status_of o.activity
+      same y is = ap private_status (sym is) ∙ P.status
 
-    same : (x : Status) → s.status p ≡ x → private_status x ≡ status_of o.activity
-    same x is = ap private_status (sym is) ∙ P.status
+      rests : (y : Status) → s.status p ≡ y → kind_of y (s.continuation p) ≡ meaning.NoStep → is_due program x ≡ false → Which
+      rests y is none idle =
+          Rest (ap (λ z. if_kernel z (step setup s p) s) (ap (λ z. kind_of z (s.continuation p)) is ∙ none))
+          (ap (λ b. if b then parted (length o.words) x (step_with program w (joined x)) else x) idle)
 
-    -- Neither steps.
-    rests : (x : Status) → s.status p ≡ x → kind_of x (s.continuation p) ≡ meaning.NoStep → is_due program (record { kernel = k; own = o }) ≡ false → Result
-    rests x is none idle =
-        subst (λ v. TurningOf program setup F p own v before (plain.kernel_step program (realtime (running_clock setup s)) (record { kernel = k; own = o })))
-        (sym (ap (λ z. if_kernel z (step setup s p) s) (ap (λ z. kind_of z (s.continuation p)) is ∙ none)))
-        (subst (TurningOf program setup F p own s before)
-        (sym (ap (λ b. if b then parted (length o.words) (record { kernel = k; own = o }) (step_with program (outside (realtime (running_clock setup s)) (record { kernel = k; own = o })) (joined (record { kernel = k; own = o }))) else record { kernel = k; own = o }) idle))
-        record { part = P; kernel = K })
+      still : (y : Status) → s.status p ≡ y → kind_of y (s.continuation p) ≡ meaning.NoStep → (IsRunning (private_status y) → ⊥) → Which
+      still y is none idle = rests y is none (not_running o (λ h. idle (subst IsRunning (sym (same y is)) h)) program k)
 
-    still : (x : Status) → s.status p ≡ x → kind_of x (s.continuation p) ≡ meaning.NoStep → (IsRunning (private_status x) → ⊥) → Result
-    still x is none idle = rests x is none (not_running o (λ h. idle (subst IsRunning (sym (same x is)) h)) program k)
+      known : (y : Status) → s.status p ≡ y → StageMeans (kernel_ground program F.texts setup) y (stage_of k.stages o.number)
+      known y is =
+          subst (λ z. StageMeans (kernel_ground program F.texts setup) y (stage_of k.stages z)) (sym P.number)
+          (subst (λ z. StageMeans (kernel_ground program F.texts setup) z (stage_of k.stages p)) is (K.gates_stand.stages p number.0 (omega (arith, number.1, K.gates_stand.stage_count))))
 
-    known : (x : Status) → s.status p ≡ x → StageMeans (kernel_ground program F.texts setup) x (stage_of k.stages o.number)
-    known x is =
-        subst (λ z. StageMeans (kernel_ground program F.texts setup) x (stage_of k.stages z)) (sym P.number)
-        (subst (λ y. StageMeans (kernel_ground program F.texts setup) y (stage_of k.stages p)) is (K.gates_stand.stages p number.0 (omega (arith, number.1, K.gates_stand.stage_count))))
+      asks : (m : ℕ) (g : Stage) → StageMeans (kernel_ground program F.texts setup) (stage.Asking m) g → is_begun g ≡ false
+      asks m (plain.Asking j) means = refl
+      asks m _ means = absurd means
 
-    asks : (m : ℕ) (g : Stage) → StageMeans (kernel_ground program F.texts setup) (stage.Asking m) g → is_begun g ≡ false
-    asks m (plain.Asking j) means = refl
-    asks m _ means = absurd means
+      waits : (m : ℕ) (q : Location) (g : Stage) → StageMeans (kernel_ground program F.texts setup) (stage.Delayed m q) g → is_begun g ≡ false
+      waits m q (plain.Delayed j at) means = refl
+      waits m q _ means = absurd means
 
-    waits : (m : ℕ) (q : Location) (g : Stage) → StageMeans (kernel_ground program F.texts setup) (stage.Delayed m q) g → is_begun g ≡ false
-    waits m q (plain.Delayed j at) means = refl
-    waits m q _ means = absurd means
+      by : (y : Status) → s.status p ≡ y → Which
+      by stage.Ready is = ready_which is (running_is o.activity (subst IsRunning (same stage.Ready is) tt))
+      by stage.Unstarted is = still stage.Unstarted is refl (λ h. h)
+      by stage.Fresh is = still stage.Fresh is refl (λ h. h)
+      by stage.Ended is = still stage.Ended is refl (λ h. h)
+      by stage.Waiting is = still stage.Waiting is refl (λ h. h)
+      by (stage.Faulted m) is = still (stage.Faulted m) is refl (λ h. h)
+      by (stage.Asking m) is = rests (stage.Asking m) is refl (not_begun o program k (asks m (stage_of k.stages o.number) (known (stage.Asking m) is)))
+      by (stage.Delayed m q) is = rests (stage.Delayed m q) is refl (not_begun o program k (waits m q (stage_of k.stages o.number) (known (stage.Delayed m q) is)))
 
-    by : (x : Status) → s.status p ≡ x → Result
-    by stage.Ready is = ready_turns program setup F p own s before o k I number P K is (running_is o.activity (subst IsRunning (same stage.Ready is) tt))
-    by stage.Unstarted is = still stage.Unstarted is refl (λ h. h)
-    by stage.Fresh is = still stage.Fresh is refl (λ h. h)
-    by stage.Ended is = still stage.Ended is refl (λ h. h)
-    by stage.Waiting is = still stage.Waiting is refl (λ h. h)
-    by (stage.Faulted n) is = still (stage.Faulted n) is refl (λ h. h)
-    by (stage.Asking m) is = rests (stage.Asking m) is refl (not_begun o program k (asks m (stage_of k.stages o.number) (known (stage.Asking m) is)))
-    by (stage.Delayed m q) is = rests (stage.Delayed m q) is refl (not_begun o program k (waits m q (stage_of k.stages o.number) (known (stage.Delayed m q) is)))
+  -- So the machine's kernel step makes both those of the state after the meaning's.
+  pub kernel_step_turns : TurningOf program setup F p own (meaning.kernel_step setup s p) before (plain.kernel_step program clock x)
+  kernel_step_turns = by which
+    where
+      by : Which → TurningOf program setup F p own (meaning.kernel_step setup s p) before (plain.kernel_step program clock x)
+      by (Rest defined computed) =
+          subst (λ v. TurningOf program setup F p own v before (plain.kernel_step program clock x)) (sym defined)
+          (subst (TurningOf program setup F p own s before) (sym computed) (record { part = P; kernel = K }))
+      by (Step ready running due defined computed) =
+          subst (λ v. TurningOf program setup F p own v before (plain.kernel_step program clock x)) (sym defined)
+          (subst (TurningOf program setup F p own (step setup s p) before) (sym computed)
+          (turned ready running (subst (λ (v : State). StoreInvariant v.store) defined (kernel_step_keeps setup s p I).store) due))

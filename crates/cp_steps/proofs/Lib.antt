@@ -60,6 +60,7 @@ pub mod EndsAlone
 pub mod KernelTurning
 pub mod KernelTurns
 pub mod RoundParts
+pub mod BeginsBeside
 pub mod RoundEnds
 pub mod KernelAround
 pub mod Ending

@@ -110,7 +110,7 @@ passed_store : (m : ℕ) (rs : List ℕ) (v : State) → (pass_to m rs v).store 
 passed_store m [] v = refl
 passed_store m (r ∷ rs) v = refl
 
-effect_store : (p : ℕ) (e : Effect) (v : State) → (apply_effect p e v).store ≡ v.store
+pub effect_store : (p : ℕ) (e : Effect) (v : State) → (apply_effect p e v).store ≡ v.store
 effect_store p Own v = refl
 effect_store p Ends v = refl
 effect_store p Waits v = refl

@@ -10,14 +10,13 @@ use Rattle.cp_model.specs.Abstract as a
 use Rattle.cp_model.specs.Abstract.{Class, Monitor, Name, Process, Sort, System}
 use Rattle.cp_model.specs.Actions.{Action, Acts, Calls, action}
 use Rattle.cp_model.specs.Calls.{UserCall, call_in_task, procedure_call}
-use Rattle.cp_model.specs.Configurations.{Continues, Delayed, Delays, Effect, Ends, Enters, Leaves, Opens, Own, Starts, Status, StepResult, Unstarted, Waits}
+use Rattle.cp_model.specs.Configurations.{StepResult}
 use Rattle.cp_model.specs.Continuations.{Task}
-use Rattle.cp_model.specs.Gates.{apply_effect, enter, pass_to, start_process}
 use Rattle.cp_model.specs.Invariant.{FramesInvariant, Invariant}
 use Rattle.cp_model.specs.Locations.{ByIndex, ByName, Location, OfActivation, OfMonitor, OfProcess, Owner, Path, under}
 use Rattle.cp_model.specs.Outcomes.{Fault, Gives}
 use Rattle.cp_model.specs.Parts.{SameKernelPart, SamePrivateState, is_own}
-use Rattle.cp_model.specs.States.{Free, HeldBy, Holder, Setup, State, Unset, configuration, context, set_status, with_configuration}
+use Rattle.cp_model.specs.States.{Setup, State, configuration, context, with_configuration}
 use Rattle.cp_model.specs.Step.{step_of}
 use Rattle.cp_model.specs.Stores.{Absent, ClassRight, Store, Value}
 use Rattle.cp_model.specs.Turns.{Kernel, Kind, NoStep, Private, after_step, if_kernel, kernel_step, kind, private_step, step}
@@ -34,36 +33,11 @@ use Rattle.cp_steps.proofs.Finding.{some_is_not_none}
 use Rattle.cp_steps.proofs.Given.{KeepsGiven, rights_kept}
 use Rattle.cp_steps.proofs.Layouts.{farther_some}
 use Rattle.cp_steps.proofs.NeverUnset.{IfActs, IsSet, KeepsSet, SetStill, action_keeps}
+use Rattle.cp_steps.proofs.OthersKept.{effect_store}
 use Rattle.cp_steps.proofs.Owned.{component_part}
 use Rattle.cp_steps.proofs.PartsBeside.{part_beside}
 
 -- ---- what a monitor holds
-
--- Effects store nothing.
-passed_store : (m : ℕ) (rs : List ℕ) (u : State) → (pass_to m rs u).store ≡ u.store
-passed_store m [] u = refl
-passed_store m (r ∷ rs) u = refl
-
-effect_store : (p : ℕ) (x : Effect) (u : State) → (apply_effect p x u).store ≡ u.store
-effect_store p Own u = refl
-effect_store p Ends u = refl
-effect_store p Waits u = refl
-effect_store p (Enters m) u = by (u.gates m).holder
-  where
-    by : (h : Holder) → (enter p m h u).store ≡ u.store
-    by (HeldBy q) = refl
-    by Free = refl
-    by Unset = refl
-effect_store p (Leaves m) u = passed_store m (u.gates m).askers u
-effect_store p (Delays m q) u = passed_store m (u.gates m).askers (set_status p (Delayed m q) u)
-effect_store p (Continues m None) u = passed_store m (u.gates m).askers u
-effect_store p (Continues m (Some r)) u = refl
-effect_store p (Opens m) u = refl
-effect_store p (Starts r k) u = by (u.status r)
-  where
-    by : (x : Status) → (start_process r k x u).store ≡ u.store
-    by Unstarted = refl
-    by _ = refl
 
 action_frames : (p : ℕ) (store : Store) (k : List Task) → FramesInvariant p store k → IfActs (λ i l. FramesInvariant p store (i ∷ l)) (action k)
 action_frames p store [] I = tt

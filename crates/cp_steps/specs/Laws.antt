@@ -100,7 +100,18 @@ KernelTurnKeepsParts =
     → let G = ground_of program setup F q others in
     PartOf G s past o → PartOf G (meaning.kernel_turn setup n s p) past o
 
--- So it does by a private turn of p.
+-- One that hasn't begun is started by the turn, or stays as it was.
+abbrev pub KernelTurnKeepsBegins : Type 0
+KernelTurnKeepsBegins =
+    (program : Program) (setup : Setup) (F : StandsFor program setup) (p own q others n : ℕ)
+    → (s : State) (before : List ℕ) (x : Turning) (past : List ℕ) (o : PrivateState)
+    → p ≢ q → Invariant s → 1 ≤ p → p ≤ process_count setup → 1 ≤ q → q ≤ process_count setup
+    → TurningOf program setup F p own s before x
+    → let G = ground_of program setup F q others in
+    PartOf G s past o → Begins G s x.kernel o
+    → Begins G (meaning.kernel_turn setup n s p) (kernel_steps program (realtime (running_clock setup s)) n x).kernel o
+
+-- The private state of another process stays its own by a private turn of p.
 abbrev pub PrivateTurnKeepsParts : Type 0
 PrivateTurnKeepsParts =
     (program : Program) (setup : Setup) (F : StandsFor program setup) (p q others n : ℕ)

@@ -1,7 +1,7 @@
 //! The laws of steps and turns, and of the start. Their statements stand in `specs/Laws.antt`.
 
-ghost use Rattle.cp_steps.specs.Laws.{KernelStepIsStep, KernelTurnIsTurn, KernelTurnKeepsParts, PrivateStepIsStep};
-ghost use Rattle.cp_steps.specs.Laws.{PrivateTurnIsTurn, PrivateTurnKeepsKernel, PrivateTurnKeepsParts};
+ghost use Rattle.cp_steps.specs.Laws.{KernelStepIsStep, KernelTurnIsTurn, KernelTurnKeepsBegins, KernelTurnKeepsParts};
+ghost use Rattle.cp_steps.specs.Laws.{PrivateStepIsStep, PrivateTurnIsTurn, PrivateTurnKeepsKernel, PrivateTurnKeepsParts};
 ghost use Rattle.cp_steps.specs.Laws.{StartIsKernel, StartIsPart};
 
 /// Where a private state is that of its process in a state with the invariant, the machine's private step makes it that of the
@@ -19,9 +19,11 @@ pub fn kernel_steps()
     ensures turn { KernelTurnIsTurn }
 {}
 
-/// By a turn of one process the private states of the others stay their own, and by a private turn so does the kernel.
+/// By a turn of one process the private states of the others stay their own, or that of one that hasn't begun, and by a private turn so
+/// does the kernel.
 pub fn others()
     ensures kernel { KernelTurnKeepsParts }
+    ensures begins { KernelTurnKeepsBegins }
     ensures private { PrivateTurnKeepsParts }
     ensures shared { PrivateTurnKeepsKernel }
 {}
