@@ -61,6 +61,7 @@ pub mod KernelTurning
 pub mod KernelTurns
 pub mod RoundParts
 pub mod BeginsBeside
+pub mod Tables
 pub mod RoundEnds
 pub mod KernelAround
 pub mod Ending

@@ -12,4 +12,5 @@ pub mod Machines
 pub mod Beginning
 pub mod KernelOf
 pub mod Laws
+pub mod Stands
 pub mod EffectOf
