@@ -102,7 +102,7 @@ IsFinished parts.Finished = Unit {0}
 IsFinished _ = ⊥
 
 -- Who doesn't run has no step.
-not_running : (o : PrivateState) → (IsRunning (status_of o.activity) → ⊥) → (program : Program) (k : Kernel) → is_due program (record { kernel = k; own = o }) ≡ false
+pub not_running : (o : PrivateState) → (IsRunning (status_of o.activity) → ⊥) → (program : Program) (k : Kernel) → is_due program (record { kernel = k; own = o }) ≡ false
 not_running o still program k = ap (λ b. if b then (if is_begun (stage_of k.stages o.number) then needs_kernel o (operation_of program o) else false) else false) (still_is o.activity still)
 
 -- Who asks, or is delayed, has no step.
