@@ -62,6 +62,7 @@ pub mod KernelTurns
 pub mod RoundParts
 pub mod BeginsBeside
 pub mod Tables
+pub mod MachineRounds
 pub mod MachineTurns
 pub mod RoundEnds
 pub mod KernelAround
