@@ -63,6 +63,7 @@ pub mod RoundParts
 pub mod BeginsBeside
 pub mod Tables
 pub mod MachineRounds
+pub mod MachineStarts
 pub mod MachineTurns
 pub mod RoundEnds
 pub mod KernelAround

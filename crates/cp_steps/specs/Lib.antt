@@ -13,4 +13,5 @@ pub mod Beginning
 pub mod KernelOf
 pub mod Laws
 pub mod Stands
+pub mod RoundLaws
 pub mod EffectOf

@@ -1,8 +1,10 @@
-//! The laws of steps and turns, and of the start. Their statements stand in `specs/Laws.antt`.
+//! The laws of steps and turns, and of the start, and those of whole rounds. Their statements stand in `specs/Laws.antt` and
+//! `specs/RoundLaws.antt`.
 
 ghost use Rattle.cp_steps.specs.Laws.{KernelStepIsStep, KernelTurnIsTurn, KernelTurnKeepsBegins, KernelTurnKeepsParts};
 ghost use Rattle.cp_steps.specs.Laws.{PrivateStepIsStep, PrivateTurnIsTurn, PrivateTurnKeepsKernel, PrivateTurnKeepsParts};
 ghost use Rattle.cp_steps.specs.Laws.{StartIsKernel, StartIsPart};
+ghost use Rattle.cp_steps.specs.RoundLaws.{RoundStaysIn, RunIsRun, StartIsStart};
 
 /// Where a private state is that of its process in a state with the invariant, the machine's private step makes it that of the
 /// process in the state after the meaning's, and so does a turn of so many steps. A function without a body: a caller has the
@@ -33,4 +35,12 @@ pub fn others()
 pub fn start()
     ensures parts { StartIsPart }
     ensures kernel { StartIsKernel }
+{}
+
+/// The first machine is in the start of the meaning, and by a phased round a machine stays in the state of the meaning's. So after so
+/// many phased rounds the first machine is in the state that so many rounds of one processor leave.
+pub fn rounds()
+    ensures start { StartIsStart }
+    ensures round { RoundStaysIn }
+    ensures run { RunIsRun }
 {}
