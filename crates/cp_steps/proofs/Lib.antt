@@ -62,9 +62,6 @@ pub mod KernelTurns
 pub mod RoundParts
 pub mod BeginsBeside
 pub mod Tables
-pub mod MachineRounds
-pub mod MachineStarts
-pub mod MachineTurns
 pub mod RoundEnds
 pub mod KernelAround
 pub mod Ending
@@ -122,3 +119,12 @@ pub mod ProcessBegins
 pub mod SparingStatements
 pub mod SparingInits
 pub mod Sparing
+pub mod ReportLines
+pub mod ReportQueues
+pub mod ReportParts
+pub mod ReportStatus
+pub mod Reporting
+pub mod Stands
+pub mod MachineTurns
+pub mod MachineRounds
+pub mod MachineStarts

@@ -25,7 +25,7 @@ use Rattle.cp_steps.specs.Laws.{ground_of}
 use Rattle.cp_steps.specs.Machines as machine
 use Rattle.cp_steps.specs.Machines.{Machine, awake, begin_if, begin_one, next_stage, transcript_of, wake_one}
 use Rattle.cp_steps.specs.PrivateStates.{NotBegun, PrivateState, is_running}
-use Rattle.cp_steps.specs.Stands.{AllStand, IsIn, PartStands}
+use Rattle.cp_steps.proofs.Stands.{AllStand, IsIn, PartStands}
 use Rattle.cp_steps.specs.Steps.{act_on, alone, is_private, operation_of, private_step, private_steps}
 use Rattle.cp_steps.proofs.BeginsBeside.{begins_beside, begins_round}
 use Rattle.cp_steps.proofs.KernelBeside.{kernel_beside, kernel_ends_round}

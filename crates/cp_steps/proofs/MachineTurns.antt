@@ -27,7 +27,7 @@ use Rattle.cp_steps.specs.KernelSteps.{Kernel, Turning, joined, kernel_steps, ou
 use Rattle.cp_steps.specs.Laws.{TurningOf, ground_of}
 use Rattle.cp_steps.specs.Machines.{Machine, after_kernel_turn, clock, kernel_turn, transcript_of}
 use Rattle.cp_steps.specs.PartOf.{PartOf, status_of}
-use Rattle.cp_steps.specs.Stands.{AllStand, IsIn, PartStands}
+use Rattle.cp_steps.proofs.Stands.{AllStand, IsIn, PartStands}
 use Rattle.cp_steps.proofs.BeginsBeside.{kernel_turn_keeps_begins}
 use Rattle.cp_steps.proofs.Finding.{some_is_not_none}
 use Rattle.cp_steps.proofs.Effects.{private_after, private_by}

@@ -12,6 +12,7 @@ pub mod Machines
 pub mod Beginning
 pub mod KernelOf
 pub mod Laws
-pub mod Stands
-pub mod RoundLaws
 pub mod EffectOf
+pub mod Reports
+pub mod InState
+pub mod RoundLaws

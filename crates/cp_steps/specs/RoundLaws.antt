@@ -1,36 +1,41 @@
--- The laws of whole rounds: which state a machine of plain data is in.
-use Rattle.std.specs.Prelude.{◌-◌, ℕ, None, Some, length, slice_get}
+-- The laws of whole rounds, runs and reports.
+use Rattle.std.specs.Prelude.{◌≡◌, ℕ}
+use Rattle.cp_model.specs.Report.{report}
 use Rattle.cp_model.specs.Rounds as meaning
 use Rattle.cp_model.specs.Start.{start}
 use Rattle.cp_model.specs.States.{Setup, State, processes}
 use Rattle.cp_code.specs.Programs.{Program}
 use Rattle.cp_code.specs.StandsFor.{StandsFor}
-use Rattle.cp_steps.specs.Machines.{Machine, first_machine, first_part, phased_round, phased_rounds}
-use Rattle.cp_steps.specs.Stands.{IsIn}
-
--- So many words each process has from the start.
-abbrev pub first_own : Program → Setup → ℕ → ℕ
-first_own program setup p = elim (slice_get program.processes (p - 1)) [
-  | None ↦ 0
-  | Some x ↦ length (first_part program setup.inputs p x).words
-]
+use Rattle.cp_steps.specs.InState.{IsIn, NoneFresh}
+use Rattle.cp_steps.specs.Machines.{Machine, first_machine, phased_round, phased_rounds}
+use Rattle.cp_steps.specs.Reports.{machine_report}
 
 -- The first machine is in the start.
-abbrev pub StartIsStart : Type 0
-StartIsStart =
-    (program : Program) (setup : Setup) (F : StandsFor program setup)
-    → IsIn program setup F (first_own program setup) (start setup) (first_machine program setup.tick setup.inputs)
+abbrev pub StartIsIn : Type 0
+StartIsIn =
+    (program : Program) (setup : Setup) → StandsFor program setup
+    → IsIn (first_machine program setup.tick setup.inputs) setup (start setup)
 
--- By a phased round a machine stays in the state of the meaning's, of so many steps in a turn.
-abbrev pub RoundStaysIn : Type 0
-RoundStaysIn =
-    (program : Program) (setup : Setup) (F : StandsFor program setup) (own : ℕ → ℕ) (n : ℕ) (s : State) (m : Machine)
-    → IsIn program setup F own s m
-    → IsIn program setup F own (meaning.phased_round setup n s) (phased_round n (processes setup) m)
+-- A round with turns of n steps leads the machine from a state to the one that the meaning's phased round leads to.
+abbrev pub RoundIsRound : Type 0
+RoundIsRound =
+    (m : Machine) (setup : Setup) (s : State) (n : ℕ) → IsIn m setup s
+    → IsIn (phased_round n (processes setup) m) setup (meaning.phased_round setup n s)
 
--- After so many phased rounds the first machine is in the state that so many rounds of one processor leave.
-abbrev pub RunIsRun : Type 0
-RunIsRun =
-    (program : Program) (setup : Setup) (F : StandsFor program setup) (n rounds : ℕ)
-    → IsIn program setup F (first_own program setup) (meaning.run setup n rounds (start setup))
-    (phased_rounds n (processes setup) rounds (first_machine program setup.tick setup.inputs))
+-- And so many rounds lead to the state that one processor reaches.
+abbrev pub RoundsAreRun : Type 0
+RoundsAreRun =
+    (m : Machine) (setup : Setup) (s : State) (n rounds : ℕ) → IsIn m setup s
+    → IsIn (phased_rounds n (processes setup) rounds m) setup (meaning.run setup n rounds s)
+
+-- What is read off the machine is the report of its state.
+abbrev pub ReportIsReport : Type 0
+ReportIsReport =
+    (m : Machine) (setup : Setup) (s : State) → IsIn m setup s → NoneFresh s → machine_report setup m ≡ report setup s
+
+-- From the start: what is read off the machine after so many rounds is the report of one processor.
+abbrev pub RunIsReported : Type 0
+RunIsReported =
+    (program : Program) (setup : Setup) (n rounds : ℕ) → StandsFor program setup
+    → machine_report setup (phased_rounds n (processes setup) rounds (first_machine program setup.tick setup.inputs))
+    ≡ report setup (meaning.run setup n rounds (start setup))

@@ -1,10 +1,10 @@
-//! The laws of steps and turns, and of the start, and those of whole rounds. Their statements stand in `specs/Laws.antt` and
+//! The laws of steps and turns, and of the start, and those of whole rounds and reports. Their statements stand in `specs/Laws.antt` and
 //! `specs/RoundLaws.antt`.
 
 ghost use Rattle.cp_steps.specs.Laws.{KernelStepIsStep, KernelTurnIsTurn, KernelTurnKeepsBegins, KernelTurnKeepsParts};
 ghost use Rattle.cp_steps.specs.Laws.{PrivateStepIsStep, PrivateTurnIsTurn, PrivateTurnKeepsKernel, PrivateTurnKeepsParts};
 ghost use Rattle.cp_steps.specs.Laws.{StartIsKernel, StartIsPart};
-ghost use Rattle.cp_steps.specs.RoundLaws.{RoundStaysIn, RunIsRun, StartIsStart};
+ghost use Rattle.cp_steps.specs.RoundLaws.{ReportIsReport, RoundIsRound, RoundsAreRun, RunIsReported, StartIsIn};
 
 /// Where a private state is that of its process in a state with the invariant, the machine's private step makes it that of the
 /// process in the state after the meaning's, and so does a turn of so many steps. A function without a body: a caller has the
@@ -37,10 +37,17 @@ pub fn start()
     ensures kernel { StartIsKernel }
 {}
 
-/// The first machine is in the start of the meaning, and by a phased round a machine stays in the state of the meaning's. So after so
-/// many phased rounds the first machine is in the state that so many rounds of one processor leave.
+/// The first machine is in the start of the meaning, a phased round leads a machine to the state that the meaning's leads to, and so
+/// many rounds to the state that one processor reaches.
 pub fn rounds()
-    ensures start { StartIsStart }
-    ensures round { RoundStaysIn }
-    ensures run { RunIsRun }
+    ensures start { StartIsIn }
+    ensures round { RoundIsRound }
+    ensures run { RoundsAreRun }
+{}
+
+/// What is read off the words of a machine, between two rounds, is the report of the state that it is in. So from the start on it is,
+/// after so many rounds, the report of one processor.
+pub fn reports()
+    ensures read { ReportIsReport }
+    ensures run { RunIsReported }
 {}

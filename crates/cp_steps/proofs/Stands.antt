@@ -1,4 +1,4 @@
--- When a machine as plain data is in a state of the system.
+-- When a machine is in a state, told part by part, with the program, what it stands for and counts of words that rounds leave alone.
 use Rattle.std.specs.Prelude.{◌≡◌, ◌≤◌, ◌-◌, ℕ, List, Some, length, slice_get}
 use Rattle.cp_model.specs.Invariant.{Invariant}
 use Rattle.cp_model.specs.Parts.{HasNotBegun}
