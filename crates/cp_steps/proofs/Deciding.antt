@@ -62,7 +62,7 @@ use Rattle.cp_steps.proofs.InitProcesses.{InitOfProcess}
 use Rattle.cp_steps.proofs.Queues.{activations_none, queues_shared}
 
 -- The end mark of a routine stands in the environment that runs.
-end_environment : (G : Ground) (temps : List ℤ) (limit : ℕ) (K : Knowns) (R : Running) (fs : List machine.Frame) (place low : ℕ) (env : Environment) (gate : Option ℕ) (k : List Task)
+pub end_environment : (G : Ground) (temps : List ℤ) (limit : ℕ) (K : Knowns) (R : Running) (fs : List machine.Frame) (place low : ℕ) (env : Environment) (gate : Option ℕ) (k : List Task)
     → Left G temps limit K R fs place low (EndCall env gate ∷ k) → env ≡ R.env
 end_environment G temps limit K R [] place low env gate k h = absurd h
 end_environment G temps limit K R (f ∷ fs) place low env gate k h = h.0
@@ -82,11 +82,11 @@ Reaches G s = (o : Owner) → in_reach G.p (marked_monitors (s.continuation G.p)
 
 module _ (G : Ground) (s : State) (w : Outside) (before : List ℕ) (o : PrivateState) (F : StandsFor G.program G.setup) (texts : F.texts ≡ G.texts) (part : PartOf G s before o) (I : Invariant s)
     (around : Around G s w) (reaches : Reaches G s) where
-  units : UnitsStand G
+  pub units : UnitsStand G
   units n u t unit text =
       subst (λ ts. UnitStands G.program ts (scope G) u t) texts (F.units n u t unit (ap (λ ts. slice_get ts n) texts ∙ text))
 
-  now_of : (i : Task) (k : List Task) (R : RunsOn G s.store o (i ∷ k)) → s.continuation G.p ≡ i ∷ k → s.status G.p ≡ stage.Ready
+  pub now_of : (i : Task) (k : List Task) (R : RunsOn G s.store o (i ∷ k)) → s.continuation G.p ≡ i ∷ k → s.status G.p ≡ stage.Ready
       → IfPlaced i (Sees G (in_sight G) s.store R.running.env) → Now G s w before o i k
   now_of i k R left ready sees = record { part = part; on = R; left = left; ready = ready; around = around; sees = sees }
 
@@ -98,7 +98,7 @@ module _ (G : Ground) (s : State) (w : Outside) (before : List ℕ) (o : Private
       let stands = subst (UnitStands G.program G.texts (scope G) R.unit) y.1 (units R.number R.unit R.text runs.unit runs.text) in
       no_local_result (scope G) y.0 f.routine t stands.2 result
 
-  declares_here : (R : Running) → Runs G (length o.temps) o.limit R o.frames → Declares G R.env
+  pub declares_here : (R : Running) → Runs G (length o.temps) o.limit R o.frames → Declares G R.env
   declares_here R runs = runs_declares G F texts (length o.temps) o.limit R o.frames runs
 
   -- ---- statements
@@ -257,7 +257,7 @@ module _ (G : Ground) (s : State) (w : Outside) (before : List ℕ) (o : Private
       here = end_environment G o.temps o.limit (held_below N.on.live o.temps N.on.running.temp) N.on.running o.frames o.place N.on.running.unit.temps env gate k N.on.left
 
   -- What the process may see, where the task stands.
-  sees_in : (R : Running) (env : Environment) (k : List Task) → env ≡ R.env → s.continuation G.p ≡ k → EnvironmentIn (in_reach G.p (marked_monitors k)) env → Sees G (in_sight G) s.store R.env
+  pub sees_in : (R : Running) (env : Environment) (k : List Task) → env ≡ R.env → s.continuation G.p ≡ k → EnvironmentIn (in_reach G.p (marked_monitors k)) env → Sees G (in_sight G) s.store R.env
   sees_in R env k is left there = record {
     component =
         reaches R.env.component.owner

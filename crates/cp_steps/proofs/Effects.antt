@@ -10,7 +10,7 @@ use Rattle.cp_model.specs.Configurations as effect
 use Rattle.cp_model.specs.Configurations.{Asking, Configuration, Delayed, Effect, Ended, Faulted, Fresh, Ready, Status, StepResult, Unstarted, Waiting}
 use Rattle.cp_model.specs.Gates.{enter, made_ready, pass_to, start_process}
 use Rattle.cp_model.specs.Outcomes.{Fault, Gives, Outcome, and_then}
-use Rattle.cp_model.specs.Parts.{Failed, PrivateStatus, private_status}
+use Rattle.cp_model.specs.Parts.{Failed, Finished, PrivateStatus, Running, Sleeping, private_status}
 use Rattle.cp_model.specs.States.{Free, HeldBy, Holder, State, Unset, monitor_count, process_count, set_status, with_at, with_configuration}
 use Rattle.cp_model.specs.Turns.{after_step}
 use Rattle.cp_model.specs.Integers.{same_integer}
@@ -79,11 +79,11 @@ pub data LeavesIt (e : machine.Effect) (r : Acting) : Type 0 where
   WentOn : r.1 ≡ e → (HasFaulted r.0.activity → ⊥) → LeavesIt e r
   Stopped : r.1 ≡ NoEffect → HasFaulted r.0.activity → LeavesIt e r
 
-abbrev HasFailed : PrivateStatus → Type 0
+abbrev pub HasFailed : PrivateStatus → Type 0
 HasFailed (Failed n) = Unit {0}
 HasFailed _ = ⊥
 
-failed : (x : Activity) → HasFaulted x → HasFailed (status_of x)
+pub failed : (x : Activity) → HasFaulted x → HasFailed (status_of x)
 failed (machine.Faulted f) h = tt
 failed _ h = absurd h
 
@@ -117,51 +117,64 @@ pub passed_same : (m p : ℕ) (rs : List ℕ) (u : State) → private_status ((p
 passed_same m p [] u = refl
 passed_same m p (r ∷ rs) u = ready_same r p u.status
 
-module _ (s : State) (p : ℕ) (ready : s.status p ≡ Ready) where
-  abbrev NotFailed : Status → Type 0
-  NotFailed x = HasFailed (private_status x) → ⊥
+-- What a ready process is after an effect of its own step.
+abbrev pub private_by : Effect → PrivateStatus
+private_by effect.Ends = Finished
+private_by effect.Waits = Sleeping
+private_by _ = Running
 
-  same_status : (x : PrivateStatus) (y : Status) → x ≡ private_status y → NotFailed y → HasFailed x → ⊥
-  same_status x y e goes h = goes (subst HasFailed e h)
+pub private_after : (s : State) (p : ℕ) → s.status p ≡ Ready → (c : Configuration) (x : Effect) → private_status ((after_step s p (Gives (c, x))).status p) ≡ private_by x
+private_after s p ready c x = by x
+  where
+    is_ready : private_status (s.status p) ≡ Running
+    is_ready = ap private_status ready
 
-  stays : NotFailed (s.status p)
-  stays = subst NotFailed (sym ready) (λ h. h)
+    gets : (y : Status) → private_status (with_at p y s.status p) ≡ private_status y
+    gets y = ap private_status (with_at_here p y s.status)
 
-  gets : (x : Status) → NotFailed x → NotFailed (with_at p x s.status p)
-  gets x goes = subst NotFailed (sym (with_at_here p x s.status)) goes
+    by : (x : Effect) → private_status ((after_step s p (Gives (c, x))).status p) ≡ private_by x
+    by effect.Own = is_ready
+    by effect.Ends = gets Ended
+    by effect.Waits = gets Waiting
+    by (effect.Enters m) = inner (s.gates m).holder
+      where
+        inner : (h : Holder) → private_status ((enter p m h (with_configuration s p c)).status p) ≡ Running
+        inner (HeldBy q) = gets (Asking m)
+        inner Free = is_ready
+        inner Unset = is_ready
+    by (effect.Leaves m) = passed_same m p (s.gates m).askers (with_configuration s p c) ∙ is_ready
+    by (effect.Delays m q) = passed_same m p (s.gates m).askers (set_status p (Delayed m q) (with_configuration s p c)) ∙ gets (Delayed m q)
+    by (effect.Continues m None) = passed_same m p (s.gates m).askers (with_configuration s p c) ∙ is_ready
+    by (effect.Continues m (Some r)) = ready_same r p s.status ∙ is_ready
+    by (effect.Opens m) = is_ready
+    by (effect.Starts r k) = inner (s.status r) refl
+      where
+        fresh : (b : Bool) → nat_eq r p ≡ b → s.status r ≡ Unstarted → private_status (if b then Fresh else s.status p) ≡ Running
+        fresh true e is = ap (λ y. private_status (begun y)) (sym is ∙ (ap s.status (eqb-true r p e) ∙ ready))
+          where
+            begun : Status → Status
+            begun Unstarted = Fresh
+            begun y = y
+        fresh false e is = is_ready
 
-  -- What goes on hasn't failed.
-  unfailed : (c : Configuration) (x : Effect) → NotFailed ((after_step s p (Gives (c, x))).status p)
-  unfailed c effect.Own = stays
-  unfailed c effect.Ends = gets Ended (λ h. h)
-  unfailed c effect.Waits = gets Waiting (λ h. h)
-  unfailed c (effect.Enters m) = by (s.gates m).holder
-    where
-      by : (h : Holder) → NotFailed ((enter p m h (with_configuration s p c)).status p)
-      by (HeldBy q) = gets (Asking m) (λ h. h)
-      by Free = stays
-      by Unset = stays
-  unfailed c (effect.Leaves m) = same_status _ _ (passed_same m p (s.gates m).askers (with_configuration s p c)) stays
-  unfailed c (effect.Delays m q) =
-      same_status _ _ (passed_same m p (s.gates m).askers (set_status p (Delayed m q) (with_configuration s p c))) (gets (Delayed m q) (λ h. h))
-  unfailed c (effect.Continues m None) = same_status _ _ (passed_same m p (s.gates m).askers (with_configuration s p c)) stays
-  unfailed c (effect.Continues m (Some r)) = same_status _ _ (ready_same r p s.status) stays
-  unfailed c (effect.Opens m) = stays
-  unfailed c (effect.Starts r k) = by (s.status r)
-    where
-      inner : (b : Bool) → NotFailed (if b then Fresh else s.status p)
-      inner true = λ h. h
-      inner false = stays
+        inner : (y : Status) → s.status r ≡ y → private_status ((start_process r k y (with_configuration s p c)).status p) ≡ Running
+        inner Unstarted is = fresh (nat_eq r p) refl is
+        inner Fresh is = is_ready
+        inner Ready is = is_ready
+        inner Ended is = is_ready
+        inner Waiting is = is_ready
+        inner (Asking m) is = is_ready
+        inner (Delayed m q) is = is_ready
+        inner (Faulted n) is = is_ready
 
-      by : (x : Status) → NotFailed ((start_process r k x (with_configuration s p c)).status p)
-      by Unstarted = inner (nat_eq r p)
-      by Fresh = stays
-      by Ready = stays
-      by Ended = stays
-      by Waiting = stays
-      by (Asking m) = stays
-      by (Delayed m q) = stays
-      by (Faulted n) = stays
+-- What goes on hasn't failed.
+pub unfailed : (s : State) (p : ℕ) → s.status p ≡ Ready → (c : Configuration) (x : Effect) → HasFailed (private_status ((after_step s p (Gives (c, x))).status p)) → ⊥
+unfailed s p ready c x h = by x (subst HasFailed (private_after s p ready c x) h)
+  where
+    by : (x : Effect) → HasFailed (private_by x) → ⊥
+    by effect.Ends h = h
+    by effect.Waits h = h
+    by _ h = h
 
 -- Where the machine leaves this when it goes on, and it means what the meaning leaves then.
 pub told : (G : Ground) (own : ℕ) (s : State) (before : List ℕ) → s.status G.p ≡ Ready → (x : StepResult) (e : machine.Effect) (r : Acting)
@@ -175,37 +188,40 @@ told G own s before ready (Fault n) e r P means (Stopped none off) = none
 
 -- ---- what leaves when it goes on
 
+-- Passing changes no more than words.
 module _ (w : Outside) (to home : ℕ) where
-  one_activity : (x : Argument) (o : PrivateState) → (pass_one w to home o x).own.activity ≡ o.activity
-  one_activity (Value at low high c) o = by (value_of (view_of w o) c)
+  abbrev OnlyWords : PrivateState → PrivateState → Type 0
+  OnlyWords o after = after ≡ record o { words = after.words }
+
+  one_words : (x : Argument) (o : PrivateState) → OnlyWords o (pass_one w to home o x).own
+  one_words (Value at low high c) o = by (value_of (view_of w o) c)
     where
-      inner : (n : ℤ) (b : Bool) → (if b then pass_word o (to + at) n else record { own = o; fault = Some faults.Range }).own.activity ≡ o.activity
+      inner : (n : ℤ) (b : Bool) → OnlyWords o (if b then pass_word o (to + at) n else record { own = o; fault = Some faults.Range }).own
       inner n true = refl
       inner n false = refl
 
-      by : (r : Result ℤ fault.Fault) → (pass_result o r (λ n. pass_value o (to + at) low high n)).own.activity ≡ o.activity
+      by : (r : Result ℤ fault.Fault) → OnlyWords o (pass_result o r (λ n. pass_value o (to + at) low high n)).own
       by (Ok n) = inner n (within low high n)
       by (Err f) = refl
-  one_activity (Copy at size from) o = by (place_of (view_of w o) from)
+  one_words (Copy at size from) o = by (place_of (view_of w o) from)
     where
-      by : (r : Result ℕ fault.Fault) → (pass_result o r (λ n. pass_copy o (to + at) size n)).own.activity ≡ o.activity
+      by : (r : Result ℕ fault.Fault) → OnlyWords o (pass_result o r (λ n. pass_copy o (to + at) size n)).own
       by (Ok n) = refl
       by (Err f) = refl
-  one_activity (Reference at s) o = by (place_of (view_of w o) s)
+  one_words (Reference at s) o = by (place_of (view_of w o) s)
     where
-      by : (r : Result ℕ fault.Fault) → (pass_result o r (λ n. pass_word o (to + at) (reference_word o n))).own.activity ≡ o.activity
+      by : (r : Result ℕ fault.Fault) → OnlyWords o (pass_result o r (λ n. pass_word o (to + at) (reference_word o n))).own
       by (Ok n) = refl
       by (Err f) = refl
-  one_activity (Right at t) o = refl
+  one_words (Right at t) o = refl
 
-  passed_activity : (xs : List Argument) (o : PrivateState) → (pass_all w to home xs o).own.activity ≡ o.activity
-  passed_activity [] o = refl
-  passed_activity (x ∷ xs) o = by (pass_one w to home o x).fault (one_activity x o) (passed_activity xs (pass_one w to home o x).own)
+  pub passed_words : (xs : List Argument) (o : PrivateState) → OnlyWords o (pass_all w to home xs o).own
+  passed_words [] o = refl
+  passed_words (x ∷ xs) o = by (pass_one w to home o x).fault (one_words x o) (passed_words xs (pass_one w to home o x).own)
     where
-      by : (f : Option fault.Fault) → (pass_one w to home o x).own.activity ≡ o.activity
-          → (pass_all w to home xs (pass_one w to home o x).own).own.activity ≡ (pass_one w to home o x).own.activity
-          → (elim f as (λ y. Passing) [ None ↦ pass_all w to home xs (pass_one w to home o x).own | Some g ↦ pass_one w to home o x ]).own.activity ≡ o.activity
-      by None e rest = rest ∙ e
+      by : (f : Option fault.Fault) → OnlyWords o (pass_one w to home o x).own → OnlyWords (pass_one w to home o x).own (pass_all w to home xs (pass_one w to home o x).own).own
+          → OnlyWords o (elim f as (λ y. Passing) [ None ↦ pass_all w to home xs (pass_one w to home o x).own | Some g ↦ pass_one w to home o x ]).own
+      by None e rest = rest ∙ ap (λ (z : PrivateState). record z { words = (pass_all w to home xs (pass_one w to home o x).own).own.words }) e
       by (Some g) e rest = e
 
 -- A ready process hasn't faulted.
@@ -236,5 +252,5 @@ pub passed_leaves : (w : Outside) (from to : ℕ) (xs : List Argument) (o : Priv
 passed_leaves w from to xs o e go on h = by (pass_all w from to xs o).fault
   where
     by : (x : Option fault.Fault) → LeavesIt e (elim x as (λ y. Acting) [ None ↦ go (pass_all w from to xs o).own | Some f ↦ fault_in (pass_all w from to xs o).own f ])
-    by None = h (pass_all w from to xs o).own (subst (λ x. HasFaulted x → ⊥) (sym (passed_activity w from to xs o)) on)
+    by None = h (pass_all w from to xs o).own (subst (λ x. HasFaulted x → ⊥) (sym (ap (λ (z : PrivateState). z.activity) (passed_words w from to xs o))) on)
     by (Some f) = Stopped refl tt

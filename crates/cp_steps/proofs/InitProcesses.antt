@@ -44,9 +44,10 @@ use Rattle.cp_steps.proofs.Declared.{distinct_first}
 use Rattle.cp_steps.proofs.Declares.{Declares}
 use Rattle.cp_steps.proofs.Doing.{Ready, known}
 use Rattle.cp_steps.proofs.Finding.{in_context_none}
+use Rattle.cp_steps.proofs.InitOffsets.{Offset}
 use Rattle.cp_steps.proofs.InitPassing.{InitAgrees, InitBound, passes_init}
 use Rattle.cp_steps.proofs.InitRights.{given}
-use Rattle.cp_steps.proofs.InitSettled.{init_count, init_values}
+use Rattle.cp_steps.proofs.InitSettled.{init_count, init_offsets, init_values}
 use Rattle.cp_steps.proofs.Passing.{KeptOutside}
 use Rattle.cp_steps.proofs.Layouts.{same_some}
 use Rattle.cp_steps.proofs.ProcessRights.{NoClassRights, no_class_rights, process_without}
@@ -146,7 +147,11 @@ module _ {G : Ground} {s : State} {w : Outside} {before : List ℕ} {o : Private
   one p i component' =
       init_values (site G on.running) known_here system passed Z.given Z.passes o.place on.left.2.3.0 on.left.2.1 on.running.unit.temps arguments (scope G) p i component'
 
-  whole_is : length o.words ≡ G.own + G.program.shared
+  pub offsets : (p : Name × Variable) → IsIn p (declarations (scope G) system.parameters) → (k : ℕ) × Offset (scope G) system p k
+  offsets p i =
+      init_offsets (scope G) (site G on.running) known_here system on.runs.globals names one passed Z.given Z.passes o.place on.left.2.3.0 on.left.2.1 on.running.unit.temps arguments (λ q j. j) p i
+
+  pub whole_is : length o.words ≡ G.own + G.program.shared
   whole_is = on.count ∙ ap (λ v. words_seen v G.program G.own) Z.around.sight
 
   pub room : top + (1 + length passed) ≤ G.own

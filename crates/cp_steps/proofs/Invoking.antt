@@ -57,7 +57,7 @@ use Rattle.cp_model.specs.Configurations.{StepResult}
 
 -- ---- writes of one owner
 
-argument_in : (t : Owner → Bool) (clock : Clock) (env : Environment) (store : Store) (l : Location) (v : declared.Variable) (e : a.Expression) → t l.owner ≡ true
+pub argument_in : (t : Owner → Bool) (clock : Clock) (env : Environment) (store : Store) (l : Location) (v : declared.Variable) (e : a.Expression) → t l.owner ≡ true
     → IfGives (WritesIn t) (argument_writes clock env store l v e)
 argument_in t clock env store l v e h = by v.by_reference (place clock env store (designator_of e)) (value clock env store e)
   where
@@ -67,7 +67,7 @@ argument_in t clock env store l v e h = by v.by_reference (place clock env store
     by false P (Gives x) = writes_in t l v.type x h
     by false P (Fault i) = tt
 
-put_outside : (t : Owner → Bool) (ws : Writes) (st : Store) (l : Location) → WritesIn t ws → t l.owner ≡ false → put_all ws st l ≡ st l
+pub put_outside : (t : Owner → Bool) (ws : Writes) (st : Store) (l : Location) → WritesIn t ws → t l.owner ≡ false → put_all ws st l ≡ st l
 put_outside t [] st l h n = refl
 put_outside t (w ∷ ws) st l h n = put_outside t ws (put w.0 w.1 st) l h.1 n ∙ by (same_location w.0 l) refl
   where
@@ -75,7 +75,7 @@ put_outside t (w ∷ ws) st l h n = put_outside t ws (put w.0 w.1 st) l h.1 n �
     by true e = absurd (true≢false (sym h.0 ∙ (ap (λ (k : Location). t k.owner) (location_is w.0 l e) ∙ n)))
     by false e = refl
 
-locals_two : (g : GlobalScope) (xs ys : List (Name × declared.Variable)) → locals_words g (xs ++ ys) ≡ locals_words g xs + locals_words g ys
+pub locals_two : (g : GlobalScope) (xs ys : List (Name × declared.Variable)) → locals_words g (xs ++ ys) ≡ locals_words g xs + locals_words g ys
 locals_two g [] ys = omega arith
 locals_two g (x ∷ xs) ys = let e = locals_two g xs ys in omega (arith, e)
 

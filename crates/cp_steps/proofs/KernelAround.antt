@@ -14,8 +14,8 @@ use Rattle.cp_steps.specs.Passing.{monitor_start}
 use Rattle.cp_steps.specs.PrivateStates.{Outside}
 use Rattle.cp_steps.proofs.Layouts.{same_some}
 pub use Rattle.cp_steps.proofs.MonitorsThere.{monitor_below, process_below}
-use Rattle.cp_steps.proofs.MonitorsThere.{row_below}
 use Rattle.cp_steps.proofs.Stepping.{AroundAll}
+use Rattle.std.proofs.lemmas.Option.{slice_get_within}
 
 same_set : (h : Holder) → is_set h ≡ states.is_set h
 same_set Unset = refl
@@ -41,7 +41,7 @@ module _ (G : Ground) (F : StandsFor G.program G.setup) where
       by : (x : Option code.Monitor) → slice_get G.program.monitors (m - 1) ≡ x → (elim x as (λ z. ℕ) [ None ↦ 0 | Some r ↦ r.start ]) ≤ G.program.shared
       by None e = omega arith
       by (Some r) e =
-          let less = row_below G.program.monitors (m - 1) r e in
+          let less = slice_get_within G.program.monitors (m - 1) r e in
           let M = F.monitors (suc (m - 1)) (omega arith) (omega (arith, less, F.monitor_rows)) in
           let same : M.row ≡ r = same_some M.row r (sym M.there ∙ (ap (slice_get G.program.monitors) (one_less (m - 1)) ∙ e)) in
           omega (arith, M.lies, ap (λ (z : code.Monitor). z.start) same)

@@ -113,7 +113,7 @@ module _ (G : Ground) (monitors processes : ℕ) where
 
   module _ (s : State) (k : Kernel) (own p : ℕ) (number : IsNumber processes p) (ready : s.status p ≡ effect.Ready) (S : Stand s k) where
     -- The kernel knows only that it has begun.
-    begun : stage_of k.stages p ≡ Begun
+    pub begun : stage_of k.stages p ≡ Begun
     begun = by (stage_of k.stages p) (subst (λ x. StageMeans G x (stage_of k.stages p)) ready (S.stages p number.0 (omega (arith, number.1, S.stage_count))))
       where
         by : (g : Stage) → StageMeans G effect.Ready g → g ≡ Begun

@@ -21,9 +21,9 @@ use Rattle.cp_code.specs.Programs.{Program}
 use Rattle.cp_code.specs.StandsFor.{MonitorStands, StandsFor, system_of_monitor}
 use Rattle.cp_code.specs.Starts.{word}
 use Rattle.cp_steps.specs.Addresses.{ClassLies, ComponentLies, Ground, MonitorLies, ProcessLies, RightMeans, component_type, lies, part_at, part_of_component}
-use Rattle.cp_steps.specs.KernelOf.{KernelOf, StageMeans, is_shared, kernel_ground}
+use Rattle.cp_steps.specs.KernelOf.{StageMeans, is_shared, kernel_ground}
 use Rattle.cp_steps.specs.KernelSteps.{Unstarted, gate_of, stage_of}
-use Rattle.cp_steps.specs.Machines.{first_machine, first_shared, first_stages}
+use Rattle.cp_steps.specs.Machines.{first_shared, first_stages}
 use Rattle.cp_steps.specs.Means.{CellMeans, MarkMeans}
 use Rattle.cp_steps.specs.PartOf.{DataMeans}
 use Rattle.cp_steps.specs.Passing.{monitor_start}
@@ -37,6 +37,7 @@ use Rattle.cp_steps.proofs.SharedStarts.{BlockStarts, shared_length, shared_star
 use Rattle.cp_steps.proofs.Starting.{absent_right}
 use Rattle.cp_steps.proofs.StartStores.{Owns, monitor_owns}
 use Rattle.cp_steps.proofs.Writing.{is_cell}
+use Rattle.cp_steps.specs.Laws.{StartIsKernel}
 
 owns : (setup : Setup) → WellTyped setup → (m : ℕ) (s : System) → system_of_monitor setup m ≡ Some s → Owns setup (OfMonitor m) s
 owns setup typed zero s h = absurd (some_is_not_none s (sym h))
@@ -195,9 +196,7 @@ stages_start H setup (x ∷ xs) (suc (suc p)) low high =
 
 -- ---- the kernel
 
--- Whatever the tick and the inputs of the machine are.
-pub kernel_starts : (program : Program) (setup : Setup) (F : StandsFor program setup) (tick : ℕ) (inputs : ℕ → List ℕ)
-    → KernelOf program F.texts setup (start setup) (first_machine program tick inputs).kernel
+pub kernel_starts : StartIsKernel
 kernel_starts program setup F tick inputs = record {
   word_count = shared_length program setup F;
   gates_stand = record {

@@ -1,13 +1,12 @@
 -- Where monitors lie: their words are among the shared ones, apart from one another, and follow behind a process's own.
 use Rattle.std.proofs.Common.{Bool, List, None, Option, Some, [], ap, arith, false, inl, inr, length, refl, suc, sym, true, zero, ℕ, ◌<◌, ◌∙◌, ◌∷◌, ◌≡◌, ◌≤◌}
-use Rattle.std.specs.Prelude.{filter, if◌then◌else◌, slice_get}
+use Rattle.std.specs.Prelude.{filter, if◌then◌else◌}
 use Rattle.cp_model.specs.Abstract.{Monitor, Name, Process, Sort, System}
 use Rattle.cp_model.specs.Components.{is_component_of}
 use Rattle.cp_model.specs.Declarations.{Variable}
 use Rattle.cp_model.specs.Report.{components_of}
 use Rattle.cp_model.specs.States.{Setup, count_components, initial_variables, monitor_count, process_count}
 use Rattle.cp_code.specs.Layout.{component_words}
-use Rattle.cp_code.specs.Programs as code
 use Rattle.cp_code.specs.Programs.{Program}
 use Rattle.cp_code.specs.StandsFor.{Apart, MonitorStands, StandsFor, component_at, system_of_monitor, system_of_process}
 use Rattle.cp_steps.specs.Addresses.{MonitorsLie, scope}
@@ -40,12 +39,6 @@ pub process_below : (setup : Setup) (p : ℕ) (y : System) → system_of_process
 process_below setup zero y h = absurd (some_is_not_none y (sym h))
 process_below setup (suc zero) y h = (omega arith, omega arith)
 process_below setup (suc (suc p)) y h = (omega arith, omega (arith, there_below (components_of setup Process) p y h, counted Process (initial_variables setup)))
-
--- A row that there is is below their number.
-pub row_below : (rows : List code.Monitor) (i : ℕ) (x : code.Monitor) → slice_get rows i ≡ Some x → i < length rows
-row_below [] i x h = absurd (some_is_not_none x (sym h))
-row_below (r ∷ rows) zero x h = omega arith
-row_below (r ∷ rows) (suc i) x h = omega (arith, row_below rows i x h)
 
 module _ (program : Program) (setup : Setup) (F : StandsFor program setup) where
   pub stands_there : (m : ℕ) (s : System) → system_of_monitor setup m ≡ Some s → MonitorStands program F.texts setup m

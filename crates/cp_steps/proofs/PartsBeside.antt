@@ -1,6 +1,6 @@
 -- The private state of a process stays its own whatever others do: where the meaning's private state of it is the same, and classes keep
 -- the rights that they were given.
-use Rattle.std.proofs.Common.{List, [], ap, length, refl, subst, sym, true, ℕ, ℤ, ◌+◌, ◌∙◌, ◌∷◌, ◌≡◌}
+use Rattle.std.proofs.Common.{Bool, List, [], ap, length, refl, subst, sym, true, ℕ, ℤ, ◌+◌, ◌∙◌, ◌∷◌, ◌≡◌}
 use Rattle.std.proofs.lemmas.Bool.{eq-eqb}
 use Rattle.cp_model.specs.CallSteps.{is_initialised}
 use Rattle.cp_model.specs.Continuations.{Task}
@@ -20,19 +20,19 @@ use Rattle.cp_steps.proofs.Keeping.{KeepsActivation, activation_kept, activation
 
 -- ---- what runs on
 
-module _ (G : Ground) (sight : G.sight ≡ OwnWords) (store after : Store) (same : (l : Location) → is_own G.p l.owner ≡ true → after l ≡ store l) where
-  own : (o : Owner) → in_sight G o ≡ true → is_own G.p o ≡ true
-  own o h = subst (λ v. sees v G.p o ≡ true) sight h
+-- Data of some owners, whatever else is stored.
+pub data_beside : (G : Ground) (mine : Owner → Bool) (store after : Store) → ((l : Location) → mine l.owner ≡ true → after l ≡ store l) → (xs : List Activation) (words : List ℤ)
+    → DataMeans G xs mine store words → DataMeans G xs mine after words
+data_beside G mine store after same xs words D = record {
+  cells = λ l n t own is. subst (λ v. CellMeans t v (word words n)) (sym (same l own)) (D.cells l n t own is);
+  rights = λ at s n m x v own cl r none. subst (λ z. RightMeans G v.type z (n + m) (word words (n + m))) (sym (same (under at (ByName x ∷ [])) own)) (D.rights at s n m x v own cl r none);
+  given = λ at s n own sort is set.
+      rights_kept G store after at s (λ m x v r none. same (under at (ByName x ∷ [])) own) (D.given at s n own sort is (ap is_initialised (sym (same at own)) ∙ set));
+}
 
-  data_beside : (xs : List Activation) (words : List ℤ) → DataMeans G xs (in_sight G) store words → DataMeans G xs (in_sight G) after words
-  data_beside xs words D = record {
-    cells = λ l n t mine is. subst (λ v. CellMeans t v (word words n)) (sym (same l (own l.owner mine))) (D.cells l n t mine is);
-    rights = λ at s n m x v mine cl r none.
-        subst (λ z. RightMeans G v.type z (n + m) (word words (n + m))) (sym (same (under at (ByName x ∷ [])) (own at.owner mine))) (D.rights at s n m x v mine cl r none);
-    given = λ at s n mine sort is set.
-        rights_kept G store after at s (λ m x v r none. same (under at (ByName x ∷ [])) (own at.owner mine))
-        (D.given at s n mine sort is (ap is_initialised (sym (same at (own at.owner mine))) ∙ set));
-  }
+module _ (G : Ground) (sight : G.sight ≡ OwnWords) (store after : Store) (same : (l : Location) → is_own G.p l.owner ≡ true → after l ≡ store l) where
+  in_own : (l : Location) → in_sight G l.owner ≡ true → after l ≡ store l
+  in_own l h = same l (subst (λ v. sees v G.p l.owner ≡ true) sight h)
 
   activation_same : (words : List ℤ) (d : ℕ) (z : Activation) → KeepsActivation G store after words words d z
   activation_same words d z = (
@@ -56,7 +56,7 @@ module _ (G : Ground) (sight : G.sight ≡ OwnWords) (store after : Store) (same
         activations_kept G store after o.words o.words o.temps o.limit o.base (held_below R.live o.temps R.running.temp) R.running o.frames o.place R.running.unit.temps k R.left
         (λ rest f c owner there. activation_kept G store after o.words o.words rest c (length rest) f owner (activation_same o.words (length rest) (record { base = c; routine = f.routine })))
         R.activations_mean;
-    data_means = data_beside (activations o.base o.frames k) o.words R.data_means;
+    data_means = data_beside G (in_sight G) store after in_own (activations o.base o.frames k) o.words R.data_means;
     given = all_kept G store after keeps (components o) R.given;
   }
 
@@ -80,7 +80,7 @@ part_beside G s u before o sight S keeps P = record {
   data_means = λ later.
       let begun = subst HasBegun S.status later in
       subst (λ k. DataMeans G (activations o.base o.frames k) (in_sight G) u.store o.words) (sym (S.continuation begun))
-      (data_beside G sight s.store u.store (S.store begun) (activations o.base o.frames (s.continuation G.p)) o.words (P.data_means begun));
+      (data_beside G (in_sight G) s.store u.store (in_own G sight s.store u.store (S.store begun)) (activations o.base o.frames (s.continuation G.p)) o.words (P.data_means begun));
   runs_on = λ goes.
       let begun = subst HasBegun (sym P.status) (goes_begun o.activity goes) in
       subst (RunsOn G u.store o) (sym (S.continuation begun)) (runs_beside G sight s.store u.store (S.store begun) (keeps begun) o (s.continuation G.p) (P.runs_on goes));

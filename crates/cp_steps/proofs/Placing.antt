@@ -7,7 +7,7 @@ use Rattle.cp_model.specs.Declarations.{Variable}
 use Rattle.cp_model.specs.Locations.{Location, OfActivation, OfMonitor, OfProcess, Owner, root}
 use Rattle.cp_model.specs.Types.{ResolvedType}
 use Rattle.cp_code.specs.Layout.{Part, component_words, head_words, right, rights}
-use Rattle.cp_code.specs.StandsFor.{Apart, system_of_monitor}
+use Rattle.cp_code.specs.StandsFor.{Apart, system_of_monitor, system_of_process}
 use Rattle.cp_steps.specs.Addresses.{Activation, ClassLies, ComponentLies, Ground, MonitorLies, ProcessLies, component_type, in_sight, lies, scope, whole}
 use Rattle.cp_steps.specs.Passing.{monitor_start}
 use Rattle.cp_steps.proofs.Apart.{InHead, IsClass}
@@ -27,15 +27,15 @@ use Rattle.cp_steps.proofs.Stacks.{Stacked, monitor_seen}
 abbrev pub IsRightWord : Ground → System → ℕ → Type 0
 IsRightWord G s k = (1 ≤ k) × (k < head_words (scope G) s)
 
--- A class, or a monitor: its rights are apart from the cells of all else, from the rights of all others, and from the words of
--- activations that are no cells.
+-- Where a component lies: its rights are apart from the cells of all else, from the rights of all others, and from the words of
+-- activations that are no cells, which lie behind the process's own.
 pub record Placed (G : Ground) (xs : List Activation) (top : ℕ) (at : Location) (c : ℕ) (s : System) : Type 0 where
   pub own : in_sight G at.owner ≡ true
   pub there : ComponentLies G at s c
   pub no_activation : (d : ℕ) → at.owner ≡ OfActivation G.p d → ⊥
   pub heads : (l : Location) (n : ℕ) (u : ResolvedType) (a k : ℕ) → in_sight G l.owner ≡ true → InHead (scope G) u a → lies G xs l ≡ Some (n, u) → IsRightWord G s k → n + a ≡ c + k → n ≡ c
   pub rights : (j : Location) (r : System) (n m k : ℕ) (x : Name) (v : Variable) → in_sight G j.owner ≡ true → ComponentLies G j r n → right (scope G) r x ≡ Some (m, v) → IsRightWord G s k → n + m ≡ c + k → j ≡ at
-  pub beyond : (i k : ℕ) → i < top → IsRightWord G s k → i ≡ c + k
+  pub beyond : (i k : ℕ) → i < top → ((y : System) → system_of_process G.setup G.p ≡ Some y → component_words (scope G) y ≤ i) → IsRightWord G s k → i ≡ c + k
       → ((l : Location) (n : ℕ) (u : ResolvedType) (a : ℕ) → in_sight G l.owner ≡ true → InHead (scope G) u a → lies G xs l ≡ Some (n, u) → n + a ≡ i → ⊥) → ⊥
   pub inside : (k : ℕ) → k < head_words (scope G) s → c + k < whole G
 
@@ -76,7 +76,7 @@ module _ (G : Ground) (xs : List Activation) (top : ℕ) (stack : Stacked G top 
         let same : l ≡ at = separate G xs top stack l at n c u (component_type G s) a k mine own head (in_head k right.1) lying here e in
         ap (λ z. z.0) (same_some {A = Part} (n, u) (c, component_type G s) (sym lying ∙ (ap (lies G xs) same ∙ here)));
     rights = λ j r n m k x v mine cl is' right e. by j r n m k mine right.1 e (right_place G xs j r n m x v mine cl is');
-    beyond = λ i k below right e none. none at c (component_type G s) k own (in_head k right.1) here (sym e);
+    beyond = λ i k below behind right e none. none at c (component_type G s) k own (in_head k right.1) here (sym e);
     inside = λ k below. cell_inside G xs top stack at c (component_type G s) k own (in_head k below) here;
   }
     where
@@ -98,7 +98,7 @@ module _ (G : Ground) (xs : List Activation) (top : ℕ) (stack : Stacked G top 
     no_activation = λ d e. absurd (omega (arith, ap (depth_of (suc d)) e));
     heads = λ l n u a k mine head lying right e. absurd (cell_no_own_right G xs top stack l n (c + k) u a mine head lying (own_right k right.1) e);
     rights = λ j r n i k x v mine cl is' right e. by j r n i k mine (right_within 1 _ x i v is').1 right.1 e cl (right_place G xs j r n i x v mine cl is');
-    beyond = λ i k below right e none. absurd (omega (arith, below, stack.fits, e, from));
+    beyond = λ i k below behind right e none. absurd (omega (arith, below, stack.fits, e, from));
     inside = λ k below. own_right_inside G xs top stack (c + k) (own_right k below);
   }
     where

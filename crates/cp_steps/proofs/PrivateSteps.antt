@@ -105,19 +105,19 @@ ready_alone G s before o F texts sight part I ready marks running =
     reaches : Reaches G s
     reaches q h = subst (λ v. sees v G.p q ≡ true) (sym sight) (reach_own G.p q (ap (λ z. in_reach G.p z q) (sym marks) ∙ h))
 
-abbrev IsRunning : PrivateStatus → Type 0
+abbrev pub IsRunning : PrivateStatus → Type 0
 IsRunning parts.Running = Unit {0}
 IsRunning _ = ⊥
 
 -- What runs for the meaning runs for the machine, and what doesn't, doesn't.
-running_is : (x : Activity) → IsRunning (status_of x) → x ≡ machine.Running
+pub running_is : (x : Activity) → IsRunning (status_of x) → x ≡ machine.Running
 running_is machine.Running h = refl
 running_is machine.NotBegun h = absurd h
 running_is machine.Waiting h = absurd h
 running_is machine.Ended h = absurd h
 running_is (machine.Faulted f) h = absurd h
 
-still_is : (x : Activity) → (IsRunning (status_of x) → ⊥) → machine.is_running x ≡ false
+pub still_is : (x : Activity) → (IsRunning (status_of x) → ⊥) → machine.is_running x ≡ false
 still_is machine.Running h = absurd (h tt)
 still_is machine.NotBegun h = refl
 still_is machine.Waiting h = refl

@@ -233,24 +233,24 @@ module _ (G : Ground) (xs : List Activation) (top : ℕ) (stack : Stacked G top 
   local_unwritten d x = S.unwritten (local_named G d x) (λ p there' e. absurd (L.no_activation d (sym (ap (λ (l : Location). l.owner) e))))
 
   -- A word of an activation that is no part of a variable is as it was.
-  word_settled : (i : ℕ) → i < top → ((l : Location) (n : ℕ) (u : ResolvedType) (a : ℕ) → in_sight G l.owner ≡ true → InHead (scope G) u a → lies G xs l ≡ Some (n, u) → n + a ≡ i → ⊥) → word new i ≡ word old i
-  word_settled i below none = by (around i)
+  word_settled : (i : ℕ) → i < top → ((y : System) → system_of_process G.setup G.p ≡ Some y → component_words (scope G) y ≤ i) → ((l : Location) (n : ℕ) (u : ResolvedType) (a : ℕ) → in_sight G l.owner ≡ true → InHead (scope G) u a → lies G xs l ≡ Some (n, u) → n + a ≡ i → ⊥) → word new i ≡ word old i
+  word_settled i below behind none = by (around i)
     where
       by : Around i → word new i ≡ word old i
       by (inr apart) = S.outside i (inl below) apart
-      by (inl (p, k, there', inl h, e)) = absurd (L.beyond i k below (right_in_head p k h.1) e none)
+      by (inl (p, k, there', inl h, e)) = absurd (L.beyond i k below behind (right_in_head p k h.1) e none)
       by (inl (p, k, there', inr h, e)) = absurd (none (stored_at at p.0) (c + k) p.1.type 0 L.own (cell_head (scope G) p.1.type h.2) (value_lies p k h.1) (omega (arith, e)))
 
   pub activation_settled : (d : ℕ) (z : Activation) → activation_at d xs ≡ Some z → KeepsActivation G store after old new d z
   activation_settled d z found = (
     λ x far v is' by_reference. (
       local_unwritten d x,
-      word_settled (z.base + far) (omega (arith, inside.0, (reference_inside (scope G) z.routine x far v is' by_reference).1))
+      word_settled (z.base + far) (omega (arith, inside.0, (reference_inside (scope G) z.routine x far v is' by_reference).1)) (λ y is'. omega (arith, inside.1 y is'))
           (λ l n u a mine head lying e. cell_no_reference G xs top stack l n u a d z x far v mine head lying found is' by_reference e),
     ),
     λ t is' none. (
       local_unwritten d z.routine.name,
-      word_settled z.base (omega (arith, inside.0, result_inside (scope G) z.routine t is')) (λ l n u a mine head lying e. cell_no_result G xs top stack l n u a d z t mine head lying found is' e),
+      word_settled z.base (omega (arith, inside.0, result_inside (scope G) z.routine t is')) inside.1 (λ l n u a mine head lying e. cell_no_result G xs top stack l n u a d z t mine head lying found is' e),
     ),
   )
     where

@@ -17,7 +17,7 @@ use Rattle.cp_steps.proofs.Apart.{IsClass, head_inside}
 use Rattle.cp_steps.proofs.Bounds.{member_fits}
 use Rattle.cp_steps.proofs.Layouts.{same_some}
 use Rattle.std.proofs.lemmas.Bool.{eq-eqb, eqb-true, true≢false}
-use Rattle.cp_steps.proofs.MonitorsThere.{row_below}
+use Rattle.std.proofs.lemmas.Option.{slice_get_within}
 
 -- ---- one block
 
@@ -123,7 +123,7 @@ module _ (program : Program) (setup : Setup) (F : StandsFor program setup) where
           nothing_more n = omega arith
 
       N : Stands (suc k)
-      N = F.monitors (suc k) (omega arith) (omega (arith, row_below program.monitors k r here, F.monitor_rows))
+      N = F.monitors (suc k) (omega arith) (omega (arith, slice_get_within program.monitors k r here, F.monitor_rows))
 
       row : N.row ≡ r
       row = same_some N.row r (sym N.there ∙ (ap (slice_get program.monitors) (one_less k) ∙ here))

@@ -37,7 +37,7 @@ stacked_higher G n m [] p h = (h.0, h.1, omega (arith, p, h.2))
 stacked_higher G n m (x ∷ xs) p h = (omega (arith, p, h.0), h.1)
 
 -- A routine's own words hold its activation.
-frame_words : (g : GlobalScope) (t : UnitText) (f : Option Frame) (r : Frame) → f ≡ Some r → FrameFor t f → own_words g t ≡ activation_words g r.routine
+pub frame_words : (g : GlobalScope) (t : UnitText) (f : Option Frame) (r : Frame) → f ≡ Some r → FrameFor t f → own_words g t ≡ activation_words g r.routine
 frame_words g t None r e h = absurd (some_is_not_none r (sym e))
 frame_words g (RoutineOf s q) (Some f) r e h = ap (activation_words g) (sym h ∙ ap (λ (y : Frame). y.routine) (same_some f r e))
 frame_words g (BodyOf s) (Some f) r e h = absurd h

@@ -7,11 +7,10 @@ use Rattle.cp_model.specs.CallSteps.{is_initialised}
 use Rattle.cp_model.specs.Components.{process_location}
 use Rattle.cp_model.specs.Configurations as stage
 use Rattle.cp_model.specs.Configurations.{Ready, Status, Unstarted}
-use Rattle.cp_model.specs.Continuations.{EndProcess, Task, push}
+use Rattle.cp_model.specs.Continuations.{EndProcess, push}
 use Rattle.cp_model.specs.Declarations.{globals, reported_members}
-use Rattle.cp_model.specs.Environments.{Environment}
 use Rattle.cp_model.specs.Integers.{same_integer}
-use Rattle.cp_model.specs.Locations.{ByIndex, ByName, Location, OfActivation, OfMonitor, OfProcess, Owner, Path, root, under}
+use Rattle.cp_model.specs.Locations.{ByIndex, ByName, Location, OfActivation, OfMonitor, OfProcess, Owner, Path, under}
 use Rattle.cp_model.specs.Parts.{HasBegun, is_own, private_status}
 use Rattle.cp_model.specs.Start.{start}
 use Rattle.cp_model.specs.States.{Setup}
@@ -21,26 +20,24 @@ use Rattle.cp_model.proofs.StateMaps.{differ, with_at_there}
 use Rattle.cp_typing.specs.WellTyped.{WellTyped}
 use Rattle.cp_code.specs.Programs.{CodeUnit, Program}
 use Rattle.cp_code.specs.Layout.{Part, component_words, head_words, member, member_part}
-use Rattle.cp_code.specs.Sites.{BodyOf}
-use Rattle.cp_code.specs.StandsFor.{ProcessStands, StandsFor, UnitStands, body_environment, end_of, system_of_process}
+use Rattle.cp_code.specs.StandsFor.{ProcessStands, StandsFor, system_of_process}
 use Rattle.cp_code.specs.Starts.{AreZero, word}
 use Rattle.cp_steps.specs.Addresses.{ClassLies, ComponentLies, Ground, MonitorLies, ProcessLies, RightMeans, RightOf, activations, component_type, lies, part_at, part_of_component}
-use Rattle.cp_steps.specs.Beginning.{Begins}
+use Rattle.cp_steps.specs.Beginning.{AtStart, Begins}
 use Rattle.cp_steps.specs.KernelSteps.{Kernel}
 use Rattle.cp_steps.specs.Laws.{StartIsPart, ground_of}
-use Rattle.cp_steps.specs.Left.{Running, innermost_gate}
 use Rattle.cp_steps.specs.Machines.{first_part, part_at_start, unit_at}
 use Rattle.cp_steps.specs.Means.{CellMeans, MarkMeans}
 use Rattle.cp_steps.specs.PartOf.{DataMeans, PartOf, RunsOn}
-use Rattle.cp_steps.specs.PrivateStates.{PrivateState}
-use Rattle.cp_steps.proofs.Apart.{InHead, IsCell, IsClass, member_above}
+use Rattle.cp_steps.specs.PrivateStates.{PrivateState, Running}
+use Rattle.cp_steps.proofs.BodyBegins as body_begins
+use Rattle.cp_steps.proofs.BodyBegins.{process_body}
+use Rattle.cp_steps.proofs.Apart.{InHead, IsCell, IsClass}
 use Rattle.cp_steps.proofs.Finding.{some_is_not_none}
 use Rattle.cp_steps.proofs.Keeping.{right_no_variable, right_place}
 use Rattle.cp_steps.proofs.Layouts.{same_some}
 use Rattle.cp_steps.proofs.PartLeaves.{member_cell_is_leaf, member_leaf_lies, start_value}
-use Rattle.cp_steps.proofs.Pushing.{activations_push, marks_push, mean_push, push_left}
-use Rattle.cp_steps.proofs.RunningOn.{left_afresh}
-use Rattle.cp_steps.proofs.Owned.{OwnRight, component_part, found_monitor}
+use Rattle.cp_steps.proofs.Owned.{OwnRight, component_part}
 use Rattle.cp_steps.proofs.StartStores.{Owns, initial_owns, process_owns}
 use Rattle.cp_steps.proofs.Writing.{is_cell}
 use Rattle.std.proofs.lemmas.List.{length-replicate, get_or-replicate}
@@ -192,73 +189,27 @@ module _ (program : Program) (setup : Setup) (F : StandsFor program setup) (p : 
           sort Class e k = e
           sort _ e k = absurd k
 
-  -- ---- the initial process
-
-  begins : UnitStands program F.texts g P.unit (BodyOf P.system)
-  begins = F.units P.row.body P.unit (BodyOf P.system) P.unit_there P.body
-
-  none_at_zero : (j : Location) (s : System) → lies G [] j ≡ Some (0, component_type G s) → ⊥
-  none_at_zero j s is = by j.owner j.path is
-    where
-      by : (o : Owner) (q : Path) → part_at G [] o q ≡ Some (0, component_type G s) → ⊥
-      by o [] h = some_is_not_none _ (sym h)
-      by o (ByIndex i ∷ q) h = some_is_not_none _ (sym h)
-      by (OfProcess r) (ByName x ∷ q) h =
-          let C = component_part G [] r x q 0 (component_type G s) h in
-          omega (arith, member_above g (head_words g C.1.0) (reported_members g C.1.0) x q 0 (component_type G s) C.1.2)
-      by (OfActivation r d) (ByName x ∷ q) h = nowhere (nat_eq p r) None refl h
-        where
-          nowhere : (b : Bool) (o : Option Part) → o ≡ None → (if b then o else None) ≡ Some (0, component_type G s) → ⊥
-          nowhere true o none e = some_is_not_none _ (sym e ∙ none)
-          nowhere false o none e = some_is_not_none _ (sym e)
-      by (OfMonitor m) (ByName x ∷ q) h = omega (arith, (found_monitor G [] m x q 0 (component_type G s) h).place, count, P.words)
-
-  abbrev at : Location
-  at = root (OfProcess p)
-
-  abbrev env : Environment
-  env = body_environment g P.system at
-
-  abbrev body : List Task
-  body = push P.system.body env (EndProcess ∷ [])
-
-  abbrev running : Running
-  running = record { number = P.row.body; unit = P.unit; text = BodyOf P.system; env = env; base = P.row.words; temp = 0; component = 0 }
-
-  runs_from_start : P.system.sort ≡ Process → RunsOn G (start setup).store own body
-  runs_from_start sort = record {
-    running = running;
-    runs = record {
-      unit = P.unit_there;
-      text = P.body;
-      globals = refl;
-      system = refl;
-      frame = tt;
-      component = ProcessLies refl P.is_system refl;
-      words_fit = omega (arith, count);
-      temps_fit = omega (arith, length-replicate P.unit.temps (pos 0));
-      frames_fit = omega arith;
-      activation_fits = omega arith;
-    };
+  at_start : AtStart G own
+  at_start = record {
+    row = P.row;
+    there = P.there;
+    unit = P.unit;
+    unit_there = P.unit_there;
+    place = refl;
     base = refl;
     temp = refl;
     component = refl;
-    gate = ap innermost_gate (sym (marks_push P.system.body env (EndProcess ∷ [])));
-    live = 0;
-    left = left_afresh G own.temps own.limit 0 running [] P.unit.start 0 body (omega arith)
-        (push_left G own.temps own.limit running [] P.system.body P.unit.start (begins.2 at).0 0 (EndProcess ∷ []) (begins.2 at).2 (
-          refl,
-          refl,
-          refl,
-          (begins.2 at).1 ∙ ap (λ z. Some (end_of z)) sort,
-          (P.system, P.is_system, omega (arith, P.words)),
-        ));
-    next_value = λ c n m e. omega arith;
-    count = refl;
-    activations_mean = subst (λ (T : Type 0). T) (sym (mean_push G (start setup).store own.words own.base [] P.system.body env (EndProcess ∷ []))) tt;
-    data_means = subst (λ ys. DataMeans G ys (is_own p) (start setup).store own.words) (sym (activations_push own.base [] P.system.body env (EndProcess ∷ []))) data_starts;
-    given = (λ j s class' is. absurd (none_at_zero j s is), tt);
+    gate = refl;
+    frames = refl;
+    output = refl;
+    consumed = refl;
+    words_fit = omega (arith, count);
+    temps_fit = omega (arith, length-replicate P.unit.temps (pos 0));
+    frames_fit = omega arith;
   }
+
+  runs_from_start : P.system.sort ≡ Process → RunsOn G (start setup).store (record own { activity = Running }) (process_body G P.system)
+  runs_from_start sort = body_begins.runs_from_start G F refl P sort own at_start (start setup).store own.words refl data_starts
 
 -- ---- all processes
 
@@ -278,10 +229,10 @@ initial_is_part program setup F P = record {
     same : setup.tree.initial ≡ P.system
     same = same_some setup.tree.initial P.system P.is_system
 
-    R : RunsOn (G program setup F 1 P) (start setup).store (own program setup F 1 P) (body program setup F 1 P)
+    R : RunsOn (G program setup F 1 P) (start setup).store (own program setup F 1 P) (process_body (G program setup F 1 P) P.system)
     R = runs_from_start program setup F 1 P (ap (λ (s : System). s.sort) (sym same) ∙ F.typed.initial_sort)
 
-    left : (start setup).continuation 1 ≡ body program setup F 1 P
+    left : (start setup).continuation 1 ≡ process_body (G program setup F 1 P) P.system
     left = λ i. push (same i).body (record { globals = globals setup.tree; system = same i; component = process_location 1; frame = None }) (EndProcess ∷ [])
 
 not_fresh : stage.Unstarted ≡ stage.Fresh → ⊥
@@ -311,20 +262,7 @@ module _ (program : Program) (setup : Setup) (F : StandsFor program setup) (k : 
   other_begins : (kernel : Kernel) → Begins (G program setup F (suc (suc k)) P) (start setup) kernel (own program setup F (suc (suc k)) P)
   other_begins kernel = record {
     activity_is = refl;
-    at_start = record {
-      row = P.row;
-      there = P.there;
-      unit = P.unit;
-      unit_there = P.unit_there;
-      place = refl;
-      base = refl;
-      temp = refl;
-      component = refl;
-      gate = refl;
-      frames = refl;
-      output = refl;
-      consumed = refl;
-    };
+    at_start = at_start program setup F (suc (suc k)) P;
     unstarted = λ is. data_starts program setup F (suc (suc k)) P;
     fresh = λ is. absurd (not_fresh (sym unstarted ∙ is));
   }

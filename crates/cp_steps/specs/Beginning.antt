@@ -2,7 +2,7 @@
 --
 -- In the meaning a parameter is stored when the process is started, and its task is what is left to do. Here both come with the end
 -- of the round. So what is said of a started process is said of the state that `begin_from` makes of it.
-use Rattle.std.specs.Prelude.{◌≡◌, ◌-◌, [], slice_get, Some}
+use Rattle.std.specs.Prelude.{◌≡◌, ◌≤◌, ◌+◌, ◌-◌, [], length, slice_get, Some}
 use Rattle.cp_model.specs.Configurations as stage
 use Rattle.cp_model.specs.States.{State}
 use Rattle.cp_code.specs.Programs as code
@@ -13,7 +13,7 @@ use Rattle.cp_steps.specs.Machines.{begin_from}
 use Rattle.cp_steps.specs.Addresses.{Ground, in_sight}
 use Rattle.cp_steps.specs.PartOf.{DataMeans, RunsOn}
 
--- o stands at the start of its body.
+-- o stands at the start of its body, with room for it.
 pub record AtStart (G : Ground) (o : PrivateState) : Type 0 where
   pub row : code.Process
   pub there : slice_get G.program.processes (G.p - 1) ≡ Some row
@@ -27,6 +27,9 @@ pub record AtStart (G : Ground) (o : PrivateState) : Type 0 where
   pub frames : o.frames ≡ []
   pub output : o.output ≡ []
   pub consumed : o.consumed ≡ 0
+  pub words_fit : row.words + unit.words ≤ G.own
+  pub temps_fit : unit.temps ≤ length o.temps
+  pub frames_fit : unit.frames ≤ o.limit
 
 -- An unstarted process has the start values. A fresh one will run as the meaning says once it has its parameters.
 pub record Begins (G : Ground) (s : State) (k : Kernel) (o : PrivateState) : Type 0 where

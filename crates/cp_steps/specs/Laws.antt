@@ -1,5 +1,5 @@
--- The laws of private steps and of the start, which the functions of `src/law.rt` state.
-use Rattle.std.specs.Prelude.{◌≡◌, ◌≤◌, ℕ, ◌-◌, List, [], Some, length, slice_get}
+-- The laws of steps, turns and of the start, which the functions of `src/law.rt` state.
+use Rattle.std.specs.Prelude.{◌≡◌, ◌≢◌, ◌≤◌, ℕ, ◌-◌, List, [], Some, length, slice_get}
 use Rattle.cp_model.specs.Invariant.{Invariant}
 use Rattle.cp_model.specs.Operators.{realtime}
 use Rattle.cp_model.specs.Start.{start}
@@ -12,8 +12,9 @@ use Rattle.cp_steps.specs.PrivateStates.{PrivateState}
 use Rattle.cp_steps.specs.Steps.{private_step, private_steps}
 use Rattle.cp_steps.specs.Addresses.{Ground, OwnWords}
 use Rattle.cp_steps.specs.PartOf.{PartOf}
-use Rattle.cp_steps.specs.KernelSteps.{Kernel}
-use Rattle.cp_steps.specs.Machines.{first_part}
+use Rattle.cp_steps.specs.KernelSteps.{Kernel, Turning, kernel_step, kernel_steps}
+use Rattle.cp_steps.specs.KernelOf.{KernelOf}
+use Rattle.cp_steps.specs.Machines.{first_machine, first_part}
 use Rattle.cp_steps.specs.Beginning.{Begins}
 
 abbrev pub ground_of : (program : Program) (setup : Setup) → StandsFor program setup → (p own : ℕ) → Ground
@@ -55,3 +56,72 @@ StartIsPart =
     → let o = first_part program setup.inputs p x in
     let G = ground_of program setup F p (length o.words) in
     PartOf G (start setup) [] o × ((k : Kernel) → 2 ≤ p → Begins G (start setup) k o)
+
+-- The first kernel is that of the start, whatever the tick and the inputs.
+abbrev pub StartIsKernel : Type 0
+StartIsKernel =
+    (program : Program) (setup : Setup) (F : StandsFor program setup) (tick : ℕ) (inputs : ℕ → List ℕ)
+    → KernelOf program F.texts setup (start setup) (first_machine program tick inputs).kernel
+
+-- ---- Kernel steps
+
+-- The kernel is that of the state, and the private state that of p, whose turn it is.
+pub record TurningOf (program : Program) (setup : Setup) (F : StandsFor program setup) (p own : ℕ) (s : State) (before : List ℕ) (x : Turning) : Type 0 where
+  pub part : PartOf (ground_of program setup F p own) s before x.own
+  pub kernel : KernelOf program F.texts setup s x.kernel
+
+-- Where they are so in a state with the invariant, the machine's kernel step of p makes them those of the state after the
+-- meaning's, also where neither has one.
+abbrev pub KernelStepIsStep : Type 0
+KernelStepIsStep =
+    (program : Program) (setup : Setup) (F : StandsFor program setup) (p own : ℕ)
+    → (s : State) (before : List ℕ) (x : Turning)
+    → Invariant s → 1 ≤ p → p ≤ process_count setup → TurningOf program setup F p own s before x
+    → TurningOf program setup F p own (meaning.kernel_step setup s p) before
+    (kernel_step program (realtime (running_clock setup s)) x)
+
+-- The same of a turn.
+abbrev pub KernelTurnIsTurn : Type 0
+KernelTurnIsTurn =
+    (program : Program) (setup : Setup) (F : StandsFor program setup) (p own n : ℕ)
+    → (s : State) (before : List ℕ) (x : Turning)
+    → Invariant s → 1 ≤ p → p ≤ process_count setup → TurningOf program setup F p own s before x
+    → TurningOf program setup F p own (meaning.kernel_turn setup n s p) before
+    (kernel_steps program (realtime (running_clock setup s)) n x)
+
+-- ---- What a turn leaves of the others
+
+-- By a kernel turn of p the private state of another process stays its own.
+abbrev pub KernelTurnKeepsParts : Type 0
+KernelTurnKeepsParts =
+    (program : Program) (setup : Setup) (F : StandsFor program setup) (p own q others n : ℕ)
+    → (s : State) (before : List ℕ) (x : Turning) (past : List ℕ) (o : PrivateState)
+    → p ≢ q → Invariant s → 1 ≤ p → p ≤ process_count setup → TurningOf program setup F p own s before x
+    → let G = ground_of program setup F q others in
+    PartOf G s past o → PartOf G (meaning.kernel_turn setup n s p) past o
+
+-- One that hasn't begun is started by the turn, or stays as it was.
+abbrev pub KernelTurnKeepsBegins : Type 0
+KernelTurnKeepsBegins =
+    (program : Program) (setup : Setup) (F : StandsFor program setup) (p own q others n : ℕ)
+    → (s : State) (before : List ℕ) (x : Turning) (past : List ℕ) (o : PrivateState)
+    → p ≢ q → Invariant s → 1 ≤ p → p ≤ process_count setup → 1 ≤ q → q ≤ process_count setup
+    → TurningOf program setup F p own s before x
+    → let G = ground_of program setup F q others in
+    PartOf G s past o → Begins G s x.kernel o
+    → Begins G (meaning.kernel_turn setup n s p) (kernel_steps program (realtime (running_clock setup s)) n x).kernel o
+
+-- The private state of another process stays its own by a private turn of p.
+abbrev pub PrivateTurnKeepsParts : Type 0
+PrivateTurnKeepsParts =
+    (program : Program) (setup : Setup) (F : StandsFor program setup) (p q others n : ℕ)
+    → (s : State) (past : List ℕ) (o : PrivateState)
+    → p ≢ q → Invariant s
+    → let G = ground_of program setup F q others in
+    PartOf G s past o → PartOf G (meaning.private_turn setup n s p) past o
+
+-- And the kernel stays that of the state.
+abbrev pub PrivateTurnKeepsKernel : Type 0
+PrivateTurnKeepsKernel =
+    (program : Program) (setup : Setup) (F : StandsFor program setup) (p n : ℕ) (s : State) (k : Kernel)
+    → Invariant s → KernelOf program F.texts setup s k → KernelOf program F.texts setup (meaning.private_turn setup n s p) k
