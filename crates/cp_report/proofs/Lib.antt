@@ -5,3 +5,4 @@ pub mod Rows
 pub mod Going
 pub mod Entering
 pub mod Visiting
+pub mod MembersTold

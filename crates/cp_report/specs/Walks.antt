@@ -5,10 +5,10 @@ use Rattle.cp_model.specs.Integers.{count_between}
 use Rattle.cp_model.specs.Leaves.{integers_from}
 use Rattle.cp_model.specs.Locations.{ByName, Path}
 use Rattle.cp_model.specs.Report.{Text, path_text}
-use Rattle.cp_model.specs.Types.{GlobalScope, ResolvedType}
+use Rattle.cp_model.specs.Types.{GlobalScope, Members, ResolvedType}
 use Rattle.cp_typing.specs.Words.{words}
 use Rattle.cp_code.specs.Layout.{head_words}
-use Rattle.cp_steps.specs.Reports.{Visit, visit_type}
+use Rattle.cp_steps.specs.Reports.{Visit, visit_component, visit_members, visit_type}
 use Rattle.cp_scope.specs.Standing.{AreMembers, ScopeStands, Stands, entry, row_at}
 use Rattle.cp_scope.specs.declared.tables.Tables.{Tables}
 use Rattle.cp_scope.specs.declared.types.TypeRow.{TypeRow}
@@ -99,3 +99,17 @@ abbrev pub Visits : Tables → Visit → Name → ℕ → ℕ → ℕ → Text �
 Visits tables v x n at end out after =
     (g : GlobalScope) (t : ResolvedType) → ScopeStands tables.names tables.types g → Stands tables.types n t
     → (after ≡ out ++ visit_type g v (ByName x ∷ []) at t) × (end ≡ at + words g t)
+
+-- ---- Whole components
+
+-- All members of these names and types are told.
+abbrev pub TellsMembers : Tables → Visit → List (Name × ℕ) → ℕ → Text → Text → Type 0
+TellsMembers tables v es at out after =
+    (g : GlobalScope) (ms : Members) → ScopeStands tables.names tables.types g → AreMembers tables.types es ms
+    → after ≡ out ++ visit_members g v [] at ms
+
+-- All variables of the component are told, whose words begin there.
+abbrev pub TellsComponent : Tables → Visit → ℕ → ℕ → Text → Text → Type 0
+TellsComponent tables v n start out after =
+    (g : GlobalScope) (t : ResolvedType) → ScopeStands tables.names tables.types g → Stands tables.types n t
+    → after ≡ out ++ visit_component g v start t
