@@ -5,7 +5,6 @@
 
 ghost use Rattle.std.specs.Prelude.{◌≡◌, ◌+◌, ◌+ℤ◌, ◌++◌, ◌∷◌, ◌<◌, ◌^◌, pos, [], Some, OnOk, IfOk, codes, length, map, take};
 ghost use Rattle.std.specs.Borrow.{Bor};
-ghost use Rattle.cp_code.specs.Layout as layout;
 ghost use Rattle.cp_model.specs.Decimal.{decimal};
 ghost use Rattle.cp_model.specs.Erase as erase;
 ghost use Rattle.cp_model.specs.Locations.{Path};
@@ -16,11 +15,11 @@ ghost use Rattle.cp_model.specs.declared.tree.System.{System};
 ghost use Rattle.cp_scope.specs.Standing.{ScopeStands, entry, row_at, system_at};
 ghost use Rattle.cp_scope.specs.declared.types.TypeRow.TheVariants as row_case;
 ghost use Rattle.cp_report.specs.Tellings.{told, visit_of};
-ghost use Rattle.cp_report.specs.Walks.{Continues, Enters, Finishes, HeadIs, TellsComponent, TellsMembers, Visits, cursor as cursor_of, members_in};
+ghost use Rattle.cp_report.specs.Walks.{Continues, Enters, Finishes, Visits, cursor as cursor_of, members_in};
 
+use crate::heads::class_head;
 use crate::telling::{Leaf, Telling};
 use crate::text::push_integer;
-use cp_model::tree::Sort;
 use cp_scope::{Field, Tables, TypeRow, count_between};
 use std::alloc::{AllocError, Global};
 
@@ -46,38 +45,6 @@ pub struct Walk {
     pub(crate) path: Vec<u8>,
     /// The place of the next word.
     pub(crate) at: usize,
-}
-
-// How many words the mark and the rights of a component of this system type take.
-fn head_words(tables: &Tables, number: usize) -> Result<usize, AllocError>
-    ensures { IfOk result (λ head. (g : GlobalScope) (y : Bor System)
-        → ScopeStands tables.now.names tables.now.types g
-        → system_at tables.now.types number ≡ Some y
-        → head ≡ layout.head_words g (erase.system (view.system y.now))) }
-{
-    let Some(system) = tables.types.system(number) else {
-        return Err(AllocError);
-    };
-    match tables.types.rights(&tables.names, &system.parameters) {
-        Some(rights) => Ok(rights as usize + 1),
-        None => Err(AllocError),
-    }
-}
-
-// The same of a class. A process or monitor has its words elsewhere.
-fn class_head(tables: &Tables, number: usize) -> Result<Option<usize>, AllocError>
-    ensures { IfOk result (λ head. (g : GlobalScope) (y : Bor System)
-        → ScopeStands tables.now.names tables.now.types g
-        → system_at tables.now.types number ≡ Some y
-        → HeadIs g (erase.system (view.system y.now)) head) }
-{
-    let Some(system) = tables.types.system(number) else {
-        return Ok(None);
-    };
-    if !matches!(system.sort, Sort::Class) {
-        return Ok(None);
-    }
-    Ok(Some(head_words(tables, number)?))
 }
 
 // The index of an element of an array.
@@ -313,46 +280,5 @@ impl Walk {
         self.path.extend_from_slice(name)?;
         self.enter(tables, telling, out, row)?;
         self.finish(tables, telling, out)
-    }
-
-    // Tells the members of a component, one after another.
-    fn members(
-        &mut self,
-        tables: &Tables,
-        telling: &Telling,
-        out: &mut Vec<u8>,
-        members: &[Field],
-    ) -> Result<(), AllocError>
-        ensures { OnOk result (TellsMembers tables.now (visit_of telling.now)
-            (map entry members.now) self.old.at out.old.items out.new.items) }
-    {
-        for member in members {
-            self.variable(tables, telling, out, member.name, member.of)?;
-        }
-        Ok(())
-    }
-
-    /// Tells the variables of a component, whose words begin at a place, and whose type has this number.
-    ///
-    /// # Errors
-    ///
-    /// `AllocError` where memory runs out.
-    pub fn component(
-        &mut self,
-        tables: &Tables,
-        telling: &Telling,
-        out: &mut Vec<u8>,
-        row: usize,
-        start: usize,
-    ) -> Result<(), AllocError>
-        ensures { OnOk result (TellsComponent tables.now (visit_of telling.now) row start
-            out.old.items out.new.items) }
-    {
-        let Some(TypeRow::Component { system, members }) = tables.types.row(row) else {
-            return Ok(());
-        };
-        let head = head_words(tables, *system)?;
-        self.at = start.checked_add(head).ok_or(AllocError)?;
-        self.members(tables, telling, out, members)
     }
 }

@@ -1,0 +1,55 @@
+//! The lines of whole components.
+
+ghost use Rattle.std.specs.Prelude.{◌≡◌, OnOk, map};
+ghost use Rattle.cp_scope.specs.Standing.{entry};
+ghost use Rattle.cp_report.specs.Tellings.{visit_of};
+ghost use Rattle.cp_report.specs.Walks.{TellsComponent, TellsMembers};
+
+use crate::heads::head_words;
+use crate::telling::Telling;
+use crate::walk::Walk;
+use cp_scope::{Field, Tables, TypeRow};
+use std::alloc::AllocError;
+
+impl Walk {
+    /// Tells members of a component, one after another, from the next place on.
+    pub(crate) fn members(
+        &mut self,
+        tables: &Tables,
+        telling: &Telling,
+        out: &mut Vec<u8>,
+        members: &[Field],
+    ) -> Result<(), AllocError>
+        ensures { OnOk result (TellsMembers tables.now (visit_of telling.now)
+            (map entry members.now) self.old.at out.old.items out.new.items) }
+    {
+        for member in members {
+            self.variable(tables, telling, out, member.name, member.of)?;
+        }
+        Ok(())
+    }
+
+    /// Tells the variables of a component, whose words begin at a place, and whose type has this number.
+    ///
+    /// # Errors
+    ///
+    /// `AllocError` where memory runs out.
+    pub fn component(
+        &mut self,
+        tables: &Tables,
+        telling: &Telling,
+        out: &mut Vec<u8>,
+        row: usize,
+        start: usize,
+    ) -> Result<(), AllocError>
+        ensures { OnOk result (TellsComponent tables.now (visit_of telling.now) row start
+            out.old.items out.new.items) }
+    {
+        let Some(TypeRow::Component { system, members }) = tables.types.row(row) else {
+            return Ok(());
+        };
+        let head = head_words(tables, *system)?;
+        self.at = start.checked_add(head).ok_or(AllocError)?;
+        self.members(tables, telling, out, members)
+    }
+}
