@@ -7,9 +7,9 @@
  `continue` ends the routine that calls it and hands the monitor to the process that
  it wakes. That one finds what it waited for, whoever else asks for the monitor.
 
- In the report q is delayed in senders[2], for `d` filled the third slot (`length = 3`)
- before it. r has the monitor (`held 3`) and takes the next character in round 7. With
- 11 rounds the producers have ended, and r waits for ever for one more character."
+ In the report q is delayed in senders[2], for the `d` of p filled the third slot before
+ it came (`length = 3`). r has the monitor (`held 3`) and takes the next character in
+ round 7. With 11 rounds the producers have ended, and r waits for ever for one more."
 type buffer = monitor;
   var slots: array [0..2] of char; head, length: integer;
     senders: array [1..2] of queue; receiver: queue;

@@ -1,4 +1,4 @@
-"Two monitors that call each other: no text may say so, for it could wait for ever.
+"Two monitors that call each other: the rules refuse them, for calls could go in a circle.
 
    cpm check nested.cp
 
@@ -12,7 +12,9 @@
  were of one type, it would be named inside its own definition (C4). A monitor can't be
  given to another later either: a routine's parameter is no component (C7). So calls of
  monitors go back in the text, and never in a circle. (To wait for ever there are still
- other ways: nobody wakes a process that is delayed, or a fault stops one in a monitor.)"
+ other ways: nobody wakes a process that is delayed, or a fault stops one in a monitor.)
+
+ nested.mended.cp pays both ways without a call from one monitor into another."
 type account = monitor(other: savings);
   var money: integer;
 

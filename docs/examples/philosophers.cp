@@ -9,8 +9,8 @@
  forks are put down one by one.
 
  In the report a and c have displayed their first meal. a has put down both its forks. c
- has put down its left one and woke b, which has the monitor (`held 3`); so c asks for the
- monitor to put down the other fork, for which d waits. With 11 rounds all have eaten."
+ has put down its left one and woken b, which has the monitor (`held 3`). So c asks for it
+ to put down the other fork, for which d waits. With 11 rounds all have eaten twice."
 type seat = 0..3;
 table = monitor;
   var taken: array [seat] of boolean; hungry: array [seat] of queue;

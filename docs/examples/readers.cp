@@ -2,9 +2,9 @@
 
    cpm run readers.cp --rounds 7
 
- A page has two parts, and each call of it is for one part. It is `access` that keeps
- the two calls of a writing together, and those of a reading. A reader that finds the
- writer waiting waits too, so the writer gets its turn. A reader that is woken wakes
+ A page has two parts, and each call of it is for one part. `access` keeps the two calls
+ of a writing together: no reader sees a page that is half written. A reader that finds
+ the writer waiting waits too, so the writer gets its turn. A reader that is woken wakes
  the other one.
 
  In the report r and s both read (`reading = 2`), and w waits in next_writer to write a 2.

@@ -4,10 +4,10 @@
 
  What a user does with the printer it does outside of the monitor, between `request` and
  `release`, in as many rounds as it likes. A `release` hands the printer straight to a
- user that waits: `free` stays false then, so that no third one could come between.
+ user that waits: `free` stays false then, so nobody else can take it in between.
 
- In the report a uses the printer for the second time, and b waits for it in the queue
- since it asked for its second time. With 8 rounds both have ended, and it is free."
+ In the report a has the printer for the second time, and b, which wants it again too,
+ waits (`queue waiting = 3`). With 8 rounds both have ended, and the printer is free."
 type scheduler = monitor;
   var free: boolean; waiting: queue;
 

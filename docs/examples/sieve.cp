@@ -3,12 +3,12 @@
    cpm run sieve.cp --rounds 12
 
  A sieve keeps the first number that it gets, which is a prime, and hands on to the right
- those that its prime doesn't divide. What comes through the sieves of 2 and 3 is a prime
- up to 24, for the least other number is 5 times 5.
+ those that its prime doesn't divide. Up to 24 all that comes through the sieves of 2 and 3
+ is prime: the least number that comes through and isn't is 5 times 5.
 
  In the report `two` and `three` have displayed their primes, and `rest` what came through
  both. All three wait for ever for a next number, for s has ended after the 7. With 8
- rounds s waits no longer, but its 7 isn't in a yet: `held 2` says that it is its turn."
+ rounds s has been woken, and its 7 isn't in a yet: `held 2` says that s has the monitor."
 type buffer = monitor;
   var slot: integer; full: boolean; sender, receiver: queue;
 
