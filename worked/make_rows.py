@@ -22,7 +22,7 @@ HERE = pathlib.Path(__file__).resolve().parent
 CRATES = HERE.parent / 'crates'
 CASES = CRATES / 'cp_worked' / 'stdin'
 # One text has 255 processes: reading its state takes too much memory.
-MACHINE = ('classes', 'clock', 'meaning', 'monitors', 'processes')
+MACHINE = ('classes', 'clock', 'examples', 'meaning', 'monitors', 'processes')
 TOO_LARGE = ('many_processes',)
 WRITTEN = {}
 DEFAULTS = {'rounds': '0', 'turn': '100', 'tick': '1', 'input': '', 'order': ''}

@@ -1,5 +1,6 @@
 mod ClassesComputed
 mod ClockComputed
+mod ExamplesComputed
 mod MeaningComputed
 mod MonitorsComputed
 mod ProcessesComputed

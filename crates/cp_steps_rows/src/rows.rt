@@ -4,6 +4,7 @@
 
 ghost use Rattle.cp_steps_rows.specs.Classes.{Classes};
 ghost use Rattle.cp_steps_rows.specs.Clock.{Clock};
+ghost use Rattle.cp_steps_rows.specs.Examples.{Examples};
 ghost use Rattle.cp_steps_rows.specs.Meaning.{Meaning};
 ghost use Rattle.cp_steps_rows.specs.Monitors.{Monitors};
 ghost use Rattle.cp_steps_rows.specs.Processes.{Processes};
@@ -16,6 +17,11 @@ pub fn classes_hold()
 /// Each of the answers of `worked/clock`.
 pub fn clock_hold()
     ensures { Clock }
+{}
+
+/// Each of the answers of `worked/examples`.
+pub fn examples_hold()
+    ensures { Examples }
 {}
 
 /// Each of the answers of `worked/meaning`.
