@@ -58,6 +58,7 @@ impl Private {
             (joined self.old input shared.old) bounds.low bounds.high place n next }
         ensures output { self.new.output ≡ self.old.output }
         ensures own { length self.new.memory.words.items ≡ length self.old.memory.words.items }
+        ensures number { self.new.number ≡ self.old.number }
         ensures shared { length shared.new ≡ length shared.old }
     {
         if !bounds.contain(n) {
@@ -85,6 +86,7 @@ impl Private {
             next))) }
         ensures output { self.new.output ≡ self.old.output }
         ensures own { length self.new.memory.words.items ≡ length self.old.memory.words.items }
+        ensures number { self.new.number ≡ self.old.number }
         ensures shared { length shared.new ≡ length shared.old }
     {
         let reach = self.reach(shared, outside);
@@ -107,6 +109,7 @@ impl Private {
             bounds.low bounds.high o.base n next)) }
         ensures output { self.new.output ≡ self.old.output }
         ensures own { length self.new.memory.words.items ≡ length self.old.memory.words.items }
+        ensures number { self.new.number ≡ self.old.number }
         ensures shared { length shared.new ≡ length shared.old }
     {
         let n = self.evaluate(shared, outside, value)?;
@@ -129,6 +132,7 @@ impl Private {
             (view.spot from.now) (λ b. plain.copy_words o at b size next))) }
         ensures output { self.new.output ≡ self.old.output }
         ensures own { length self.new.memory.words.items ≡ length self.old.memory.words.items }
+        ensures number { self.new.number ≡ self.old.number }
         ensures shared { length shared.new ≡ length shared.old }
     {
         let at = self.place(shared, outside, to)?;
@@ -153,6 +157,7 @@ impl Private {
             same_integer n (pos 1) then yes else no) o))) }
         ensures output { self.new.output ≡ self.old.output }
         ensures own { length self.new.memory.words.items ≡ length self.old.memory.words.items }
+        ensures number { self.new.number ≡ self.old.number }
     {
         let n = self.evaluate(shared, outside, value)?;
         self.place = if n == 1 { yes } else { no };
@@ -172,6 +177,7 @@ impl Private {
             (view.table table.now) n))) }
         ensures output { self.new.output ≡ self.old.output }
         ensures own { length self.new.memory.words.items ≡ length self.old.memory.words.items }
+        ensures number { self.new.number ≡ self.old.number }
     {
         let n = self.evaluate(shared, outside, value)?;
         match table.place(n) {
@@ -195,6 +201,7 @@ impl Private {
             (λ w o. private_outcome (go_to place o)) }
         ensures output { self.new.output ≡ self.old.output }
         ensures own { length self.new.memory.words.items ≡ length self.old.memory.words.items }
+        ensures number { self.new.number ≡ self.old.number }
     {
         self.place = place;
         Ok(Effect::None)

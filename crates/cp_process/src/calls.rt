@@ -98,6 +98,7 @@ impl Private {
             link)) }
         ensures output { self.new.output ≡ self.old.output }
         ensures own { length self.new.memory.words.items ≡ length self.old.memory.words.items }
+        ensures number { self.new.number ≡ self.old.number }
         ensures shared { length shared.new ≡ length shared.old }
     {
         let callee = self.called(program, shared, outside, call.target);

@@ -21,6 +21,7 @@ impl Private {
             place n }
         ensures output { self.new.output ≡ self.old.output }
         ensures own { length self.new.memory.words.items ≡ length self.old.memory.words.items }
+        ensures number { self.new.number ≡ self.old.number }
         ensures shared { length shared.new ≡ length shared.old }
     {
         words::write(&mut self.memory.words, shared, at, n);
@@ -33,6 +34,7 @@ impl Private {
             (joined self.old input shared) at n }
         ensures output { self.new.output ≡ self.old.output }
         ensures own { length self.new.memory.words.items ≡ length self.old.memory.words.items }
+        ensures number { self.new.number ≡ self.old.number }
     {
         if at < self.memory.temps.len() {
             self.memory.temps[at] = n;
@@ -47,6 +49,7 @@ impl Private {
             ≡ record o { words = paste i (block o.words j count) o.words } }
         ensures output { self.new.output ≡ self.old.output }
         ensures own { length self.new.memory.words.items ≡ length self.old.memory.words.items }
+        ensures number { self.new.number ≡ self.old.number }
         ensures shared { length shared.new ≡ length shared.old }
     {
         words::copy(&mut self.memory.words, shared, to, from, count);
@@ -61,6 +64,7 @@ impl Private {
             ≡ record o { words = started base (map view.start plan.now) o.words } }
         ensures output { self.new.output ≡ self.old.output }
         ensures own { length self.new.memory.words.items ≡ length self.old.memory.words.items }
+        ensures number { self.new.number ≡ self.old.number }
         ensures shared { length shared.new ≡ length shared.old }
     {
         words::start(&mut self.memory.words, shared, base, plan);

@@ -41,6 +41,7 @@ impl Private {
             (λ w o. plain.count_to w o (view.counting counting.now) n last) }
         ensures output { self.new.output ≡ self.old.output }
         ensures own { length self.new.memory.words.items ≡ length self.old.memory.words.items }
+        ensures number { self.new.number ≡ self.old.number }
         ensures shared { length shared.new ≡ length shared.old }
     {
         let bounds = Bounds {
@@ -75,6 +76,7 @@ impl Private {
             counting.now) n m))) }
         ensures output { self.new.output ≡ self.old.output }
         ensures own { length self.new.memory.words.items ≡ length self.old.memory.words.items }
+        ensures number { self.new.number ≡ self.old.number }
         ensures shared { length shared.new ≡ length shared.old }
     {
         let n = self.evaluate(shared, outside, first)?;
@@ -99,6 +101,7 @@ impl Private {
             counting.now.temp)) (word o.temps (o.temp + counting.now.temp + 1))) }
         ensures output { self.new.output ≡ self.old.output }
         ensures own { length self.new.memory.words.items ≡ length self.old.memory.words.items }
+        ensures number { self.new.number ≡ self.old.number }
         ensures shared { length shared.new ≡ length shared.old }
     {
         let temp = self.memory.temp as usize + counting.temp as usize;

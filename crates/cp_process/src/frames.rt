@@ -67,6 +67,7 @@ impl Private {
             joined self.new input shared ≡ record o { frames = view_frame frame ∷ o.frames } }
         ensures output { self.new.output ≡ self.old.output }
         ensures own { length self.new.memory.words.items ≡ length self.old.memory.words.items }
+        ensures number { self.new.number ≡ self.old.number }
     {
         let depth = self.depth;
         self.frames.as_mut_slice()[depth] = frame;
@@ -85,6 +86,7 @@ impl Private {
             (view.call call.now) (back link) }
         ensures output { self.new.output ≡ self.old.output }
         ensures own { length self.new.memory.words.items ≡ length self.old.memory.words.items }
+        ensures number { self.new.number ≡ self.old.number }
     {
         let frame = Frame {
             place: link.place,
@@ -132,6 +134,7 @@ impl Private {
             (frames_in (self.old.depth - 1) self.old.frames.items) }
         ensures output { self.new.output ≡ self.old.output }
         ensures own { length self.new.memory.words.items ≡ length self.old.memory.words.items }
+        ensures number { self.new.number ≡ self.old.number }
     {
         self.depth -= 1;
         self.place = caller.place;

@@ -35,6 +35,7 @@ impl Private {
             (joined self.old input shared.old) from to count }
         ensures output { self.new.output ≡ self.old.output }
         ensures own { length self.new.memory.words.items ≡ length self.old.memory.words.items }
+        ensures number { self.new.number ≡ self.old.number }
         ensures shared { length shared.new ≡ length shared.old }
     {
         self.move_words(shared, to + 1, from + 1, count);
@@ -56,6 +57,7 @@ impl Private {
             w o (view.target call.now.target)).component next) }
         ensures output { self.new.output ≡ self.old.output }
         ensures own { length self.new.memory.words.items ≡ length self.old.memory.words.items }
+        ensures number { self.new.number ≡ self.old.number }
         ensures shared { length shared.new ≡ length shared.old }
     {
         let at = self.called(program, shared, outside, call.target).component;
@@ -99,6 +101,7 @@ impl Private {
             program w o (view.target call.now.target)).gate next) }
         ensures output { self.new.output ≡ self.old.output }
         ensures own { length self.new.memory.words.items ≡ length self.old.memory.words.items }
+        ensures number { self.new.number ≡ self.old.number }
         ensures shared { length shared.new ≡ length shared.old }
     {
         let number = self.called(program, shared, outside, call.target).gate;
@@ -139,6 +142,7 @@ impl Private {
             arguments.now) words next) }
         ensures output { self.new.output ≡ self.old.output }
         ensures own { length self.new.memory.words.items ≡ length self.old.memory.words.items }
+        ensures number { self.new.number ≡ self.old.number }
         ensures shared { length shared.new ≡ length shared.old }
     {
         if outside.is_started(process) {

@@ -1,6 +1,6 @@
 //! How private states are made, copied and read, and what the kernel and rounds change of them.
 
-ghost use Rattle.std.specs.Prelude.{◌≡◌, ◌<◌, ◌≤◌, ◌-◌, ◌*◌, ◌^◌, ℕ, List, [], IfOk, OnOk, Some, pos, replicate, length, slice_get, vec_capacity};
+ghost use Rattle.std.specs.Prelude.{◌≡◌, ◌<◌, ◌≤◌, ◌-◌, ◌*◌, ◌^◌, ℕ, List, [], IfOk, OnOk, Some, pos, replicate, length, slice_get, vec_capacity, vec_len};
 ghost use Rattle.cp_code.specs.Programs as code;
 ghost use Rattle.cp_code.specs.Starts.{started, word};
 ghost use Rattle.cp_process.specs.Rooms.{HasRoomFor};
@@ -212,6 +212,7 @@ impl Private {
     pub fn clear_output(&mut self)
         ensures content { (input : List ℕ) → private_of self.new input
             ≡ record (private_of self.old input) { output = [] } }
+        ensures empty { vec_len self.new.output ≡ 0 }
         ensures room { vec_capacity self.old.output ≤ vec_capacity self.new.output }
     {
         self.output.clear();

@@ -41,6 +41,7 @@ impl Private {
             (λ n. plain.pass_value o at bounds.low bounds.high n) }
         ensures output { self.new.output ≡ self.old.output }
         ensures own { length self.new.memory.words.items ≡ length self.old.memory.words.items }
+        ensures number { self.new.number ≡ self.old.number }
         ensures shared { length shared.new ≡ length shared.old }
     {
         let n = self.evaluate(shared, outside, term)?;
@@ -67,6 +68,7 @@ impl Private {
             (λ a. plain.pass_copy o at size a) }
         ensures output { self.new.output ≡ self.old.output }
         ensures own { length self.new.memory.words.items ≡ length self.old.memory.words.items }
+        ensures number { self.new.number ≡ self.old.number }
         ensures shared { length shared.new ≡ length shared.old }
     {
         let from = self.place(shared, outside, from)?;
@@ -102,6 +104,7 @@ impl Private {
             (λ a. plain.pass_word o at (plain.reference_word o a)) }
         ensures output { self.new.output ≡ self.old.output }
         ensures own { length self.new.memory.words.items ≡ length self.old.memory.words.items }
+        ensures number { self.new.number ≡ self.old.number }
         ensures shared { length shared.new ≡ length shared.old }
     {
         let place = self.place(shared, outside, to)?;
@@ -118,6 +121,7 @@ impl Private {
             ≡ record { own = joined self.new input shared.new; fault = None } }
         ensures output { self.new.output ≡ self.old.output }
         ensures own { length self.new.memory.words.items ≡ length self.old.memory.words.items }
+        ensures number { self.new.number ≡ self.old.number }
         ensures shared { length shared.new ≡ length shared.old }
     {
         let word = self.right_word(shared, home, of);
@@ -137,6 +141,7 @@ impl Private {
             (joined self.old outside.now.input.now shared.old) (view.argument argument.now) }
         ensures output { self.new.output ≡ self.old.output }
         ensures own { length self.new.memory.words.items ≡ length self.old.memory.words.items }
+        ensures number { self.new.number ≡ self.old.number }
         ensures shared { length shared.new ≡ length shared.old }
     {
         let Destination { to, home } = destination;
@@ -182,6 +187,7 @@ impl Private {
             (joined self.old outside.now.input.now shared.old) }
         ensures output { self.new.output ≡ self.old.output }
         ensures own { length self.new.memory.words.items ≡ length self.old.memory.words.items }
+        ensures number { self.new.number ≡ self.old.number }
         ensures shared { length shared.new ≡ length shared.old }
     {
         for argument in arguments {

@@ -28,6 +28,7 @@ impl Private {
             (calling.gate_effect f.gate Leaves))) }
         ensures output { self.new.output ≡ self.old.output }
         ensures own { length self.new.memory.words.items ≡ length self.old.memory.words.items }
+        ensures number { self.new.number ≡ self.old.number }
     {
         let Some(frame) = self.innermost() else {
             return Ok(Effect::None);
@@ -47,6 +48,7 @@ impl Private {
             ))) }
         ensures output { self.new.output ≡ self.old.output }
         ensures own { length self.new.memory.words.items ≡ length self.old.memory.words.items }
+        ensures number { self.new.number ≡ self.old.number }
     {
         let Some(frame) = self.innermost() else {
             return Ok(Effect::None);
@@ -69,6 +71,7 @@ impl Private {
             function)) }
         ensures output { self.new.output ≡ self.old.output }
         ensures own { length self.new.memory.words.items ≡ length self.old.memory.words.items }
+        ensures number { self.new.number ≡ self.old.number }
         ensures shared { length shared.new ≡ length shared.old }
     {
         let at = self.place(shared, outside, queue)?;

@@ -55,6 +55,7 @@ impl Private {
             ≡ go_to next (record o { output = o.output ++ bytes.now }) }
         ensures room { KeepsRoom self.old self.new }
         ensures own { length self.new.memory.words.items ≡ length self.old.memory.words.items }
+        ensures number { self.new.number ≡ self.old.number }
     {
         let appended = self.output.extend_from_slice(bytes);
         prove!(appended.is_ok());
@@ -76,6 +77,7 @@ impl Private {
             next)) }
         ensures room { KeepsRoom self.old self.new }
         ensures own { length self.new.memory.words.items ≡ length self.old.memory.words.items }
+        ensures number { self.new.number ≡ self.old.number }
     {
         let n = self.evaluate(shared, outside, value)?;
         if as_byte {
@@ -101,6 +103,7 @@ impl Private {
             bounds.high next)) }
         ensures output { self.new.output ≡ self.old.output }
         ensures own { length self.new.memory.words.items ≡ length self.old.memory.words.items }
+        ensures number { self.new.number ≡ self.old.number }
         ensures shared { length shared.new ≡ length shared.old }
     {
         let at = self.place(shared, outside, to)?;
@@ -127,6 +130,7 @@ impl Private {
             (λ w o. plain.with_place w o (view.spot queue.now) (λ at. plain.delay o at next)) }
         ensures output { self.new.output ≡ self.old.output }
         ensures own { length self.new.memory.words.items ≡ length self.old.memory.words.items }
+        ensures number { self.new.number ≡ self.old.number }
         ensures shared { length shared.new ≡ length shared.old }
     {
         let at = self.place(shared, outside, queue)?;
@@ -160,6 +164,7 @@ impl Private {
             (λ w o. private_outcome (go_to next (record o { activity = states.Waiting }))) }
         ensures output { self.new.output ≡ self.old.output }
         ensures own { length self.new.memory.words.items ≡ length self.old.memory.words.items }
+        ensures number { self.new.number ≡ self.old.number }
     {
         self.activity = Activity::Waiting;
         self.place = next;
@@ -172,6 +177,7 @@ impl Private {
             (λ w o. private_outcome (record o { activity = states.Ended })) }
         ensures output { self.new.output ≡ self.old.output }
         ensures own { length self.new.memory.words.items ≡ length self.old.memory.words.items }
+        ensures number { self.new.number ≡ self.old.number }
     {
         self.activity = Activity::Ended;
         Ok(Effect::None)

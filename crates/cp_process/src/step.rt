@@ -32,6 +32,7 @@ impl Private {
             (λ w o. plain.act (view.program program.now) w o (view.operation operation.now)) }
         ensures room { KeepsRoom self.old self.new }
         ensures own { length self.new.memory.words.items ≡ length self.old.memory.words.items }
+        ensures number { self.new.number ≡ self.old.number }
         ensures shared { length shared.new ≡ length shared.old }
     {
         match operation {
@@ -120,6 +121,7 @@ impl Private {
             (view.operation operation.now) }
         ensures room { KeepsRoom self.old self.new }
         ensures own { length self.new.memory.words.items ≡ length self.old.memory.words.items }
+        ensures number { self.new.number ≡ self.old.number }
         ensures shared { length shared.new ≡ length shared.old }
     {
         match self.act(operation, program, shared, outside) {
@@ -140,6 +142,7 @@ impl Private {
             ≡ (plain.with_place w o (view.spot to.now) (λ at. plain.with_value w o
             (view.term value.now) (λ n. plain.set_within o bounds.low bounds.high at n next))).0 }
         ensures output { self.new.output ≡ self.old.output }
+        ensures number { self.new.number ≡ self.old.number }
     {
         if let Err(fault) = self.set(&mut [], outside, to, value, bounds, next) {
             self.activity = Activity::Faulted(fault);
@@ -157,6 +160,7 @@ impl Private {
         ensures rest { result ≡ false → plain.private_step (view.program program.now)
             outside.now.clock (private_of self.old outside.now.input.now)
             ≡ private_of self.old outside.now.input.now }
+        ensures number { self.new.number ≡ self.old.number }
         ensures room { KeepsRoom self.old self.new }
     {
         if !matches!(self.activity, Activity::Running) || self.gate != 0 {

@@ -21,6 +21,7 @@ fn take_steps(program: &Program, private: &mut Private, outside: &Outside, count
     ensures steps { private_of private.new outside.now.input.now ≡ plain.private_steps
         (view.program program.now) outside.now.clock count
         (private_of private.old outside.now.input.now) }
+    ensures number { private.new.number ≡ private.old.number }
     ensures length { vec_len private.new.output ≤ vec_len private.old.output + 11 * count }
     ensures capacity { vec_capacity private.old.output ≤ vec_capacity private.new.output }
 {
@@ -37,6 +38,7 @@ pub fn private_step(program: &Program, private: &mut Private, input: &[u8], cloc
     ensures step { private_of private.new input.now ≡ plain.private_step (view.program program.now)
         clock (private_of private.old input.now) }
     ensures meaning { MakesStep program.now private.old private.new input.now clock }
+    ensures number { private.new.number ≡ private.old.number }
     ensures room { KeepsRoom private.old private.new }
 {
     private.private_step(program, &Outside::alone(input, clock));
@@ -50,6 +52,7 @@ pub fn private_turn(program: &Program, private: &mut Private, input: &[u8], cloc
     ensures steps { private_of private.new input.now ≡ plain.private_steps
         (view.program program.now) clock turn.steps (private_of private.old input.now) }
     ensures meaning { MakesTurn program.now turn.steps private.old private.new input.now clock }
+    ensures number { private.new.number ≡ private.old.number }
     ensures length { vec_len private.new.output ≤ vec_len private.old.output + 11 * turn.steps }
     ensures capacity { vec_capacity private.old.output ≤ vec_capacity private.new.output }
 {
@@ -76,6 +79,7 @@ pub fn step(
         (view.program program.now) w (joined private.old outside.now.input.now shared.old) }
     ensures room { KeepsRoom private.old private.new }
     ensures own { length private.new.memory.words.items ≡ length private.old.memory.words.items }
+    ensures number { private.new.number ≡ private.old.number }
     ensures shared { length shared.new ≡ length shared.old }
 {
     match program.operation(private.place) {

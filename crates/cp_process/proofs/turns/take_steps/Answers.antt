@@ -23,6 +23,7 @@ loop-i-preserved c =
     let room = c.private_step.ensures.room in
     record {
       room = omega (arith, room.length, room.capacity, c.loop-i.invariant.room);
+      number = c.private_step.ensures.number ∙ c.loop-i.invariant.number;
       length = omega (arith, room.length, c.loop-i.invariant.length);
       capacity = omega (arith, room.capacity, c.loop-i.invariant.capacity);
       steps =

@@ -9,6 +9,7 @@ use Rattle.cp_process.proofs.turns.take_steps.Given as goal
 abbrev pub invariant-loop-i : goal.invariant-loop-i
 invariant-loop-i l = record {
   room : HasRoomFor l.private (l.count - l._i);
+  number : l.private.number ≡ l.fn.private.number;
   length : vec_len l.private.output ≤ vec_len l.fn.private.output + 11 * l._i;
   capacity : vec_capacity l.fn.private.output ≤ vec_capacity l.private.output;
   steps : plain.private_steps (view.program l.program) l.outside.clock (l.count - l._i) (private_of l.private l.outside.input.now)

@@ -13,5 +13,6 @@ invariant-loop-argument l = record {
       ≡ pass_all (outside_of l.fn.outside own) l.fn.destination.to l.fn.destination.home (map view.argument l.fn.arguments)
       (joined l.fn.self l.fn.outside.input.now l.fn.shared);
   own : length l.self.memory.words.items ≡ length l.fn.self.memory.words.items;
+  number : l.self.number ≡ l.fn.self.number;
   shared : length l.shared ≡ length l.fn.shared;
 }

@@ -25,3 +25,6 @@ returns-clause-step c =
     let here : (act program (outside_of c.args.outside.now (length old.memory.words.items)) (joined old input []) x).0 ≡ (act program (alone clock o) o x).0 =
     λ i. (act program (outside_alone c.args.outside.now old input c.requires.alone i) (sym (private_joined old input) i) x).0 in
     private_joined new input ∙ (ap (joined new input) (sym none) ∙ (made ∙ (here ∙ sym (stepped program clock o x there running private))))
+
+pub returns-in-Set-clause-number : goal.returns-in-Set-clause-number
+returns-in-Set-clause-number c = c.assign.ensures.number
