@@ -44,7 +44,7 @@ pub step_due : (program : Program) (clock : ℕ) (x : plain.Turning) → plain.i
 step_due program clock x due = rw due refl
 
 -- The words of a vector that was lent as a slice of the same length.
-pub lent : (ys xs : List ℤ) (n : ℕ) → length ys ≡ length xs → n ≡ length xs → take n (ys ++ drop (length ys) xs) ≡ ys
+pub lent : {X : Type 0} (ys xs : List X) (n : ℕ) → length ys ≡ length xs → n ≡ length xs → take n (ys ++ drop (length ys) xs) ≡ ys
 lent ys xs n same all =
     ap (λ k. take k (ys ++ drop (length ys) xs)) (all ∙ sym same) ∙ take-append_seam ys (drop (length ys) xs)
 

@@ -5,7 +5,7 @@ use Rattle.cp_code.specs.Programs as code
 use Rattle.cp_steps.specs.KernelSteps as plain
 use Rattle.cp_steps.specs.Machines as machines
 use Rattle.cp_process.specs.States as states
-use Rattle.cp_gates.specs.KernelOf.{Bytes, bytes_or_none, unset_gate}
+use Rattle.cp_gates.specs.KernelOf.{unset_gate}
 use Rattle.cp_process.specs.declared.outside.Stage.TheVariants as stage
 
 pub one_more : {X Y : Type 0} (f : X → Y) (xs : List X) (n : ℕ) (x : X) (y : Y) → map f xs ≡ replicate n y → f x ≡ y
@@ -43,8 +43,6 @@ pub unset_of : (ms : List code.Monitor) (n : ℕ) → n ≡ length ms → replic
 unset_of [] n is = ap (λ k. replicate k unset_gate) is
 unset_of (m ∷ ms) n is = ap (λ k. replicate k unset_gate) is ∙ ap (λ gs. unset_gate ∷ gs) (unset_of ms (length ms) refl)
 
-pub empty_of : (vs : List Bytes) (n i : ℕ) → map (λ (v : Bytes). v.items) vs ≡ replicate n [] → bytes_or_none (slice_get vs i) ≡ []
-empty_of [] n i all = refl
-empty_of (v ∷ vs) zero i all = absurd (cc)
-empty_of (v ∷ vs) (suc n) zero all = ap (λ xs. slice_index_or xs 0 []) all
-empty_of (v ∷ vs) (suc n) (suc i) all = empty_of vs n i (ap (λ xs. drop 1 xs) all)
+pub empty_of : (ps : List code.Process) (n : ℕ) → n ≡ length ps → replicate {A = List ℕ} n [] ≡ map (λ (p : code.Process). []) ps
+empty_of [] n is = ap (λ k. replicate {A = List ℕ} k []) is
+empty_of (p ∷ ps) n is = ap (λ k. replicate {A = List ℕ} k []) is ∙ ap (λ xs. [] ∷ xs) (empty_of ps (length ps) refl)

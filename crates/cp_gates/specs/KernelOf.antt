@@ -1,5 +1,5 @@
 -- The code's kernel, and it beside the private state of the process whose turn it is, as the plain data of the definitions.
-use Rattle.std.specs.Prelude.{◌≡◌, ℕ, ◌+◌, ◌-◌, ◌≤◌, true, length, List, [], Option, None, Some, Vec, map, slice_get, All, vec_len, vec_capacity}
+use Rattle.std.specs.Prelude.{◌≡◌, ℕ, ◌+◌, ◌-◌, ◌≤◌, true, length, List, [], Some, Vec, map, slice_get, All, vec_len, vec_capacity}
 use Rattle.std.specs.Global.{Global}
 use Rattle.cp_model.specs.States as model
 use Rattle.cp_steps.specs.KernelSteps as plain
@@ -30,13 +30,9 @@ unset_gate = record { holder = model.Unset; askers = [] }
 abbrev pub Bytes : Type 0
 Bytes = Vec ℕ Global
 
-abbrev pub bytes_or_none : Option (Bytes) → List ℕ
-bytes_or_none None = []
-bytes_or_none (Some v) = v.items
-
--- The transcript of process p, as far as the kernel has it.
-abbrev pub transcript_of : Kernel → ℕ → List ℕ
-transcript_of k p = bytes_or_none (slice_get k.transcripts.items (p - 1))
+-- By number: without the output that private states still hold.
+abbrev pub transcripts_of : Kernel → List (List ℕ)
+transcripts_of k = map (λ (v : Bytes). v.items) k.transcripts.items
 
 -- ---- Room
 
@@ -48,9 +44,9 @@ HasRoomToAsk n g = vec_len g.askers + n ≤ vec_capacity g.askers
 abbrev pub HasRoomForAskers : Kernel → ℕ → Type 0
 HasRoomForAskers k n = All (HasRoomToAsk n) k.gates.items
 
--- The transcript of process p has room for the output that its private state holds.
-abbrev pub HasRoomForOutput : Kernel → ℕ → Private → Type 0
-HasRoomForOutput k p x = (v : Bytes) → slice_get k.transcripts.items (p - 1) ≡ Some v → vec_len v + vec_len x.output ≤ vec_capacity v
+-- There is room for so many more bytes in the transcript of process p.
+abbrev pub HasRoomForBytes : Kernel → ℕ → ℕ → Type 0
+HasRoomForBytes k p n = (v : Bytes) → slice_get k.transcripts.items (p - 1) ≡ Some v → vec_len v + n ≤ vec_capacity v
 
 -- ---- Processes
 

@@ -6,11 +6,16 @@
 //! - `kernel`, `starting`: the kernel, and how it starts.
 //! - `reading`: what is read of it.
 //! - `effects`: what a step leaves to the kernel.
-//! - `turns`: one step of the kernel.
+//! - `step`, `turns`: one step of the kernel, and kernel turns.
+//! - `closing`: the end of a round.
+//! - `room`: room for what kernel turns add.
 #![tactic(auto)]
 
+pub mod closing;
 mod effects;
 pub mod kernel;
 pub mod reading;
+mod room;
 mod starting;
-mod turns;
+mod step;
+pub mod turns;

@@ -4,7 +4,8 @@ ghost use Rattle.std.specs.Prelude.{◌≡◌};
 ghost use Rattle.cp_code.specs.Starts.{word};
 ghost use Rattle.cp_process.specs.States.{holder as holder_view, stage as stage_view};
 ghost use Rattle.cp_steps.specs.KernelSteps as plain;
-ghost use Rattle.cp_gates.specs.KernelOf.{kernel_of, transcript_of};
+ghost use Rattle.cp_gates.specs.KernelOf.{kernel_of, transcripts_of};
+ghost use Rattle.cp_steps.specs.Machines.{transcript_of};
 
 use crate::kernel::Kernel;
 use cp_process::outside::{Holder, Stage};
@@ -68,7 +69,7 @@ impl Kernel {
 
     /// The transcript of process p, without the output that its private state still holds.
     pub fn transcript(&self, p: usize) -> &[u8]
-        ensures { result.now ≡ transcript_of self.now p }
+        ensures { result.now ≡ transcript_of (transcripts_of self.now) p }
     {
         match self.transcripts.get(p.saturating_sub(1)) {
             Some(transcript) => transcript.as_slice(),

@@ -5,7 +5,7 @@ ghost use Rattle.cp_code.specs.Programs as code;
 ghost use Rattle.cp_process.specs.States as states;
 ghost use Rattle.cp_steps.specs.Machines as plain;
 ghost use Rattle.cp_threaded.specs.View as view;
-ghost use Rattle.cp_gates.specs.KernelOf.{Bytes, kernel_of, transcript_of, unset_gate};
+ghost use Rattle.cp_gates.specs.KernelOf.{Bytes, kernel_of, transcripts_of, unset_gate};
 
 use crate::kernel::Kernel;
 use cp_process::outside::{Gate, Holder, Stage};
@@ -104,7 +104,8 @@ impl Kernel {
     pub fn new(alloc: Global, program: &Program) -> Result<Kernel, AllocError>
         ensures start { IfOk result (λ k. (tick : ℕ) (inputs : ℕ → List ℕ)
             → kernel_of k ≡ (plain.first_machine (view.program program.now) tick inputs).kernel) }
-        ensures transcripts { IfOk result (λ k. (p : ℕ) → transcript_of k p ≡ []) }
+        ensures transcripts { IfOk result (λ k. (tick : ℕ) (inputs : ℕ → List ℕ)
+            → transcripts_of k ≡ (plain.first_machine (view.program program.now) tick inputs).transcripts) }
     {
         let processes = program.processes();
         Ok(Kernel {

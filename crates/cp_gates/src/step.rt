@@ -49,6 +49,7 @@ fn act(
         (joined private.new input.now kernel.new.shared.items, effect result) ≡ step_with
         (view.program program.now) (plain.outside clock x) (plain.joined x) }
     ensures own { length private.new.memory.words.items ≡ length private.old.memory.words.items }
+    ensures number { private.new.number ≡ private.old.number }
     ensures output { KeepsRoom private.old private.new }
     ensures gates { kernel.new.gates ≡ kernel.old.gates }
     ensures stages { kernel.new.stages ≡ kernel.old.stages }
@@ -81,6 +82,7 @@ pub(crate) fn kernel_step(
     ensures asking { (n : ℕ) → HasRoomForAskers kernel.old (n + 1) → HasRoomForAskers kernel.new n }
     ensures kept { (n : ℕ) → IsBegun kernel.new private.old.number
         → HasRoomForAskers kernel.old n → HasRoomForAskers kernel.new n }
+    ensures number { private.new.number ≡ private.old.number }
     ensures output { KeepsRoom private.old private.new }
     ensures transcripts { kernel.new.transcripts ≡ kernel.old.transcripts }
 {

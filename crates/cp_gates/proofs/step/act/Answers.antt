@@ -3,7 +3,7 @@ use Rattle.cp_threaded.specs.View as view
 use Rattle.cp_steps.specs.Steps.{step_with}
 use Rattle.cp_process.specs.States as states
 use Rattle.cp_gates.proofs.Parting.{lent, outside_same}
-use Rattle.cp_gates.proofs.turns.act.Goals as goal
+use Rattle.cp_gates.proofs.step.act.Goals as goal
 
 pub returns-clause-step : goal.returns-clause-step
 returns-clause-step c =

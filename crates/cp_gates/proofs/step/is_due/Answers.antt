@@ -4,7 +4,7 @@ use Rattle.cp_threaded.specs.View as view
 use Rattle.cp_gates.specs.Due.{is_kernel}
 use Rattle.cp_gates.specs.KernelOf.{kernel_of, turning}
 use Rattle.cp_gates.proofs.Stepping.{due_begun, due_not_begun}
-use Rattle.cp_gates.proofs.turns.is_due.Goals as goal
+use Rattle.cp_gates.proofs.step.is_due.Goals as goal
 
 pub returns-then-not-is_begun-clause-due : goal.returns-then-not-is_begun-clause-due
 returns-then-not-is_begun-clause-due c =

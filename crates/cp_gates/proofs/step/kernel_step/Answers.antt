@@ -8,7 +8,7 @@ use Rattle.cp_process.specs.States as states
 use Rattle.cp_gates.specs.KernelOf.{IsAmong, IsBegun, kernel_of, turning}
 use Rattle.cp_gates.proofs.Asking.{room_kept}
 use Rattle.cp_gates.proofs.Parting.{kernel_same, parted_as, step_due}
-use Rattle.cp_gates.proofs.turns.kernel_step.Goals as goal
+use Rattle.cp_gates.proofs.step.kernel_step.Goals as goal
 
 pub returns-clause-step : goal.returns-clause-step
 returns-clause-step c =

@@ -1,4 +1,4 @@
-use Rattle.std.proofs.Common.{◌-◌, sym, ◌∙◌}
+use Rattle.std.proofs.Common.{sym, ◌∙◌}
 use Rattle.cp_threaded.specs.View as view
 use Rattle.cp_gates.proofs.Starts.{empty_of, unset_of}
 use Rattle.cp_gates.proofs.kernel.Kernel.new.Goals as goal
@@ -14,4 +14,6 @@ returns-clause-start c =
 
 pub returns-clause-transcripts : goal.returns-clause-transcripts
 returns-clause-transcripts c =
-    λ p. empty_of c.in_ok-empty_transcripts.field-0.items c.processes-processes.result (p - 1) c.in_ok-empty_transcripts.ensures
+    λ tick inputs.
+    let processes = (view.program c.args.program.now).processes in
+    c.in_ok-empty_transcripts.ensures ∙ empty_of processes c.processes-processes.result c.processes-processes.ensures

@@ -1,0 +1,13 @@
+use Rattle.std.proofs.Common.{◌≡◌, ◌<◌, ℕ, map}
+use Rattle.std.specs.Prelude.{slice_index_or}
+use Rattle.cp_process.specs.States as states
+use Rattle.cp_process.specs.declared.outside.Gate.{Gate}
+use Rattle.cp_gates.specs.KernelOf.{HasRoomToAsk}
+use Rattle.cp_gates.proofs.kernel.Kernel.reserve_askers.Given as goal
+
+-- The gates so far have room, and all are the same.
+abbrev pub invariant-loop-gate : goal.invariant-loop-gate
+invariant-loop-gate l = record {
+  same : map states.gate l.gate-items ≡ map states.gate l.fn.self.gates.items;
+  room : (i : ℕ) (g : Gate) → i < l.gate-index → HasRoomToAsk l.count (slice_index_or l.gate-items i g);
+}
