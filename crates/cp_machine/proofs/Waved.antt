@@ -7,7 +7,7 @@ use Rattle.cp_gates.proofs.Asking.{room_kept}
 use Rattle.cp_process.specs.declared.private.Private.{Private}
 use Rattle.cp_process.specs.States.{private_of}
 use Rattle.cp_threaded.specs.View as view
-use Rattle.cp_machine.specs.Generations.{MakesTurns, WavesMade}
+use Rattle.cp_machine.specs.Generations.{AreTurned, MakesTurns, WavesMade}
 use Rattle.cp_machine.specs.Made.{AfterPrivateTurn, TurnsMade}
 use Rattle.cp_machine.specs.MachineOf.{input_at, machine_with}
 use Rattle.cp_machine.specs.Numbers.{AreNumbered}
@@ -106,4 +106,42 @@ module _ (g : Setting) (t : ℕ) (w : Moment) (xs : List Private) (k : Kernel) w
         within = Prim.omega (arith, longer, within);
         stages = same ∙ (kept ∙ stages);
         asking = asking;
+      }
+
+  -- All private turns in one wave, and room for the kernel turns.
+  pub all_turned : (ys : List Private) (k1 : Kernel) → AreNumbered xs → AreTurned g t w xs ys
+      → kernel_of k1 ≡ kernel_of k → transcripts_of k1 ≡ transcripts_of k → length k.stages.items ≡ length xs
+      → HasRoomForAskers k1 (length ys)
+      → ((i : ℕ) (x : Private) → 0 ≤ i → slice_get ys i ≡ Some x → HasRoomForBytes k1 (suc i) (vec_len x.output + 11 * t))
+      → WavesMade g t w xs k 0 ys k1
+  all_turned ys k1 numbered all kernel transcripts stages asking room =
+      let count = all.count in
+      let same = same_stages k k1 kernel in
+      let none : length ys ≡ length ys - 0 = Prim.omega arith in
+      record {
+        made = λ rounds time.
+            let m = with_turned t (machine_with g rounds xs k) in
+            more_made t m g.inputs.items 0 [] ys k1
+            (λ j z e.
+            let below = got_below ys j z e in
+            let x = got_at xs j (Prim.omega (arith, below, count)) in
+            inr (
+              Prim.omega arith,
+              turned_at g t rounds j xs k x.0 z x.1
+                  ((all.each j z e).turned x.0 x.1 ∙ ap (λ (u : Moment). turned (view.program g.program) t u (private_of x.0 (input_at g.inputs.items j))) time),
+            ))
+            (none_made t m g.inputs.items k1 kernel transcripts);
+        ready = record {
+          bound = Prim.omega arith;
+          numbers = λ j z e.
+              let below = got_below ys j z e in
+              let x = got_at xs j (Prim.omega (arith, below, count)) in
+              (all.each j z e).number x.0 x.1 ∙ numbered j x.0 x.1;
+          stages = Prim.omega (arith, same, stages, count);
+          asking = subst (λ (n : ℕ). HasRoomForAskers k1 n) none asking;
+          room = λ j z from e. record { output = (all.each j z e).room; transcript = room j z from e };
+        };
+        within = Prim.omega (arith, count);
+        stages = same ∙ stages;
+        asking = λ i d below. let space = asking i d below in Prim.omega (arith, space, count);
       }

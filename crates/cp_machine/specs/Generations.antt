@@ -6,7 +6,7 @@ use Rattle.cp_process.specs.Rooms.{HasRoomFor}
 use Rattle.cp_process.specs.declared.private.Private.{Private}
 use Rattle.cp_steps.specs.Machines.{Machine}
 use Rattle.cp_threaded.specs.View as view
-use Rattle.cp_machine.specs.Made.{TurnsMade}
+use Rattle.cp_machine.specs.Made.{AfterPrivateTurn, TurnsMade}
 use Rattle.cp_machine.specs.Numbers.{AreNumbered}
 use Rattle.cp_machine.specs.MachineOf.{machine_with}
 use Rattle.cp_machine.specs.Turned.{moment_of, with_turned}
@@ -34,6 +34,11 @@ pub record MakesTurns (g : Setting) (t : ℕ) (w : Moment) (from : ℕ) (xs ys :
   pub numbers : AreNumbered ys
   pub stages : length k'.stages.items ≡ length k.stages.items
   pub asking : (n : ℕ) → HasRoomForAskers k (n + (length xs - from)) → HasRoomForAskers k' n
+
+-- The private turns of all processes of xs are made at this time.
+pub record AreTurned (g : Setting) (t : ℕ) (w : Moment) (xs ys : List Private) : Type 0 where
+  pub count : length ys ≡ length xs
+  pub each : (i : ℕ) (y : Private) → slice_get ys i ≡ Some y → AfterPrivateTurn g t w xs i y
 
 -- From xs and k, in the round at this time, the private turns of as many processes as ys has are made, and the kernel turns of those below
 -- an index. All others can be made.

@@ -5,6 +5,7 @@
 ghost use Rattle.std.specs.Prelude.{◌≡◌, ◌≤◌, ◌+◌, ◌*◌, ℕ, suc, Some, IfErr, IfOk, length, slice_get, vec_len};
 ghost use Rattle.cp_gates.specs.KernelOf.{HasRoomForAskers, HasRoomForBytes, kernel_of, transcripts_of};
 ghost use Rattle.cp_process.specs.declared.private.Private as declared;
+ghost use Rattle.cp_machine.specs.Generations.{AreTurned, WavesMade};
 ghost use Rattle.cp_machine.specs.Numbers.{AreNumbered};
 ghost use Rattle.cp_machine.specs.Runs.{AreSame, TurnsTaken};
 ghost use Rattle.cp_machine.specs.Turned.{moment_of};
@@ -16,12 +17,14 @@ use crate::moment::Moment;
 use crate::parts::Parts;
 use crate::plan::Plan;
 use crate::setting::Setting;
+use crate::team::Idle;
 use crate::turns::Turns;
 use crate::whole::{append, whole_wave};
 use cp_gates::kernel::Kernel;
 use cp_process::private::Private;
 use cp_process::turn::Turn;
 use std::alloc::{AllocError, Global};
+use std::mem;
 use std::sync::Wait;
 use std::thread::Threads;
 
@@ -98,12 +101,40 @@ fn all_waves<'x, R: Threads + Wait + Sync, G: TurnGate>(
     Ok(kernel_turns(setting, kernel, next, from, moment, plan.turn, gate))
 }
 
-/// All turns of a round at this time, on copies of the private states and of the kernel.
-///
-/// # Errors
-///
-/// `AllocError` where memory runs out or a thread could not be started. Nothing is changed.
-pub fn make_turns<R: Threads + Wait + Sync, G: TurnGate>(
+// The private turns of a round in one wave. The kernel is not touched, so a refusal leaves nothing to go back from.
+fn one_wave<R: Threads + Wait + Sync, G: TurnGate>(
+    rt: &R,
+    alloc: Global,
+    setting: &Setting,
+    moment: Moment,
+    privates: &Vec<Private>,
+    plan: &Plan,
+    gate: &G,
+) -> Result<Vec<Private>, AllocError>
+    requires one { length privates.now.items ≤ plan.now.wave }
+    ensures made { IfOk result (λ ys. AreTurned setting.now plan.now.turn.steps moment
+        privates.now.items ys.items) }
+{
+    let mut next = Vec::with_capacity(alloc, privates.len())?;
+    if privates.is_empty() {
+        return Ok(next);
+    }
+    settings_are_shared();
+    let job = Turns {
+        setting,
+        privates,
+        moment,
+        turn: plan.turn,
+    };
+    let wave = plan.wave_from(0, privates.len());
+    let workers = plan.workers as usize;
+    let (results, _idle) = whole_wave(rt, alloc, workers, wave, &job, gate, Idle)?;
+    append(alloc, wave, results, &mut next)?;
+    Ok(next)
+}
+
+// All turns of a round of several waves, on a copy of the kernel.
+fn turns_in_waves<R: Threads + Wait + Sync, G: TurnGate>(
     rt: &R,
     alloc: Global,
     setting: &Setting,
@@ -135,4 +166,84 @@ pub fn make_turns<R: Threads + Wait + Sync, G: TurnGate>(
     parts.kernel = kernel;
     parts.privates = next;
     Ok(())
+}
+
+// The private turns of a round of one wave, and room for its kernel turns.
+fn ready_at_once<R: Threads + Wait + Sync, G: TurnGate>(
+    rt: &R,
+    alloc: Global,
+    setting: &Setting,
+    moment: Moment,
+    plan: &Plan,
+    gate: &G,
+    parts: &mut Parts,
+) -> Result<Vec<Private>, AllocError>
+    requires one { length parts.old.privates.items ≤ plan.now.wave }
+    ensures made { IfOk result (λ ys. WavesMade setting.now plan.now.turn.steps moment
+        parts.old.privates.items parts.old.kernel 0 ys.items parts.new.kernel) }
+    ensures count { IfOk result (λ ys. length ys.items ≡ length parts.old.privates.items) }
+    ensures same { AreSame parts.old.privates.items parts.old.kernel parts.new.privates.items
+        parts.new.kernel }
+{
+    let next = one_wave(rt, alloc, setting, moment, &parts.privates, plan, gate)?;
+    parts.kernel.reserve_askers(next.len())?;
+    reserve_from(&mut parts.kernel, &next, 0, plan.turn)?;
+    Ok(next)
+}
+
+// All turns of a round of one wave.
+fn turns_at_once<R: Threads + Wait + Sync, G: TurnGate>(
+    rt: &R,
+    alloc: Global,
+    setting: &Setting,
+    moment: Moment,
+    plan: &Plan,
+    gate: &G,
+    parts: &mut Parts,
+) -> Result<(), AllocError>
+    requires one { length parts.old.privates.items ≤ plan.now.wave }
+    ensures taken { IfOk result (λ _. (rounds : ℕ)
+        → moment ≡ moment_of setting.now.tick.rounds rounds
+        → TurnsTaken setting.now plan.now.turn.steps rounds parts.old.privates.items
+        parts.old.kernel parts.new.privates.items parts.new.kernel) }
+    ensures kept { IfErr result (λ _. AreSame parts.old.privates.items parts.old.kernel
+        parts.new.privates.items parts.new.kernel) }
+    ensures count { length parts.new.privates.items ≡ length parts.old.privates.items }
+{
+    let next = ready_at_once(rt, alloc, setting, moment, plan, gate, parts)?;
+    let kernel = mem::replace(&mut parts.kernel, Kernel::empty(alloc));
+    let (kernel, next) = kernel_turns(setting, kernel, next, 0, moment, plan.turn, gate);
+    parts.kernel = kernel;
+    parts.privates = next;
+    Ok(())
+}
+
+/// All turns of a round at this time, with copies of the private states. A round of several waves makes kernel turns before the last
+/// private turns, so it works on a copy of the kernel too, to go back to what was where memory is refused.
+///
+/// # Errors
+///
+/// `AllocError` where memory runs out or a thread could not be started. Nothing is changed but room.
+pub fn make_turns<R: Threads + Wait + Sync, G: TurnGate>(
+    rt: &R,
+    alloc: Global,
+    setting: &Setting,
+    moment: Moment,
+    plan: &Plan,
+    gate: &G,
+    parts: &mut Parts,
+) -> Result<(), AllocError>
+    ensures taken { IfOk result (λ _. (rounds : ℕ)
+        → moment ≡ moment_of setting.now.tick.rounds rounds
+        → TurnsTaken setting.now plan.now.turn.steps rounds parts.old.privates.items
+        parts.old.kernel parts.new.privates.items parts.new.kernel) }
+    ensures kept { IfErr result (λ _. AreSame parts.old.privates.items parts.old.kernel
+        parts.new.privates.items parts.new.kernel) }
+    ensures count { length parts.new.privates.items ≡ length parts.old.privates.items }
+{
+    if parts.privates.len() > plan.wave as usize {
+        turns_in_waves(rt, alloc, setting, moment, plan, gate, parts)
+    } else {
+        turns_at_once(rt, alloc, setting, moment, plan, gate, parts)
+    }
 }

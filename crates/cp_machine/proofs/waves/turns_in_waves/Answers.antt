@@ -2,7 +2,7 @@ use Rattle.std.proofs.Common.{map, ap, ◌∙◌}
 use Rattle.cp_gates.specs.KernelOf.{Bytes}
 use Rattle.cp_machine.proofs.Made.{same_start}
 use Rattle.cp_machine.proofs.Rooms.{same_stages}
-use Rattle.cp_machine.proofs.waves.make_turns.Goals as goal
+use Rattle.cp_machine.proofs.waves.turns_in_waves.Goals as goal
 
 pub all_waves-requires-clause-stages : goal.all_waves-requires-clause-stages
 all_waves-requires-clause-stages g c = λ lives outlive.
