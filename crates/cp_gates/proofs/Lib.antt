@@ -6,3 +6,4 @@ pub mod Starts
 pub mod Stepping
 pub mod Transcripts
 pub mod Begins
+pub mod Copies

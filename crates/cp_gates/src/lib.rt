@@ -8,10 +8,12 @@
 //! - `effects`: what a step leaves to the kernel.
 //! - `step`, `turns`: one step of the kernel, and kernel turns.
 //! - `closing`: the end of a round.
+//! - `copying`: kernels of the same content.
 //! - `room`: room for what kernel turns add.
 #![tactic(auto)]
 
 pub mod closing;
+mod copying;
 mod effects;
 pub mod kernel;
 pub mod reading;

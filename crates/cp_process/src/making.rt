@@ -1,6 +1,6 @@
 //! How private states are made, copied and read, and what the kernel and rounds change of them.
 
-ghost use Rattle.std.specs.Prelude.{◌≡◌, ◌<◌, ◌≤◌, ◌-◌, ◌^◌, ℕ, List, [], IfOk, OnOk, Some, pos, replicate, length, slice_get, vec_capacity, vec_len};
+ghost use Rattle.std.specs.Prelude.{◌≡◌, ◌<◌, ◌≤◌, ◌-◌, ◌*◌, ◌^◌, ℕ, List, [], IfOk, OnOk, Some, pos, replicate, length, slice_get, vec_capacity, vec_len};
 ghost use Rattle.cp_code.specs.Programs as code;
 ghost use Rattle.cp_code.specs.Starts.{started, word};
 ghost use Rattle.cp_process.specs.Rooms.{HasRoomFor};
@@ -158,6 +158,19 @@ impl Private {
         self.output.reserve(11 * turn.steps() as usize)
     }
 
+    /// Makes room for the output of a round: of a private turn, and then of a kernel turn. The content stays as it is.
+    ///
+    /// # Errors
+    ///
+    /// `AllocError` where memory runs out.
+    pub fn reserve_round(&mut self, turn: Turn) -> Result<(), AllocError>
+        ensures room { OnOk result (HasRoomFor self.new (2 * turn.steps)) }
+        ensures number { self.new.number ≡ self.old.number }
+        ensures content { (input : List ℕ) → private_of self.new input ≡ private_of self.old input }
+    {
+        self.output.reserve(22 * turn.steps() as usize)
+    }
+
     /// Its number, from 1.
     pub fn number(&self) -> usize
         ensures number { (input : List ℕ) → result ≡ (private_of self.now input).number }
@@ -207,8 +220,10 @@ impl Private {
 
     /// Runs again, if it waits for the clock.
     pub fn wake(&mut self)
-        ensures { (input : List ℕ) → private_of self.new input ≡ plain.wake_one
+        ensures content { (input : List ℕ) → private_of self.new input ≡ plain.wake_one
             (private_of self.old input) }
+        ensures number { self.new.number ≡ self.old.number }
+        ensures output { self.new.output ≡ self.old.output }
     {
         if matches!(self.activity, Activity::Waiting) {
             self.activity = Activity::Running;

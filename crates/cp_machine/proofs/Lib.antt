@@ -1,0 +1,11 @@
+pub mod Lists
+pub mod Outcomes
+pub mod Results
+pub mod Placing
+pub mod Rounds
+pub mod Made
+pub mod Starts
+pub mod After
+pub mod Waved
+pub mod Crossing
+pub mod Rooms

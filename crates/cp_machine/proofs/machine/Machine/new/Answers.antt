@@ -1,0 +1,8 @@
+use Rattle.cp_machine.specs.declared.setting.Setting.{Setting}
+use Rattle.cp_machine.proofs.Starts.{first_is}
+use Rattle.cp_machine.proofs.machine.Machine.new.Goals as goal
+
+pub returns : goal.returns
+returns c =
+    let setting : Setting = record { program = c.args.program; inputs = c.args.inputs; tick = c.args.tick } in
+    record { start = first_is setting c.in_ok-parts.parts.privates.items c.in_ok-parts.parts.kernel c.in_ok-parts.ensures }

@@ -1,0 +1,12 @@
+pub mod Plans
+pub mod Waves
+pub mod Turned
+pub mod MachineOf
+pub mod Made
+pub mod Tasks
+pub mod Generations
+pub mod Numbers
+pub mod Runs
+pub mod Ends
+pub mod Views
+pub mod Starts

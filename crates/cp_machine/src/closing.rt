@@ -1,0 +1,15 @@
+//! The end of a round.
+
+ghost use Rattle.cp_machine.specs.Ends.{RoundEnds};
+
+use crate::setting::Setting;
+use cp_gates::closing::end_round;
+use cp_gates::kernel::Kernel;
+use cp_process::private::Private;
+
+/// Those begin that were started in the round.
+pub(crate) fn close_round(setting: &Setting, privates: &mut Vec<Private>, kernel: &mut Kernel)
+    ensures { RoundEnds setting.now privates.old.items kernel.old privates.new.items kernel.new }
+{
+    end_round(&setting.program, kernel, privates);
+}

@@ -1,0 +1,36 @@
+//! The machine of the whole language: rounds and runs by threads, and what is read of it between them.
+//!
+//! A round or a run makes of the machine what the definitions of cp_steps make of it as plain data (`specs/Views.antt` says of what data),
+//! for every plan, by threads in any schedule.
+//!
+//! - `machine`, `reading`: the public calls. `starting`: how a machine starts.
+//! - `setting`, `parts`, `moment`: what no round changes, what rounds change, and when a round is made.
+//! - `plan`, `tick`, `gate`: how rounds are made, and what is called before each turn.
+//! - `turns`, `closing`: private turns, and the end of a round.
+//! - `waves`, `generation`, `whole`, `team`, `worker`, `wave`: one round by threads of its own, which draw chunks from a board and make
+//!   new private states.
+//! - `run`, `round`, `desk`, `task`: many rounds by threads that are kept, which make turns in place.
+#![tactic(auto)]
+
+mod closing;
+mod desk;
+pub mod gate;
+mod generation;
+mod law;
+pub mod machine;
+mod moment;
+mod parts;
+pub mod plan;
+pub mod reading;
+mod round;
+mod run;
+mod setting;
+mod starting;
+mod task;
+mod team;
+pub mod tick;
+mod turns;
+mod wave;
+mod waves;
+mod whole;
+mod worker;
