@@ -6,3 +6,4 @@ pub mod Going
 pub mod Entering
 pub mod Visiting
 pub mod MembersTold
+pub mod Listed

@@ -7,6 +7,7 @@
 
 mod components;
 mod heads;
+pub mod listing;
 pub mod telling;
 pub mod text;
 pub mod walk;
