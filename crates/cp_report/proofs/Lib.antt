@@ -7,3 +7,4 @@ pub mod Entering
 pub mod Visiting
 pub mod MembersTold
 pub mod Listed
+pub mod QueuesTold
