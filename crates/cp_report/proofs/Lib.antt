@@ -8,3 +8,4 @@ pub mod Visiting
 pub mod MembersTold
 pub mod Listed
 pub mod QueuesTold
+pub mod ListedNames

@@ -1,6 +1,6 @@
 //! Where a process stands, as text.
 
-ghost use Rattle.std.specs.Prelude.{◌≡◌, ◌++◌, OnOk, map};
+ghost use Rattle.std.specs.Prelude.{◌≡◌, ◌++◌, ◌-◌, OnOk, map, option_map, slice_get};
 ghost use Rattle.cp_model.specs.StateViews as state;
 ghost use Rattle.cp_process.specs.States as states;
 ghost use Rattle.cp_scope.specs.Standing.{entry};
@@ -10,8 +10,8 @@ ghost use Rattle.cp_threaded.specs.View as view;
 ghost use Rattle.cp_report.specs.Statuses.{NamesMonitor, TellsQueue, TellsStage};
 
 use crate::telling::Telling;
-use crate::walk::Walk;
 use crate::text::push_natural;
+use crate::walk::Walk;
 use cp_model::state::Fault;
 use cp_process::outside::Stage;
 use cp_process::private::Activity;
@@ -49,12 +49,19 @@ fn push_queue(
     Ok(())
 }
 
+// The monitor of this number, from 1. The number 0 is read as 1.
+fn monitor_at<'m, 't>(monitors: &'m [Field<'t>], number: u32) -> Option<&'m Field<'t>>
+    ensures { option_map (λ f. f.now) result ≡ slice_get monitors.now (number - 1) }
+{
+    monitors.get((number as usize).saturating_sub(1))
+}
+
 // Adds the name of the monitor of this number, from 1. The number 0 is read as 1.
 fn push_monitor(out: &mut Vec<u8>, monitors: &[Field], number: u32) -> Result<(), AllocError>
     ensures { OnOk result (NamesMonitor (map entry monitors.now) number
         out.old.items out.new.items) }
 {
-    match monitors.get((number as usize).saturating_sub(1)) {
+    match monitor_at(monitors, number) {
         Some(monitor) => out.extend_from_slice(monitor.name),
         None => Ok(()),
     }

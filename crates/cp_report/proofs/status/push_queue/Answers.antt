@@ -22,7 +22,7 @@ loop-index-preserved c =
     let after = c.component.new.out.items in
     let text = c.args.out.now.items ++ queues_text g program place 1 vs in
     let below : i < length xs = search rules in
-    let none : Field = record {name = record {ref_ptr = (0, 0); now = []}; of = 0} in
+    let none : Field = record { name = record { ref_ptr = (0, 0); now = [] }; of = 0 } in
     let before = subst (λ es. QueuesToTell g program place tables.types (suc i) es out text) (drop_first entry xs i none below) (c.loop-index.invariant g vs scope h) in
     let next : suc i ≡ i + 1 = omega arith in
     let start : c.monitor_start-start.result ≡ plain.monitor_start program (suc i) = c.monitor_start-start.ensures ∙ ap (plain.monitor_start program) (sym next) in
