@@ -7,3 +7,5 @@ pub mod Entering
 pub mod Visiting
 pub mod MembersTold
 pub mod Listed
+pub mod QueuesTold
+pub mod ListedNames

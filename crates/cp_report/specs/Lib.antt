@@ -2,3 +2,4 @@ pub mod Left
 pub mod Walks
 pub mod Tellings
 pub mod Lists
+pub mod Statuses

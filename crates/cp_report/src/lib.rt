@@ -8,6 +8,7 @@
 mod components;
 mod heads;
 pub mod listing;
+mod status;
 pub mod telling;
 pub mod text;
 pub mod walk;

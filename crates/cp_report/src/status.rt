@@ -1,0 +1,135 @@
+//! Where a process stands, as text.
+
+ghost use Rattle.std.specs.Prelude.{◌≡◌, ◌++◌, ◌-◌, OnOk, map, option_map, slice_get};
+ghost use Rattle.cp_model.specs.StateViews as state;
+ghost use Rattle.cp_process.specs.States as states;
+ghost use Rattle.cp_scope.specs.Standing.{entry};
+ghost use Rattle.cp_steps.specs.Passing as plain;
+ghost use Rattle.cp_steps.specs.Reports.{activity_text};
+ghost use Rattle.cp_threaded.specs.View as view;
+ghost use Rattle.cp_report.specs.Statuses.{NamesMonitor, TellsQueue, TellsStage};
+
+use crate::telling::Telling;
+use crate::text::push_natural;
+use crate::walk::Walk;
+use cp_model::state::Fault;
+use cp_process::outside::Stage;
+use cp_process::private::Activity;
+use cp_scope::{Field, Tables};
+use cp_threaded::program::Program;
+use std::alloc::AllocError;
+
+// Where the words of a monitor begin.
+fn monitor_start(program: &Program, number: usize) -> usize
+    ensures { result ≡ plain.monitor_start (view.program program.now) number }
+{
+    match program.monitor(number) {
+        Some(monitor) => monitor.start as usize,
+        None => 0,
+    }
+}
+
+// Adds the path of the queue that lies at a place of the shared words.
+fn push_queue(
+    walk: &mut Walk,
+    tables: &Tables,
+    program: &Program,
+    monitors: &[Field],
+    place: usize,
+    out: &mut Vec<u8>,
+) -> Result<(), AllocError>
+    ensures { OnOk result (TellsQueue tables.now (view.program program.now)
+        (map entry monitors.now) place out.old.items out.new.items) }
+{
+    let telling = Telling::PathOf(place);
+    for (index, monitor) in monitors.iter().enumerate() {
+        let start = monitor_start(program, index + 1);
+        walk.component(tables, &telling, out, monitor.of, start)?;
+    }
+    Ok(())
+}
+
+// The monitor of this number, from 1. The number 0 is read as 1.
+fn monitor_at<'m, 't>(monitors: &'m [Field<'t>], number: u32) -> Option<&'m Field<'t>>
+    ensures { option_map (λ f. f.now) result ≡ slice_get monitors.now (number - 1) }
+{
+    monitors.get((number as usize).saturating_sub(1))
+}
+
+// Adds the name of the monitor of this number, from 1. The number 0 is read as 1.
+fn push_monitor(out: &mut Vec<u8>, monitors: &[Field], number: u32) -> Result<(), AllocError>
+    ensures { OnOk result (NamesMonitor (map entry monitors.now) number
+        out.old.items out.new.items) }
+{
+    match monitor_at(monitors, number) {
+        Some(monitor) => out.extend_from_slice(monitor.name),
+        None => Ok(()),
+    }
+}
+
+fn fault_number(fault: Fault) -> u64
+    ensures { result ≡ state.fault_number fault }
+{
+    match fault {
+        Fault::Range => 1,
+        Fault::Index => 2,
+        Fault::Overflow => 3,
+        Fault::DivisionByZero => 4,
+        Fault::QueueTaken => 5,
+        Fault::NotInitialised => 6,
+        Fault::InitialisedTwice => 7,
+        Fault::NoLabel => 8,
+        Fault::NoResult => 9,
+    }
+}
+
+fn push_activity(out: &mut Vec<u8>, activity: Activity) -> Result<(), AllocError>
+    ensures { OnOk result (out.new.items ≡ out.old.items ++
+        activity_text (states.activity activity)) }
+{
+    match activity {
+        Activity::NotBegun => out.extend_from_slice(b"unstarted"),
+        Activity::Running => out.extend_from_slice(b"ready"),
+        Activity::Waiting => out.extend_from_slice(b"waiting"),
+        Activity::Ended => out.extend_from_slice(b"ended"),
+        Activity::Faulted(fault) => {
+            out.extend_from_slice(b"fault ")?;
+            push_natural(out, fault_number(fault))
+        }
+    }
+}
+
+/// Adds where a process stands: what the kernel knows of it, or else whether it runs.
+///
+/// # Errors
+///
+/// `AllocError` where memory runs out.
+pub fn push_stage(
+    walk: &mut Walk,
+    tables: &Tables,
+    program: &Program,
+    monitors: &[Field],
+    stage: Stage,
+    activity: Activity,
+    out: &mut Vec<u8>,
+) -> Result<(), AllocError>
+    ensures { OnOk result (TellsStage tables.now (view.program program.now)
+        (map entry monitors.now) (states.stage stage) (states.activity activity)
+        out.old.items out.new.items) }
+{
+    match stage {
+        Stage::Unstarted => out.extend_from_slice(b"unstarted"),
+        Stage::Fresh => out.extend_from_slice(b"fresh"),
+        Stage::Begun => push_activity(out, activity),
+        Stage::Asking(monitor) => {
+            out.extend_from_slice(b"asking ")?;
+            push_monitor(out, monitors, monitor)
+        }
+        Stage::Delayed { monitor, queue } => {
+            out.extend_from_slice(b"delayed ")?;
+            push_monitor(out, monitors, monitor)?;
+            out.extend_from_slice(b" ")?;
+            push_queue(walk, tables, program, monitors, queue as usize, out)
+        }
+    }
+}
