@@ -1,5 +1,6 @@
 -- An accepted text is refused for a fault alone.
-use Rattle.std.proofs.Common.{◌≡◌, ◌≤◌, ◌⊎◌, ℕ, true, false, List, length, Option, None, Some, Result, Ok, Err, IfErr, IfSome, OnErr, ap, sym, ◌∙◌, subst, arith, inl, inr}
+use Rattle.std.proofs.Common.{◌≡◌, ◌≤◌, ◌⊎◌, ℕ, false, List, length, Option, None, Some, Result, Ok, Err, IfErr, IfOk, IfSome, OnErr, ap, sym, ◌∙◌, subst, arith, inl, inr}
+use Rattle.std.specs.Result.{is_err}
 use Rattle.std.proofs.lemmas.List.{take_all}
 use Rattle.cp_model.specs.Syntax as s
 use Rattle.cp_model.specs.Grammar.{Reads, nesting_limit}
@@ -14,13 +15,12 @@ use Rattle.cp_scan.specs.declared.refusal.Cause.{Cause}
 use Rattle.cp_scan.specs.declared.refusal.Cause.TheVariants as cause
 use Rattle.cp_scan.proofs.Complete.{spelled_found, refusal_found}
 use Rattle.cp_grammar.proofs.TextComplete.{tree_is_unique}
-use Rattle.cp_fragment.specs.Fragment.{is_in_fragment}
 use Rattle.cp_syntax.specs.Refusals.{HasNoTree}
 use Rattle.cp_execute.specs.declared.refusal.Refusal.{Refusal}
 use Rattle.cp_execute.specs.declared.refusal.Refusal.TheVariants as refusal
 use Rattle.cp_execute.specs.Executed.{IsFault, IsFaultOfAccepted, IsFaultOrOfInput, RefusesInput, RefusesText, front}
 use Rattle.cp_execute.specs.Cutting.{judged}
-use Rattle.cp_execute.specs.Texts.{IsAccepted, IsRunnable, IsTextOf, LacksProgram, Refuses}
+use Rattle.cp_execute.specs.Texts.{IsAccepted, IsTextOf, Refuses}
 use Rattle.cp_execute.proofs.TextRefusals.{of_known}
 
 -- ---- a text has one list of tokens and one tree
@@ -55,12 +55,6 @@ not_told t v accepted e = clash (sym (ap (λ (vs : List Violation). least None v
     clash : None ≡ Some v → ⊥
     clash e = Prim.grind (arith, e)
 
-not_outside : (t : s.Tree) → is_in_fragment t ≡ true → is_in_fragment t ≡ false → ⊥
-not_outside t h g = clash (sym h ∙ g)
-  where
-    clash : true ≡ false → ⊥
-    clash e = Prim.grind (arith, e)
-
 -- ---- refusals of an accepted text
 
 is_fault : (xs : List ℕ) (t : s.Tree) (e : Refusal) → IsAccepted xs t → Refuses xs e → IsFault e
@@ -73,7 +67,6 @@ is_fault xs t (refusal.Unfinished at) is h = not_parsed xs t h.0 is.text h.1 h.2
 is_fault xs t (refusal.TooDeep at) is h = not_parsed xs t h.0 is.text h.1 h.2.0
 is_fault xs t (refusal.Check rule at) is h =
     not_told t (record { rule = rule; at = at }) is.accepted (subst (λ (u : s.Tree). told u ≡ Some (record { rule = rule; at = at })) (one_tree xs h.0 t h.1 is.text) h.2)
-is_fault xs t refusal.Fragment is h = h
 is_fault xs t (refusal.InputByte at) is h = h
 is_fault xs t refusal.InputSize is h = h
 
@@ -94,7 +87,6 @@ text_fault xs t (refusal.Unexpected at) is h = front_fault xs t (refusal.Unexpec
 text_fault xs t (refusal.Unfinished at) is h = front_fault xs t (refusal.Unfinished at) is h
 text_fault xs t (refusal.TooDeep at) is h = front_fault xs t (refusal.TooDeep at) is h
 text_fault xs t (refusal.Check rule at) is h = front_fault xs t (refusal.Check rule at) is h
-text_fault xs t refusal.Fragment is h = h
 text_fault xs t (refusal.InputByte at) is h = h
 text_fault xs t refusal.InputSize is h = h
 
@@ -108,7 +100,6 @@ input_fault ys (refusal.Unexpected at) h = inr h
 input_fault ys (refusal.Unfinished at) h = inr h
 input_fault ys (refusal.TooDeep at) h = inr h
 input_fault ys (refusal.Check rule at) h = inr h
-input_fault ys refusal.Fragment h = inr h
 input_fault ys (refusal.InputByte at) h = inr h
 input_fault ys refusal.InputSize h = inr h
 input_fault ys refusal.Write h = inr h
@@ -119,26 +110,7 @@ pub known_fault : (known : Option (List ℕ)) (e : Refusal) → IfSome known (λ
 known_fault known e h xs t same is = text_fault xs t e is (of_known (λ zs. RefusesText zs e) known xs h same)
 
 pub known_text_fault : (text input : Option (List ℕ)) (e : Refusal) → IfSome text (λ xs. RefusesText xs e) → IsFaultOrOfInput text input e
-known_text_fault text input e h xs ys t same known is = inl (known_fault text e h xs t same is.is)
-
-lacks_fault : (t : s.Tree) (e : Refusal) → is_in_fragment t ≡ true → LacksProgram t e → IsFault e
-lacks_fault t refusal.Fragment h l = not_outside t h l
-lacks_fault t refusal.Memory h l = tt
-lacks_fault t refusal.Read h l = tt
-lacks_fault t refusal.Write h l = tt
-lacks_fault t (refusal.Scan c at) h l = l
-lacks_fault t (refusal.Unexpected at) h l = l
-lacks_fault t (refusal.Unfinished at) h l = l
-lacks_fault t (refusal.TooDeep at) h l = l
-lacks_fault t (refusal.Check rule at) h l = l
-lacks_fault t (refusal.InputByte at) h l = l
-lacks_fault t refusal.InputSize h l = l
-
-pub known_program_fault : (text input : Option (List ℕ)) (t : s.Tree) (e : Refusal) → IfSome text (λ xs. IsAccepted xs t) → LacksProgram t e
-    → IsFaultOrOfInput text input e
-known_program_fault text input t e h l xs ys u same known is =
-    let accepted : IsAccepted xs t = of_known (λ zs. IsAccepted zs t) text xs h same in
-    inl (lacks_fault t e (subst (λ (w : s.Tree). is_in_fragment w ≡ true) (one_tree xs u t is.is.text accepted.text) is.fragment) l)
+known_text_fault text input e h xs ys t same known is = inl (known_fault text e h xs t same is)
 
 pub known_input_fault : (text input : Option (List ℕ)) (e : Refusal) → IfSome input (λ ys. RefusesInput ys e) → IsFaultOrOfInput text input e
 known_input_fault text input e h xs ys t same known is = input_fault ys e (of_known (λ zs. RefusesInput zs e) input ys h known)
@@ -157,3 +129,7 @@ on_err (Err e) f h = f e h
 pub of_err : {T E : Type 0} {Q P : E → Type 0} (r : Result T E) → ((e : E) → Q e → P e) → IfErr r Q → IfErr r P
 of_err (Ok x) f h = h
 of_err (Err e) f h = f e h
+
+pub from_ok : {T E : Type 0} {Q : Type 0} (r : Result T E) → is_err r ≡ false → IfOk r (λ x. Q) → Q
+from_ok (Ok x) e h = h
+from_ok (Err x) e h = absurd (Prim.grind (arith, e))

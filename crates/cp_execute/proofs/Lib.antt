@@ -1,7 +1,5 @@
 pub mod Bytes
 pub mod Parts
-pub mod Lists
-pub mod Reports
-pub mod States
+pub mod Starts
 pub mod TextRefusals
 pub mod Faults

@@ -5,10 +5,9 @@ use Rattle.std.specs.Prelude.{if◌then◌else◌, nat_le}
 use Rattle.cp_execute.specs.declared.refusal.Refusal.{Refusal}
 use Rattle.cp_execute.specs.declared.refusal.Refusal.TheVariants as refusal
 use Rattle.cp_execute.specs.Cutting.{judged, judged_from}
-use Rattle.cp_execute.specs.Executed.{FitsInput, RefusesInput, RefusesText}
-use Rattle.cp_model.specs.Rules.{Accepted}
+use Rattle.cp_execute.specs.Executed.{RefusesInput, RefusesText}
 use Rattle.cp_model.specs.View as view
-use Rattle.cp_model.specs.declared.tree.Tree.{Tree}
+use Rattle.cp_execute.specs.declared.checking.AcceptedText.{AcceptedText}
 use Rattle.cp_model.specs.Spelling.{Spells}
 use Rattle.cp_model.specs.declared.token.Token.{Token}
 use Rattle.cp_syntax.specs.Refusals.{Refused}
@@ -50,7 +49,6 @@ refuses_text xs (refusal.Unexpected at) h = h
 refuses_text xs (refusal.Unfinished at) h = h
 refuses_text xs (refusal.TooDeep at) h = h
 refuses_text xs (refusal.Check rule at) h = h
-refuses_text xs refusal.Fragment h = h
 refuses_text xs (refusal.InputByte at) h = h
 refuses_text xs refusal.InputSize h = h
 refuses_text xs refusal.Memory h = h
@@ -62,15 +60,11 @@ refused_known (Ok p) known bytes k h = tt
 refused_known (Err e) None bytes k h = tt
 refused_known (Err e) (Some xs) bytes k h = refuses_text xs e (subst (λ (ys : List ℕ). Refuses ys e) k h)
 
-pub accepted_known : (r : Result Tree Refusal) (known : Option (List ℕ)) (bytes : List ℕ) → IfSome known (λ xs. bytes ≡ take 1048577 xs)
-    → IfOk r (λ t. IsAccepted bytes (view.tree t)) → IfOk r (λ t. IfSome known (λ xs. IsAccepted xs (view.tree t)))
+pub accepted_known : (r : Result AcceptedText Refusal) (known : Option (List ℕ)) (bytes : List ℕ) → IfSome known (λ xs. bytes ≡ take 1048577 xs)
+    → IfOk r (λ x. IsAccepted bytes (view.tree x.tree)) → IfOk r (λ x. IfSome known (λ xs. IsAccepted xs (view.tree x.tree)))
 accepted_known (Err e) known bytes k h = tt
-accepted_known (Ok t) None bytes k h = tt
-accepted_known (Ok t) (Some xs) bytes k h = subst (λ (ys : List ℕ). IsAccepted ys (view.tree t)) (whole bytes xs k h.text.within) h
-
-pub known_accepted : (r : Result Tree Refusal) (bytes : List ℕ) → IfOk r (λ t. IsAccepted bytes (view.tree t)) → IfOk r (λ t. Accepted (view.tree t))
-known_accepted (Err e) bytes h = h
-known_accepted (Ok t) bytes h = h.accepted
+accepted_known (Ok x) None bytes k h = tt
+accepted_known (Ok x) (Some xs) bytes k h = subst (λ (ys : List ℕ). IsAccepted ys (view.tree x.tree)) (whole bytes xs k h.text.within) h
 
 -- ---- of known inputs
 
@@ -85,10 +79,6 @@ pub input_known : (known : Option (List ℕ)) (bytes : List ℕ) → IfSome know
     → IfSome known (λ ys. bytes ≡ ys)
 input_known None bytes k e = tt
 input_known (Some ys) bytes k e = whole bytes ys k (judged_within bytes e)
-
-pub input_fits : (known : Option (List ℕ)) (bytes : List ℕ) → IfSome known (λ xs. bytes ≡ take 1048577 xs) → judged bytes ≡ Ok tt → IfSome known FitsInput
-input_fits None bytes k e = tt
-input_fits (Some ys) bytes k e = sym (ap judged k) ∙ e
 
 judged_from_writes : (at : ℕ) (bytes : List ℕ) → judged_from at bytes ≡ Err refusal.Write → ⊥
 judged_from_writes at [] e = Prim.grind (arith, e)
@@ -120,7 +110,6 @@ input_refused (Some ys) bytes e k h = by e (subst (λ (bs : List ℕ). judged bs
     by (refusal.Unfinished at) h = h
     by (refusal.TooDeep at) h = h
     by (refusal.Check rule at) h = h
-    by refusal.Fragment h = h
     by (refusal.InputByte at) h = h
     by refusal.InputSize h = h
     by refusal.Write h = h

@@ -14,12 +14,8 @@ use Rattle.cp_execute.specs.declared.running.Run.{Run}
 use Rattle.cp_execute.specs.declared.execute.Job.{Job}
 use Rattle.cp_execute.specs.declared.execute.Job.TheVariants as job
 use Rattle.cp_execute.specs.Cutting.{judged}
-use Rattle.cp_execute.specs.Texts.{IsAccepted, IsRunnable}
+use Rattle.cp_execute.specs.Texts.{IsAccepted}
 use Rattle.cp_execute.specs.Texts as texts
-
--- The inputs of the processes are the parts of the input.
-abbrev pub HasInputs : List ℕ → Setup → Type 0
-HasInputs input setup = (p : ℕ) → setup.inputs p ≡ cut input p
 
 abbrev pub setup_of : s.Tree → List ℕ → ℕ → Setup
 setup_of t input tick = record { tree = erase.abstract t; inputs = cut input; tick = tick }
@@ -42,21 +38,21 @@ acceptance = codes "accepted" ++ 10 ∷ []
 abbrev pub Accepts : Option (List ℕ) → Option (List ℕ) → Option (List ℕ) → Type 0
 Accepts text old new = (xs : List ℕ) → text ≡ Some xs → (t : s.Tree) × IsAccepted xs t × Appends old new acceptance
 
--- Of a known text and a known input: the text can be run, and the report that is due was written.
+-- Of a known text and a known input: the text is accepted, and the report that is due was written.
 abbrev pub Reports : Run → Option (List ℕ) → Option (List ℕ) → Option (List ℕ) → Option (List ℕ) → Type 0
 Reports run text input old new =
-    (xs ys : List ℕ) → text ≡ Some xs → input ≡ Some ys → (t : s.Tree) × IsRunnable xs t × Appends old new (due run t ys)
+    (xs ys : List ℕ) → text ≡ Some xs → input ≡ Some ys → (t : s.Tree) × IsAccepted xs t × Appends old new (due run t ys)
 
 -- Of a known text, after a write that failed: the text is accepted, and a beginning of the line was written.
 abbrev pub BeginsAcceptance : Option (List ℕ) → Option (List ℕ) → Option (List ℕ) → Type 0
 BeginsAcceptance text old new =
     (xs : List ℕ) → text ≡ Some xs → (t : s.Tree) × IsAccepted xs t × (n : ℕ) × (n ≤ length acceptance) × Appends old new (take n acceptance)
 
--- Of a known text and a known input, after a write that failed: the text can be run, and a beginning of the report that is due was written.
+-- Of a known text and a known input, after a write that failed: the text is accepted, and a beginning of the report that is due was written.
 abbrev pub BeginsReport : Run → Option (List ℕ) → Option (List ℕ) → Option (List ℕ) → Option (List ℕ) → Type 0
 BeginsReport run text input old new =
     (xs ys : List ℕ) → text ≡ Some xs → input ≡ Some ys
-    → (t : s.Tree) × IsRunnable xs t × (n : ℕ) × (n ≤ length (due run t ys)) × Appends old new (take n (due run t ys))
+    → (t : s.Tree) × IsAccepted xs t × (n : ℕ) × (n ≤ length (due run t ys)) × Appends old new (take n (due run t ys))
 
 -- ---- refusals
 
@@ -70,17 +66,9 @@ RefusesInput ys refusal.Read = Unit {0}
 RefusesInput ys refusal.Memory = Unit {0}
 RefusesInput ys e = judged (front ys) ≡ Err e
 
-abbrev pub FitsInput : List ℕ → Type 0
-FitsInput ys = judged (front ys) ≡ Ok tt
-
--- The text is accepted, and has no program; and nothing is wrong with the input.
-abbrev pub RefusesMachine : List ℕ → List ℕ → Refusal → Type 0
-RefusesMachine xs ys e = ((t : s.Tree) × IsAccepted xs t × texts.LacksProgram t e) × FitsInput ys
-
--- A run is refused for the text; or else, where that is accepted, for the input; or else because the text has no program. Running out of
--- memory says nothing.
+-- A run is refused for the text; or else, where that is accepted, for the input. Running out of memory says nothing.
 abbrev pub RefusesRun : List ℕ → List ℕ → Refusal → Type 0
-RefusesRun xs ys e = RefusesText xs e ⊎ ((((t : s.Tree) × IsAccepted xs t) × RefusesInput ys e) ⊎ RefusesMachine xs ys e)
+RefusesRun xs ys e = RefusesText xs e ⊎ (((t : s.Tree) × IsAccepted xs t) × RefusesInput ys e)
 
 -- Running out of memory, a read or a write that failed: they say nothing of the text.
 abbrev pub IsFault : Refusal → Type 0
@@ -93,10 +81,10 @@ IsFault e = ⊥
 abbrev pub IsFaultOfAccepted : Option (List ℕ) → Refusal → Type 0
 IsFaultOfAccepted text e = (xs : List ℕ) (t : s.Tree) → text ≡ Some xs → IsAccepted xs t → IsFault e
 
--- The run of a known text that can be run has no other refusal but that of its input.
+-- The run of a known text that is accepted has no other refusal but that of its input.
 abbrev pub IsFaultOrOfInput : Option (List ℕ) → Option (List ℕ) → Refusal → Type 0
 IsFaultOrOfInput text input e =
-    (xs ys : List ℕ) (t : s.Tree) → text ≡ Some xs → input ≡ Some ys → IsRunnable xs t → IsFault e ⊎ (judged (front ys) ≡ Err e)
+    (xs ys : List ℕ) (t : s.Tree) → text ≡ Some xs → input ≡ Some ys → IsAccepted xs t → IsFault e ⊎ (judged (front ys) ≡ Err e)
 
 -- ---- jobs
 

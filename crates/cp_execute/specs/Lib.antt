@@ -1,5 +1,4 @@
 pub mod Refusals
 pub mod Cutting
-pub mod Lines
 pub mod Texts
 pub mod Executed

@@ -1,20 +1,15 @@
--- The trees of texts, their programs, and why a text is refused.
-use Rattle.std.specs.Prelude.{◌≡◌, ◌≤◌, ℕ, List, Some, length, true, false}
+-- The trees of texts, and why a text is refused.
+use Rattle.std.specs.Prelude.{◌≡◌, ◌≤◌, ℕ, List, Some, length}
 use Rattle.cp_model.specs.Syntax as s
-use Rattle.cp_model.specs.Erase as erase
 use Rattle.cp_model.specs.Grammar.{Reads}
 use Rattle.cp_model.specs.Rules.{Accepted, told}
 use Rattle.cp_model.specs.Spelling.{Spells}
-use Rattle.cp_model.specs.States.{Setup}
 use Rattle.cp_model.specs.declared.token.Token.{Token}
 use Rattle.cp_scan.specs.Laws.{TellsFirstCause, longest_text}
 use Rattle.cp_scan.specs.declared.refusal.ScanError.TheVariants as scan
 use Rattle.cp_syntax.specs.Refusals.{Refused}
 use Rattle.cp_syntax.specs.declared.refusal.SyntaxError.{SyntaxError}
 use Rattle.cp_syntax.specs.declared.refusal.SyntaxError.TheVariants as syntax
-use Rattle.cp_fragment.specs.Fragment.{is_in_fragment}
-use Rattle.cp_program.specs.declared.program.Program.{Program}
-use Rattle.cp_program.specs.StandsFor.{StandsFor}
 use Rattle.cp_execute.specs.declared.refusal.Refusal.{Refusal}
 use Rattle.cp_execute.specs.declared.refusal.Refusal.TheVariants as refusal
 
@@ -30,16 +25,6 @@ pub record IsAccepted (bytes : List ℕ) (t : s.Tree) : Type 0 where
   pub text : IsTextOf bytes t
   pub accepted : Accepted t
 
--- The text is accepted, and of the fragment that can be run.
-pub record IsRunnable (bytes : List ℕ) (t : s.Tree) : Type 0 where
-  pub is : IsAccepted bytes t
-  pub fragment : is_in_fragment t ≡ true
-
--- The text can be run, and the program stands for it.
-pub record HasProgram (t : s.Tree) (program : Program) : Type 0 where
-  pub fragment : is_in_fragment t ≡ true
-  pub stands : (setup : Setup) → setup.tree ≡ erase.abstract t → StandsFor program setup
-
 abbrev pub RefusesTokens : List ℕ → SyntaxError → Type 0
 RefusesTokens text e = (tokens : List Token) × Spells text tokens × Refused tokens (length text) e
 
@@ -52,9 +37,3 @@ Refuses text (refusal.TooDeep at) = RefusesTokens text (syntax.TooDeep at)
 Refuses text (refusal.Check rule at) = (t : s.Tree) × IsTextOf text t × (told t ≡ Some (record { rule = rule; at = at }))
 Refuses text refusal.Memory = Unit {0}
 Refuses text e = ⊥
-
--- Why an accepted text has no program. Running out of memory says nothing of it.
-abbrev pub LacksProgram : s.Tree → Refusal → Type 0
-LacksProgram t refusal.Fragment = is_in_fragment t ≡ false
-LacksProgram t refusal.Memory = Unit {0}
-LacksProgram t e = ⊥

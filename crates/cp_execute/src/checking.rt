@@ -1,19 +1,25 @@
 //! From the bytes of a text to its tree and its program, or why it has none.
 
 ghost use Rattle.std.specs.Prelude.{◌≡◌, IfErr, IfOk};
-ghost use Rattle.cp_model.specs.Rules.{Accepted};
+ghost use Rattle.cp_check.specs.Checked.{IsProgramOf};
 ghost use Rattle.cp_model.specs.View as view;
-ghost use Rattle.cp_execute.specs.Refusals.{of_counting, of_rules, of_syntax};
-ghost use Rattle.cp_execute.specs.Texts.{HasProgram, IsAccepted, IsTextOf, LacksProgram, Refuses};
+ghost use Rattle.cp_execute.specs.Refusals.{of_check, of_syntax};
+ghost use Rattle.cp_execute.specs.Texts.{IsAccepted, IsTextOf, Refuses};
 
 use crate::refusal::Refusal;
-use cp_check::counting::{CountingError, counting_program};
+use cp_check::checking::{CheckError, check};
 use cp_model::tree::Tree;
-use cp_program::program::Program;
-use cp_rules::text::{self, judge};
 use cp_scan::scan;
 use cp_syntax::{SyntaxError, parse};
+use cp_threaded::program::Program;
 use std::alloc::Global;
+
+/// An accepted text: its tree, and the program that stands for it.
+#[derive(Drop)]
+pub(crate) struct AcceptedText {
+    pub(crate) tree: Tree,
+    pub(crate) program: Program,
+}
 
 fn syntax_refusal(error: SyntaxError) -> Refusal
     ensures { result ≡ of_syntax error }
@@ -26,24 +32,12 @@ fn syntax_refusal(error: SyntaxError) -> Refusal
     }
 }
 
-fn rules_refusal(error: text::Refusal) -> Refusal
-    ensures { result ≡ of_rules error }
+fn check_refusal(error: CheckError) -> Refusal
+    ensures { result ≡ of_check error }
 {
     match error {
-        text::Refusal::Broken(violation) => Refusal::Check {
-            rule: violation.rule,
-            at: violation.at,
-        },
-        text::Refusal::Memory => Refusal::Memory,
-    }
-}
-
-fn counting_refusal(error: CountingError) -> Refusal
-    ensures { result ≡ of_counting error }
-{
-    match error {
-        CountingError::Outside => Refusal::Fragment,
-        CountingError::Memory => Refusal::Memory,
+        CheckError::Broken(violation) => Refusal::from(violation),
+        CheckError::Memory => Refusal::Memory,
     }
 }
 
@@ -66,35 +60,19 @@ pub fn tree_of(alloc: Global, text: &[u8]) -> Result<Tree, Refusal>
     }
 }
 
-/// The tree of an accepted text.
+/// The tree and the program of an accepted text.
 ///
 /// # Errors
 ///
 /// S, Y and C where the text isn't accepted, in this order; M where memory runs out.
-pub fn accept(alloc: Global, text: &[u8]) -> Result<Tree, Refusal>
-    ensures accepted { IfOk result (λ t. IsAccepted text.now (view.tree t)) }
+pub(crate) fn accept(alloc: Global, text: &[u8]) -> Result<AcceptedText, Refusal>
+    ensures accepted { IfOk result (λ x. IsAccepted text.now (view.tree x.tree)) }
+    ensures program { IfOk result (λ x. IsProgramOf (view.tree x.tree) x.program) }
     ensures refused { IfErr result (Refuses text.now) }
 {
     let tree = tree_of(alloc, text)?;
-    match judge(alloc, &tree) {
-        Ok(_) => {}
-        Err(error) => return Err(rules_refusal(error)),
-    }
-    Ok(tree)
-}
-
-/// The program of an accepted text.
-///
-/// # Errors
-///
-/// F1 where the text isn't of the fragment that can be run; M where memory runs out.
-pub fn program_of(alloc: Global, tree: &Tree) -> Result<Program, Refusal>
-    requires accepted { Accepted (view.tree tree.now) }
-    ensures program { IfOk result (HasProgram (view.tree tree.now)) }
-    ensures refused { IfErr result (LacksProgram (view.tree tree.now)) }
-{
-    match counting_program(alloc, tree) {
-        Ok(program) => Ok(program),
-        Err(error) => Err(counting_refusal(error)),
+    match check(alloc, &tree) {
+        Ok(program) => Ok(AcceptedText { tree, program }),
+        Err(error) => Err(check_refusal(error)),
     }
 }

@@ -2,21 +2,20 @@
 
 ghost use Rattle.std.specs.Prelude.{◌≡◌, ◌≤◌, ℕ, IfErr, IfOk, IfSome, List, Some, OnErr, OnOk, length, take};
 ghost use Rattle.std.specs.Io.KnownBytes.{Appends, Keeps};
-ghost use Rattle.cp_model.specs.Rules.{Accepted};
+ghost use Rattle.cp_check.specs.Checked.{IsProgramOf};
 ghost use Rattle.cp_model.specs.View as view;
-ghost use Rattle.cp_execute.specs.Executed.{Accepts, Begins, BeginsAcceptance, BeginsReport, Does, FitsInput, IsFaultOfAccepted, IsFaultOrOfInput, Refuses, RefusesAccepted, RefusesInput, RefusesRun, RefusesText, Reports};
+ghost use Rattle.cp_execute.specs.Executed.{Accepts, Begins, BeginsAcceptance, BeginsReport, Does, IsFaultOfAccepted, IsFaultOrOfInput, Refuses, RefusesAccepted, RefusesInput, RefusesRun, RefusesText, Reports};
 ghost use Rattle.cp_execute.specs.Refusals.{of_read};
 ghost use Rattle.cp_execute.specs.Texts.{IsAccepted};
 ghost use Rattle.cp_execute.specs.declared.refusal.Refusal.TheVariants as refusal;
 
-use crate::checking::{accept, program_of};
+use crate::checking::{AcceptedText, accept};
 use crate::cutting::check_input;
 use crate::reading::{ReadError, read_text};
 use crate::refusal::Refusal;
 use crate::running::{Run, report_of};
 use crate::writing::write_all;
-use cp_model::tree::Tree;
-use cp_rounds::gate::TurnGate;
+use cp_machine::gate::TurnGate;
 use std::alloc::Global;
 use std::io::{Read, Write};
 use std::sync::Wait;
@@ -40,11 +39,11 @@ fn read_refusal(error: ReadError) -> Refusal
     }
 }
 
-// The tree of the text that a reader has, where that is accepted.
-fn accepted<R: Read>(alloc: Global, text: &mut R) -> Result<Tree, Refusal>
-    ensures accepted { IfOk result (λ t. Accepted (view.tree t)) }
+// The text that a reader has, where that is accepted.
+fn read_accepted<R: Read>(alloc: Global, text: &mut R) -> Result<AcceptedText, Refusal>
+    ensures program { IfOk result (λ x. IsProgramOf (view.tree x.tree) x.program) }
     ensures text { IfOk result
-        (λ t. IfSome (R.remaining text.old) (λ xs. IsAccepted xs (view.tree t))) }
+        (λ x. IfSome (R.remaining text.old) (λ xs. IsAccepted xs (view.tree x.tree))) }
     ensures refused { IfErr result (λ e. IfSome (R.remaining text.old) (λ xs. RefusesText xs e)) }
     ensures reads { IfErr result (λ e. e ≡ refusal.Write → ⊥) }
 {
@@ -56,9 +55,8 @@ fn accepted<R: Read>(alloc: Global, text: &mut R) -> Result<Tree, Refusal>
 }
 
 // The input that a reader has.
-fn input_of<S: Read>(alloc: Global, input: &mut S) -> Result<Vec<u8>, Refusal>
+fn read_input<S: Read>(alloc: Global, input: &mut S) -> Result<Vec<u8>, Refusal>
     ensures input { IfOk result (λ bytes. IfSome (S.remaining input.old) (λ ys. bytes.items ≡ ys)) }
-    ensures fits { OnOk result (IfSome (S.remaining input.old) FitsInput) }
     ensures refused { IfErr result (λ e. IfSome (S.remaining input.old) (λ ys. RefusesInput ys e)) }
     ensures reads { IfErr result (λ e. e ≡ refusal.Write → ⊥) }
 {
@@ -107,7 +105,7 @@ pub fn check_text<R: Read, W: Write>(
         → BeginsAcceptance (R.remaining text.old) (W.contents out.old) (W.contents out.new)) }
     ensures faults { IfErr result (IsFaultOfAccepted (R.remaining text.old)) }
 {
-    accepted(alloc, text)?;
+    read_accepted(alloc, text)?;
     finish(out, b"accepted\n")
 }
 
@@ -115,8 +113,8 @@ pub fn check_text<R: Read, W: Write>(
 ///
 /// # Errors
 ///
-/// First of the text: I1, S, Y, C; then of the input: I1, I4, I3; then F1, where the text isn't of the fragment; and M, and I2 where a write failed. After I2 a beginning of the
-/// report was written, and else nothing. A text that can be run with an input that is none of I4 and I3 is refused for M, I1 or I2 alone.
+/// First of the text: I1, S, Y, C; then of the input: I1, I4, I3; and M, and I2 where a write failed. After I2 a beginning of the report was
+/// written, and else nothing. An accepted text with an input that is none of I4 and I3 is refused for M, I1 or I2 alone.
 pub fn run_text<H: Threads + Wait + Sync, R: Read, S: Read, W: Write, G: TurnGate>(
     rt: &H,
     alloc: Global,
@@ -141,10 +139,10 @@ pub fn run_text<H: Threads + Wait + Sync, R: Read, S: Read, W: Write, G: TurnGat
     ensures faults { IfErr result
         (IsFaultOrOfInput (R.remaining text.old) (S.remaining input.old)) }
 {
-    let tree = accepted(alloc, text)?;
-    let bytes = input_of(alloc, input)?;
-    let program = program_of(alloc, &tree)?;
-    let report = report_of(rt, alloc, program, &bytes, run, gate)?;
+    let accepted = read_accepted(alloc, text)?;
+    let bytes = read_input(alloc, input)?;
+    let tree = accepted.tree;
+    let report = report_of(rt, alloc, &tree, accepted.program, &bytes, run, gate)?;
     finish(out, &report)
 }
 

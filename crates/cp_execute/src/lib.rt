@@ -1,7 +1,8 @@
 //! `execute`: from the bytes of a text and of an input to the bytes of its report, or to a refusal.
 //!
-//! `checking` makes the program of a text, `running` runs it on its input, `report` writes what the machine is in then. What an answer
-//! means is defined in `specs/Executed.antt`, and what each refusal means in `specs/Refusals.antt` and `specs/Texts.antt`.
+//! `checking` makes the tree and the program of a text, `cutting` makes the inputs of its processes, and `running` runs it and makes the
+//! report. What an answer means is defined in `specs/Executed.antt`, and what each refusal means in `specs/Refusals.antt` and
+//! `specs/Texts.antt`.
 #![tactic(auto)]
 
 pub mod checking;
@@ -9,6 +10,5 @@ pub mod cutting;
 pub mod execute;
 pub mod reading;
 pub mod refusal;
-pub mod report;
 pub mod running;
 pub mod writing;

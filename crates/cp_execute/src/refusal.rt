@@ -6,6 +6,7 @@ ghost use Rattle.cp_execute.specs.declared.refusal.Refusal.TheVariants as refusa
 
 use cp_model::rules::{Rule, Violation};
 use cp_scan::{Cause, ScanError};
+use cp_scope::CompileError;
 use std::alloc::{AllocError, AllocFailed};
 use thiserror::Error;
 
@@ -27,9 +28,6 @@ pub enum Refusal {
     /// C1 to C13: a rule is broken.
     #[error("refused C{} at {at}", rule.number())]
     Check { rule: Rule, at: usize },
-    /// F1: the text is outside the fragment that can be run.
-    #[error("refused F1 at 0")]
-    Fragment,
     /// I3: a byte of the input is above 127.
     #[error("refused I3 at {at}")]
     InputByte { at: usize },
@@ -108,5 +106,14 @@ impl From<Violation> for Refusal {
             rule: violation.rule,
             at: violation.at,
         }
+    }
+}
+
+// The tables of an accepted text are refused for memory alone.
+impl From<CompileError> for Refusal {
+    ghost from_gives = { λ _ r. r ≡ refusal.Memory };
+
+    fn from(_error: CompileError) -> Refusal {
+        Refusal::Memory
     }
 }

@@ -1,22 +1,22 @@
 //! Running a program: from its input to its report.
 
 ghost use Rattle.std.specs.Prelude.{◌≡◌, false, IfErr, IfOk};
-ghost use Rattle.cp_model.specs.Report;
-ghost use Rattle.cp_model.specs.Rounds as r;
-ghost use Rattle.cp_model.specs.Start.{start};
-ghost use Rattle.cp_model.specs.States.{Setup};
-ghost use Rattle.cp_program.specs.StandsFor.{StandsFor};
-ghost use Rattle.cp_execute.specs.Executed.{HasInputs};
+ghost use Rattle.cp_check.specs.Checked.{IsProgramOf};
+ghost use Rattle.cp_model.specs.View as view;
+ghost use Rattle.cp_execute.specs.Executed.{due};
 ghost use Rattle.cp_execute.specs.declared.refusal.Refusal.TheVariants as refusal;
 
 use crate::cutting::cut_input;
 use crate::refusal::Refusal;
-use crate::report::report;
-use cp_program::program::Program;
-use cp_rounds::gate::TurnGate;
-use cp_rounds::machine::Machine;
-use cp_rounds::plan::Plan;
-use cp_rounds::tick::Tick;
+use cp_machine::gate::TurnGate;
+use cp_machine::machine::Machine;
+use cp_machine::plan::Plan;
+use cp_machine::tick::Tick;
+use cp_model::tree::Tree;
+use cp_report::report::report;
+use cp_scope::Tables;
+use cp_steps::law::reports;
+use cp_threaded::program::Program;
 use std::alloc::Global;
 use std::sync::Wait;
 use std::thread::Threads;
@@ -29,31 +29,32 @@ pub struct Run {
     pub tick: Tick,
 }
 
-/// The report after a run.
+/// The report after a run of a text's program.
 ///
 /// # Errors
 ///
 /// M where memory runs out.
-pub fn report_of<H: Threads + Wait + Sync, G: TurnGate>(
+pub(crate) fn report_of<H: Threads + Wait + Sync, G: TurnGate>(
     rt: &H,
     alloc: Global,
+    tree: &Tree,
     program: Program,
     input: &[u8],
     run: &Run,
     gate: &G,
 ) -> Result<Vec<u8>, Refusal>
+    requires program { IsProgramOf (view.tree tree.now) program }
     ensures report { IfOk result
-        (λ bytes. (setup : Setup) → StandsFor program setup → HasInputs input.now setup
-        → setup.tick ≡ run.now.tick.rounds
-        → bytes.items ≡ Report.report setup
-        (r.run setup run.now.plan.turn.steps run.now.rounds (start setup))) }
+        (λ bytes. bytes.items ≡ due run.now (view.tree tree.now) input.now) }
     ensures memory { IfErr result (λ e. e ≡ refusal.Memory) }
 {
+    reports();
+    let tables = Tables::of_tree(alloc, tree)?;
     let inputs = cut_input(alloc, input, program.processes())?;
     let mut machine = Machine::new(alloc, program, inputs, run.tick)?;
     if machine.run(rt, run.rounds, &run.plan, gate).is_err() {
         return Err(Refusal::Memory);
     }
-    let bytes = report(alloc, &machine)?;
+    let bytes = report(alloc, &tables, &machine)?;
     Ok(bytes)
 }

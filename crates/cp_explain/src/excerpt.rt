@@ -4,7 +4,7 @@ ghost use Rattle.std.specs.Prelude.{◌≤◌, length};
 
 use crate::page::Page;
 use crate::position::Position;
-use cp_execute::report::hex;
+use cp_report::text::hex;
 use itoa::Buffer;
 use std::alloc::AllocError;
 

@@ -4,7 +4,7 @@ ghost use Rattle.std.specs.Prelude.{◌≡◌, ◌++◌, OnOk};
 ghost use Rattle.cp_model.specs.Decimal.{natural};
 
 use crate::position::Position;
-use cp_execute::report::push_natural;
+use cp_report::text::push_natural;
 use cp_model::tree::Identifier;
 use std::alloc::{AllocError, Global};
 use std::marker::Model;

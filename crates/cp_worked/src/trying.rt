@@ -2,11 +2,10 @@
 
 use crate::cases::{Case, bytes_of};
 use cp_execute::execute::{Job, execute};
-use cp_execute::refusal::Refusal;
 use cp_execute::running::Run;
-use cp_rounds::gate::Open;
-use cp_rounds::plan::Plan;
-use cp_rounds::tick::Tick;
+use cp_machine::gate::Open;
+use cp_machine::plan::Plan;
+use cp_machine::tick::Tick;
 use std::alloc::{AllocError, Global};
 use std::sync::Wait;
 use std::thread::Threads;
@@ -16,8 +15,6 @@ use std::thread::Threads;
 pub enum Outcome {
     Right,
     Wrong,
-    /// The machine can't run the text yet.
-    Outside,
     /// No command gives such an answer.
     LeftOut,
 }
@@ -39,7 +36,6 @@ fn answer_of<H: Threads + Wait + Sync>(
     match execute(rt, alloc, &mut from, &mut given, job, &Open, &mut out) {
         Ok(()) if out.as_slice() == due => Ok(Outcome::Right),
         Ok(()) => Ok(Outcome::Wrong),
-        Err(Refusal::Fragment) => Ok(Outcome::Outside),
         Err(refusal) => {
             let line = format!(in alloc; "{refusal}\n")?;
             let right = out.is_empty() && line.as_bytes() == due;

@@ -13,25 +13,21 @@ use Rattle.cp_execute.proofs.execute.run_text.Given.{Over}
 use Rattle.cp_execute.proofs.execute.run_text.Goals as goal
 
 -- The report that was made is the one that is due.
-abbrev IsDue : (g : Over) → goal.After-drop-tree-5 g → List ℕ → List ℕ → Type 0
-IsDue g c xs ys = (t : s.Tree) × IsRunnable xs t × (c.in_ok-report.report.items ≡ due c.args.run.now t ys)
+abbrev IsDue : (g : Over) → goal.After-drop-tree-4 g → List ℕ → List ℕ → Type 0
+IsDue g c xs ys = (t : s.Tree) × IsAccepted xs t × (c.in_ok-report.report.items ≡ due c.args.run.now t ys)
 
-is_due : (g : Over) (c : goal.After-drop-tree-5 g) (xs ys : List ℕ) → g.R.Read.remaining c.args.text.now ≡ Some xs → g.S.Read.remaining c.args.input.now ≡ Some ys
+is_due : (g : Over) (c : goal.After-drop-tree-4 g) (xs ys : List ℕ) → g.R.Read.remaining c.args.text.now ≡ Some xs → g.S.Read.remaining c.args.input.now ≡ Some ys
     → IsDue g c xs ys
 is_due g c xs ys text input =
-    let t = view.tree c.in_ok-tree.tree in
-    let known : IsAccepted xs t = of_known (λ zs. IsAccepted zs t) (g.R.Read.remaining c.args.text.now) xs c.in_ok-tree.ensures.text text in
-    let program : HasProgram t c.in_ok-program.program = c.in_ok-program.ensures.program in
+    let t = view.tree c.in_ok-accepted.accepted.tree in
+    let known : IsAccepted xs t = of_known (λ zs. IsAccepted zs t) (g.R.Read.remaining c.args.text.now) xs c.in_ok-accepted.ensures.text text in
     let bytes : c.in_ok-bytes.bytes.items ≡ ys = of_known (λ zs. c.in_ok-bytes.bytes.items ≡ zs) (g.S.Read.remaining c.args.input.now) ys c.in_ok-bytes.ensures.input input in
-    let setup = setup_of t ys c.args.run.now.tick.rounds in
-    let same : c.in_ok-report.report.items ≡ due c.args.run.now t ys =
-    c.in_ok-report.ensures.report setup (program.stands setup refl) (λ p. ap (λ (b : List ℕ). cut b p) (sym (rw c.deref.ensures.value bytes))) refl in
-    (t, record { is = known; fragment = program.fragment }, same)
+    (t, known, c.in_ok-report.ensures.report ∙ ap (due c.args.run.now t) (rw c.deref.ensures.value bytes))
 
-pub returns-in_err-tree-clause-faults : goal.returns-in_err-tree-clause-faults
-returns-in_err-tree-clause-faults g c =
+pub returns-in_err-accepted-clause-faults : goal.returns-in_err-accepted-clause-faults
+returns-in_err-accepted-clause-faults g c =
     let p = err_from_is_err_and c.from_residual.result c.from_residual.ensures.1 in
-    rw (p.1, p.2) (known_text_fault (g.R.Read.remaining c.args.text.now) (g.S.Read.remaining c.args.input.now) c.in_err-tree.field-0.0 c.in_err-tree.ensures.refused)
+    rw (p.1, p.2) (known_text_fault (g.R.Read.remaining c.args.text.now) (g.S.Read.remaining c.args.input.now) c.in_err-accepted.field-0.0 c.in_err-accepted.ensures.refused)
 
 pub returns-in_err-bytes-clause-beginning : goal.returns-in_err-bytes-clause-beginning
 returns-in_err-bytes-clause-beginning g c =
@@ -42,21 +38,6 @@ pub returns-in_err-bytes-clause-faults : goal.returns-in_err-bytes-clause-faults
 returns-in_err-bytes-clause-faults g c =
     let p = err_from_is_err_and c.from_residual-in_err-bytes.result c.from_residual-in_err-bytes.ensures.1 in
     rw (p.1, p.2) (known_input_fault (g.R.Read.remaining c.args.text.now) (g.S.Read.remaining c.args.input.now) c.in_err-bytes.field-0.0 c.in_err-bytes.ensures.refused)
-
-pub returns-in_err-program-clause-refused : goal.returns-in_err-program-clause-refused
-returns-in_err-program-clause-refused g c =
-    let p = err_from_is_err_and c.from_residual-in_err-program.result c.from_residual-in_err-program.ensures.1 in
-    let t = view.tree c.in_ok-tree.tree in
-    rw (p.1, p.2) (λ write xs ys text input.
-    let known : IsAccepted xs t = of_known (λ zs. IsAccepted zs t) (g.R.Read.remaining c.args.text.now) xs c.in_ok-tree.ensures.text text in
-    let fits : FitsInput ys = of_known FitsInput (g.S.Read.remaining c.args.input.now) ys c.in_ok-bytes.ensures.fits input in
-    inr (inr ((t, known, c.in_err-program.ensures.refused), fits)))
-
-pub returns-in_err-program-clause-faults : goal.returns-in_err-program-clause-faults
-returns-in_err-program-clause-faults g c =
-    let p = err_from_is_err_and c.from_residual-in_err-program.result c.from_residual-in_err-program.ensures.1 in
-    rw (p.1, p.2) (known_program_fault (g.R.Read.remaining c.args.text.now) (g.S.Read.remaining c.args.input.now) (view.tree c.in_ok-tree.tree) c.in_err-program.field-0.0
-    c.in_ok-tree.ensures.text c.in_err-program.ensures.refused)
 
 pub returns-in_err-report-clause-faults : goal.returns-in_err-report-clause-faults
 returns-in_err-report-clause-faults g c =

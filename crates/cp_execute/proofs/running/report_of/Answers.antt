@@ -1,12 +1,26 @@
-use Rattle.std.proofs.Common.{suc, sym, ◌∙◌}
-use Rattle.cp_model.specs.Rounds as r
-use Rattle.cp_model.specs.Start.{start}
-use Rattle.cp_rounds.proofs.Places.{from_ok}
+use Rattle.std.proofs.Common.{◌≡◌, ◌∙◌, subst, sym}
+use Rattle.cp_code.specs.StandsFor.{StandsFor}
+use Rattle.cp_machine.specs.Views.{machine_of}
+use Rattle.cp_model.specs.View as view
+use Rattle.cp_steps.specs.Machines.{first_machine}
+use Rattle.cp_threaded.specs.View as threaded
+use Rattle.cp_execute.specs.Cutting.{AreParts}
+use Rattle.cp_execute.specs.Executed.{setup_of}
+use Rattle.cp_execute.proofs.Faults.{from_ok}
+use Rattle.cp_execute.proofs.Starts.{report_is, start_is}
 use Rattle.cp_execute.proofs.running.report_of.Goals as goal
 
 pub returns-clause-report : goal.returns-clause-report
-returns-clause-report g c = λ setup stands has tick.
-    let after = r.run setup c.args.run.now.plan.turn.steps c.args.run.now.rounds (start setup) in
-    let begun = c.in_ok-machine.ensures.start setup stands (λ i v e. c.in_ok-inputs.ensures.parts.each i v e ∙ sym (has (suc i))) tick in
-    let ended = from_ok c.run.result (sym c.if-is_err.ensures.value) c.run.ensures.done setup (start setup) begun in
-    c.in_ok-bytes.ensures setup after ended
+returns-clause-report g c =
+    let run = c.args.run.now in
+    let input = c.args.input.now in
+    let setup = setup_of (view.tree c.args.tree.now) input run.tick.rounds in
+    let program = threaded.program c.args.program in
+    let stands : StandsFor program setup = c.requires.program setup refl in
+    let inputs = c.in_ok-inputs.inputs.items in
+    let parts = subst (λ n. AreParts input n inputs) c.processes.ensures c.in_ok-inputs.ensures.parts in
+    let started : machine_of c.in_ok-machine.machine ≡ first_machine program setup.tick setup.inputs =
+    c.in_ok-machine.ensures.start ∙ start_is program setup.tick input inputs parts in
+    let ended = from_ok c.run.result (sym c.if-is_err.ensures.value) c.run.ensures.done in
+    c.in_ok-bytes.ensures setup c.args.tree.now refl c.in_ok-tables.ensures
+    ∙ report_is c.in_ok-machine.machine c.run.new.self program setup run.plan.turn.steps run.rounds c.reports.ensures.run stands started ended
