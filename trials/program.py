@@ -45,11 +45,11 @@ def try_examples():
 
 
 def try_rules():
-    """Each text that breaks a rule, with the line of its refusal beside it."""
+    """Each text that is refused, with the line of its refusal beside it."""
     count = 0
-    for refusal in sorted((EXAMPLES / 'rules').glob('*.refusal')):
-        text = refusal.with_suffix('.cp')
-        expect(refusal.name, run(['check', f'rules/{text.name}']), (1, b'', refusal.read_bytes()))
+    for refusal in sorted(EXAMPLES.glob('**/*.refusal')):
+        text = refusal.with_suffix('.cp').relative_to(EXAMPLES)
+        expect(refusal.name, run(['check', text]), (1, b'', refusal.read_bytes()))
         count += 1
     return count
 
@@ -66,18 +66,34 @@ def try_explanations():
     return count
 
 
+def words_of(case, text, given):
+    """The words by which the program answers a worked text, or None. Its input is put into a file."""
+    if case['command'] == 'check':
+        return ['check', text]
+    if case['command'] != 'run' or case['chains']:
+        return None
+    words = ['run', text]
+    for option in ('rounds', 'turn', 'tick'):
+        words += [f'--{option}', str(case[option])]
+    given.write_bytes(case['input'].encode('latin-1'))
+    return [*words, '--input', given]
+
+
 def try_worked():
-    """Each worked text that is checked, by its answer."""
+    """Each worked text that the program answers, by its answer."""
     listed = subprocess.run([sys.executable, ROOT / 'worked' / 'make_rows.py', '--list'], capture_output=True, check=True).stdout
-    cases = [case for case in json.loads(listed) if case['words'] == 'check']
+    count = 0
     with tempfile.TemporaryDirectory() as folder:
-        file = pathlib.Path(folder) / 'text.cp'
-        for case in cases:
-            file.write_bytes(case['text'].encode('latin-1'))
-            answer = case['answer'].encode('latin-1')
-            accepted = answer == b'accepted\n'
-            expect(case['name'], run(['check', file]), (0, answer, b'') if accepted else (1, b'', answer))
-    return len(cases)
+        text, given = pathlib.Path(folder) / 'text.cp', pathlib.Path(folder) / 'input'
+        for case in json.loads(listed):
+            text.write_bytes(case['text'].encode('latin-1'))
+            words = words_of(case, text, given)
+            if words:
+                answer = case['answer'].encode('latin-1')
+                refused = answer.startswith(b'refused ')
+                expect(case['name'], run(words), (1, b'', answer) if refused else (0, answer, b''))
+                count += 1
+    return count
 
 
 def try_exits():
@@ -98,8 +114,6 @@ def try_exits():
     expect('a rule', (status, page.startswith(b'C4: '), error), (0, True, b''))
     expect('no such rule is a file', run(['explain', 'C14'])[0], 4)
     expect('standard input', run(['check', '-']), (1, b'', b'refused Y2 at 0\n'))
-    expect('accepted outside the fragment', run(['check', 'buffer.cp']), (0, b'accepted\n', b''))
-    expect('run outside the fragment', run(['run', 'buffer.cp', '--rounds', '1']), (1, b'', b'refused F1 at 0\n'))
 
 
 def try_each(preloaded, name, count, words, right):
@@ -164,7 +178,7 @@ def main():
     with tempfile.TemporaryDirectory() as folder:
         library = pathlib.Path(folder) / 'refusing.so'
         subprocess.run(['cc', '-shared', '-fPIC', '-O1', '-o', library, REFUSING], check=True)
-        words = ['run', 'squares.cp', '--rounds', '5', '--turn', '4', '--input', 'seven.cp']
+        words = ['run', 'buffer.cp', '--rounds', '6', '--input', 'seven.cp']
         memory, reads, writes = try_refusals(library, words)
         due = (EXAMPLES / 'rules' / 'c4_recursion.explanation').read_bytes().replace(b'c4_recursion', b'rules/c4_recursion', 1)
         told = try_explained(library, ['explain', 'rules/c4_recursion.cp'], due)
@@ -173,7 +187,7 @@ def main():
         shared, threads = map(sum, zip(*waves))
     for line in wrong:
         print(line)
-    print(f'{examples} examples, {rules} texts that break a rule, {explained} explanations, {worked} worked texts; '
+    print(f'{examples} examples, {rules} refused texts, {explained} explanations, {worked} worked texts; '
           f'of an explanation {told[0]} allocations, {told[1]} reads and {told[2]} writes refused in turn; of a run '
           f'{memory} allocations, {reads} reads and {writes} writes refused in turn; '
           f'with 4 workers {shared} allocations and {threads} thread starts; {len(wrong)} wrong')

@@ -8,7 +8,7 @@ pub struct RulePage {
 }
 
 /// One page for each rule, in the order of docs/rules.md.
-pub const PAGES: [RulePage; 28] = [
+pub const PAGES: [RulePage; 27] = [
     RulePage {
         rule: "C1",
         text: "C1: a name is declared before it is used, and once\n\nWhy: an undeclared name is a slip, and a name that hides another misleads the\nreader; so names are declared first, and none hides another.\nMend: spell the name as it is declared, or declare it. Where it was declared\ntwice, rename one of the two.\n\nThis text is refused C1 at 89: the cycle assigns `totl`, which nobody\ndeclared.\n\n  \"A counter that misspells its variable.\"\n  var total: integer;\n  begin\n    total := 0;\n    cycle totl := total + 1 end\n  end.\n\nMended:\n\n  \"A counter.\"\n  var total: integer;\n  begin\n    total := 0;\n    cycle total := total + 1 end\n  end.\n",
@@ -96,10 +96,6 @@ pub const PAGES: [RulePage; 28] = [
     RulePage {
         rule: "Y3",
         text: "Y3: a text is at most 200 levels deep\n\nWhy: a reader, and the checker, keep all open levels in mind.\nMend: name the inner types, and put inner statements into routines.\n",
-    },
-    RulePage {
-        rule: "F1",
-        text: "F1: the text can be run\n\nWhy: every accepted text is to be run; today the machine runs a part of the\nlanguage (language.md, \"The fragment\").\nMend: `cpm check` judges the whole language.\n",
     },
     RulePage {
         rule: "I1",

@@ -21,7 +21,6 @@ fn each_refusal_has_its_line(rt: HostRuntime) -> Result<(), Fail> {
         (Refusal::Unfinished { at: 20 }, "refused Y2 at 20", 1),
         (Refusal::TooDeep { at: 3 }, "refused Y3 at 3", 1),
         (Refusal::from(violation), "refused C13 at 19", 1),
-        (Refusal::Fragment, "refused F1 at 0", 1),
         (Refusal::InputByte { at: 5 }, "refused I3 at 5", 1),
         (Refusal::InputSize, "refused I4 at 1048576", 1),
         (Refusal::from(ScanError::Memory), "fault M", 3),

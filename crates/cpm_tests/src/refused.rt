@@ -38,18 +38,6 @@ fn texts_are_refused_at_their_places(rt: HostRuntime) {
 }
 
 #[test]
-fn a_text_outside_the_fragment_is_accepted_and_not_run(rt: HostRuntime) -> Result<(), Fail> {
-    let text = b"begin while true do end.".as_slice();
-    let (answer, out) = done(&rt, rt.alloc(), text, b"", &Job::Check);
-    assert!(rt; answer == Ok(()));
-    assert!(rt; out.as_slice() == b"accepted\n".as_slice());
-    let (answer, out) = done(&rt, rt.alloc(), text, b"", &job(1, 100)?);
-    assert!(rt; answer == Err(Refusal::Fragment));
-    assert!(rt; out.is_empty());
-    Ok(())
-}
-
-#[test]
 fn a_text_too_long_is_refused(rt: HostRuntime) -> Result<(), Fail> {
     let text = repeated(rt.alloc(), b"begin end.", b" ", 1_048_567, b"")?;
     let (answer, out) = done(&rt, rt.alloc(), &text, b"", &Job::Check);

@@ -45,7 +45,7 @@ const UNSTARTED: &[u8] = b"rounds 0\nprocess 1 initial ready\nout ''\n";
 
 #[test]
 fn texts_have_their_reports(rt: HostRuntime) -> Result<(), Fail> {
-    let cases: [(&[u8], u32, u32, &[u8]); 8] = [
+    let cases: [(&[u8], u32, u32, &[u8]); 9] = [
         (b"begin end.", 0, 10, UNSTARTED),
         (
             b"begin end.",
@@ -64,6 +64,12 @@ fn texts_have_their_reports(rt: HostRuntime) -> Result<(), Fail> {
             5,
             10_000,
             b"rounds 5\nprocess 1 initial ready\nout ''\n",
+        ),
+        (
+            b"begin while true do end.",
+            1,
+            100,
+            b"rounds 1\nprocess 1 initial ready\nout ''\n",
         ),
         (
             SEVEN,

@@ -1,9 +1,0 @@
-pub mod Names
-pub mod Chains
-pub mod Keeping
-pub mod EmittedKept
-pub mod Views
-pub mod Declaring
-pub mod Components
-pub mod Standing
-pub mod ProgramStands

@@ -1,6 +1,0 @@
-pub mod Numbered
-pub mod StandsFor
-pub mod Tables
-pub mod Emitted
-pub mod Variables
-pub mod Components
