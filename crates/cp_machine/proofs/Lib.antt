@@ -9,3 +9,4 @@ pub mod After
 pub mod Waved
 pub mod Crossing
 pub mod Rooms
+pub mod InStates

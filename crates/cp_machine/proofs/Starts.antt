@@ -33,7 +33,7 @@ first_at program inputs p (suc i) (r ∷ rows) row e =
     let at : suc p + i ≡ p + suc i = Prim.omega arith in
     first_at program inputs (suc p) i rows row e ∙ ap (λ (q : ℕ). Some (first_part program inputs q row)) at
 
-pub first_count : (program : Program) (inputs : ℕ → List ℕ) (p : ℕ) (rows : List code.Process) → length (first_parts program inputs p rows) ≡ length rows
+first_count : (program : Program) (inputs : ℕ → List ℕ) (p : ℕ) (rows : List code.Process) → length (first_parts program inputs p rows) ≡ length rows
 first_count program inputs p [] = refl
 first_count program inputs p (r ∷ rows) = ap suc (first_count program inputs (suc p) rows)
 

@@ -10,3 +10,4 @@ pub mod Runs
 pub mod Ends
 pub mod Views
 pub mod Starts
+pub mod InStates

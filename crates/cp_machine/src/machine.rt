@@ -4,6 +4,7 @@ ghost use Rattle.std.specs.Prelude.{◌≡◌, ◌<◌, ◌≤◌, ◌+◌, ◌-
 ghost use Rattle.cp_model.specs.States.{numbers_from};
 ghost use Rattle.cp_steps.specs.Machines as plain;
 ghost use Rattle.cp_threaded.specs.View as view;
+ghost use Rattle.cp_machine.specs.InStates.{IsStarted, MakesRound, MakesRounds};
 ghost use Rattle.cp_machine.specs.MachineOf.{input_of};
 ghost use Rattle.cp_machine.specs.Views.{IsAfter, machine_of, processes_of};
 
@@ -16,6 +17,7 @@ use crate::setting::Setting;
 use crate::starting::first_parts;
 use crate::tick::Tick;
 use crate::waves::make_turns;
+use cp_steps::law;
 use cp_threaded::program::Program;
 use std::alloc::{AllocError, Global};
 use std::mem;
@@ -55,7 +57,10 @@ impl Machine {
         requires inputs { length inputs.items ≡ length (view.program program).processes }
         ensures start { IfOk result (λ machine. machine_of machine ≡ plain.first_machine
             (view.program program) tick.rounds (input_of inputs.items)) }
+        ensures state { IfOk result
+            (IsStarted (view.program program) tick.rounds inputs.items) }
     {
+        law::rounds();
         let parts = first_parts(alloc, &program)?;
         Ok(Machine {
             alloc,
@@ -85,9 +90,11 @@ impl Machine {
         requires count { self.old.rounds < 2 ^ 64 - 1 }
         ensures made { IfOk result (λ _. machine_of self.new ≡ plain.phased_round
             plan.now.turn.steps (numbers_from 1 (processes_of self.old)) (machine_of self.old)) }
+        ensures state { IfOk result (λ _. MakesRound plan.now.turn.steps self.old self.new) }
         ensures kept { IfErr result (λ _. machine_of self.new ≡ machine_of self.old) }
         ensures processes { processes_of self.new ≡ processes_of self.old }
     {
+        law::rounds();
         let moment = self.setting.moment(self.rounds);
         make_turns(
             rt,
@@ -162,11 +169,14 @@ impl Machine {
         ensures done { IfOk result (λ _. machine_of self.new ≡ plain.phased_rounds
             plan.now.turn.steps (numbers_from 1 (processes_of self.old)) rounds
             (machine_of self.old)) }
+        ensures state { IfOk result
+            (λ _. MakesRounds plan.now.turn.steps rounds self.old self.new) }
         ensures partly { IfErr result (λ e. (1 ≤ e.0) × (e.0 ≤ rounds)
             × (machine_of self.new ≡ plain.phased_rounds plan.now.turn.steps
             (numbers_from 1 (processes_of self.old)) (e.0 - 1) (machine_of self.old))) }
         ensures processes { processes_of self.new ≡ processes_of self.old }
     {
+        law::rounds();
         let mut done = 0;
         'part: while done < rounds {
             let count = (rounds - done).min(ROUNDS_AT_ONCE);

@@ -1,13 +1,11 @@
-use Rattle.std.proofs.Common.{◌≡◌, ◌∙◌, subst, sym}
+use Rattle.std.proofs.Common.{◌∙◌, refl, subst, sym}
 use Rattle.cp_code.specs.StandsFor.{StandsFor}
-use Rattle.cp_machine.specs.Views.{machine_of}
 use Rattle.cp_model.specs.View as view
-use Rattle.cp_steps.specs.Machines.{first_machine}
 use Rattle.cp_threaded.specs.View as threaded
 use Rattle.cp_execute.specs.Cutting.{AreParts}
 use Rattle.cp_execute.specs.Executed.{setup_of}
 use Rattle.cp_execute.proofs.Faults.{from_ok}
-use Rattle.cp_execute.proofs.Starts.{report_is, start_is}
+use Rattle.cp_execute.proofs.Starts.{have_inputs, report_is}
 use Rattle.cp_execute.proofs.running.report_of.Goals as goal
 
 pub returns-clause-report : goal.returns-clause-report
@@ -19,8 +17,7 @@ returns-clause-report g c =
     let stands : StandsFor program setup = c.requires.program setup refl in
     let inputs = c.in_ok-inputs.inputs.items in
     let parts = subst (λ n. AreParts input n inputs) c.processes.ensures c.in_ok-inputs.ensures.parts in
-    let started : machine_of c.in_ok-machine.machine ≡ first_machine program setup.tick setup.inputs =
-    c.in_ok-machine.ensures.start ∙ start_is program setup.tick input inputs parts in
     let ended = from_ok c.run.result (sym c.if-is_err.ensures.value) c.run.ensures.done in
     c.in_ok-bytes.ensures setup c.args.tree.now refl c.in_ok-tables.ensures
-    ∙ report_is c.in_ok-machine.machine c.run.new.self program setup run.plan.turn.steps run.rounds c.reports.ensures.run stands started ended
+    ∙ report_is c.in_ok-machine.machine c.run.new.self program setup inputs run.plan.turn.steps run.rounds c.reports.ensures.run stands
+    (have_inputs program setup input inputs parts refl) c.in_ok-machine.ensures.start c.in_ok-machine.ensures.state ended

@@ -1,3 +1,4 @@
+use Rattle.cp_machine.proofs.InStates.{makes_round}
 use Rattle.cp_machine.proofs.Made.{round_made}
 use Rattle.cp_machine.proofs.machine.Machine.round.Goals as goal
 
@@ -8,3 +9,6 @@ returns-clause-made g c =
     round_made old.setting c.args.plan.now.turn.steps old.rounds old.parts.privates.items old.parts.kernel made.privates.items made.kernel
     c.close_round.new.privates.items c.close_round.new.kernel c.make_turns.ensures.count
     (c.in_ok-make_turns.ensures.taken old.rounds c.moment-moment.ensures) c.close_round.ensures
+
+pub returns-clause-state : goal.returns-clause-state
+returns-clause-state g c = makes_round c.args.plan.now.turn.steps c.args.self.now _ c.rounds.ensures.round (returns-clause-made g c)

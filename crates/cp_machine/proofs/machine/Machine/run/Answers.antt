@@ -3,6 +3,7 @@ use Rattle.cp_model.specs.States.{numbers_from}
 use Rattle.cp_steps.specs.Machines as plain
 use Rattle.cp_machine.specs.Views.{machine_of, processes_of}
 use Rattle.cp_machine.proofs.After.{after_more, after_none}
+use Rattle.cp_machine.proofs.InStates.{makes_rounds}
 use Rattle.cp_machine.proofs.machine.Machine.run.Goals as goal
 
 pub part-init : goal.part-init
@@ -47,3 +48,7 @@ returns-clause-done g c =
     let all : c.part.done ≡ c.args.rounds = omega (arith, past, bound) in
     subst (λ (n : ℕ). machine_of c.part.self ≡ plain.phased_rounds t (numbers_from 1 (processes_of first)) n (machine_of first)) all
     c.part.invariant.after.made
+
+pub returns-clause-state : goal.returns-clause-state
+returns-clause-state g c =
+    makes_rounds c.args.plan.now.turn.steps c.args.rounds c.args.self.now c.part.self c.rounds.ensures.run (returns-clause-done g c)
