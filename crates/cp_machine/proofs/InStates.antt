@@ -11,7 +11,7 @@ use Rattle.cp_steps.specs.Machines as plain
 use Rattle.cp_steps.specs.Machines.{first_machine, first_part, first_parts}
 use Rattle.cp_steps.specs.PrivateStates.{PrivateState}
 use Rattle.cp_steps.specs.RoundLaws.{RoundIsRound, RoundsAreRun, StartIsIn}
-use Rattle.cp_machine.specs.InStates.{IsStarted, MakesRound, MakesRounds}
+use Rattle.cp_machine.specs.InStates.{IsStarted, MakesRounds}
 use Rattle.cp_machine.specs.MachineOf.{input_of}
 use Rattle.cp_machine.specs.Views.{machine_of, processes_of}
 use Rattle.cp_machine.specs.declared.machine.Machine.{Machine}
@@ -48,9 +48,9 @@ is_started program tick inputs m law made setup stands ticks given =
 pub process_count_is : (m : Machine) (setup : Setup) (s : State) → IsIn (machine_of m) setup s → processes_of m ≡ process_count setup
 process_count_is m setup s I = sym (parts_count (input_of m.setting.inputs.items) 1 m.parts.privates.items) ∙ I.part_count
 
-pub makes_round : (t : ℕ) (old new : Machine) → RoundIsRound → machine_of new ≡ plain.phased_round t (numbers_from 1 (processes_of old)) (machine_of old)
-    → MakesRound t old new
-makes_round t old new law made setup s I =
+pub makes_round : (t : ℕ) (old : Machine) (m : plain.Machine) → RoundIsRound → m ≡ plain.phased_round t (numbers_from 1 (processes_of old)) (machine_of old)
+    → (setup : Setup) (s : State) → IsIn (machine_of old) setup s → IsIn m setup (meaning.phased_round setup t s)
+makes_round t old m law made setup s I =
     let same = made ∙ ap (λ n. plain.phased_round t (numbers_from 1 n) (machine_of old)) (process_count_is old setup s I) in
     subst (λ o. IsIn o setup (meaning.phased_round setup t s)) (sym same) (law (machine_of old) setup s t I)
 

@@ -1,4 +1,5 @@
 use Rattle.cp_threaded.specs.View as threaded
+use Rattle.cp_machine.specs.declared.machine.Machine.{Machine}
 use Rattle.cp_machine.specs.declared.setting.Setting.{Setting}
 use Rattle.cp_machine.proofs.InStates.{is_started}
 use Rattle.cp_machine.proofs.Starts.{first_is}
@@ -9,4 +10,5 @@ returns c =
     let setting : Setting = record { program = c.args.program; inputs = c.args.inputs; tick = c.args.tick } in
     let start = first_is setting c.in_ok-parts.parts.privates.items c.in_ok-parts.parts.kernel c.in_ok-parts.ensures in
     let program = threaded.program c.args.program in
-    record { start = start; state = is_started program c.args.tick.rounds c.args.inputs.items _ c.rounds.ensures.start start }
+    let machine : Machine = record { alloc = c.args.alloc; setting = setting; parts = c.in_ok-parts.parts; rounds = 0 } in
+    record { start = start; state = is_started program c.args.tick.rounds c.args.inputs.items machine c.rounds.ensures.start start }
