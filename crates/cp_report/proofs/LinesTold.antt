@@ -1,6 +1,6 @@
 -- The lines of listed components are told one after another, by number.
-use Rattle.std.proofs.Common.{◌≡◌, ◌++◌, ℕ, suc, List, [], ◌∷◌, ap, sym, subst, ◌∙◌}
-use Rattle.std.proofs.lemmas.List.{append-nil, append_assoc}
+use Rattle.std.proofs.Common.{◌≡◌, ◌++◌, ℕ, suc, List, [], ◌∷◌, ap, sym, ◌∙◌}
+use Rattle.std.proofs.lemmas.List.{append_assoc}
 use Rattle.cp_model.specs.Abstract.{Name}
 use Rattle.cp_model.specs.Declarations.{Variable}
 use Rattle.cp_model.specs.Report.{Text}
@@ -29,10 +29,3 @@ one_component types one all n e es out after text more L tells = by L.left L.lis
       listed = h.2;
       text_is = (λ i. tells v h.0 h.1 i ++ all (suc n) vs) ∙ (append_assoc out (one n v) (all (suc n) vs) ∙ (ap (λ z. out ++ z) (sym (more v vs)) ∙ is));
     }
-
-pub all_components : (types : Types) (all : Lines) (n : ℕ) (es : List (Name × ℕ)) (out text : Text) → all n [] ≡ [] → es ≡ [] → LinesToTell types all n es out text → out ≡ text
-all_components types all n es out text nothing none L = by L.left (subst (λ fs. AreListed types fs L.left) none L.listed) L.text_is
-  where
-    by : (vs : List (Name × Variable)) → AreListed types [] vs → out ++ all n vs ≡ text → out ≡ text
-    by [] h is = sym (append-nil out) ∙ (ap (λ z. out ++ z) (sym nothing) ∙ is)
-    by (v ∷ vs) h is = absurd h

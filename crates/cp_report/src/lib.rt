@@ -5,7 +5,8 @@
 //! - `heads`, `components`: the lines of whole components.
 //! - `listing`, `status`: the processes or monitors by number, and where a process stands.
 //! - `lines`, `gates`: single lines, and those of the gates of monitors.
-//! - `subject`, `processes`, `monitors`: what a report tells of, and the lines of its processes and monitors.
+//! - `subject`, `processes`, `monitors`: what a report tells of, and the lines of its processes
+//!   and monitors.
 //! - `report`: the whole report.
 #![tactic(auto)]
 

@@ -3,7 +3,8 @@
 ghost use Rattle.std.specs.Prelude.{◌≡◌, OnOk, map};
 ghost use Rattle.cp_process.specs.States as states;
 ghost use Rattle.cp_scope.specs.Standing.{entry};
-ghost use Rattle.cp_report.specs.Subjects.{TellsFront, TellsInitial, TellsProcess, TellsProcesses, TellsStatus};
+ghost use Rattle.cp_report.specs.Subjects.{TellsFront, TellsInitial, TellsStatus};
+ghost use Rattle.cp_report.specs.Subjects.{TellsProcess, TellsProcesses};
 
 use crate::lines::{push_title, push_transcript_line};
 use crate::status::push_stage;
