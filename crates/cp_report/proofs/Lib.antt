@@ -9,3 +9,8 @@ pub mod MembersTold
 pub mod Listed
 pub mod QueuesTold
 pub mod ListedNames
+pub mod LinesTold
+pub mod Numbers
+pub mod ProcessesTold
+pub mod MonitorsTold
+pub mod Initial

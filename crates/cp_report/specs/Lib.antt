@@ -3,3 +3,6 @@ pub mod Walks
 pub mod Tellings
 pub mod Lists
 pub mod Statuses
+pub mod Lines
+pub mod Subjects
+pub mod WholeReports

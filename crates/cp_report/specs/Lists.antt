@@ -7,6 +7,7 @@ use Rattle.cp_model.specs.Types.{ResolvedType}
 use Rattle.cp_scope.specs.Standing.{Stands}
 use Rattle.cp_scope.specs.Variables.{AreDeclared, Entry}
 use Rattle.cp_scope.specs.declared.types.Types.{Types}
+use Rattle.cp_scope.specs.declared.variables.Declared.{Declared}
 
 -- Names and numbers of types stand for variables, one by one.
 abbrev pub AreListed : Types → List (Name × ℕ) → List (Name × Variable) → Type 0
@@ -22,3 +23,7 @@ Picks types z d before after =
 -- Those of the sort among the variables that are declared.
 abbrev pub Lists : Types → Sort → List Entry → List (Name × ℕ) → Type 0
 Lists types z ds es = (vs : List (Name × Variable)) → AreDeclared types ds vs → AreListed types es (filter (λ v. is_component_of z v.1.type) vs)
+
+-- The name of a declared variable, and the number of its type.
+abbrev pub declared_member : Declared → Name × ℕ
+declared_member d = (d.name.now, d.of)

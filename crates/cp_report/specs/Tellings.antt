@@ -1,17 +1,25 @@
 -- What is told of a simple part or a queue.
-use Rattle.std.specs.Prelude.{ℕ, ℤ, ◌++◌, codes}
+use Rattle.std.specs.Prelude.{ℕ, ℤ, List, [], ◌++◌, codes}
 use Rattle.cp_model.specs.Decimal.{decimal}
 use Rattle.cp_model.specs.Locations.{Path}
 use Rattle.cp_model.specs.Report.{Text, line, occupant_text}
+use Rattle.cp_process.specs.States.{private_of}
+use Rattle.cp_gates.specs.KernelOf.{kernel_of}
 use Rattle.cp_steps.specs.Means.{queued}
 use Rattle.cp_steps.specs.Reports.{Visit, lines_visit, queue_visit}
 use Rattle.cp_report.specs.declared.telling.Leaf.{Leaf}
 use Rattle.cp_report.specs.declared.telling.Leaf.TheVariants as leaf
 use Rattle.cp_report.specs.declared.telling.Telling.{Telling}
 use Rattle.cp_report.specs.declared.telling.Telling.TheVariants as telling
+use Rattle.cp_report.specs.declared.telling.Words.{Words}
+use Rattle.cp_report.specs.declared.telling.Words.TheVariants as words
+
+abbrev pub words_in : Words → List ℤ
+words_in (words.Own private) = (private_of private.now []).words
+words_in (words.Shared kernel) = (kernel_of kernel.now).shared
 
 abbrev pub visit_of : Telling → Visit
-visit_of (telling.Lines words) = lines_visit words.now
+visit_of (telling.Lines ws) = lines_visit (words_in ws)
 visit_of (telling.PathOf at) = queue_visit at
 
 abbrev pub told : Visit → Leaf → Path → ℕ → Text

@@ -2,13 +2,14 @@
 
 ghost use Rattle.std.specs.Prelude.{◌≡◌, OnOk, map};
 ghost use Rattle.cp_scope.specs.Standing.{entry};
+ghost use Rattle.cp_report.specs.Lists.{declared_member};
 ghost use Rattle.cp_report.specs.Tellings.{visit_of};
 ghost use Rattle.cp_report.specs.Walks.{TellsComponent, TellsMembers};
 
 use crate::heads::head_words;
 use crate::telling::Telling;
 use crate::walk::Walk;
-use cp_scope::{Field, Tables, TypeRow};
+use cp_scope::{Declared, Field, Tables, TypeRow};
 use std::alloc::AllocError;
 
 impl Walk {
@@ -51,5 +52,37 @@ impl Walk {
         let head = head_words(tables, *system)?;
         self.at = start.checked_add(head).ok_or(AllocError)?;
         self.members(tables, telling, out, members)
+    }
+
+    // Tells variables of the initial process, one after another, from the next place on.
+    fn declared(
+        &mut self,
+        tables: &Tables,
+        telling: &Telling,
+        out: &mut Vec<u8>,
+        variables: &[Declared],
+    ) -> Result<(), AllocError>
+        ensures { OnOk result (TellsMembers tables.now (visit_of telling.now)
+            (map declared_member variables.now) self.old.at out.old.items out.new.items) }
+    {
+        for declared in variables {
+            self.variable(tables, telling, out, declared.name, declared.of)?;
+        }
+        Ok(())
+    }
+
+    /// Tells the variables of the initial process, whose words begin with its mark.
+    pub(crate) fn initial(
+        &mut self,
+        tables: &Tables,
+        telling: &Telling,
+        out: &mut Vec<u8>,
+    ) -> Result<(), AllocError>
+        ensures { OnOk result (TellsMembers tables.now (visit_of telling.now)
+            (map declared_member tables.now.initial.variables.items) 1
+            out.old.items out.new.items) }
+    {
+        self.at = 1;
+        self.declared(tables, telling, out, &tables.initial.variables)
     }
 }

@@ -4,12 +4,22 @@
 //! - `telling`, `walk`: what is told of a part of a variable, and the walk over all parts.
 //! - `heads`, `components`: the lines of whole components.
 //! - `listing`, `status`: the processes or monitors by number, and where a process stands.
+//! - `lines`, `gates`: single lines, and those of the gates of monitors.
+//! - `subject`, `processes`, `monitors`: what a report tells of, and the lines of its processes
+//!   and monitors.
+//! - `report`: the whole report.
 #![tactic(auto)]
 
 mod components;
+mod gates;
 mod heads;
+mod lines;
 pub mod listing;
+mod monitors;
+mod processes;
+pub mod report;
 pub mod status;
+mod subject;
 pub mod telling;
 pub mod text;
 pub mod walk;

@@ -19,8 +19,8 @@ use cp_scope::{Field, Tables};
 use cp_threaded::program::Program;
 use std::alloc::AllocError;
 
-// Where the words of a monitor begin.
-fn monitor_start(program: &Program, number: usize) -> usize
+/// Where the words of a monitor begin.
+pub(crate) fn monitor_start(program: &Program, number: usize) -> usize
     ensures { result ≡ plain.monitor_start (view.program program.now) number }
 {
     match program.monitor(number) {

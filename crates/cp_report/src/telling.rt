@@ -1,12 +1,14 @@
 //! What is told of a simple part or a queue that is visited.
 
 ghost use Rattle.std.specs.Prelude.{◌≡◌, ◌++◌, [], OnOk, if◌then◌else◌};
-ghost use Rattle.cp_code.specs.Starts.{word as plain_word};
+ghost use Rattle.cp_code.specs.Starts.{word};
 ghost use Rattle.cp_model.specs.Locations.{Path};
 ghost use Rattle.cp_model.specs.Report.{path_text};
-ghost use Rattle.cp_report.specs.Tellings.{queue_line_of, told, value_line_of, visit_of};
+ghost use Rattle.cp_report.specs.Tellings.{queue_line_of, told, value_line_of, visit_of, words_in};
 
 use crate::text::{push_integer, push_occupant};
+use cp_gates::kernel::Kernel;
+use cp_process::private::Private;
 use std::alloc::AllocError;
 
 /// What is visited.
@@ -16,23 +18,34 @@ pub enum Leaf {
     Queue,
 }
 
+/// Words that are read by their places.
+#[derive(Clone, Copy)]
+pub enum Words<'w> {
+    /// Those of a process.
+    Own(&'w Private),
+    /// Those of the monitors.
+    Shared(&'w Kernel),
+}
+
+impl<'w> Words<'w> {
+    // The word at a place. A missing one reads as 0.
+    fn at(&self, place: usize) -> i32
+        ensures { result ≡ word (words_in self.now) place }
+    {
+        match *self {
+            Words::Own(private) => private.value(place),
+            Words::Shared(kernel) => kernel.word(place),
+        }
+    }
+}
+
 /// What a walk tells.
 #[derive(Clone, Copy)]
 pub enum Telling<'w> {
     /// A line with the value of each, which is in these words.
-    Lines(&'w [i32]),
+    Lines(Words<'w>),
     /// The path of the queue that lies at this place.
     PathOf(usize),
-}
-
-// The word at a place. A missing one reads as 0.
-fn word(words: &[i32], at: usize) -> i32
-    ensures { result ≡ plain_word words.now at }
-{
-    match words.get(at) {
-        Some(n) => *n,
-        None => 0,
-    }
 }
 
 fn push_value_line(out: &mut Vec<u8>, path: &[u8], n: i32) -> Result<(), AllocError>
@@ -69,8 +82,8 @@ impl<'w> Telling<'w> {
     {
         match *self {
             Telling::Lines(words) => match leaf {
-                Leaf::Simple => push_value_line(out, path, word(words, at)),
-                Leaf::Queue => push_queue_line(out, path, word(words, at)),
+                Leaf::Simple => push_value_line(out, path, words.at(at)),
+                Leaf::Queue => push_queue_line(out, path, words.at(at)),
             },
             Telling::PathOf(target) => match leaf {
                 Leaf::Simple => Ok(()),

@@ -1,0 +1,33 @@
+use Rattle.std.proofs.Common.{◌≡◌, ◌++◌, [], Some, ap, sym, ◌∙◌}
+use Rattle.std.specs.Prelude.{codes, option_map, slice_get}
+use Rattle.std.proofs.lemmas.Result.{on_ok_weaker}
+use Rattle.cp_model.specs.Declarations.{globals, members_from, reported_members}
+use Rattle.cp_model.specs.Types.{NoMembers}
+use Rattle.cp_code.specs.Layout.{head_words}
+use Rattle.cp_machine.specs.MachineOf.{input_of}
+use Rattle.cp_process.specs.States.{private_of}
+use Rattle.cp_scope.specs.Variables.{variables_of}
+use Rattle.cp_steps.specs.Reports.{lines_visit, visit_members}
+use Rattle.cp_report.specs.Subjects.{machine_in}
+use Rattle.cp_report.proofs.Initial.{declared_members, initial_head, initial_members}
+use Rattle.cp_report.proofs.ProcessesTold.{process_told}
+use Rattle.cp_report.proofs.subject.Subject.push_initial.Goals as goal
+
+pub returns : goal.returns
+returns c =
+    on_ok_weaker c.initial.result
+    (λ told setup text is stand of.
+    let s = c.args.self.now in
+    let m = machine_in s in
+    let g = globals setup.tree in
+    let input = input_of s.machine.now.setting.inputs.items 1 in
+    let o = private_of c.in-Some.private.now input in
+    let vs = variables_of g text.variables.items in
+    let mid = c.push_front.new.out.items in
+    let there : slice_get m.parts 0 ≡ Some o = sym c.private.ensures ∙ ap (option_map (λ x. private_of x.now input)) c.in-Some.is in
+    let stand = declared_members s.tables.now.types s.tables.now.initial.variables.items vs stand.initial.variables in
+    let members = told g (members_from vs NoMembers) of.0 stand in
+    process_told setup m 1 (codes "initial") (head_words g setup.tree.initial) (reported_members g setup.tree.initial) o c.args.out.now.items mid c.initial.new.out.items there
+    (c.in_ok-push_front.ensures setup of)
+    (members ∙ (λ i. mid ++ visit_members g (lines_visit o.words) [] (sym (initial_head setup text is g) i) (sym (initial_members setup text is g) i))))
+    c.initial.ensures

@@ -1,0 +1,17 @@
+use Rattle.std.proofs.Common.{◌++◌, List, drop, map, suc}
+use Rattle.cp_model.specs.Abstract.{Name}
+use Rattle.cp_model.specs.Declarations.{Variable}
+use Rattle.cp_model.specs.States.{Setup}
+use Rattle.cp_steps.specs.Reports.{processes_lines}
+use Rattle.cp_scope.specs.Standing.{entry}
+use Rattle.cp_report.specs.Lists.{AreListed}
+use Rattle.cp_report.specs.Subjects.{IsOf, machine_in}
+use Rattle.cp_report.proofs.LinesTold.{LinesToTell}
+use Rattle.cp_report.proofs.subject.Subject.push_processes.Given as goal
+
+-- What was told, and the processes that are left, come to all.
+abbrev pub invariant-loop-index : goal.invariant-loop-index
+invariant-loop-index l =
+    (setup : Setup) (vs : List (Name × Variable)) → IsOf l.self setup → AreListed l.self.tables.now.types (map entry l.processes) vs
+    → LinesToTell l.self.tables.now.types (processes_lines setup (machine_in l.self)) (suc (suc l.index)) (map entry (drop l.index l.processes)) l.out.items
+    (l.fn.out.items ++ processes_lines setup (machine_in l.self) 2 vs)

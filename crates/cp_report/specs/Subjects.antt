@@ -1,0 +1,82 @@
+-- What is told of the processes and monitors of a machine.
+use Rattle.std.specs.Prelude.{◌≡◌, ◌++◌, ℕ, List, [], codes, map}
+use Rattle.cp_model.specs.Abstract.{Monitor, Name, Process}
+use Rattle.cp_model.specs.Declarations.{Variable, globals, reported_members}
+use Rattle.cp_model.specs.Erase as erase
+use Rattle.cp_model.specs.Report.{Text, component_members, components_of}
+use Rattle.cp_model.specs.States.{Setup}
+use Rattle.cp_model.specs.Types.{ResolvedType}
+use Rattle.cp_model.specs.View as view
+use Rattle.cp_model.specs.declared.tree.Tree as tree
+use Rattle.cp_code.specs.Layout.{head_words}
+use Rattle.cp_steps.specs.KernelSteps.{stage_of}
+use Rattle.cp_steps.specs.Machines as plain
+use Rattle.cp_steps.specs.PrivateStates.{Activity}
+use Rattle.cp_steps.specs.Reports.{head_of, machine_report, monitor_lines, monitors_lines, process_lines, processes_lines, stage_text}
+use Rattle.cp_process.specs.States.{private_of}
+use Rattle.cp_process.specs.declared.private.Private.{Private}
+use Rattle.cp_machine.specs.Views.{machine_of}
+use Rattle.cp_scope.specs.Standing.{ScopeStands, Stands, entry}
+use Rattle.cp_scope.specs.Texts.{TablesStand}
+use Rattle.cp_report.specs.Lines.{front_lines}
+use Rattle.cp_report.specs.Lists.{AreListed}
+use Rattle.cp_report.specs.declared.subject.Subject.{Subject}
+
+abbrev pub machine_in : Subject → plain.Machine
+machine_in s = machine_of s.machine.now
+
+-- The tables are those of a text, and the monitors are its monitors.
+abbrev pub IsOf : Subject → Setup → Type 0
+IsOf s setup =
+    ScopeStands s.tables.now.names s.tables.now.types (globals setup.tree)
+    × AreListed s.tables.now.types (map entry s.monitors.now) (components_of setup Monitor)
+
+-- ---- Processes
+
+-- It is told where a process stands that does this.
+abbrev pub TellsStatus : Subject → ℕ → Activity → Text → Text → Type 0
+TellsStatus s p a out after =
+    (setup : Setup) → IsOf s setup → after ≡ out ++ stage_text setup (machine_in s).program (stage_of (machine_in s).kernel.stages p) a
+
+-- What comes before the variables of a process.
+abbrev pub TellsFront : Subject → ℕ → Name → Private → Text → Text → Type 0
+TellsFront s p x private out after =
+    (setup : Setup) → IsOf s setup
+    → after ≡ out ++ front_lines setup (machine_in s) p x (private_of private []).activity (private_of private []).output
+
+-- The process of this number, name and number of a type.
+abbrev pub TellsProcess : Subject → ℕ → Name → ℕ → Text → Text → Type 0
+TellsProcess s p x n out after =
+    (setup : Setup) (t : ResolvedType) → IsOf s setup → Stands s.tables.now.types n t
+    → after ≡ out ++ process_lines setup (machine_in s) p x (head_of (globals setup.tree) t) (component_members t)
+
+abbrev pub TellsProcesses : Subject → List (Name × ℕ) → Text → Text → Type 0
+TellsProcesses s es out after =
+    (setup : Setup) (vs : List (Name × Variable)) → IsOf s setup → AreListed s.tables.now.types es vs
+    → after ≡ out ++ processes_lines setup (machine_in s) 2 vs
+
+abbrev pub TellsInitial : Subject → Text → Text → Type 0
+TellsInitial s out after =
+    (setup : Setup) (text : tree.Tree) → setup.tree ≡ erase.abstract (view.tree text) → TablesStand (globals setup.tree) s.tables.now text
+    → IsOf s setup
+    → after ≡ out
+    ++ process_lines setup (machine_in s) 1 (codes "initial") (head_words (globals setup.tree) setup.tree.initial) (reported_members (globals setup.tree) setup.tree.initial)
+
+-- ---- Monitors
+
+abbrev pub TellsMonitor : Subject → ℕ → Name → ℕ → Text → Text → Type 0
+TellsMonitor s n x row out after =
+    (setup : Setup) (t : ResolvedType) → IsOf s setup → Stands s.tables.now.types row t
+    → after ≡ out ++ monitor_lines setup (machine_in s) n x t
+
+abbrev pub TellsMonitors : Subject → Text → Text → Type 0
+TellsMonitors s out after =
+    (setup : Setup) → IsOf s setup → after ≡ out ++ monitors_lines setup (machine_in s) 1 (components_of setup Monitor)
+
+-- ---- The whole report
+
+abbrev pub TellsAll : Subject → List (Name × ℕ) → Text → Text → Type 0
+TellsAll s es out after =
+    (setup : Setup) (text : tree.Tree) → setup.tree ≡ erase.abstract (view.tree text) → TablesStand (globals setup.tree) s.tables.now text
+    → IsOf s setup → AreListed s.tables.now.types es (components_of setup Process)
+    → after ≡ out ++ machine_report setup (machine_in s)

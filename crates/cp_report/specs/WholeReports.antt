@@ -1,0 +1,18 @@
+-- When bytes are the report of a machine.
+use Rattle.std.specs.Prelude.{◌≡◌}
+use Rattle.cp_model.specs.Declarations.{globals}
+use Rattle.cp_model.specs.Erase as erase
+use Rattle.cp_model.specs.Report.{Text}
+use Rattle.cp_model.specs.States.{Setup}
+use Rattle.cp_model.specs.View as view
+use Rattle.cp_model.specs.declared.tree.Tree as tree
+use Rattle.cp_steps.specs.Machines as plain
+use Rattle.cp_steps.specs.Reports.{machine_report}
+use Rattle.cp_scope.specs.Texts.{TablesStand}
+use Rattle.cp_scope.specs.declared.tables.Tables.{Tables}
+
+-- The bytes are the report that is read off the machine, of a text that has these tables.
+abbrev pub IsReport : Tables → plain.Machine → Text → Type 0
+IsReport tables m bytes =
+    (setup : Setup) (text : tree.Tree) → setup.tree ≡ erase.abstract (view.tree text) → TablesStand (globals setup.tree) tables text
+    → bytes ≡ machine_report setup m

@@ -1,0 +1,43 @@
+//! The lines of monitors.
+
+ghost use Rattle.std.specs.Prelude.{◌≡◌, OnOk};
+ghost use Rattle.cp_report.specs.Subjects.{TellsMonitor, TellsMonitors};
+
+use crate::gates::push_gate_line;
+use crate::status::monitor_start;
+use crate::subject::{Subject, small_number};
+use crate::telling::{Telling, Words};
+use crate::walk::Walk;
+use std::alloc::AllocError;
+
+impl<'r, 't> Subject<'r, 't> {
+    // Tells of a monitor by its number: its gate and its variables.
+    fn push_monitor(
+        &self,
+        walk: &mut Walk,
+        out: &mut Vec<u8>,
+        number: u32,
+        name: &[u8],
+        row: usize,
+    ) -> Result<(), AllocError>
+        ensures { OnOk result (TellsMonitor self.now number name.now row
+            out.old.items out.new.items) }
+    {
+        let kernel = self.machine.kernel();
+        push_gate_line(out, name, kernel.holder(number), kernel.askers(number))?;
+        let start = monitor_start(self.machine.program(), number as usize);
+        let lines = Telling::Lines(Words::Shared(kernel));
+        walk.component(self.tables, &lines, out, row, start)
+    }
+
+    /// Tells of all monitors by number.
+    pub(crate) fn push_monitors(&self, walk: &mut Walk, out: &mut Vec<u8>) -> Result<(), AllocError>
+        ensures { OnOk result (TellsMonitors self.now out.old.items out.new.items) }
+    {
+        for (index, monitor) in self.monitors.iter().enumerate() {
+            let number = small_number(index + 1)?;
+            self.push_monitor(walk, out, number, monitor.name, monitor.of)?;
+        }
+        Ok(())
+    }
+}

@@ -1,0 +1,110 @@
+//! The lines of processes.
+
+ghost use Rattle.std.specs.Prelude.{◌≡◌, OnOk, map};
+ghost use Rattle.cp_process.specs.States as states;
+ghost use Rattle.cp_scope.specs.Standing.{entry};
+ghost use Rattle.cp_report.specs.Subjects.{TellsFront, TellsInitial, TellsStatus};
+ghost use Rattle.cp_report.specs.Subjects.{TellsProcess, TellsProcesses};
+
+use crate::lines::{push_title, push_transcript_line};
+use crate::status::push_stage;
+use crate::subject::{Subject, small_number};
+use crate::telling::{Telling, Words};
+use crate::walk::Walk;
+use cp_process::private::{Activity, Private};
+use cp_scope::Field;
+use std::alloc::AllocError;
+
+impl<'r, 't> Subject<'r, 't> {
+    // Adds where a process stands that does this.
+    fn push_status(
+        &self,
+        walk: &mut Walk,
+        out: &mut Vec<u8>,
+        number: u32,
+        activity: Activity,
+    ) -> Result<(), AllocError>
+        ensures { OnOk result (TellsStatus self.now number (states.activity activity)
+            out.old.items out.new.items) }
+    {
+        let program = self.machine.program();
+        let stage = self.machine.kernel().stage(number);
+        push_stage(
+            walk,
+            self.tables,
+            program,
+            self.monitors,
+            stage,
+            activity,
+            out,
+        )
+    }
+
+    // Adds the two lines in front of the variables of a process.
+    fn push_front(
+        &self,
+        walk: &mut Walk,
+        out: &mut Vec<u8>,
+        number: u32,
+        name: &[u8],
+        private: &Private,
+    ) -> Result<(), AllocError>
+        ensures { OnOk result (TellsFront self.now number name.now private.now
+            out.old.items out.new.items) }
+    {
+        push_title(out, number, name)?;
+        self.push_status(walk, out, number, private.activity())?;
+        out.extend_from_slice(b"\n")?;
+        let transcript = self.machine.kernel().transcript(number as usize);
+        push_transcript_line(out, transcript, private.output())
+    }
+
+    // Tells of a process by its number: where it stands, what it wrote, and its variables.
+    fn push_process(
+        &self,
+        walk: &mut Walk,
+        out: &mut Vec<u8>,
+        number: u32,
+        name: &[u8],
+        row: usize,
+    ) -> Result<(), AllocError>
+        ensures { OnOk result (TellsProcess self.now number name.now row
+            out.old.items out.new.items) }
+    {
+        let Some(private) = self.machine.private(number as usize) else {
+            return Ok(());
+        };
+        self.push_front(walk, out, number, name, private)?;
+        let lines = Telling::Lines(Words::Own(private));
+        walk.component(self.tables, &lines, out, row, 0)
+    }
+
+    /// Tells of the initial process, whose number is 1.
+    pub(crate) fn push_initial(&self, walk: &mut Walk, out: &mut Vec<u8>) -> Result<(), AllocError>
+        ensures { OnOk result (TellsInitial self.now out.old.items out.new.items) }
+    {
+        let Some(private) = self.machine.private(1) else {
+            return Ok(());
+        };
+        self.push_front(walk, out, 1, b"initial", private)?;
+        let lines = Telling::Lines(Words::Own(private));
+        walk.initial(self.tables, &lines, out)
+    }
+
+    /// Tells of the other processes, by number.
+    pub(crate) fn push_processes(
+        &self,
+        walk: &mut Walk,
+        out: &mut Vec<u8>,
+        processes: &[Field],
+    ) -> Result<(), AllocError>
+        ensures { OnOk result (TellsProcesses self.now (map entry processes.now)
+            out.old.items out.new.items) }
+    {
+        for (index, process) in processes.iter().enumerate() {
+            let number = small_number(index + 2)?;
+            self.push_process(walk, out, number, process.name, process.of)?;
+        }
+        Ok(())
+    }
+}

@@ -1,0 +1,55 @@
+//! The whole report of a machine.
+
+ghost use Rattle.std.specs.Prelude.{OnOk, IfOk, map};
+ghost use Rattle.cp_machine.specs.Views.{machine_of};
+ghost use Rattle.cp_scope.specs.Standing.{entry};
+ghost use Rattle.cp_report.specs.Subjects.{TellsAll};
+ghost use Rattle.cp_report.specs.WholeReports.{IsReport};
+
+use crate::lines::push_rounds;
+use crate::listing::components;
+use crate::subject::Subject;
+use crate::walk::Walk;
+use cp_machine::machine::Machine;
+use cp_model::tree::Sort;
+use cp_scope::{Field, Tables};
+use std::alloc::{AllocError, Global};
+
+impl<'r, 't> Subject<'r, 't> {
+    // Tells of everything. The processes are all but the initial one.
+    fn push_all(
+        &self,
+        walk: &mut Walk,
+        out: &mut Vec<u8>,
+        processes: &[Field],
+    ) -> Result<(), AllocError>
+        ensures { OnOk result (TellsAll self.now (map entry processes.now)
+            out.old.items out.new.items) }
+    {
+        push_rounds(out, self.machine.rounds())?;
+        self.push_initial(walk, out)?;
+        self.push_processes(walk, out, processes)?;
+        self.push_monitors(walk, out)
+    }
+}
+
+/// The bytes of the report of a machine that runs the program of a text with these tables.
+///
+/// # Errors
+///
+/// `AllocError` where memory runs out.
+pub fn report(alloc: Global, tables: &Tables, machine: &Machine) -> Result<Vec<u8>, AllocError>
+    ensures { IfOk result (λ bytes. IsReport tables.now (machine_of machine.now) bytes.items) }
+{
+    let monitors = components(alloc, tables, Sort::Monitor)?;
+    let processes = components(alloc, tables, Sort::Process)?;
+    let subject = Subject {
+        tables,
+        machine,
+        monitors: &monitors,
+    };
+    let mut walk = Walk::new(alloc, 0);
+    let mut bytes = Vec::new(alloc);
+    subject.push_all(&mut walk, &mut bytes, &processes)?;
+    Ok(bytes)
+}
