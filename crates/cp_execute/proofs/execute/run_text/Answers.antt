@@ -1,22 +1,21 @@
-use Rattle.std.proofs.Common.{◌≡◌, ◌≤◌, refl, ℕ, List, length, take, Some, ap, sym, subst, inl, inr}
+use Rattle.std.proofs.Common.{◌≡◌, ◌≤◌, ◌∙◌, ℕ, List, length, take, Some, ap, sym, subst, inl, inr}
 use Rattle.std.proofs.lemmas.Result.{err_from_is_err_and}
 use Rattle.std.specs.Io.KnownBytes.{Appends}
 use Rattle.cp_model.specs.Syntax as s
-use Rattle.cp_model.specs.Input.{cut}
 use Rattle.cp_model.specs.View as view
 use Rattle.cp_judge.proofs.Tells.{on_ok}
-use Rattle.cp_execute.specs.Executed.{FitsInput, due, setup_of}
-use Rattle.cp_execute.specs.Texts.{HasProgram, IsAccepted, IsRunnable}
-use Rattle.cp_execute.proofs.Faults.{known_input_fault, known_program_fault, known_text_fault, memory_fault, of_err, on_err, write_fault}
+use Rattle.cp_execute.specs.Executed.{due}
+use Rattle.cp_execute.specs.Texts.{IsAccepted}
+use Rattle.cp_execute.proofs.Faults.{known_input_fault, known_text_fault, memory_fault, of_err, on_err, write_fault}
 use Rattle.cp_execute.proofs.TextRefusals.{of_known}
 use Rattle.cp_execute.proofs.execute.run_text.Given.{Over}
 use Rattle.cp_execute.proofs.execute.run_text.Goals as goal
 
 -- The report that was made is the one that is due.
-abbrev IsDue : (g : Over) → goal.After-drop-tree-4 g → List ℕ → List ℕ → Type 0
+abbrev IsDue : (g : Over) → goal.After-drop-bytes-2 g → List ℕ → List ℕ → Type 0
 IsDue g c xs ys = (t : s.Tree) × IsAccepted xs t × (c.in_ok-report.report.items ≡ due c.args.run.now t ys)
 
-is_due : (g : Over) (c : goal.After-drop-tree-4 g) (xs ys : List ℕ) → g.R.Read.remaining c.args.text.now ≡ Some xs → g.S.Read.remaining c.args.input.now ≡ Some ys
+is_due : (g : Over) (c : goal.After-drop-bytes-2 g) (xs ys : List ℕ) → g.R.Read.remaining c.args.text.now ≡ Some xs → g.S.Read.remaining c.args.input.now ≡ Some ys
     → IsDue g c xs ys
 is_due g c xs ys text input =
     let t = view.tree c.in_ok-accepted.accepted.tree in
