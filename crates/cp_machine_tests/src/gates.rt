@@ -1,6 +1,6 @@
 //! Gates at which turns on several threads wait for each other, but not for ever.
 
-use cp_rounds::gate::TurnGate;
+use cp_machine::gate::TurnGate;
 use std::sync::atomic::{AtomicU64, Ordering};
 
 // A count that others read.

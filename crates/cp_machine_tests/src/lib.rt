@@ -1,15 +1,26 @@
-//! Tests of programs, private states, kernels and machines, all from the bytes of texts and worked by hand.
+//! Tests of machines, from the bytes of texts. What is expected was worked out by hand from the
+//! rules of the language.
 #![tactic(auto)]
 
 #[cfg(test)]
-mod gates;
+mod components;
 #[cfg(test)]
-mod kernels;
+mod gates;
 #[cfg(test)]
 mod machines;
 #[cfg(test)]
-mod privates;
+mod monitors;
+#[cfg(test)]
+mod plans;
+#[cfg(test)]
+mod processes;
+#[cfg(test)]
+mod refusals;
+#[cfg(test)]
+mod rounds;
 #[cfg(test)]
 mod texts;
+#[cfg(test)]
+mod ways;
 #[cfg(test)]
 mod workers;
