@@ -1,7 +1,7 @@
 -- Components are listed one after another.
 use Rattle.std.proofs.Common.{◌≡◌, ℕ, Bool, true, false, List, [], ◌∷◌, ◌++◌, refl, ap, sym, subst, ◌∙◌}
 use Rattle.std.specs.Prelude.{filter, if◌then◌else◌}
-use Rattle.std.proofs.lemmas.List.{append-nil, append_assoc}
+use Rattle.std.proofs.lemmas.List.{append_assoc}
 use Rattle.cp_model.specs.Abstract.{Name, Sort}
 use Rattle.cp_model.specs.Components.{is_component_of}
 use Rattle.cp_model.specs.Declarations.{Variable}
@@ -52,10 +52,3 @@ next_listed types z d left es fs whole L picks = by L.rest L.declared L.whole_is
           listed = subst (λ gs. AreListed types gs L.done) (sym (picks v.1.type h.2 ∙ ap (λ b. if b then es ++ (d.0, d.1.1) ∷ [] else es) is)) L.listed;
           whole_is = e ∙ ap (λ b. L.done ++ (if b then v ∷ filter (λ w. is_component_of z w.1.type) vs else filter (λ w. is_component_of z w.1.type) vs)) is;
         }
-
-pub all_listed : (types : Types) (z : Sort) (left : List Entry) (es : List (Name × ℕ)) (whole : List (Name × Variable)) → left ≡ [] → Listing types z left es whole → AreListed types es whole
-all_listed types z left es whole none L = by L.rest (subst (λ ds. AreDeclared types ds L.rest) none L.declared) L.whole_is
-  where
-    by : (vs : List (Name × Variable)) → AreDeclared types [] vs → whole ≡ L.done ++ filter (λ v. is_component_of z v.1.type) vs → AreListed types es whole
-    by [] h e = subst (AreListed types es) (sym (e ∙ append-nil L.done)) L.listed
-    by (v ∷ vs) h e = absurd h

@@ -1,7 +1,7 @@
 -- Members of a component are told one after another.
-use Rattle.std.proofs.Common.{◌≡◌, ℕ, zero, suc, ◌+◌, ◌<◌, ◌++◌, List, [], ◌∷◌, drop, length, map, refl, sym, subst, ◌∙◌, arith}
+use Rattle.std.proofs.Common.{◌≡◌, ℕ, zero, suc, ◌+◌, ◌<◌, ◌++◌, List, [], ◌∷◌, drop, length, map, refl, ◌∙◌, arith}
 use Rattle.std.specs.Prelude.{slice_index_or}
-use Rattle.std.proofs.lemmas.List.{append-nil, append_assoc}
+use Rattle.std.proofs.lemmas.List.{append_assoc}
 use Rattle.cp_model.specs.Abstract.{Name}
 use Rattle.cp_model.specs.Locations.{ByName}
 use Rattle.cp_model.specs.Report.{Text}
@@ -35,13 +35,6 @@ one_told g v tables x n es at end out after text scope M visits = by M.left M.st
               ∙ (append_assoc out (visit_type g v (ByName x ∷ []) at t) (visit_members g v [] (at + words g t) ms)
               ∙ ((λ i. out ++ (visit_type g v (ByName (h.0 i) ∷ []) at t ++ visit_members g v [] (at + words g t) ms)) ∙ e));
         }
-
-pub all_told : (g : GlobalScope) (v : Visit) (types : Types) (at : ℕ) (out text : Text) (es : List (Name × ℕ)) → es ≡ [] → MembersToTell g v types es at out text → out ≡ text
-all_told g v types at out text es none M = by M.left (subst (λ fs. AreMembers types fs M.left) none M.stand) M.text_is
-  where
-    by : (ms : Members) → AreMembers types [] ms → out ++ visit_members g v [] at ms ≡ text → out ≡ text
-    by NoMembers h e = sym (append-nil out) ∙ e
-    by (MoreMembers y t ms) h e = absurd h
 
 -- What stands at a place comes first of what is left from there.
 pub drop_first : {A B : Type 0} (f : A → B) (xs : List A) (i : ℕ) (d : A) → i < length xs → map f (drop i xs) ≡ f (slice_index_or xs i d) ∷ map f (drop (suc i) xs)

@@ -1,6 +1,6 @@
 -- The monitors are searched for a queue one after another.
-use Rattle.std.proofs.Common.{◌≡◌, ◌++◌, ℕ, suc, List, [], ◌∷◌, sym, subst, ◌∙◌}
-use Rattle.std.proofs.lemmas.List.{append-nil, append_assoc}
+use Rattle.std.proofs.Common.{◌≡◌, ◌++◌, ℕ, suc, List, [], ◌∷◌, ◌∙◌}
+use Rattle.std.proofs.lemmas.List.{append_assoc}
 use Rattle.cp_model.specs.Abstract.{Name}
 use Rattle.cp_model.specs.Declarations.{Variable}
 use Rattle.cp_model.specs.Report.{Text}
@@ -34,10 +34,3 @@ one_searched g program place tables n e es out after text scope Q tells = by Q.l
           (λ i. tells g v.1.type scope h.1 i ++ queues_text g program place (suc n) vs)
           ∙ (append_assoc out (visit_component g (queue_visit place) (monitor_start program n) v.1.type) (queues_text g program place (suc n) vs) ∙ is);
     }
-
-pub all_searched : (g : GlobalScope) (program : Program) (place : ℕ) (types : Types) (n : ℕ) (es : List (Name × ℕ)) (out text : Text) → es ≡ [] → QueuesToTell g program place types n es out text → out ≡ text
-all_searched g program place types n es out text none Q = by Q.left (subst (λ fs. AreListed types fs Q.left) none Q.listed) Q.text_is
-  where
-    by : (vs : List (Name × Variable)) → AreListed types [] vs → out ++ queues_text g program place n vs ≡ text → out ≡ text
-    by [] h is = sym (append-nil out) ∙ is
-    by (v ∷ vs) h is = absurd h
