@@ -7,3 +7,4 @@ pub mod Kept
 pub mod Lasting
 pub mod Results
 pub mod Returning
+pub mod KindsMeant

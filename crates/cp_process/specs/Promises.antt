@@ -1,6 +1,6 @@
--- What private steps and turns promise, for each state of which a private state is the part.
+-- What private steps and turns, and the kind of the next step, promise, for each state of which a private state is the part.
 use Rattle.std.specs.Prelude.{◌≡◌, ℕ, List}
-use Rattle.cp_model.specs.Invariant.{Invariant}
+use Rattle.cp_model.specs.Invariant.{Invariant, IsBlocked}
 use Rattle.cp_model.specs.Operators.{realtime}
 use Rattle.cp_model.specs.States.{Setup, State, running_clock}
 use Rattle.cp_model.specs.Turns as meaning
@@ -10,6 +10,8 @@ use Rattle.cp_steps.specs.PartOf.{PartOf}
 use Rattle.cp_threaded.specs.declared.program.Program.{Program}
 use Rattle.cp_threaded.specs.View as view
 use Rattle.cp_process.specs.States.{private_of}
+use Rattle.cp_process.specs.declared.kind.Kind.{Kind}
+use Rattle.cp_process.specs.declared.kind.Kind.TheVariants as kind
 use Rattle.cp_process.specs.declared.private.Private.{Private}
 
 -- y is the part of the process after its private step, whatever the state of which x is the part.
@@ -27,3 +29,17 @@ MakesTurn program n x y input clock =
     → let G = ground_of (view.program program) setup F p own in
     Invariant s → clock ≡ realtime (running_clock setup s) → PartOf G s before (private_of x input)
     → PartOf G (meaning.private_turn setup n s p) before (private_of y input)
+
+-- The kind of step that is meant.
+abbrev pub meant : Kind → meaning.Kind
+meant kind.Private = meaning.Private
+meant kind.Kernel = meaning.Kernel
+meant kind.None = meaning.NoStep
+
+-- It is the kind of the next step of the process in each state of which x is the part, unless the process asks or is delayed: only the kernel
+-- knows of that.
+abbrev pub TellsKind : Program → Private → List ℕ → Kind → Type 0
+TellsKind program x input k =
+    (setup : Setup) (F : StandsFor (view.program program) setup) (p own : ℕ) (s : State) (before : List ℕ)
+    → let G = ground_of (view.program program) setup F p own in
+    Invariant s → PartOf G s before (private_of x input) → (IsBlocked (s.status p) → ⊥) → meaning.kind s p ≡ meant k

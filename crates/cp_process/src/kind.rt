@@ -2,6 +2,7 @@
 
 ghost use Rattle.std.specs.Prelude.{◌≡◌, ℕ, List};
 ghost use Rattle.cp_process.specs.Kinds.{kind_of};
+ghost use Rattle.cp_process.specs.Promises.{TellsKind};
 ghost use Rattle.cp_process.specs.States.{private_of};
 ghost use Rattle.cp_threaded.specs.View as view;
 
@@ -18,8 +19,7 @@ pub enum Kind {
     None,
 }
 
-/// Whose the next step is: the kernel's in a monitor, and where a monitor or process is called or initialised.
-pub fn next_kind(program: &Program, private: &Private) -> Kind
+fn kind_at_place(program: &Program, private: &Private) -> Kind
     ensures { (input : List ℕ) → result ≡ kind_of (view.program program.now)
         (private_of private.now input) }
 {
@@ -34,4 +34,13 @@ pub fn next_kind(program: &Program, private: &Private) -> Kind
         Some(_) => Kind::Private,
         None => Kind::None,
     }
+}
+
+/// Whose the next step is: the kernel's in a monitor, and where a monitor or process is called or initialised.
+pub fn next_kind(program: &Program, private: &Private) -> Kind
+    ensures kind { (input : List ℕ) → result ≡ kind_of (view.program program.now)
+        (private_of private.now input) }
+    ensures meaning { (input : List ℕ) → TellsKind program.now private.now input result }
+{
+    kind_at_place(program, private)
 }
