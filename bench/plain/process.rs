@@ -140,12 +140,7 @@ impl Process {
         Ok(())
     }
 
-    fn count_from(
-        &mut self,
-        counting: &Counting,
-        first: &Term,
-        last: &Term,
-    ) -> Result<(), Fault> {
+    fn count_from(&mut self, counting: &Counting, first: &Term, last: &Term) -> Result<(), Fault> {
         let n = first.value(&self.memory)?;
         let last = last.value(&self.memory)?;
         if last < n {
@@ -192,13 +187,7 @@ impl Process {
         }
     }
 
-    fn call(
-        &mut self,
-        program: &Program,
-        call: &Call,
-        into: u32,
-        next: u32,
-    ) -> Result<(), Fault> {
+    fn call(&mut self, program: &Program, call: &Call, into: u32, next: u32) -> Result<(), Fault> {
         let component = self.called(call.target)?;
         let Some(unit) = program.units.get(call.unit as usize) else {
             return Ok(());
