@@ -65,7 +65,7 @@ def listed_dimensions(count):
 # The text and the number of rounds. An owner has at most 65,536 words, and a process has one in front of its variables.
 CASES = {
     'a chain of 20,000 routines': (chain(20_000), 4),
-    'a chain as deep as a text can have': (chain(36_000), 8),
+    'a chain as deep as a text can have': (chain(35_000), 8),
     'a chain of 15,000 functions': (functions(15_000), 4),
     '32,767 words copied, by 5,000 assignments': (copies(32_767), 1),
     'half of an array of 65,534 words copied, by 5,000 assignments': (shifted_copies(32_767), 1),

@@ -20,7 +20,7 @@ GOAL_OF_LOOP = 120
 GOAL_OF_RATIO = 1.2
 
 # By hand from the texts. A worker of classes.cp makes one round of its cycle in each round: `cycle`, `for` with 50 times 7 steps for two calls and
-# 50 that count, then 3 for the tally, 4 in each monitor, and 3 to set the generator.
+# 50 that count, then 3 for the tally, 4 in each monitor, and 3 to restart the generator.
 WORKERS, STEPS_OF_WORKER = 16, 416
 # An item of buffer.cp takes 9 steps to be put and 10 to be taken. One that waits takes 3 more, and the one that resumes it 3.
 STEPS_OF_ITEM, STEPS_OF_WAIT = 19, 6

@@ -26,7 +26,7 @@ type tally = class;
 generator = class(first: integer);
   var number: integer;
 
-  procedure entry set(n: integer);
+  procedure entry restart(n: integer);
   begin
     number := n
   end;
@@ -73,7 +73,7 @@ worker = process(r: register; s: seeds; me: integer);
       for i := 1 to 50 do t.add(g.next);
       r.report(t.value);
       s.take(n);
-      g.set(n)
+      g.restart(n)
     end
   end;
 
