@@ -23,7 +23,7 @@ GOAL_OF_RATIO = 1.2
 # 50 that count, then 3 for the tally, 4 in each monitor, and 3 to restart the generator.
 WORKERS, STEPS_OF_WORKER = 16, 416
 # An item of buffer.cp takes 9 steps to be put and 10 to be taken. One that waits takes 3 more, and the one that resumes it 3.
-STEPS_OF_ITEM, STEPS_OF_WAIT = 19, 6
+PROCESSES_OF_BUFFER, STEPS_OF_ITEM, STEPS_OF_WAIT = 17, 19, 6
 
 
 def counted(words):
@@ -68,13 +68,15 @@ def measure_beside_plain(plain, text):
 
 
 def measure_buffer():
-    instructions, first, second = measure('buffer', 51, 551)
+    fewer, more = 51, 551
+    instructions, first, second = measure('buffer', fewer, more)
     before, after = variables(first), variables(second)
     items = after['taken_items'] - before['taken_items']
     waits = sum(after[name] - before[name] for name in ('sender_waits', 'receiver_waits'))
     steps = STEPS_OF_ITEM * items + STEPS_OF_WAIT * waits
-    print(f'buffer: {instructions / items:.0f} instructions an item, with {waits / items:.2f} waits; '
-          f'{instructions / steps:.0f} a step, with {steps / items:.1f} steps an item')
+    rounds = more - fewer
+    print(f'buffer: {instructions / rounds / PROCESSES_OF_BUFFER:.0f} instructions a process and a round; {items / rounds:.2f} items a round, '
+          f'{instructions / items:.0f} instructions and {steps / items:.1f} steps an item, {waits / items:.2f} waits')
 
 
 def measure_classes():
