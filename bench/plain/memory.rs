@@ -1,0 +1,76 @@
+//! Words and temps. A word that is missing reads as 0, and nothing is written there.
+
+use crate::program::{Fill, Root};
+
+/// Words and temps, and where those of the running activation and component begin.
+pub struct Memory {
+    pub words: Vec<i32>,
+    pub temps: Vec<i32>,
+    /// The first word of the running activation.
+    pub base: u32,
+    /// The first temp of the running activation.
+    pub temp: u32,
+    /// The first word of the running component.
+    pub component: u32,
+}
+
+impl Memory {
+    /// The word at a place, or 0 where it is missing.
+    #[inline(always)]
+    pub fn word(&self, at: usize) -> i32 {
+        self.words.get(at).copied().unwrap_or(0)
+    }
+
+    #[inline(always)]
+    pub fn set_word(&mut self, at: usize, n: i32) {
+        if let Some(word) = self.words.get_mut(at) {
+            *word = n;
+        }
+    }
+
+    #[inline(always)]
+    pub fn temp(&self, temp: usize) -> i32 {
+        self.temps.get(temp).copied().unwrap_or(0)
+    }
+
+    #[inline(always)]
+    pub fn set_temp(&mut self, temp: usize, n: i32) {
+        if let Some(word) = self.temps.get_mut(temp) {
+            *word = n;
+        }
+    }
+
+    #[inline(always)]
+    pub fn local(&self, at: u32) -> usize {
+        self.base as usize + at as usize
+    }
+
+    #[inline(always)]
+    pub fn member(&self, at: u32) -> usize {
+        self.component as usize + at as usize
+    }
+
+    #[inline(always)]
+    pub fn root_place(&self, root: Root) -> usize {
+        match root {
+            Root::Local(at) => self.local(at),
+            Root::Member(at) => self.member(at),
+            Root::Through(parameter) => self.word(self.local(parameter)).max(0) as usize,
+        }
+    }
+
+    pub fn copy_words(&mut self, to: usize, from: usize, count: usize) {
+        if from.max(to) + count <= self.words.len() {
+            self.words.copy_within(from..from + count, to);
+        }
+    }
+
+    pub fn start_words(&mut self, base: usize, starts: &[Fill]) {
+        for start in starts {
+            let first = base + start.at as usize;
+            if let Some(words) = self.words.get_mut(first..first + start.count as usize) {
+                words.fill(start.value);
+            }
+        }
+    }
+}
