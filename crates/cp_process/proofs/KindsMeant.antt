@@ -69,8 +69,8 @@ module _ (program : Program) (setup : Setup) (F : StandsFor program setup) (p ow
       let gate : o.gate ≡ 0 = (on is).gate ∙ ap innermost_gate marks in
       let computed : kind_of program o ≡ told false (steps.is_kernel_operation stepped.operation) =
       (λ i. if machine.is_running (running is i)
-        then (if steps.is_private o (stepped.there i) then kind.Private else (if needs_kernel o (stepped.there i) then kind.Kernel else kind.None))
-        else kind.None)
+      then (if steps.is_private o (stepped.there i) then kind.Private else (if needs_kernel o (stepped.there i) then kind.Kernel else kind.None))
+      else kind.None)
       ∙ ap (λ g. told (steps.is_held g) (steps.is_kernel_operation stepped.operation)) gate in
       let defined : meaning.kind s p ≡ (if steps.is_kernel_operation stepped.operation then meaning.Kernel else meaning.Private) =
       ap (λ z. meaning.kind_of z (s.continuation p)) is
@@ -90,8 +90,8 @@ module _ (program : Program) (setup : Setup) (F : StandsFor program setup) (p ow
       ap (λ z. meaning.kind_of z (s.continuation p)) is
       ∙ ap (λ ns. if (elim ns as (λ z. Bool) [ [] ↦ false | n ∷ rest ↦ true ]) || is_kernel_action (action (s.continuation p)) then meaning.Kernel else meaning.Private) marks in
       defined ∙ ap meant (sym (ap (λ x. if machine.is_running x
-        then (if steps.is_private o (operation_of program o) then kind.Private else (if needs_kernel o (operation_of program o) then kind.Kernel else kind.None))
-        else kind.None) (running is) ∙ gated held))
+      then (if steps.is_private o (operation_of program o) then kind.Private else (if needs_kernel o (operation_of program o) then kind.Kernel else kind.None))
+      else kind.None) (running is) ∙ gated held))
     where
       gated : steps.is_held o.gate ≡ true
           → (if steps.is_private o (operation_of program o) then kind.Private else (if needs_kernel o (operation_of program o) then kind.Kernel else kind.None)) ≡ kind.Kernel
@@ -105,8 +105,8 @@ module _ (program : Program) (setup : Setup) (F : StandsFor program setup) (p ow
   still x is none rests =
       ap (λ z. meaning.kind_of z (s.continuation p)) is ∙ (none
       ∙ ap meant (sym (ap (λ b. if b
-        then (if steps.is_private o (operation_of program o) then kind.Private else (if needs_kernel o (operation_of program o) then kind.Kernel else kind.None))
-        else kind.None) (still_is o.activity (λ h. rests (subst IsRunning (sym (same x is)) h))))))
+      then (if steps.is_private o (operation_of program o) then kind.Private else (if needs_kernel o (operation_of program o) then kind.Kernel else kind.None))
+      else kind.None) (still_is o.activity (λ h. rests (subst IsRunning (sym (same x is)) h))))))
 
   pub kind_is_meant : (IsBlocked (s.status p) → ⊥) → meaning.kind s p ≡ meant (kind_of program o)
   kind_is_meant free = by (s.status p) refl
