@@ -21,7 +21,7 @@ returns-clause-due c =
     let numbered = c.number.ensures.number input in
     let begun = c.is_begun.ensures ∙ ap (λ p. is_begun (stage_of (kernel_of k).stages p)) numbered in
     c.is_kernel.ensures
-    ∙ (ap is_kernel (c.next_kind.ensures input)
+    ∙ (ap is_kernel (c.next_kind.ensures.kind input)
     ∙ due_begun (view.program c.args.program.now) (turning k c.args.private.now input) (sym begun ∙ c.if-not-is_begun.false))
 
 pub returns-clause-begun : goal.returns-clause-begun
