@@ -1,8 +1,9 @@
 //! The check of a text: its program, or the rule that it breaks.
 
+ghost use Rattle.std.specs.Prelude.{IfOk};
 ghost use Rattle.cp_model.specs.Rules.{Accepted};
 ghost use Rattle.cp_model.specs.View as view;
-ghost use Rattle.cp_check.specs.Checked.{Checks};
+ghost use Rattle.cp_check.specs.Checked.{Checks, IsProgramOf};
 
 use cp_code::law::accepted_tree_has_program;
 use cp_compile::compile;
@@ -10,7 +11,7 @@ use cp_model::rules::Violation;
 use cp_model::tree::Tree;
 use cp_rules::text::{Refusal, judge};
 use cp_threaded::program::Program;
-use std::alloc::Global;
+use std::alloc::{AllocError, Global};
 
 /// Why a text has no program.
 #[derive(Clone, Copy, Debug, PartialEq, Eq)]
@@ -21,15 +22,19 @@ pub enum CheckError {
     Memory,
 }
 
-// The program of an accepted text. Nothing but memory is refused: the numbers of such a text fit.
-fn program(alloc: Global, tree: &Tree) -> Result<Program, CheckError>
+/// The program of an accepted text.
+///
+/// # Errors
+///
+/// `AllocError` where memory runs out: the numbers of an accepted text fit.
+pub fn program(alloc: Global, tree: &Tree) -> Result<Program, AllocError>
     requires accepted { Accepted (view.tree tree.now) }
-    ensures { Checks (view.tree tree.now) result }
+    ensures { IfOk result (IsProgramOf (view.tree tree.now)) }
 {
     accepted_tree_has_program(tree);
     match compile(alloc, tree) {
         Ok(program) => Ok(program),
-        Err(_) => Err(CheckError::Memory),
+        Err(_) => Err(AllocError),
     }
 }
 
@@ -42,6 +47,9 @@ pub fn check(alloc: Global, tree: &Tree) -> Result<Program, CheckError>
     match judge(alloc, tree) {
         Err(Refusal::Broken(violation)) => Err(CheckError::Broken(violation)),
         Err(Refusal::Memory) => Err(CheckError::Memory),
-        Ok(_) => program(alloc, tree),
+        Ok(_) => match program(alloc, tree) {
+            Ok(program) => Ok(program),
+            Err(_) => Err(CheckError::Memory),
+        },
     }
 }

@@ -7,7 +7,8 @@ use Rattle.cp_execute.specs.declared.refusal.Refusal.TheVariants as refusal
 use Rattle.cp_execute.specs.Cutting.{judged, judged_from}
 use Rattle.cp_execute.specs.Executed.{RefusesInput, RefusesText}
 use Rattle.cp_model.specs.View as view
-use Rattle.cp_execute.specs.declared.checking.AcceptedText.{AcceptedText}
+use Rattle.cp_model.specs.Rules.{Accepted}
+use Rattle.cp_model.specs.declared.tree.Tree.{Tree}
 use Rattle.cp_model.specs.Spelling.{Spells}
 use Rattle.cp_model.specs.declared.token.Token.{Token}
 use Rattle.cp_syntax.specs.Refusals.{Refused}
@@ -60,11 +61,15 @@ refused_known (Ok p) known bytes k h = tt
 refused_known (Err e) None bytes k h = tt
 refused_known (Err e) (Some xs) bytes k h = refuses_text xs e (subst (λ (ys : List ℕ). Refuses ys e) k h)
 
-pub accepted_known : (r : Result AcceptedText Refusal) (known : Option (List ℕ)) (bytes : List ℕ) → IfSome known (λ xs. bytes ≡ take 1048577 xs)
-    → IfOk r (λ x. IsAccepted bytes (view.tree x.tree)) → IfOk r (λ x. IfSome known (λ xs. IsAccepted xs (view.tree x.tree)))
+pub accepted_known : (r : Result Tree Refusal) (known : Option (List ℕ)) (bytes : List ℕ) → IfSome known (λ xs. bytes ≡ take 1048577 xs)
+    → IfOk r (λ t. IsAccepted bytes (view.tree t)) → IfOk r (λ t. IfSome known (λ xs. IsAccepted xs (view.tree t)))
 accepted_known (Err e) known bytes k h = tt
-accepted_known (Ok x) None bytes k h = tt
-accepted_known (Ok x) (Some xs) bytes k h = subst (λ (ys : List ℕ). IsAccepted ys (view.tree x.tree)) (whole bytes xs k h.text.within) h
+accepted_known (Ok t) None bytes k h = tt
+accepted_known (Ok t) (Some xs) bytes k h = subst (λ (ys : List ℕ). IsAccepted ys (view.tree t)) (whole bytes xs k h.text.within) h
+
+pub known_accepted : (r : Result Tree Refusal) (bytes : List ℕ) → IfOk r (λ t. IsAccepted bytes (view.tree t)) → IfOk r (λ t. Accepted (view.tree t))
+known_accepted (Err e) bytes h = h
+known_accepted (Ok t) bytes h = h.accepted
 
 -- ---- of known inputs
 

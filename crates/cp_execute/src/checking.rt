@@ -1,25 +1,16 @@
-//! From the bytes of a text to its tree and its program, or why it has none.
+//! From the bytes of a text to its tree, or why it has none or isn't accepted.
 
 ghost use Rattle.std.specs.Prelude.{◌≡◌, IfErr, IfOk};
-ghost use Rattle.cp_check.specs.Checked.{IsProgramOf};
 ghost use Rattle.cp_model.specs.View as view;
-ghost use Rattle.cp_execute.specs.Refusals.{of_check, of_syntax};
+ghost use Rattle.cp_execute.specs.Refusals.{of_rules, of_syntax};
 ghost use Rattle.cp_execute.specs.Texts.{IsAccepted, IsTextOf, Refuses};
 
 use crate::refusal::Refusal;
-use cp_check::checking::{CheckError, check};
 use cp_model::tree::Tree;
+use cp_rules::text::{self, judge};
 use cp_scan::scan;
 use cp_syntax::{SyntaxError, parse};
-use cp_threaded::program::Program;
 use std::alloc::Global;
-
-/// An accepted text: its tree, and the program that stands for it.
-#[derive(Drop)]
-pub(crate) struct AcceptedText {
-    pub(crate) tree: Tree,
-    pub(crate) program: Program,
-}
 
 fn syntax_refusal(error: SyntaxError) -> Refusal
     ensures { result ≡ of_syntax error }
@@ -32,12 +23,12 @@ fn syntax_refusal(error: SyntaxError) -> Refusal
     }
 }
 
-fn check_refusal(error: CheckError) -> Refusal
-    ensures { result ≡ of_check error }
+fn rules_refusal(error: text::Refusal) -> Refusal
+    ensures { result ≡ of_rules error }
 {
     match error {
-        CheckError::Broken(violation) => Refusal::from(violation),
-        CheckError::Memory => Refusal::Memory,
+        text::Refusal::Broken(violation) => Refusal::from(violation),
+        text::Refusal::Memory => Refusal::Memory,
     }
 }
 
@@ -60,19 +51,19 @@ pub fn tree_of(alloc: Global, text: &[u8]) -> Result<Tree, Refusal>
     }
 }
 
-/// The tree and the program of an accepted text.
+/// The tree of an accepted text.
 ///
 /// # Errors
 ///
 /// S, Y and C where the text isn't accepted, in this order; M where memory runs out.
-pub(crate) fn accept(alloc: Global, text: &[u8]) -> Result<AcceptedText, Refusal>
-    ensures accepted { IfOk result (λ x. IsAccepted text.now (view.tree x.tree)) }
-    ensures program { IfOk result (λ x. IsProgramOf (view.tree x.tree) x.program) }
+pub(crate) fn accept(alloc: Global, text: &[u8]) -> Result<Tree, Refusal>
+    ensures accepted { IfOk result (λ t. IsAccepted text.now (view.tree t)) }
     ensures refused { IfErr result (Refuses text.now) }
 {
     let tree = tree_of(alloc, text)?;
-    match check(alloc, &tree) {
-        Ok(program) => Ok(AcceptedText { tree, program }),
-        Err(error) => Err(check_refusal(error)),
+    match judge(alloc, &tree) {
+        Ok(_) => {}
+        Err(error) => return Err(rules_refusal(error)),
     }
+    Ok(tree)
 }

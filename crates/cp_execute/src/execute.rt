@@ -2,20 +2,21 @@
 
 ghost use Rattle.std.specs.Prelude.{◌≡◌, ◌≤◌, ℕ, IfErr, IfOk, IfSome, List, Some, OnErr, OnOk, length, take};
 ghost use Rattle.std.specs.Io.KnownBytes.{Appends, Keeps};
-ghost use Rattle.cp_check.specs.Checked.{IsProgramOf};
+ghost use Rattle.cp_model.specs.Rules.{Accepted};
 ghost use Rattle.cp_model.specs.View as view;
 ghost use Rattle.cp_execute.specs.Executed.{Accepts, Begins, BeginsAcceptance, BeginsReport, Does, IsFaultOfAccepted, IsFaultOrOfInput, Refuses, RefusesAccepted, RefusesInput, RefusesRun, RefusesText, Reports};
 ghost use Rattle.cp_execute.specs.Refusals.{of_read};
 ghost use Rattle.cp_execute.specs.Texts.{IsAccepted};
 ghost use Rattle.cp_execute.specs.declared.refusal.Refusal.TheVariants as refusal;
 
-use crate::checking::{AcceptedText, accept};
+use crate::checking::accept;
 use crate::cutting::check_input;
 use crate::reading::{ReadError, read_text};
 use crate::refusal::Refusal;
 use crate::running::{Run, report_of};
 use crate::writing::write_all;
 use cp_machine::gate::TurnGate;
+use cp_model::tree::Tree;
 use std::alloc::Global;
 use std::io::{Read, Write};
 use std::sync::Wait;
@@ -39,11 +40,11 @@ fn read_refusal(error: ReadError) -> Refusal
     }
 }
 
-// The text that a reader has, where that is accepted.
-fn read_accepted<R: Read>(alloc: Global, text: &mut R) -> Result<AcceptedText, Refusal>
-    ensures program { IfOk result (λ x. IsProgramOf (view.tree x.tree) x.program) }
+// The tree of the text that a reader has, where that is accepted.
+fn read_accepted<R: Read>(alloc: Global, text: &mut R) -> Result<Tree, Refusal>
+    ensures accepted { IfOk result (λ t. Accepted (view.tree t)) }
     ensures text { IfOk result
-        (λ x. IfSome (R.remaining text.old) (λ xs. IsAccepted xs (view.tree x.tree))) }
+        (λ t. IfSome (R.remaining text.old) (λ xs. IsAccepted xs (view.tree t))) }
     ensures refused { IfErr result (λ e. IfSome (R.remaining text.old) (λ xs. RefusesText xs e)) }
     ensures reads { IfErr result (λ e. e ≡ refusal.Write → ⊥) }
 {
@@ -139,10 +140,9 @@ pub fn run_text<H: Threads + Wait + Sync, R: Read, S: Read, W: Write, G: TurnGat
     ensures faults { IfErr result
         (IsFaultOrOfInput (R.remaining text.old) (S.remaining input.old)) }
 {
-    let accepted = read_accepted(alloc, text)?;
+    let tree = read_accepted(alloc, text)?;
     let bytes = read_input(alloc, input)?;
-    let tree = accepted.tree;
-    let report = report_of(rt, alloc, &tree, accepted.program, &bytes, run, gate)?;
+    let report = report_of(rt, alloc, &tree, &bytes, run, gate)?;
     finish(out, &report)
 }
 

@@ -1,13 +1,14 @@
 //! Running a program: from its input to its report.
 
 ghost use Rattle.std.specs.Prelude.{◌≡◌, false, IfErr, IfOk};
-ghost use Rattle.cp_check.specs.Checked.{IsProgramOf};
+ghost use Rattle.cp_model.specs.Rules.{Accepted};
 ghost use Rattle.cp_model.specs.View as view;
 ghost use Rattle.cp_execute.specs.Executed.{due};
 ghost use Rattle.cp_execute.specs.declared.refusal.Refusal.TheVariants as refusal;
 
 use crate::cutting::cut_input;
 use crate::refusal::Refusal;
+use cp_check::checking::program;
 use cp_machine::gate::TurnGate;
 use cp_machine::machine::Machine;
 use cp_machine::plan::Plan;
@@ -16,7 +17,6 @@ use cp_model::tree::Tree;
 use cp_report::report::report;
 use cp_scope::Tables;
 use cp_steps::law::reports;
-use cp_threaded::program::Program;
 use std::alloc::Global;
 use std::sync::Wait;
 use std::thread::Threads;
@@ -29,7 +29,7 @@ pub struct Run {
     pub tick: Tick,
 }
 
-/// The report after a run of a text's program.
+/// The report after a run of the program of an accepted text.
 ///
 /// # Errors
 ///
@@ -38,17 +38,17 @@ pub(crate) fn report_of<H: Threads + Wait + Sync, G: TurnGate>(
     rt: &H,
     alloc: Global,
     tree: &Tree,
-    program: Program,
     input: &[u8],
     run: &Run,
     gate: &G,
 ) -> Result<Vec<u8>, Refusal>
-    requires program { IsProgramOf (view.tree tree.now) program }
+    requires accepted { Accepted (view.tree tree.now) }
     ensures report { IfOk result
         (λ bytes. bytes.items ≡ due run.now (view.tree tree.now) input.now) }
     ensures memory { IfErr result (λ e. e ≡ refusal.Memory) }
 {
     reports();
+    let program = program(alloc, tree)?;
     let tables = Tables::of_tree(alloc, tree)?;
     let inputs = cut_input(alloc, input, program.processes())?;
     let mut machine = Machine::new(alloc, program, inputs, run.tick)?;

@@ -12,21 +12,21 @@ use Rattle.cp_execute.proofs.execute.run_text.Given.{Over}
 use Rattle.cp_execute.proofs.execute.run_text.Goals as goal
 
 -- The report that was made is the one that is due.
-abbrev IsDue : (g : Over) → goal.After-drop-bytes-2 g → List ℕ → List ℕ → Type 0
+abbrev IsDue : (g : Over) → goal.After-drop-tree-5 g → List ℕ → List ℕ → Type 0
 IsDue g c xs ys = (t : s.Tree) × IsAccepted xs t × (c.in_ok-report.report.items ≡ due c.args.run.now t ys)
 
-is_due : (g : Over) (c : goal.After-drop-bytes-2 g) (xs ys : List ℕ) → g.R.Read.remaining c.args.text.now ≡ Some xs → g.S.Read.remaining c.args.input.now ≡ Some ys
+is_due : (g : Over) (c : goal.After-drop-tree-5 g) (xs ys : List ℕ) → g.R.Read.remaining c.args.text.now ≡ Some xs → g.S.Read.remaining c.args.input.now ≡ Some ys
     → IsDue g c xs ys
 is_due g c xs ys text input =
-    let t = view.tree c.in_ok-accepted.accepted.tree in
-    let known : IsAccepted xs t = of_known (λ zs. IsAccepted zs t) (g.R.Read.remaining c.args.text.now) xs c.in_ok-accepted.ensures.text text in
+    let t = view.tree c.in_ok-tree.tree in
+    let known : IsAccepted xs t = of_known (λ zs. IsAccepted zs t) (g.R.Read.remaining c.args.text.now) xs c.in_ok-tree.ensures.text text in
     let bytes : c.in_ok-bytes.bytes.items ≡ ys = of_known (λ zs. c.in_ok-bytes.bytes.items ≡ zs) (g.S.Read.remaining c.args.input.now) ys c.in_ok-bytes.ensures.input input in
     (t, known, c.in_ok-report.ensures.report ∙ ap (due c.args.run.now t) (rw c.deref.ensures.value bytes))
 
-pub returns-in_err-accepted-clause-faults : goal.returns-in_err-accepted-clause-faults
-returns-in_err-accepted-clause-faults g c =
+pub returns-in_err-tree-clause-faults : goal.returns-in_err-tree-clause-faults
+returns-in_err-tree-clause-faults g c =
     let p = err_from_is_err_and c.from_residual.result c.from_residual.ensures.1 in
-    rw (p.1, p.2) (known_text_fault (g.R.Read.remaining c.args.text.now) (g.S.Read.remaining c.args.input.now) c.in_err-accepted.field-0.0 c.in_err-accepted.ensures.refused)
+    rw (p.1, p.2) (known_text_fault (g.R.Read.remaining c.args.text.now) (g.S.Read.remaining c.args.input.now) c.in_err-tree.field-0.0 c.in_err-tree.ensures.refused)
 
 pub returns-in_err-bytes-clause-beginning : goal.returns-in_err-bytes-clause-beginning
 returns-in_err-bytes-clause-beginning g c =
