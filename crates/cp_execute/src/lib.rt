@@ -1,8 +1,11 @@
 //! `execute`: from the bytes of a text and of an input to the bytes of its report, or to a refusal.
 //!
-//! `checking` makes the tree and the program of a text, `cutting` makes the inputs of its processes, and `running` runs it and makes the
-//! report. What an answer means is defined in `specs/Executed.antt`, and what each refusal means in `specs/Refusals.antt` and
-//! `specs/Texts.antt`.
+//! - `execute`: the jobs, from the bytes of readers to those of a writer.
+//! - `reading`, `checking`: a text is read, and its tree judged. `cutting`: the inputs of its processes.
+//! - `running`: the program of an accepted text is made and run, and then its report.
+//! - `writing`, `refusal`: what is due is written; why it isn't.
+//!
+//! What an answer means is defined in `specs/Executed.antt`, and what each refusal means in `specs/Refusals.antt` and `specs/Texts.antt`.
 #![tactic(auto)]
 
 pub mod checking;

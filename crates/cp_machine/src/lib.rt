@@ -1,7 +1,8 @@
 //! The machine of the whole language: rounds and runs by threads, and what is read of it between them.
 //!
 //! A round or a run makes of the machine what the definitions of cp_steps make of it as plain data (`specs/Views.antt` says of what data),
-//! for every plan, by threads in any schedule.
+//! for every plan, by threads in any schedule. By the laws of cp_steps it is then in the state of the meaning that follows
+//! (`specs/InStates.antt`).
 //!
 //! - `machine`, `reading`: the public calls. `starting`: how a machine starts.
 //! - `setting`, `parts`, `moment`: what no round changes, what rounds change, and when a round is made.
