@@ -69,6 +69,7 @@ impl Private {
         Ok(Effect::None)
     }
 
+    // The bounds and the next place are read when the value is there, so that they aren't kept while it is found.
     #[inline(always)]
     pub(crate) fn set(
         &mut self,
@@ -76,14 +77,15 @@ impl Private {
         outside: &Outside,
         to: &Spot,
         value: &Term,
-        bounds: Bounds,
-        next: u32,
+        low: &i32,
+        high: &i32,
+        next: &u32,
     ) -> Result<Effect, Fault>
         requires { length shared.old < 2 ^ 30 }
         ensures step { IsStep self.old shared.old outside.now self.new shared.new result
             (λ w o. plain.with_place w o (view.spot to.now) (λ at. plain.with_value w o
-            (view.term value.now) (λ n. plain.set_within o bounds.low bounds.high at n
-            next))) }
+            (view.term value.now) (λ n. plain.set_within o low.now high.now at n
+            next.now))) }
         ensures output { self.new.output ≡ self.old.output }
         ensures own { length self.new.memory.words.items ≡ length self.old.memory.words.items }
         ensures number { self.new.number ≡ self.old.number }
@@ -92,7 +94,7 @@ impl Private {
         let reach = self.reach(shared, outside);
         let at = to.place(&reach)?;
         let n = value.value_here(&reach)?;
-        self.set_within(shared, at, n, bounds, next)
+        self.set_within(shared, at, n, Bounds::new(*low, *high), *next)
     }
 
     pub(crate) fn set_result(

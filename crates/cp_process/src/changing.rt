@@ -55,7 +55,8 @@ impl Private {
         words::copy(&mut self.memory.words, shared, to, from, count);
     }
 
-    /// Makes words start as a plan says, which counts from a base.
+    /// Makes words start as a plan says, which counts from a base. That of a function without variables marks its result alone.
+    #[inline(always)]
     pub(crate) fn start_words(&mut self, shared: &mut [i32], base: usize, plan: &[Start])
         requires shared { length shared.old < 2 ^ 30 }
         requires base { base < 2 ^ 33 }
@@ -67,6 +68,17 @@ impl Private {
         ensures number { self.new.number ≡ self.old.number }
         ensures shared { length shared.new ≡ length shared.old }
     {
-        words::start(&mut self.memory.words, shared, base, plan);
+        match plan {
+            [
+                Start::Fill {
+                    at,
+                    count: 1,
+                    value,
+                },
+            ] => {
+                words::write(&mut self.memory.words, shared, base + *at as usize, *value);
+            }
+            _ => words::start(&mut self.memory.words, shared, base, plan),
+        }
     }
 }

@@ -44,7 +44,7 @@ impl Private {
         ensures number { self.new.number ≡ self.old.number }
         ensures shared { length shared.new ≡ length shared.old }
     {
-        let n = self.evaluate(shared, outside, term)?;
+        let n = self.evaluate_here(shared, outside, term)?;
         if !bounds.contain(n) {
             return Err(Fault::Range);
         }

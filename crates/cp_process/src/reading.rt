@@ -56,6 +56,22 @@ impl Private {
         term.value(&self.reach(shared, outside))
     }
 
+    /// The same value, found without a call where the operands are numbers and words.
+    #[inline(always)]
+    pub(crate) fn evaluate_here(
+        &self,
+        shared: &[i32],
+        outside: &Outside,
+        term: &Term,
+    ) -> Result<i32, Fault>
+        requires { length shared.now < 2 ^ 30 }
+        ensures { (input : List ℕ) (own : ℕ) → result ≡ value_of
+            (plain.view_of (outside_of outside.now own) (joined self.now input shared.now))
+            (view.term term.now) }
+    {
+        term.value_here(&self.reach(shared, outside))
+    }
+
     /// The place of a spot. One beyond all words is told as the greatest number.
     #[inline(always)]
     pub(crate) fn place(

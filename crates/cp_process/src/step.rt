@@ -42,7 +42,7 @@ impl Private {
                 high,
                 value,
                 next,
-            } => self.set(shared, outside, to, value, Bounds::new(*low, *high), *next),
+            } => self.set(shared, outside, to, value, low, high, next),
             Operation::SetResult {
                 low,
                 high,
@@ -135,16 +135,24 @@ impl Private {
 
     // Makes a private step that assigns a value: the most common one, so it takes no way through all operations.
     #[inline(always)]
-    fn assign(&mut self, outside: &Outside, to: &Spot, value: &Term, bounds: Bounds, next: u32)
+    fn assign(
+        &mut self,
+        outside: &Outside,
+        to: &Spot,
+        value: &Term,
+        low: &i32,
+        high: &i32,
+        next: &u32,
+    )
         ensures step { let input = outside.now.input.now in let o = joined self.old input [] in
             let w = outside_of outside.now (length self.old.memory.words.items) in
             joined self.new input []
             ≡ (plain.with_place w o (view.spot to.now) (λ at. plain.with_value w o
-            (view.term value.now) (λ n. plain.set_within o bounds.low bounds.high at n next))).0 }
+            (view.term value.now) (λ n. plain.set_within o low.now high.now at n next.now))).0 }
         ensures output { self.new.output ≡ self.old.output }
         ensures number { self.new.number ≡ self.old.number }
     {
-        if let Err(fault) = self.set(&mut [], outside, to, value, bounds, next) {
+        if let Err(fault) = self.set(&mut [], outside, to, value, low, high, next) {
             self.activity = Activity::Faulted(fault);
         }
     }
@@ -177,7 +185,7 @@ impl Private {
             next,
         } = operation
         {
-            self.assign(outside, to, value, Bounds::new(*low, *high), *next);
+            self.assign(outside, to, value, low, high, next);
             return true;
         }
         if needs_kernel(operation) {

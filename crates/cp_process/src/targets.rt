@@ -121,6 +121,7 @@ impl Private {
     }
 
     /// The component that a target names.
+    #[inline(always)]
     pub(crate) fn called(
         &self,
         program: &Program,

@@ -207,9 +207,21 @@ impl<'a> Reach<'a> {
 }
 
 impl Operand {
-    // The value of an operand that isn't read where it stands.
+    // The value of an operand that isn't read where it stands. That of a call is told apart first: most of these are.
     #[cycle(value)]
+    #[inline(never)]
     fn deep_value(&self, reach: &Reach) -> Result<i32, Fault>
+        ensures { result ≡ values.value_of (view_of reach.now) (view.operand self.now) }
+    {
+        match self {
+            Operand::Made(temp) => Ok(reach.made(*temp)),
+            _ => self.deeper_value(reach),
+        }
+    }
+
+    #[cycle(value)]
+    #[inline(never)]
+    fn deeper_value(&self, reach: &Reach) -> Result<i32, Fault>
         ensures { result ≡ values.value_of (view_of reach.now) (view.operand self.now) }
     {
         match self {
@@ -296,17 +308,15 @@ impl Term {
     pub fn value(&self, reach: &Reach) -> Result<i32, Fault>
         ensures { result ≡ values.value_of (view_of reach.now) (view.term self.now) }
     {
-        let first = self.first.value(reach)?;
-        value_of_chain(first, &self.rest, reach)
+        self.value_here(reach)
     }
-}
 
-impl Term {
     /// The same value, found without a call where the operands are numbers and words: for the operations that are most common.
     ///
     /// # Errors
     ///
     /// The first fault that is met from left to right.
+    #[cycle(value)]
     #[inline(always)]
     pub fn value_here(&self, reach: &Reach) -> Result<i32, Fault>
         ensures { result ≡ values.value_of (view_of reach.now) (view.term self.now) }
@@ -335,7 +345,7 @@ fn place_of_element(from: usize, indices: &[Index], reach: &Reach) -> Result<usi
 {
     let mut at = from;
     for i in indices {
-        let n = i.value.value(reach)?;
+        let n = i.value.value_here(reach)?;
         at = at.saturating_add(offset(i, n)?);
     }
     Ok(at)

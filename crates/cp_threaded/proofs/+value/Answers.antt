@@ -23,7 +23,7 @@ evaluation::place_of_element-loop-i-preserved t c =
     drop-cons c.args.indices.now c.loop-i.i-index c.i-item.result c.loop-i-test.true
     ∙ ap (λ x. x ∷ drop (suc c.loop-i.i-index) c.args.indices.now) (sym c.i-item.is)
     ∙ ap (λ k. c.i-item.result ∷ drop k c.args.indices.now) next in
-    let valued : value_of v i.value ≡ Ok n = ap (λ x. value_of v x.value) (index_is c.i-item.result) ∙ sym c.value.ensures ∙ c.in_ok-n.was in
+    let valued : value_of v i.value ≡ Ok n = ap (λ x. value_of v x.value) (index_is c.i-item.result) ∙ sym c.value_here.ensures ∙ c.in_ok-n.was in
     let moved : offset_of i n ≡ Ok far = search rules in
     let told : capped c.saturating_add-at.result ≡ capped (at + far) = omega (arith, c.saturating_add-at.ensures) in
     record {
@@ -56,8 +56,8 @@ term::Spot::place-returns t c =
     ∙ (ap capped_result (sym (place_elements v (terms.Rooted (view.root (out-Spot s).root)) is))
     ∙ ap (λ x. capped_result (place_of v x)) (sym (spot_is s)))))
 
-pub term::Term::value-returns-in_err-first : goal.term::Term::value-returns-in_err-first
-term::Term::value-returns-in_err-first t c =
+pub term::Term::value_here-returns-in_err-first : goal.term::Term::value_here-returns-in_err-first
+term::Term::value_here-returns-in_err-first t c =
     let v = view_of c.args.reach.now in
     let s = c.args.self.now in
     let xs = map view.application (out-Term s).rest.items in
@@ -66,8 +66,8 @@ term::Term::value-returns-in_err-first t c =
     ∙ (ap (λ r. bind r (λ x. chain_value v x xs)) (sym c.in_err-first.was ∙ c.value.ensures)
     ∙ (sym (value_chain v (view.operand (out-Term s).first) xs) ∙ ap (value_of v) (sym (term_is s))))
 
-pub term::Term::value-returns : goal.term::Term::value-returns
-term::Term::value-returns t c =
+pub term::Term::value_here-returns : goal.term::Term::value_here-returns
+term::Term::value_here-returns t c =
     let v = view_of c.args.reach.now in
     let s = c.args.self.now in
     let xs = map view.application (out-Term s).rest.items in
