@@ -26,7 +26,7 @@ fn report(rt: &HostRuntime, tree: &Tree) -> io::Result<()> {
             "{} monitors, {} processes, {} shared words",
             program.monitors(),
             program.processes(),
-            program.shared()
+            program.shared_words()
         ),
         Err(error) => println!(rt; "{error:?}"),
     }

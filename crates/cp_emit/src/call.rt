@@ -34,7 +34,7 @@ pub fn make_call(
     let temps = into.checked_add(1).ok_or(CompileError::Unaccepted)?;
     calls.push(CodedCall { call, into })?;
     Ok(MadeTerm {
-        term: Term::made(alloc, into),
+        term: Term::temp(alloc, into),
         temps,
     })
 }

@@ -48,7 +48,7 @@ fn first_shared(alloc: Global, program: &Program) -> Result<Vec<i32>, AllocError
         ws.items ≡ plain.first_shared p.monitors (replicate p.shared (pos 0))) }
     ensures few { IfOk result (λ ws. length ws.items < 2 ^ 30) }
 {
-    let count = program.shared() as usize;
+    let count = program.shared_words() as usize;
     if TOO_MANY <= count {
         return Err(AllocError);
     }

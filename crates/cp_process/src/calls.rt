@@ -101,7 +101,7 @@ impl Private {
         ensures number { self.new.number ≡ self.old.number }
         ensures shared { length shared.new ≡ length shared.old }
     {
-        let callee = self.called(program, shared, outside, call.target);
+        let callee = self.callee(program, shared, outside, call.target);
         let Some(unit) = self.unit_with_room(program, shared, call, callee.component) else {
             return Ok(Effect::None);
         };

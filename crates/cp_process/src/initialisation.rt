@@ -60,7 +60,7 @@ impl Private {
         ensures number { self.new.number ≡ self.old.number }
         ensures shared { length shared.new ≡ length shared.old }
     {
-        let at = self.called(program, shared, outside, call.target).component;
+        let at = self.callee(program, shared, outside, call.target).component;
         let Some(unit) = self.unit_with_room(program, shared, call, at) else {
             return Ok(Effect::None);
         };
@@ -104,8 +104,8 @@ impl Private {
         ensures number { self.new.number ≡ self.old.number }
         ensures shared { length shared.new ≡ length shared.old }
     {
-        let number = self.called(program, shared, outside, call.target).gate;
-        let monitor = self.monitor_called(program, outside, number);
+        let number = self.callee(program, shared, outside, call.target).gate;
+        let monitor = self.monitor_callee(program, outside, number);
         let at = monitor.component;
         let Some(unit) = self.unit_with_room(program, shared, call, at) else {
             return Ok(Effect::None);

@@ -51,7 +51,7 @@ fn natural(n: i32) -> u32
 }
 
 // The place so far away.
-fn shifted(place: usize, far: i32) -> usize
+fn displace(place: usize, far: i32) -> usize
     requires { place < 2 ^ 34 }
     ensures place { result ≡ layout.natural (pos place +ℤ far) }
     ensures small { result < 2 ^ 35 }
@@ -89,10 +89,10 @@ impl Private {
         ensures small { result < 2 ^ 35 }
     {
         let place = self.member(at);
-        shifted(place, self.word(shared, place))
+        displace(place, self.word(shared, place))
     }
 
-    fn class_called(&self, shared: &[i32], at: usize) -> Called
+    fn class_callee(&self, shared: &[i32], at: usize) -> Called
         requires { length shared.now < 2 ^ 30 }
         ensures { (input : List ℕ) → called result ≡ plain.class_called
             (joined self.now input shared.now) at }
@@ -104,7 +104,7 @@ impl Private {
         }
     }
 
-    pub(crate) fn monitor_called(
+    pub(crate) fn monitor_callee(
         &self,
         program: &Program,
         outside: &Outside,
@@ -122,7 +122,7 @@ impl Private {
 
     /// The component that a target names.
     #[inline(always)]
-    pub(crate) fn called(
+    pub(crate) fn callee(
         &self,
         program: &Program,
         shared: &[i32],
@@ -140,12 +140,12 @@ impl Private {
                 is_set: true,
                 gate: 0,
             },
-            Target::Class(at) => self.class_called(shared, self.member(at)),
-            Target::ClassRight(at) => self.class_called(shared, self.class_right(shared, at)),
-            Target::Monitor(monitor) => self.monitor_called(program, outside, monitor),
+            Target::Class(at) => self.class_callee(shared, self.member(at)),
+            Target::ClassRight(at) => self.class_callee(shared, self.class_right(shared, at)),
+            Target::Monitor(monitor) => self.monitor_callee(program, outside, monitor),
             Target::MonitorRight(at) => {
                 let monitor = natural(self.word(shared, self.member(at)));
-                self.monitor_called(program, outside, monitor)
+                self.monitor_callee(program, outside, monitor)
             }
         }
     }

@@ -83,7 +83,7 @@ fn apply(operator: Operator, a: i32, b: i32) -> Result<i32, Fault>
 }
 
 // A number within bounds.
-fn bounded(n: i64, low: i32, high: i32) -> Result<i32, Fault>
+fn check_range(n: i64, low: i32, high: i32) -> Result<i32, Fault>
     ensures { result ≡ functions.unless (within low high n) fault.Range n }
 {
     if i64::from(low) <= n && n <= i64::from(high) {
@@ -93,10 +93,10 @@ fn bounded(n: i64, low: i32, high: i32) -> Result<i32, Fault>
     }
 }
 
-fn shifted(n: i32, by: i32, low: i32, high: i32) -> Result<i32, Fault>
+fn shift(n: i32, by: i32, low: i32, high: i32) -> Result<i32, Fault>
     ensures { result ≡ functions.standard (terms.Shift by low high) n }
 {
-    bounded(i64::from(n) + i64::from(by), low, high)
+    check_range(i64::from(n) + i64::from(by), low, high)
 }
 
 fn standard(function: Function, n: i32) -> Result<i32, Fault>
@@ -108,8 +108,8 @@ fn standard(function: Function, n: i32) -> Result<i32, Fault>
             in_range(if n < 0 { -n } else { n })
         }
         Function::Ord => in_range(i64::from(n)),
-        Function::Chr => bounded(i64::from(n), 0, 127),
-        Function::Shift { by, low, high } => shifted(n, by, low, high),
+        Function::Chr => check_range(i64::from(n), 0, 127),
+        Function::Shift { by, low, high } => shift(n, by, low, high),
     }
 }
 
@@ -164,7 +164,7 @@ impl<'a> Reach<'a> {
 
     // The temp of this number.
     #[inline(always)]
-    fn made(&self, temp: u32) -> i32
+    fn temp(&self, temp: u32) -> i32
         ensures { result ≡ starts.word self.now.memory.now.temps.items
             (self.now.memory.now.temp + temp) }
     {
@@ -214,7 +214,7 @@ impl Operand {
         ensures { result ≡ values.value_of (view_of reach.now) (view.operand self.now) }
     {
         match self {
-            Operand::Made(temp) => Ok(reach.made(*temp)),
+            Operand::Made(temp) => Ok(reach.temp(*temp)),
             _ => self.deeper_value(reach),
         }
     }
@@ -236,7 +236,7 @@ impl Operand {
             ))),
             Operand::Realtime => reach.realtime(),
             Operand::Number(n) => Ok(*n),
-            Operand::Made(temp) => Ok(reach.made(*temp)),
+            Operand::Made(temp) => Ok(reach.temp(*temp)),
             Operand::Local(at) => Ok(reach.word(reach.local(*at))),
             Operand::Member(at) => Ok(reach.word(reach.member(*at))),
         }
@@ -272,7 +272,7 @@ impl Application {
     // The value with a left operand of this value.
     #[cycle(value)]
     #[inline(always)]
-    fn applied(&self, left: i32, reach: &Reach) -> Result<i32, Fault>
+    fn value_after(&self, left: i32, reach: &Reach) -> Result<i32, Fault>
         ensures { result ≡ applied (view_of reach.now) left (view.application self.now) }
     {
         match self {
@@ -293,7 +293,7 @@ fn value_of_chain(first: i32, rest: &[Application], reach: &Reach) -> Result<i32
 {
     let mut n = first;
     for x in rest {
-        n = x.applied(n, reach)?;
+        n = x.value_after(n, reach)?;
     }
     Ok(n)
 }

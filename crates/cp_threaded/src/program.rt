@@ -148,7 +148,7 @@ impl Program {
     }
 
     /// How many words the monitors and the parameters that wait take.
-    pub fn shared(&self) -> u32
+    pub fn shared_words(&self) -> u32
         ensures { result ≡ (view.program self.now).shared }
     {
         self.shared

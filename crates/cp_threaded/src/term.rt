@@ -93,7 +93,7 @@ pub struct Term {
 
 impl Root {
     /// So many words further on, if that is a number of 32 bits.
-    pub fn moved(self, words: u32) -> Option<Root>
+    pub fn advance(self, words: u32) -> Option<Root>
         ensures { IfSome result (λ r. view.root r ≡ moved_root words (view.root self)) }
     {
         match self {
@@ -109,7 +109,7 @@ impl Root {
 
 impl Spot {
     /// A variable.
-    pub fn rooted(alloc: Global, root: Root) -> Spot
+    pub fn variable(alloc: Global, root: Root) -> Spot
         ensures { view.spot result ≡ plain.Rooted (view.root root) }
     {
         Spot {
@@ -135,13 +135,13 @@ impl Spot {
     }
 
     /// So many words further on, if that is a number of 32 bits.
-    pub fn moved(self, words: u32) -> Option<Spot>
+    pub fn advance(self, words: u32) -> Option<Spot>
         ensures { IfSome result (λ s. view.spot s ≡ moved words (view.spot self)) }
     {
         let Spot { root, mut indices } = self;
         if indices.is_empty() {
             return Some(Spot {
-                root: root.moved(words)?,
+                root: root.advance(words)?,
                 indices,
             });
         }
@@ -182,7 +182,7 @@ impl Term {
     }
 
     /// The value of a call, in the temp of this number.
-    pub fn made(alloc: Global, temp: u32) -> Term
+    pub fn temp(alloc: Global, temp: u32) -> Term
         ensures { view.term result ≡ plain.Made temp }
     {
         Term::lone(alloc, Operand::Made(temp))

@@ -25,7 +25,7 @@ impl<'s, 't> Translator<'s, 't> {
             → IsPlace self.now.scope s low (map coded_call calls) calls (a.Plain name.now) made) }
     {
         Ok(MadeSpot {
-            spot: Spot::rooted(self.alloc, self.variable_root(name)?),
+            spot: Spot::variable(self.alloc, self.variable_root(name)?),
             temps: low,
             of: self.scope.named_place_type(name),
         })
@@ -55,7 +55,7 @@ impl<'s, 't> Translator<'s, 't> {
             .ok_or(CompileError::Unaccepted)?
             .at
             .ok_or(CompileError::Unaccepted)?;
-        let spot = of.spot.moved(at).ok_or(CompileError::Unaccepted)?;
+        let spot = of.spot.advance(at).ok_or(CompileError::Unaccepted)?;
         Ok(MadeSpot {
             spot,
             temps: of.temps,

@@ -11,4 +11,4 @@ returns-clause-place c =
     let told : capped place ≡ c.member-place.result = omega (arith, c.member-place.ensures.place, c.member-place.ensures.small) in
     let whole : to_z w32 (of_z w32 c.word.result) ≡ c.word.result = search rules in
     let value = whole ∙ c.word.ensures input place told in
-    c.shifted.ensures.place ∙ λ i. natural (pos (c.member-place.ensures.place i) +ℤ value i)
+    c.displace.ensures.place ∙ λ i. natural (pos (c.member-place.ensures.place i) +ℤ value i)

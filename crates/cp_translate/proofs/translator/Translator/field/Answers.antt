@@ -16,7 +16,7 @@ returns c = λ calls s low before d scope place.
     let there : c.in_ok-part.part ≡ Some c.in_ok-ok_or.field-0 = search rules in
     let at : c.in_ok-ok_or.field-0.at ≡ Some c.in_ok-at.at = search rules in
     let lies = rw there at ((rw c.tables-tables.ensures at c.in_ok-part.ensures) s.globals types t scope.laid stands) in
-    let spot = rw c.in_ok-spot.ensures.ok_part at c.moved.ensures in
+    let spot = rw c.in_ok-spot.ensures.ok_part at c.advance.ensures in
     field_made c.args.self.now.scope s low before calls d c.args.name.now of
     (record { spot = c.in_ok-spot.spot; temps = of.temps; of = c.in_ok-field_type.field-0 }) c.in_ok-ok_or.field-0 c.in_ok-at.at at spot
     refl lies (c.in_ok-field_type.ensures s t scope place.typed) place

@@ -5,19 +5,19 @@ use Rattle.cp_steps.specs.Passing as plain
 use Rattle.cp_threaded.specs.Reaches.{capped}
 use Rattle.cp_threaded.specs.View as view
 use Rattle.cp_process.specs.States.{joined, outside_of}
-use Rattle.cp_process.proofs.private.Private.called.Goals as goal
+use Rattle.cp_process.proofs.private.Private.callee.Goals as goal
 
 pub returns-in-Class : goal.returns-in-Class
 returns-in-Class c =
     λ input.
     let o = joined c.args.self.now input c.args.shared.now in
-    rw c.in-Class.is (c.class_called.ensures input ∙ ap (plain.class_called o) c.member.ensures.place)
+    rw c.in-Class.is (c.class_callee.ensures input ∙ ap (plain.class_called o) c.member.ensures.place)
 
 pub returns-in-ClassRight : goal.returns-in-ClassRight
 returns-in-ClassRight c =
     λ input.
     let o = joined c.args.self.now input c.args.shared.now in
-    rw c.in-ClassRight.is (c.class_called-in-ClassRight.ensures input ∙ ap (plain.class_called o) (c.class_right.ensures.place input))
+    rw c.in-ClassRight.is (c.class_callee-in-ClassRight.ensures input ∙ ap (plain.class_called o) (c.class_right.ensures.place input))
 
 pub returns-in-MonitorRight : goal.returns-in-MonitorRight
 returns-in-MonitorRight c =
@@ -30,4 +30,4 @@ returns-in-MonitorRight c =
     let whole : to_z w32 (of_z w32 c.word.result) ≡ c.word.result = search rules in
     let number = c.natural-monitor.ensures ∙ ap natural (whole ∙ c.word.ensures input place told) in
     rw c.in-MonitorRight.is
-    (c.monitor_called-in-MonitorRight.ensures ∙ ap (plain.monitor_called (view.program c.args.program.now) w) number)
+    (c.monitor_callee-in-MonitorRight.ensures ∙ ap (plain.monitor_called (view.program c.args.program.now) w) number)

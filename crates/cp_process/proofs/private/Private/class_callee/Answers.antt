@@ -3,7 +3,7 @@ use Rattle.std.specs.Prelude.{nat_eq, not}
 use Rattle.std.specs.Int.{w32}
 use Rattle.cp_model.specs.Integers.{same_integer}
 use Rattle.cp_threaded.specs.Reaches.{capped}
-use Rattle.cp_process.proofs.private.Private.class_called.Goals as goal
+use Rattle.cp_process.proofs.private.Private.class_callee.Goals as goal
 
 pub returns : goal.returns
 returns c =

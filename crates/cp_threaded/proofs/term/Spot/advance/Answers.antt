@@ -5,7 +5,7 @@ use Rattle.cp_threaded.specs.View.{PlainIndex, index, root, term}
 use Rattle.cp_threaded.specs.declared.term.Index.{out-Index}
 use Rattle.cp_threaded.specs.declared.term.Spot.{out-Spot}
 use Rattle.cp_threaded.proofs.Chains.{elements_moved, index_is, index_rolled, spot_is, spot_rolled}
-use Rattle.cp_threaded.proofs.term.Spot.moved.Goals as goal
+use Rattle.cp_threaded.proofs.term.Spot.advance.Goals as goal
 
 pub returns : goal.returns
 returns c =
