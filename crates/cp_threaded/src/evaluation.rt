@@ -207,7 +207,7 @@ impl<'a> Reach<'a> {
 }
 
 impl Operand {
-    // The value of an operand that isn't read where it stands. That of a call is told apart first: most of these are.
+    // The value of an operand that isn't read where it stands. Most are values of calls and elements, which are told apart first.
     #[cycle(value)]
     #[inline(never)]
     fn deep_value(&self, reach: &Reach) -> Result<i32, Fault>
@@ -215,6 +215,7 @@ impl Operand {
     {
         match self {
             Operand::Made(temp) => Ok(reach.temp(*temp)),
+            Operand::Item(s) => s.word(reach),
             _ => self.deeper_value(reach),
         }
     }
@@ -225,7 +226,7 @@ impl Operand {
         ensures { result ≡ values.value_of (view_of reach.now) (view.operand self.now) }
     {
         match self {
-            Operand::Item(s) => Ok(reach.word(s.place(reach)?)),
+            Operand::Item(s) => s.word(reach),
             Operand::Nested(t) => t.value(reach),
             Operand::Not(t) => Ok(truth(t.value(reach)? == 0)),
             Operand::Negative(t) => in_range(-i64::from(t.value(reach)?)),
@@ -368,5 +369,14 @@ impl Spot {
             return Ok(from);
         }
         place_of_element(from, &self.indices, reach)
+    }
+
+    // The word at the place.
+    #[cycle(value)]
+    #[inline(never)]
+    fn word(&self, reach: &Reach) -> Result<i32, Fault>
+        ensures { result ≡ values.value_of (view_of reach.now) (terms.Item (view.spot self.now)) }
+    {
+        Ok(reach.word(self.place(reach)?))
     }
 }
