@@ -105,7 +105,8 @@ impl Kernel {
         ensures start { IfOk result (λ k. (tick : ℕ) (inputs : ℕ → List ℕ)
             → kernel_of k ≡ (plain.first_machine (view.program program.now) tick inputs).kernel) }
         ensures transcripts { IfOk result (λ k. (tick : ℕ) (inputs : ℕ → List ℕ)
-            → transcripts_of k ≡ (plain.first_machine (view.program program.now) tick inputs).transcripts) }
+            → transcripts_of k
+            ≡ (plain.first_machine (view.program program.now) tick inputs).transcripts) }
     {
         let processes = program.processes();
         Ok(Kernel {
