@@ -1,5 +1,5 @@
 #!/usr/bin/env python3
-"""Writes the worked texts of this folder as statements of the crates cp_rows and cp_steps_rows.
+"""Writes the worked texts of this folder as statements of the crate cp_rows, and runs of some as those of cp_steps_rows.
 
 Each folder is a module of statements, each file a text with its answers:
 
@@ -11,21 +11,27 @@ Each folder is a module of statements, each file a text with its answers:
     == consumed --rounds N [..]    how much of its input each process has taken, which no report tells: no command of the program
     the answer, up to the next line that begins with ==
 
-Lines before the first == say what the text shows. `make_rows.py` writes crates/cp_rows/specs, proofs and src/rows.rt, the same of
-crates/cp_steps_rows, where the compiled programs give the reports of the folders that MACHINE names, and the cases as JSON, which the
-program cp_worked reads; `make_rows.py --list` prints them. `make_rows.py --unchanged` fails where the files
-aren't those that it would write.
+Lines before the first == say what the text shows. `make_rows.py` writes crates/cp_rows/specs, proofs and src/rows.rt; of the texts
+that COMPILED names, that their compiled programs answer as the meaning does, to specs/Runs.antt and proofs of crates/cp_steps_rows; and
+the cases as JSON, which the program cp_worked reads. `make_rows.py --list` prints these, and `make_rows.py --unchanged` fails where the
+files aren't those that it would write.
 """
 import json, pathlib, re, sys
 
 HERE = pathlib.Path(__file__).resolve().parent
 CRATES = HERE.parent / 'crates'
 CASES = CRATES / 'cp_worked' / 'stdin'
-# One text has 255 processes: reading its state takes too much memory.
-MACHINE = ('classes', 'clock', 'examples', 'meaning', 'monitors', 'processes')
-TOO_LARGE = ('many_processes',)
+# Texts of monitors and queues, of input, of chains of askers, and of routines, types and loops. Each has several answers, so it has a name.
+COMPILED = ('examples/buffer', 'meaning/input_in_subrange', 'monitors/a_chain_of_askers', 'processes/routines_types_and_loops')
 WRITTEN = {}
-DEFAULTS = {'rounds': '0', 'turn': '100', 'tick': '1', 'input': '', 'order': ''}
+DEFAULTS = {'rounds': '0', 'turn': '100', 'tick': '1', 'chains': 'false', 'input': '', 'order': ''}
+# What the answer of a command is computed from but a text.
+OPTIONS = {
+    'check': (),
+    'run': ('rounds', 'turn', 'tick', 'chains', 'input'),
+    'replay': ('turn', 'tick', 'chains', 'input', 'order'),
+    'consumed': ('rounds', 'turn', 'tick', 'input'),
+}
 
 
 def cases_of(path):
@@ -52,7 +58,7 @@ def options(head):
             found[word[2:7]] = eval(word[8:])
             k += 1
         elif word == '--chains':
-            found['chains'] = True
+            found['chains'] = 'true'
             k += 1
         else:
             found[word[2:]] = words[k + 1]
@@ -73,21 +79,18 @@ def as_bytes(text):
     return '(' + ' ++ '.join(parts) + ')' if parts else '[]'
 
 
-def statement(text, head, answer):
-    """The statement that this answer is given."""
+def applied(function, head, text):
+    """A function of a command's options, and of a text, which is a term."""
     command, found = options(head)
+    terms = [as_bytes(found[name]) if name in ('input', 'order') else found[name] for name in OPTIONS[command]]
+    return ' '.join([function, *terms, text])
+
+
+def statement(text, head, answer):
+    """The statement that this answer is given of a text."""
+    command, _ = options(head)
     expected = as_bytes(answer if answer.startswith(('rounds ', 'accepted', 'consumed ')) else answer[:-1])
-    chains = 'true' if found.get('chains') else 'false'
-    given = as_bytes(found['input'])
-    if command == 'check':
-        call = f'check_answer {as_bytes(text)}'
-    elif command == 'run':
-        call = f"run_answer {found['rounds']} {found['turn']} {found['tick']} {chains} {given} {as_bytes(text)}"
-    elif command == 'consumed':
-        call = f"consumed_answer {found['rounds']} {found['turn']} {found['tick']} {given} {as_bytes(text)}"
-    else:
-        call = f"replay_answer {found['turn']} {found['tick']} {chains} {given} {as_bytes(found['order'])} {as_bytes(text)}"
-    return f'{call} ≡ {expected}'
+    return applied(f'{command}_answer', head, text) + f' ≡ {expected}'
 
 
 def unfoldable():
@@ -106,65 +109,82 @@ def write(path, text):
     WRITTEN[path] = text
 
 
-def write_module(crate, folder, wanted):
-    """One folder: its statements, their proof, and the public function that stands on them."""
+def named_texts(path):
+    """The texts of a file that have several answers, each with its name."""
+    texts = [text for text, _, _ in cases_of(path)]
+    return {text: f'{path.stem}_{texts.index(text) + 1}_text' for text in texts if texts.count(text) > 1}
+
+
+def write_module(folder):
+    """One folder: its texts and statements, their proof, and the public function that stands on them."""
     name, title = folder.name, folder.name.capitalize()
     lines = [f'-- Worked texts and their answers: {name}. Written by worked/make_rows.py.',
-             'use Rattle.std.specs.Prelude.{◌≡◌, true, false, [], ◌∷◌, ◌++◌, codes}',
-             f'use Rattle.{crate}.specs.Answers.{{{wanted["functions"]}}}', '']
+             'use Rattle.std.specs.Prelude.{◌≡◌, true, false, [], ◌∷◌, ◌++◌, codes}', 'use Rattle.cp_model.specs.Report.{Text}',
+             'use Rattle.cp_rows.specs.Answers.{check_answer, run_answer, replay_answer, consumed_answer}', '']
     names = []
     for path in sorted(folder.glob('*.txt')):
-        for k, case in enumerate(cases_of(path), 1):
-            if wanted['takes'](path.stem, case):
-                own = f'{path.stem}_{k}'
-                names.append(own)
-                lines += [f'abbrev pub {own} : Type 0', f'{own} = {statement(*case)}', '']
+        named = named_texts(path)
+        for text, own in named.items():
+            lines += [f'abbrev pub {own} : Text', f'{own} = {as_bytes(text)}', '']
+        for k, (text, head, answer) in enumerate(cases_of(path), 1):
+            own = f'{path.stem}_{k}'
+            names.append(own)
+            lines += [f'abbrev pub {own} : Type 0', f'{own} = {statement(named.get(text) or as_bytes(text), head, answer)}', '']
     lines += [f'abbrev pub {title} : Type 0', f'{title} = ' + ' × '.join(names), '']
-    write(CRATES / crate / 'specs' / f'{title}.antt', '\n'.join(lines))
-    write_proofs(crate, name, title, names)
+    write(CRATES / 'cp_rows' / 'specs' / f'{title}.antt', '\n'.join(lines))
+    write_proofs('cp_rows', name, title, {own: 'refl' for own in names})
     return title, name, len(names)
 
 
-def write_proofs(crate, name, title, names):
+def write_proofs(crate, name, title, holds):
     """A lemma for each statement, by computation, and the answer that puts them together."""
     modules = unfoldable()
     unfolding = 'unfolding ' + ' '.join(word for own in modules.values() for word in own)
     lemmas = [f'-- The answers of {name}, computed. Written by worked/make_rows.py.', 'use Rattle.std.proofs.Common.{refl}',
-              f'use Rattle.{crate}.specs.{title}.{{{", ".join(names)}}}']
+              f'use Rattle.{crate}.specs.{title}.{{{", ".join(holds)}}}']
     lemmas += [f'use {module}.{{{", ".join(own)}}}' for module, own in modules.items()]
-    for own in names:
-        lemmas += ['', f'pub {own}-holds : {own}', unfolding, f'{own}-holds = refl']
+    for own, proof in holds.items():
+        lemmas += ['', f'pub {own}-holds : {own}', unfolding, f'{own}-holds = {proof}']
     write(CRATES / crate / 'proofs' / f'{title}Computed.antt', '\n'.join(lemmas) + '\n')
-    cited = [f'{own}-holds' for own in names]
+    cited = [f'{own}-holds' for own in holds]
     answers = [f'use Rattle.{crate}.proofs.{title}Computed.{{{", ".join(cited)}}}',
                f'use Rattle.{crate}.proofs.rows.{name}_hold.Goals as goal', '',
                'pub returns : goal.returns', 'returns c = (' + ', '.join(cited) + ')', '']
     write(CRATES / crate / 'proofs' / 'rows' / f'{name}_hold' / 'Answers.antt', '\n'.join(answers))
 
 
-def write_crate(crate, folders, wanted):
-    modules = [write_module(crate, folder, wanted) for folder in folders]
-    path = CRATES / crate
+def write_rows():
+    """The crate cp_rows, but its Answers.antt."""
+    modules = [write_module(folder) for folder in sorted(HERE.iterdir()) if list(folder.glob('*.txt'))]
+    path = CRATES / 'cp_rows'
     write(path / 'proofs' / 'Lib.antt', ''.join(f'mod {title}Computed\n' for title, _, _ in modules))
-    write(path / 'specs' / 'Lib.antt',
-          ''.join(f'pub mod {title}\n' for title in wanted['before'] + [title for title, _, _ in modules]))
-    code = [f'//! The worked texts of the folder `worked`: each function says of one folder that {wanted["who"]} give its answers.',
+    write(path / 'specs' / 'Lib.antt', ''.join(f'pub mod {title}\n' for title in ['Answers'] + [title for title, _, _ in modules]))
+    code = ['//! The worked texts of the folder `worked`: each function says of one folder that the definitions give its answers.',
             '//!', '//! Written by worked/make_rows.py.', '']
-    code += [f'ghost use Rattle.{crate}.specs.{title}.{{{title}}};' for title, _, _ in modules]
+    code += [f'ghost use Rattle.cp_rows.specs.{title}.{{{title}}};' for title, _, _ in modules]
     for title, name, _ in modules:
         code += ['', f'/// Each of the answers of `worked/{name}`.', f'pub fn {name}_hold()', f'    ensures {{ {title} }}', '{}']
     write(path / 'src' / 'rows.rt', '\n'.join(code) + '\n')
     return sum(count for _, _, count in modules)
 
 
-def make_all():
-    folders = [folder for folder in sorted(HERE.iterdir()) if list(folder.glob('*.txt'))]
-    of_meaning = {'functions': 'check_answer, run_answer, replay_answer, consumed_answer', 'before': ['Answers'],
-                  'takes': lambda name, case: True, 'who': 'the definitions'}
-    of_machine = {'functions': 'run_answer, consumed_answer', 'before': ['MachineStates', 'Answers'],
-                  'takes': lambda name, case: name not in TOO_LARGE and case[1].startswith(('run', 'consumed')), 'who': 'the compiled programs'}
-    machine = [folder for folder in folders if folder.name in MACHINE]
-    return write_crate('cp_rows', folders, of_meaning) + write_crate('cp_steps_rows', machine, of_machine)
+def write_compiled():
+    """The runs of cp_steps_rows, and their proof."""
+    uses, runs = [], []
+    for named in COMPILED:
+        path = HERE / f'{named}.txt'
+        texts = named_texts(path)
+        uses.append(f'use Rattle.cp_rows.specs.{path.parent.name.capitalize()}.{{{", ".join(texts.values())}}}')
+        for text, head, _ in cases_of(path):
+            command, _ = options(head)
+            if command in ('run', 'consumed'):
+                runs.append(applied(f'{command.capitalize()}IsMeant', head, texts[text]))
+    lines = ['-- Worked texts whose compiled programs answer as the meaning does. Written by worked/make_rows.py.',
+             'use Rattle.std.specs.Prelude.{true, false, [], codes}', *uses,
+             'use Rattle.cp_steps_rows.specs.Answers.{RunIsMeant, ConsumedIsMeant}', '',
+             'abbrev pub Runs : Type 0', 'Runs =', '    ' + '\n    × '.join(runs), '']
+    write(CRATES / 'cp_steps_rows' / 'specs' / 'Runs.antt', '\n'.join(lines))
+    write_proofs('cp_steps_rows', 'runs', 'Runs', {'Runs': '(' + ', '.join(['refl'] * len(runs)) + ')'})
 
 
 def listed():
@@ -175,7 +195,7 @@ def listed():
             command, words = options(head)
             case = {'name': f'{path.parent.name}/{path.stem} {k}', 'text': text, 'words': head, 'command': command, 'answer': answer}
             case.update({name: int(words[name]) for name in ('rounds', 'turn', 'tick')})
-            case.update(input=words['input'], order=words['order'], chains='chains' in words)
+            case.update(input=words['input'], order=words['order'], chains=words['chains'] == 'true')
             found.append(json.dumps(case))
     return '[\n' + ',\n'.join(found) + '\n]\n'
 
@@ -183,7 +203,8 @@ def listed():
 def main():
     if '--list' in sys.argv:
         return sys.stdout.write(listed())
-    count = make_all()
+    count = write_rows()
+    write_compiled()
     write(CASES, listed())
     changed = [path for path, text in WRITTEN.items() if not path.exists() or path.read_text() != text]
     if '--unchanged' in sys.argv:

@@ -154,7 +154,7 @@ impl Board {
 
     /// Whether a stop was called: true only after one, and always for a seat that has seen one.
     /// That a seat sees a stop that another called is shown by tests alone.
-    pub fn stopped(&self, seat: &mut Seat) -> bool
+    pub fn is_stopped(&self, seat: &mut Seat) -> bool
         requires { IsSeatOf self.now seat.old }
         ensures table { seat.new.table ≡ seat.old.table }
         ensures view { seat.new.view ≡ record seat.old.view { seen_stop = result } }

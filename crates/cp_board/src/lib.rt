@@ -4,7 +4,7 @@
 //! A board has one ticket word for each of its stripes, and a stop word. `Board::new` gives the
 //! board and its first seat. `Board::split` makes two seats of one and `Board::join` one of two, so
 //! each thread gets a seat of its own. A seat draws with `Board::claim`, calls the stop with
-//! `Board::stop` and asks for it with `Board::stopped`. Who has joined all seats closes the board
+//! `Board::stop` and asks for it with `Board::is_stopped`. Who has joined all seats closes the board
 //! with `Board::close`, and then knows all that was drawn.
 //!
 //! | What | Where its definition stands |

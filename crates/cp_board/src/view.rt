@@ -31,6 +31,6 @@ pub struct View {
     pub used_up: LinkedList<bool>,
     /// Whether the seat called `Board::stop`.
     pub called_stop: bool,
-    /// Whether the seat called `Board::stop`, or `Board::stopped` told it true.
+    /// Whether the seat called `Board::stop`, or `Board::is_stopped` told it true.
     pub seen_stop: bool,
 }

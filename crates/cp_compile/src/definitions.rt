@@ -32,7 +32,10 @@ struct SystemText<'s, 't> {
 }
 
 // The first unit of a type that is written: of a name, that of the type it names.
-fn first_of_written(t: &TypeExpression, firsts: &NameTable<u32>) -> Result<u32, CompileError>
+fn first_of_type_expression(
+    t: &TypeExpression,
+    firsts: &NameTable<u32>,
+) -> Result<u32, CompileError>
     ensures { IfOk result (λ n.
         n ≡ first_of_type firsts.now (erase.type_expression (tree.type_expression t.now))) }
 {
@@ -113,7 +116,7 @@ impl<'s, 't> TextCompiler<'s, 't> {
             (with_definition g (erase.type_definition (tree.type_definition d.now)) m)) }
     {
         match &d.defined {
-            Defined::Written(t) => first_of_written(t, firsts),
+            Defined::Written(t) => first_of_type_expression(t, firsts),
             Defined::Enumeration(_) => Ok(0),
             Defined::System(_) => self.system(d.name.name.as_bytes(), firsts, emitter),
         }

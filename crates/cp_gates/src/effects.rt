@@ -20,7 +20,7 @@ fn index(number: u32) -> usize
     (number as usize).saturating_sub(1)
 }
 
-fn resumed(stage: Stage) -> Stage
+fn resumed_stage(stage: Stage) -> Stage
     ensures { stage_view result ≡ plain.resumed (stage_view stage) }
 {
     match stage {
@@ -46,7 +46,7 @@ impl Kernel {
         ensures gates { self.new.gates ≡ self.old.gates }
         ensures transcripts { self.new.transcripts ≡ self.old.transcripts }
     {
-        self.set_stage(r, resumed(self.stage(r)));
+        self.set_stage(r, resumed_stage(self.stage(r)));
     }
 
     // Nobody asks any more.

@@ -43,7 +43,7 @@ fn start_monitors(program: &Program, words: &mut [i32])
     }
 }
 
-fn first_shared(alloc: Global, program: &Program) -> Result<Vec<i32>, AllocError>
+fn first_shared_words(alloc: Global, program: &Program) -> Result<Vec<i32>, AllocError>
     ensures words { IfOk result (λ ws. let p = view.program program.now in
         ws.items ≡ plain.first_shared p.monitors (replicate p.shared (pos 0))) }
     ensures few { IfOk result (λ ws. length ws.items < 2 ^ 30) }
@@ -105,11 +105,12 @@ impl Kernel {
         ensures start { IfOk result (λ k. (tick : ℕ) (inputs : ℕ → List ℕ)
             → kernel_of k ≡ (plain.first_machine (view.program program.now) tick inputs).kernel) }
         ensures transcripts { IfOk result (λ k. (tick : ℕ) (inputs : ℕ → List ℕ)
-            → transcripts_of k ≡ (plain.first_machine (view.program program.now) tick inputs).transcripts) }
+            → transcripts_of k
+            ≡ (plain.first_machine (view.program program.now) tick inputs).transcripts) }
     {
         let processes = program.processes();
         Ok(Kernel {
-            shared: first_shared(alloc, program)?,
+            shared: first_shared_words(alloc, program)?,
             gates: unset_gates(alloc, program.monitors())?,
             stages: first_stages(alloc, processes)?,
             transcripts: empty_transcripts(alloc, processes)?,

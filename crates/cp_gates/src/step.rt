@@ -72,8 +72,8 @@ pub(crate) fn kernel_step(
     input: &[u8],
     clock: u64,
 )
-    requires due { plain.is_due (view.program program.now) (turning kernel.old private.old input.now)
-        ≡ true }
+    requires due { plain.is_due (view.program program.now)
+        (turning kernel.old private.old input.now) ≡ true }
     requires among { IsAmong kernel.old private.old.number }
     requires asking { HasRoomForAskers kernel.old 1 }
     requires output { HasRoomFor private.old 1 }

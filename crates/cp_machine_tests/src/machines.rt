@@ -62,7 +62,7 @@ pub(crate) fn has_written(machine: &Machine, p: usize, text: &[u8]) -> bool {
 }
 
 // All that is read of a machine.
-pub(crate) fn reading(alloc: Global, machine: &Machine) -> Result<String, Fail> {
+pub(crate) fn describe(alloc: Global, machine: &Machine) -> Result<String, Fail> {
     let mut text = format!(in alloc; "{} {:?}", machine.rounds(), machine.kernel())?;
     for p in 1..=machine.processes() {
         let private = machine.private(p).ok_or("there is no such process")?;

@@ -4,7 +4,7 @@
 //! run. Where one is made to fail, as by a library that is loaded before the C library, the last
 //! three tests say so, and look at the machine.
 
-use crate::machines::{activity, has_written, inputs_for, machine_of, reading};
+use crate::machines::{activity, describe, has_written, inputs_for, machine_of};
 use crate::texts;
 use crate::ways::{Way, is_young};
 use cp_machine::gate::Open;
@@ -22,7 +22,7 @@ use std::test::Fail;
 use std::thread::Threads;
 
 // A program that ends at once, with so many words for its process and so many that are shared.
-fn ending(alloc: Global, words: u32, shared: u32) -> Result<Program, Fail> {
+fn ending_program(alloc: Global, words: u32, shared: u32) -> Result<Program, Fail> {
     let mut operations = Vec::new(alloc);
     operations.push(Operation::End)?;
     let mut units = Vec::new(alloc);
@@ -50,13 +50,13 @@ fn ending(alloc: Global, words: u32, shared: u32) -> Result<Program, Fail> {
 }
 
 // What the process of such a program does in a round, unless the machine is refused.
-fn ended<R: Threads + Wait + Sync>(
+fn activity_after_round<R: Threads + Wait + Sync>(
     rt: &R,
     alloc: Global,
     words: u32,
     shared: u32,
 ) -> Result<Option<Activity>, Fail> {
-    let program = ending(alloc, words, shared)?;
+    let program = ending_program(alloc, words, shared)?;
     let inputs = inputs_for(alloc, &program, &[])?;
     let Ok(mut machine) = Machine::new(alloc, program, inputs, Tick::new(1)?) else {
         return Ok(None);
@@ -67,10 +67,13 @@ fn ended<R: Threads + Wait + Sync>(
 
 #[test]
 fn a_machine_has_fewer_than_2_to_the_30_words(rt: HostRuntime) -> Result<(), Fail> {
-    assert_eq!(rt; ended(&rt, rt.alloc(), 1, 1)?, Some(Activity::Ended));
+    assert_eq!(rt;
+        activity_after_round(&rt, rt.alloc(), 1, 1)?,
+        Some(Activity::Ended)
+    );
     for many in [1 << 30, u32::MAX] {
-        assert_eq!(rt; ended(&rt, rt.alloc(), many, 1)?, None);
-        assert_eq!(rt; ended(&rt, rt.alloc(), 1, many)?, None);
+        assert_eq!(rt; activity_after_round(&rt, rt.alloc(), many, 1)?, None);
+        assert_eq!(rt; activity_after_round(&rt, rt.alloc(), 1, many)?, None);
     }
     Ok(())
 }
@@ -135,11 +138,11 @@ fn a_refused_round_leaves_the_machine_as_it_was(rt: HostRuntime) -> Result<(), F
         let plan = plan_of(workers, wave)?;
         let mut machine = machine_of(rt.alloc(), COUNTERS)?;
         for round in 0..ROUNDS {
-            let before = reading(rt.alloc(), &machine)?;
+            let before = describe(rt.alloc(), &machine)?;
             is_young(&machine)?;
             if machine.round(&rt, &plan, &Open).is_err() {
                 println!(rt; "round {round} is refused")?;
-                assert!(rt; reading(rt.alloc(), &machine)? == before);
+                assert!(rt; describe(rt.alloc(), &machine)? == before);
                 is_young(&machine)?;
                 machine.round(&rt, &plan, &Open)?;
             }
@@ -161,7 +164,7 @@ fn a_refused_run_has_made_the_rounds_before(rt: HostRuntime) -> Result<(), Fail>
             assert_eq!(rt; machine.rounds(), u64::from(made));
             let mut other = machine_of(rt.alloc(), COUNTERS)?;
             Way::new(true, 1, 1, 255).make(&rt, &mut other, made, 3, &Open)?;
-            assert!(rt; reading(rt.alloc(), &machine)? == reading(rt.alloc(), &other)?);
+            assert!(rt; describe(rt.alloc(), &machine)? == describe(rt.alloc(), &other)?);
             is_young(&machine)?;
             machine.run(&rt, ROUNDS - made, &plan, &Open)?;
         }

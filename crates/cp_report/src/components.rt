@@ -55,7 +55,7 @@ impl Walk {
     }
 
     // Tells variables of the initial process, one after another, from the next place on.
-    fn declared(
+    fn variables(
         &mut self,
         tables: &Tables,
         telling: &Telling,
@@ -83,6 +83,6 @@ impl Walk {
             out.old.items out.new.items) }
     {
         self.at = 1;
-        self.declared(tables, telling, out, &tables.initial.variables)
+        self.variables(tables, telling, out, &tables.initial.variables)
     }
 }

@@ -1,36 +1,46 @@
 -- Worked texts and their answers: meaning. Written by worked/make_rows.py.
 use Rattle.std.specs.Prelude.{◌≡◌, true, false, [], ◌∷◌, ◌++◌, codes}
+use Rattle.cp_model.specs.Report.{Text}
 use Rattle.cp_rows.specs.Answers.{check_answer, run_answer, replay_answer, consumed_answer}
 
 abbrev pub a_call_that_makes_calls_1 : Type 0
 a_call_that_makes_calls_1 = run_answer 1 100 1 false [] (codes "var a: integer;\nfunction f(k: integer): integer; begin display(k); f := k * 10 end;\nfunction h(k: integer): integer; var s: integer;\nbegin display(k); s := f(k + 1) - f(k + 2); display(f(7) div 10); h := s + k end;\nbegin a := f(1) + h(2) end.") ≡ (codes "rounds 1\nprocess 1 initial ended\nout '123477'\nvar a = 2\n")
 
+abbrev pub an_array_of_queues_1_text : Text
+an_array_of_queues_1_text = (codes "type m = monitor; var q: array [1..2] of queue;\n  procedure entry w(i: integer); begin delay(q[i]) end;\n  procedure entry s(i: integer); begin if empty(q[i]) then display(0) else continue(q[i]) end; begin end;\np = process(a: m; i: integer); begin a.w(i); display(5) end;\nr = process(a: m); begin a.s(1); a.s(2); display(6) end;\nvar g: m; b: p; c: r;\nbegin init g, b(g, 2), c(g) end.")
+
 abbrev pub an_array_of_queues_1 : Type 0
-an_array_of_queues_1 = run_answer 3 2 1 false [] (codes "type m = monitor; var q: array [1..2] of queue;\n  procedure entry w(i: integer); begin delay(q[i]) end;\n  procedure entry s(i: integer); begin if empty(q[i]) then display(0) else continue(q[i]) end; begin end;\np = process(a: m; i: integer); begin a.w(i); display(5) end;\nr = process(a: m); begin a.s(1); a.s(2); display(6) end;\nvar g: m; b: p; c: r;\nbegin init g, b(g, 2), c(g) end.") ≡ (codes "rounds 3\nprocess 1 initial ended\nout ''\nprocess 2 b delayed g q[2]\nout ''\nvar i = 2\nprocess 3 c ready\nout ''\nmonitor g held 3 askers -\nqueue q[1] = -\nqueue q[2] = 2\n")
+an_array_of_queues_1 = run_answer 3 2 1 false [] an_array_of_queues_1_text ≡ (codes "rounds 3\nprocess 1 initial ended\nout ''\nprocess 2 b delayed g q[2]\nout ''\nvar i = 2\nprocess 3 c ready\nout ''\nmonitor g held 3 askers -\nqueue q[1] = -\nqueue q[2] = 2\n")
 
 abbrev pub an_array_of_queues_2 : Type 0
-an_array_of_queues_2 = run_answer 2 10 1 false [] (codes "type m = monitor; var q: array [1..2] of queue;\n  procedure entry w(i: integer); begin delay(q[i]) end;\n  procedure entry s(i: integer); begin if empty(q[i]) then display(0) else continue(q[i]) end; begin end;\np = process(a: m; i: integer); begin a.w(i); display(5) end;\nr = process(a: m); begin a.s(1); a.s(2); display(6) end;\nvar g: m; b: p; c: r;\nbegin init g, b(g, 2), c(g) end.") ≡ (codes "rounds 2\nprocess 1 initial ended\nout ''\nprocess 2 b ready\nout ''\nvar i = 2\nprocess 3 c ready\nout '0'\nmonitor g held 2 askers -\nqueue q[1] = -\nqueue q[2] = -\n")
+an_array_of_queues_2 = run_answer 2 10 1 false [] an_array_of_queues_1_text ≡ (codes "rounds 2\nprocess 1 initial ended\nout ''\nprocess 2 b ready\nout ''\nvar i = 2\nprocess 3 c ready\nout '0'\nmonitor g held 2 askers -\nqueue q[1] = -\nqueue q[2] = -\n")
 
 abbrev pub an_array_of_queues_3 : Type 0
-an_array_of_queues_3 = run_answer 4 10 1 false [] (codes "type m = monitor; var q: array [1..2] of queue;\n  procedure entry w(i: integer); begin delay(q[i]) end;\n  procedure entry s(i: integer); begin if empty(q[i]) then display(0) else continue(q[i]) end; begin end;\np = process(a: m; i: integer); begin a.w(i); display(5) end;\nr = process(a: m); begin a.s(1); a.s(2); display(6) end;\nvar g: m; b: p; c: r;\nbegin init g, b(g, 2), c(g) end.") ≡ (codes "rounds 4\nprocess 1 initial ended\nout ''\nprocess 2 b ended\nout '5'\nvar i = 2\nprocess 3 c ended\nout '06'\nmonitor g free askers -\nqueue q[1] = -\nqueue q[2] = -\n")
+an_array_of_queues_3 = run_answer 4 10 1 false [] an_array_of_queues_1_text ≡ (codes "rounds 4\nprocess 1 initial ended\nout ''\nprocess 2 b ended\nout '5'\nvar i = 2\nprocess 3 c ended\nout '06'\nmonitor g free askers -\nqueue q[1] = -\nqueue q[2] = -\n")
 
 abbrev pub argument_range_first_1 : Type 0
 argument_range_first_1 = run_answer 1 100 1 false [] (codes "type t = 1..3;\nvar x: integer;\nprocedure f(a: t; b: integer); begin end;\nbegin f(9, 1 div x) end.") ≡ (codes "rounds 1\nprocess 1 initial fault 1\nout ''\nvar x = 0\n")
 
+abbrev pub askers_in_order_1_text : Text
+askers_in_order_1_text = (codes "type m = monitor;\n  procedure entry e(k: integer);\n  begin display(k); display(k); display(k); display(k); display(k); display(k) end;\nbegin end;\np = process(a: m; n: integer); var i: integer; begin for i := 1 to n do ; a.e(n) end;\nvar g: m; b, c, d: p;\nbegin init g, b(g, 0), c(g, 5), d(g, 1) end.")
+
 abbrev pub askers_in_order_1 : Type 0
-askers_in_order_1 = run_answer 5 2 1 false [] (codes "type m = monitor;\n  procedure entry e(k: integer);\n  begin display(k); display(k); display(k); display(k); display(k); display(k) end;\nbegin end;\np = process(a: m; n: integer); var i: integer; begin for i := 1 to n do ; a.e(n) end;\nvar g: m; b, c, d: p;\nbegin init g, b(g, 0), c(g, 5), d(g, 1) end.") ≡ (codes "rounds 5\nprocess 1 initial ended\nout ''\nprocess 2 b ready\nout '00000'\nvar n = 0\nvar i = 0\nprocess 3 c asking g\nout ''\nvar n = 5\nvar i = 5\nprocess 4 d asking g\nout ''\nvar n = 1\nvar i = 1\nmonitor g held 2 askers 4 3\n")
+askers_in_order_1 = run_answer 5 2 1 false [] askers_in_order_1_text ≡ (codes "rounds 5\nprocess 1 initial ended\nout ''\nprocess 2 b ready\nout '00000'\nvar n = 0\nvar i = 0\nprocess 3 c asking g\nout ''\nvar n = 5\nvar i = 5\nprocess 4 d asking g\nout ''\nvar n = 1\nvar i = 1\nmonitor g held 2 askers 4 3\n")
 
 abbrev pub askers_in_order_2 : Type 0
-askers_in_order_2 = run_answer 6 2 1 false [] (codes "type m = monitor;\n  procedure entry e(k: integer);\n  begin display(k); display(k); display(k); display(k); display(k); display(k) end;\nbegin end;\np = process(a: m; n: integer); var i: integer; begin for i := 1 to n do ; a.e(n) end;\nvar g: m; b, c, d: p;\nbegin init g, b(g, 0), c(g, 5), d(g, 1) end.") ≡ (codes "rounds 6\nprocess 1 initial ended\nout ''\nprocess 2 b ready\nout '000000'\nvar n = 0\nvar i = 0\nprocess 3 c asking g\nout ''\nvar n = 5\nvar i = 5\nprocess 4 d ready\nout '11'\nvar n = 1\nvar i = 1\nmonitor g held 4 askers 3\n")
+askers_in_order_2 = run_answer 6 2 1 false [] askers_in_order_1_text ≡ (codes "rounds 6\nprocess 1 initial ended\nout ''\nprocess 2 b ready\nout '000000'\nvar n = 0\nvar i = 0\nprocess 3 c asking g\nout ''\nvar n = 5\nvar i = 5\nprocess 4 d ready\nout '11'\nvar n = 1\nvar i = 1\nmonitor g held 4 askers 3\n")
+
+abbrev pub body_that_waits_1_text : Text
+body_that_waits_1_text = (codes "type m = monitor; var q: queue;\n  procedure w; begin delay(q); display(1) end;\n  procedure entry s; begin continue(q) end;\nbegin w; display(2) end;\np = process(a: m); begin a.s end;\nvar g: m; b: p;\nbegin init b(g), g end.")
 
 abbrev pub body_that_waits_1 : Type 0
-body_that_waits_1 = run_answer 1 10 1 false [] (codes "type m = monitor; var q: queue;\n  procedure w; begin delay(q); display(1) end;\n  procedure entry s; begin continue(q) end;\nbegin w; display(2) end;\np = process(a: m); begin a.s end;\nvar g: m; b: p;\nbegin init b(g), g end.") ≡ (codes "rounds 1\nprocess 1 initial delayed g q\nout ''\nprocess 2 b ready\nout ''\nmonitor g free askers -\nqueue q = 1\n")
+body_that_waits_1 = run_answer 1 10 1 false [] body_that_waits_1_text ≡ (codes "rounds 1\nprocess 1 initial delayed g q\nout ''\nprocess 2 b ready\nout ''\nmonitor g free askers -\nqueue q = 1\n")
 
 abbrev pub body_that_waits_2 : Type 0
-body_that_waits_2 = run_answer 2 10 1 false [] (codes "type m = monitor; var q: queue;\n  procedure w; begin delay(q); display(1) end;\n  procedure entry s; begin continue(q) end;\nbegin w; display(2) end;\np = process(a: m); begin a.s end;\nvar g: m; b: p;\nbegin init b(g), g end.") ≡ (codes "rounds 2\nprocess 1 initial ready\nout ''\nprocess 2 b ready\nout ''\nmonitor g held 1 askers -\nqueue q = -\n")
+body_that_waits_2 = run_answer 2 10 1 false [] body_that_waits_1_text ≡ (codes "rounds 2\nprocess 1 initial ready\nout ''\nprocess 2 b ready\nout ''\nmonitor g held 1 askers -\nqueue q = -\n")
 
 abbrev pub body_that_waits_3 : Type 0
-body_that_waits_3 = run_answer 3 10 1 false [] (codes "type m = monitor; var q: queue;\n  procedure w; begin delay(q); display(1) end;\n  procedure entry s; begin continue(q) end;\nbegin w; display(2) end;\np = process(a: m); begin a.s end;\nvar g: m; b: p;\nbegin init b(g), g end.") ≡ (codes "rounds 3\nprocess 1 initial ready\nout '12'\nprocess 2 b ended\nout ''\nmonitor g free askers -\nqueue q = -\n")
+body_that_waits_3 = run_answer 3 10 1 false [] body_that_waits_1_text ≡ (codes "rounds 3\nprocess 1 initial ready\nout '12'\nprocess 2 b ended\nout ''\nmonitor g free askers -\nqueue q = -\n")
 
 abbrev pub call_test_after_arguments_1 : Type 0
 call_test_after_arguments_1 = run_answer 1 100 1 false [] (codes "type e = class; procedure entry z(k: integer); begin end; begin end;\nvar u: e;\nfunction f: integer; begin display(9); f := 1 end;\nbegin u.z(f) end.") ≡ (codes "rounds 1\nprocess 1 initial fault 6\nout '9'\n")
@@ -86,23 +96,29 @@ index_by_local_1 = run_answer 1 100 1 false [] (codes "type a = array [1..3] of 
 abbrev pub inner_rights_1 : Type 0
 inner_rights_1 = run_answer 1 100 1 false [] (codes "type n = class; var k: integer; procedure entry up; begin k := k + 1 end; function entry get: integer; begin get := k end; begin k := 10 end;\no = class(x: n); procedure entry twice; begin x.up; x.up end; begin x.up end;\nw = class; var a: n; b: o; procedure entry run; begin b.twice; display(a.get) end; begin init a, b(a) end;\nvar z: w;\nbegin init z; z.run end.") ≡ (codes "rounds 1\nprocess 1 initial ended\nout '13'\nvar z.a.k = 13\n")
 
+abbrev pub input_beyond_its_end_1_text : Text
+input_beyond_its_end_1_text = (codes "var a, b, c: char;\nbegin accept(a); accept(b); accept(c) end.")
+
 abbrev pub input_beyond_its_end_1 : Type 0
-input_beyond_its_end_1 = run_answer 1 100 1 false [] (codes "var a, b, c: char;\nbegin accept(a); accept(b); accept(c) end.") ≡ (codes "rounds 1\nprocess 1 initial ended\nout ''\nvar a = 25\nvar b = 25\nvar c = 25\n")
+input_beyond_its_end_1 = run_answer 1 100 1 false [] input_beyond_its_end_1_text ≡ (codes "rounds 1\nprocess 1 initial ended\nout ''\nvar a = 25\nvar b = 25\nvar c = 25\n")
 
 abbrev pub input_beyond_its_end_2 : Type 0
-input_beyond_its_end_2 = consumed_answer 1 100 1 [] (codes "var a, b, c: char;\nbegin accept(a); accept(b); accept(c) end.") ≡ (codes "consumed 0\n")
+input_beyond_its_end_2 = consumed_answer 1 100 1 [] input_beyond_its_end_1_text ≡ (codes "consumed 0\n")
 
 abbrev pub input_beyond_its_end_3 : Type 0
-input_beyond_its_end_3 = run_answer 1 100 1 false (codes "x") (codes "var a, b, c: char;\nbegin accept(a); accept(b); accept(c) end.") ≡ (codes "rounds 1\nprocess 1 initial ended\nout ''\nvar a = 120\nvar b = 25\nvar c = 25\n")
+input_beyond_its_end_3 = run_answer 1 100 1 false (codes "x") input_beyond_its_end_1_text ≡ (codes "rounds 1\nprocess 1 initial ended\nout ''\nvar a = 120\nvar b = 25\nvar c = 25\n")
 
 abbrev pub input_beyond_its_end_4 : Type 0
-input_beyond_its_end_4 = consumed_answer 1 100 1 (codes "x") (codes "var a, b, c: char;\nbegin accept(a); accept(b); accept(c) end.") ≡ (codes "consumed 1\n")
+input_beyond_its_end_4 = consumed_answer 1 100 1 (codes "x") input_beyond_its_end_1_text ≡ (codes "consumed 1\n")
+
+abbrev pub input_in_subrange_1_text : Text
+input_in_subrange_1_text = (codes "var c: 'a'..'c'; d: char;\nbegin accept(d); accept(c) end.")
 
 abbrev pub input_in_subrange_1 : Type 0
-input_in_subrange_1 = run_answer 1 100 1 false (codes "xyz") (codes "var c: 'a'..'c'; d: char;\nbegin accept(d); accept(c) end.") ≡ (codes "rounds 1\nprocess 1 initial fault 1\nout ''\nvar c = 97\nvar d = 120\n")
+input_in_subrange_1 = run_answer 1 100 1 false (codes "xyz") input_in_subrange_1_text ≡ (codes "rounds 1\nprocess 1 initial fault 1\nout ''\nvar c = 97\nvar d = 120\n")
 
 abbrev pub input_in_subrange_2 : Type 0
-input_in_subrange_2 = consumed_answer 1 100 1 (codes "xyz") (codes "var c: 'a'..'c'; d: char;\nbegin accept(d); accept(c) end.") ≡ (codes "consumed 1\n")
+input_in_subrange_2 = consumed_answer 1 100 1 (codes "xyz") input_in_subrange_1_text ≡ (codes "consumed 1\n")
 
 abbrev pub label_constants_1 : Type 0
 label_constants_1 = run_answer 1 100 1 false [] (codes "const one = 1;\ntype c = class; var two: integer;\n  procedure entry e(k: integer);\n  begin case k of one: two := 10; 2, 3: two := 20 end; display(two) end;\nbegin end;\nconst two = 2;\nvar u: c;\nbegin init u; u.e(1); u.e(two) end.") ≡ (codes "rounds 1\nprocess 1 initial ended\nout '1020'\nvar u.two = 20\n")
@@ -128,11 +144,14 @@ local_record_field_1 = run_answer 1 100 1 false [] (codes "type r = record q: in
 abbrev pub monitor_variable_handed_down_1 : Type 0
 monitor_variable_handed_down_1 = run_answer 4 100 1 false [] (codes "type m = monitor; var x: integer; q: queue;\n  procedure w(var k: integer); begin delay(q); display(k); k := k + 1 end;\n  procedure entry r; begin x := 1; w(x) end;\n  procedure entry s; begin x := 5; continue(q) end;\nbegin end;\npr = process(a: m); begin a.r end;\nps = process(a: m); begin a.s end;\nvar g: m; b: pr; c: ps;\nbegin init g, b(g), c(g) end.") ≡ (codes "rounds 4\nprocess 1 initial ended\nout ''\nprocess 2 b ended\nout '5'\nprocess 3 c ended\nout ''\nmonitor g free askers -\nvar x = 6\nqueue q = -\n")
 
+abbrev pub nested_delay_1_text : Text
+nested_delay_1_text = (codes "type n = monitor; var q: queue;\n  procedure entry w; begin delay(q); display(3) end;\n  procedure entry s; begin continue(q) end;\nbegin end;\no = monitor(x: n); var k: integer;\n  procedure entry go(var v: integer); begin k := 1; x.w; v := 7; k := 2 end;\nbegin end;\npa = process(a: o); var r: integer; begin a.go(r) end;\npb = process(b: n); begin b.s end;\nvar g: n; h: o; c: pa; d: pb;\nbegin init g, h(g), c(h), d(g) end.")
+
 abbrev pub nested_delay_1 : Type 0
-nested_delay_1 = run_answer 3 100 1 false [] (codes "type n = monitor; var q: queue;\n  procedure entry w; begin delay(q); display(3) end;\n  procedure entry s; begin continue(q) end;\nbegin end;\no = monitor(x: n); var k: integer;\n  procedure entry go(var v: integer); begin k := 1; x.w; v := 7; k := 2 end;\nbegin end;\npa = process(a: o); var r: integer; begin a.go(r) end;\npb = process(b: n); begin b.s end;\nvar g: n; h: o; c: pa; d: pb;\nbegin init g, h(g), c(h), d(g) end.") ≡ (codes "rounds 3\nprocess 1 initial ended\nout ''\nprocess 2 c ready\nout '3'\nvar r = 7\nprocess 3 d ended\nout ''\nmonitor g free askers -\nqueue q = -\nmonitor h free askers -\nvar k = 2\n")
+nested_delay_1 = run_answer 3 100 1 false [] nested_delay_1_text ≡ (codes "rounds 3\nprocess 1 initial ended\nout ''\nprocess 2 c ready\nout '3'\nvar r = 7\nprocess 3 d ended\nout ''\nmonitor g free askers -\nqueue q = -\nmonitor h free askers -\nvar k = 2\n")
 
 abbrev pub nested_delay_2 : Type 0
-nested_delay_2 = run_answer 2 100 1 false [] (codes "type n = monitor; var q: queue;\n  procedure entry w; begin delay(q); display(3) end;\n  procedure entry s; begin continue(q) end;\nbegin end;\no = monitor(x: n); var k: integer;\n  procedure entry go(var v: integer); begin k := 1; x.w; v := 7; k := 2 end;\nbegin end;\npa = process(a: o); var r: integer; begin a.go(r) end;\npb = process(b: n); begin b.s end;\nvar g: n; h: o; c: pa; d: pb;\nbegin init g, h(g), c(h), d(g) end.") ≡ (codes "rounds 2\nprocess 1 initial ended\nout ''\nprocess 2 c ready\nout ''\nvar r = 0\nprocess 3 d ready\nout ''\nmonitor g held 2 askers -\nqueue q = -\nmonitor h held 2 askers -\nvar k = 1\n")
+nested_delay_2 = run_answer 2 100 1 false [] nested_delay_1_text ≡ (codes "rounds 2\nprocess 1 initial ended\nout ''\nprocess 2 c ready\nout ''\nvar r = 0\nprocess 3 d ready\nout ''\nmonitor g held 2 askers -\nqueue q = -\nmonitor h held 2 askers -\nvar k = 1\n")
 
 abbrev pub overflow_signs_1 : Type 0
 overflow_signs_1 = run_answer 1 100 1 false [] (codes "var a, b: integer;\nbegin a := -32767; b := -a mod 2; display(b); display(abs(a)); display(ord(succ('a'))); display(pred(true)); b := -16384 * 2 end.") ≡ (codes "rounds 1\nprocess 1 initial fault 3\nout '132767980'\nvar a = -32767\nvar b = 1\n")
@@ -161,11 +180,14 @@ subranges_of_characters_and_enumerations_1 = run_answer 1 100 1 false [] (codes 
 abbrev pub tests_anew_1 : Type 0
 tests_anew_1 = run_answer 1 200 1 false [] (codes "var n: integer;\nfunction f: integer; begin n := n + 1; display(n); f := n end;\nbegin while f < 3 do display('w'); repeat display('r') until f = 5; for n := f to f do display('f') end.") ≡ (codes "rounds 1\nprocess 1 initial ended\nout '1w2w3r4r567ff'\nvar n = 7\n")
 
+abbrev pub waiting_processes_wake_at_the_tick_1_text : Text
+waiting_processes_wake_at_the_tick_1_text = (codes "type p = process; begin wait; display(realtime); wait; display(realtime) end;\nvar a: p;\nbegin init a; wait; display(realtime) end.")
+
 abbrev pub waiting_processes_wake_at_the_tick_1 : Type 0
-waiting_processes_wake_at_the_tick_1 = run_answer 5 100 2 false [] (codes "type p = process; begin wait; display(realtime); wait; display(realtime) end;\nvar a: p;\nbegin init a; wait; display(realtime) end.") ≡ (codes "rounds 5\nprocess 1 initial ended\nout '2'\nprocess 2 a waiting\nout '2'\n")
+waiting_processes_wake_at_the_tick_1 = run_answer 5 100 2 false [] waiting_processes_wake_at_the_tick_1_text ≡ (codes "rounds 5\nprocess 1 initial ended\nout '2'\nprocess 2 a waiting\nout '2'\n")
 
 abbrev pub waiting_processes_wake_at_the_tick_2 : Type 0
-waiting_processes_wake_at_the_tick_2 = run_answer 6 100 2 false [] (codes "type p = process; begin wait; display(realtime); wait; display(realtime) end;\nvar a: p;\nbegin init a; wait; display(realtime) end.") ≡ (codes "rounds 6\nprocess 1 initial ended\nout '2'\nprocess 2 a ended\nout '23'\n")
+waiting_processes_wake_at_the_tick_2 = run_answer 6 100 2 false [] waiting_processes_wake_at_the_tick_1_text ≡ (codes "rounds 6\nprocess 1 initial ended\nout '2'\nprocess 2 a ended\nout '23'\n")
 
 abbrev pub Meaning : Type 0
 Meaning = a_call_that_makes_calls_1 × an_array_of_queues_1 × an_array_of_queues_2 × an_array_of_queues_3 × argument_range_first_1 × askers_in_order_1 × askers_in_order_2 × body_that_waits_1 × body_that_waits_2 × body_that_waits_3 × call_test_after_arguments_1 × calls_in_a_for_1 × calls_in_bounds_and_selectors_1 × calls_left_to_right_1 × case_of_negative_1 × class_in_monitor_1 × counting_down_1 × cycle_in_a_monitor_1 × division_1 × early_class_1 × early_handing_on_1 × fault_with_outer_gates_1 × field_names_1 × for_subrange_1 × function_that_continues_1 × functions_of_functions_1 × index_by_local_1 × inner_rights_1 × input_beyond_its_end_1 × input_beyond_its_end_2 × input_beyond_its_end_3 × input_beyond_its_end_4 × input_in_subrange_1 × input_in_subrange_2 × label_constants_1 × later_component_1 × later_constant_routine_1 × later_definitions_1 × later_routine_parameter_1 × later_routine_variable_1 × local_record_field_1 × monitor_variable_handed_down_1 × nested_delay_1 × nested_delay_2 × overflow_signs_1 × parameters_of_init_1 × references_of_references_1 × result_named_later_1 × same_function_names_1 × same_local_names_1 × structures_1 × subranges_of_characters_and_enumerations_1 × tests_anew_1 × waiting_processes_wake_at_the_tick_1 × waiting_processes_wake_at_the_tick_2

@@ -53,7 +53,7 @@ fn product(count: Option<u32>, words: Option<u32>) -> Option<u32>
 }
 
 // A number that may be too large for words.
-fn counted(n: usize) -> Option<u32>
+fn as_count(n: usize) -> Option<u32>
     ensures { Counts result n }
 {
     if n > 0xffff_ffff {
@@ -80,7 +80,7 @@ impl<'t> Types<'t> {
             (rights_among g group.now) }
     {
         if self.names_component(names, group.of.name.as_bytes()) {
-            counted(group.names.len())
+            as_count(group.names.len())
         } else {
             Some(0)
         }
@@ -203,7 +203,7 @@ impl<'t> Layouts<'t> {
         match row {
             TypeRow::Simple(_) => Ok(self.bare(Some(1))),
             TypeRow::Array { low, high, element } => {
-                let words = product(counted(count_between(*low, *high)), self.words(*element));
+                let words = product(as_count(count_between(*low, *high)), self.words(*element));
                 Ok(self.bare(words))
             }
             TypeRow::Record(fields) => self.members(fields, Some(0)),

@@ -76,7 +76,10 @@ impl<'t> Types<'t> {
     }
 
     /// The names of these parameters or variables, with the numbers of the components among them.
-    pub fn numbered(&self, list: &[Declared<'t>]) -> Result<NameTable<'t, Numbered>, CompileError>
+    pub fn numbered_names(
+        &self,
+        list: &[Declared<'t>],
+    ) -> Result<NameTable<'t, Numbered>, CompileError>
         ensures { IfOk result (λ names. AreNumbered self.now (map declared_entry list.now) names) }
     {
         let mut names = NameTable::new(self.alloc);

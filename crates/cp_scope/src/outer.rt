@@ -56,7 +56,7 @@ fn simple<'t>(base: Base<'t>, low: i32, high: i32) -> Simple<'t>
 }
 
 // The value of an enumeration with this number.
-fn numbered<'t>(base: Base<'t>, number: usize) -> Result<Value<'t>, CompileError>
+fn enumeration_value<'t>(base: Base<'t>, number: usize) -> Result<Value<'t>, CompileError>
     ensures { IfOk result (λ v. value_of v ≡ (base_of base.entry, pos number)) }
 {
     let ordinal = ordinal(number)?;
@@ -90,7 +90,7 @@ impl<'t> Types<'t> {
         ensures { OnOk result (MakesFields names.now self.old self.new (map entry members.old.items)
             (map entry members.new.items) (with_parameter group.now)) }
     {
-        let of = self.named(names, &group.of)?;
+        let of = self.named_type(names, &group.of)?;
         if !self.is_component(of) {
             add_fields(members, &group.names, of)?;
         }
@@ -196,7 +196,7 @@ impl<'t> Outer<'t> {
         let mut left = values.len();
         while left > 0 {
             left -= 1;
-            let value = numbered(base, left)?;
+            let value = enumeration_value(base, left)?;
             self.add_constant(values[left].name.as_bytes(), value)?;
         }
         Ok(())

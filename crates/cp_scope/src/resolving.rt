@@ -85,7 +85,7 @@ impl<'t> Types<'t> {
     }
 
     /// The number of the type of a name. What names no type has a number of its own.
-    pub fn named(&mut self, names: &Names<'t>, x: &Identifier) -> Result<usize, CompileError>
+    pub fn named_type(&mut self, names: &Names<'t>, x: &Identifier) -> Result<usize, CompileError>
         ensures { IfOk result (λ n. Makes names.now self.old self.new (named x.now.name) n) }
     {
         match names.types.find(x.name.as_bytes()) {
@@ -125,7 +125,7 @@ impl<'t> Types<'t> {
         ensures { IfOk result (λ n. Makes names.now self.old self.new (written t.now) n) }
     {
         match t {
-            TypeExpression::Named(x) => self.named(names, x),
+            TypeExpression::Named(x) => self.named_type(names, x),
             TypeExpression::Subrange(low, high) => self.subrange(names, low, high),
             TypeExpression::Array {
                 indices,

@@ -62,7 +62,7 @@ impl<'t> Types<'t> {
     {
         match of {
             None => Ok(None),
-            Some(x) => Ok(Some(self.named(names, x)?)),
+            Some(x) => Ok(Some(self.named_type(names, x)?)),
         }
     }
 }

@@ -88,8 +88,8 @@ impl<'t> Layouts<'t> {
         let members = self.own_members(names, types, parameters, variables)?;
         let components = types.components(&own_parameters)?;
         let rights = types.rights_to(&components)?;
-        let parameter_names = types.numbered(&own_parameters)?;
-        let variable_names = types.numbered(&own_variables)?;
+        let parameter_names = types.numbered_names(&own_parameters)?;
+        let variable_names = types.numbered_names(&own_variables)?;
         let parameter_types = parameter_types(self.alloc, parameters)?;
         let variable_types = variable_types(self.alloc, variables)?;
         let routine_names = self.routine_names(routines)?;

@@ -49,7 +49,7 @@ impl<'t> Types<'t> {
             (map declared_entry list.old.items) (map declared_entry list.new.items)
             (with_declared_parameter group.now)) }
     {
-        let of = self.named(names, &group.of)?;
+        let of = self.named_type(names, &group.of)?;
         declare_each(list, &group.names, group.by_reference.is_some(), of)?;
         Ok(())
     }

@@ -1,6 +1,1 @@
-mod ClassesComputed
-mod ClockComputed
-mod ExamplesComputed
-mod MeaningComputed
-mod MonitorsComputed
-mod ProcessesComputed
+mod RunsComputed

@@ -1,7 +1,8 @@
-//! The worked texts, run by their compiled programs: the steps of the machine as plain data give the worked reports.
+//! Some worked texts, run by their compiled programs: the machine as plain data, computed, answers as the meaning does.
 //!
-//! `specs/MachineStates.antt` says which state of the meaning a machine shows; the report is the meaning's own. The texts stand in the
-//! folder `worked`, and `worked/make_rows.py` writes the statements.
+//! That each accepted text's program does is proved (cp_code's and cp_steps' laws). This crate shows that the definitions which these laws
+//! speak of can be computed with, and of what state a machine shows the report (`specs/MachineStates.antt`). The texts and their answers,
+//! worked by hand, are those of cp_rows; `worked/make_rows.py` writes the statements.
 #![tactic(auto)]
 
 pub mod rows;

@@ -1,40 +1,8 @@
-//! The worked texts of the folder `worked`: each function says of one folder that the compiled programs give its answers.
-//!
-//! Written by worked/make_rows.py.
+//! Runs of some worked texts. Which ones, `worked/make_rows.py` says.
 
-ghost use Rattle.cp_steps_rows.specs.Classes.{Classes};
-ghost use Rattle.cp_steps_rows.specs.Clock.{Clock};
-ghost use Rattle.cp_steps_rows.specs.Examples.{Examples};
-ghost use Rattle.cp_steps_rows.specs.Meaning.{Meaning};
-ghost use Rattle.cp_steps_rows.specs.Monitors.{Monitors};
-ghost use Rattle.cp_steps_rows.specs.Processes.{Processes};
+ghost use Rattle.cp_steps_rows.specs.Runs.{Runs};
 
-/// Each of the answers of `worked/classes`.
-pub fn classes_hold()
-    ensures { Classes }
-{}
-
-/// Each of the answers of `worked/clock`.
-pub fn clock_hold()
-    ensures { Clock }
-{}
-
-/// Each of the answers of `worked/examples`.
-pub fn examples_hold()
-    ensures { Examples }
-{}
-
-/// Each of the answers of `worked/meaning`.
-pub fn meaning_hold()
-    ensures { Meaning }
-{}
-
-/// Each of the answers of `worked/monitors`.
-pub fn monitors_hold()
-    ensures { Monitors }
-{}
-
-/// Each of the answers of `worked/processes`.
-pub fn processes_hold()
-    ensures { Processes }
+/// In each of these runs the machine of the compiled program shows what the meaning does.
+pub fn runs_hold()
+    ensures { Runs }
 {}

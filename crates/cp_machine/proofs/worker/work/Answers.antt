@@ -11,9 +11,9 @@ draw-preserved g c =
     let k = c.in-Some.k in
     let was = c.draw.invariant in
     let before = c.args.seat.view.draws in
-    let none = c.stopped.ensures.view in
-    let same : c.stopped.new.seat.view.draws ≡ c.draw.seat.view.draws = ap (λ v. v.draws) none in
-    let drawn : c.claim.new.seat.view.draws ≡ c.stopped.new.seat.view.draws ++ k ∷ [] = c.in-Some.ensures.some in
+    let none = c.is_stopped.ensures.view in
+    let same : c.is_stopped.new.seat.view.draws ≡ c.draw.seat.view.draws = ap (λ v. v.draws) none in
+    let drawn : c.claim.new.seat.view.draws ≡ c.is_stopped.new.seat.view.draws ++ k ∷ [] = c.in-Some.ensures.some in
     let added : Adds f w k c.draw.done.items c.work_on.new.done.items = from_ok c.work_on.result (sym c.if-is_err.ensures.value) c.work_on.ensures in
     let all : c.claim.new.seat.view.draws ≡ c.draw.seat.view.draws ++ k ∷ [] = drawn ∙ ap (λ (ds : List ℕ). ds ++ k ∷ []) same in
     record {

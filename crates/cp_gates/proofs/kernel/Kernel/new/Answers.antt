@@ -7,7 +7,7 @@ pub returns-clause-start : goal.returns-clause-start
 returns-clause-start c =
     λ tick inputs.
     let program = view.program c.args.program.now in
-    let shared = c.in_ok-first_shared.ensures.words in
+    let shared = c.in_ok-first_shared_words.ensures.words in
     let gates = c.in_ok-unset_gates.ensures ∙ unset_of program.monitors c.monitors.result c.monitors.ensures in
     let stages = c.in_ok-first_stages.ensures.stages program.processes (sym c.processes-processes.ensures) in
     λ i. record { shared = shared i; gates = gates i; stages = stages i }

@@ -13,7 +13,7 @@ returns-in-Array c = λ g later n t scope grows laid at stands.
     let high = c.in-Array.high in
     let e = c.in-Array.element in
     let between : c.count_between.result ≡ count_between low high = search rules in
-    let count : Counts c.counted.result (count_between low high) = subst (Counts c.counted.result) between c.counted.ensures in
+    let count : Counts c.as_count.result (count_between low high) = subst (Counts c.as_count.result) between c.as_count.ensures in
     array_laid g later n l t low high e (at ∙ ap Some c.in-Array.is) stands c.bare-in-Array.ensures.parts
     (λ u s. rw c.bare-in-Array.ensures.words
     (c.product-words.ensures (count_between low high) (words g u) count

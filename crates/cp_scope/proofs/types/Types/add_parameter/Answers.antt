@@ -11,7 +11,7 @@ use Rattle.cp_scope.proofs.types.Types.add_parameter.Goals as goal
 pub returns-in_ok-add_fields : goal.returns-in_ok-add_fields
 returns-in_ok-add_fields c =
     let old = c.args.self.now in
-    let new = c.named.new.self in
+    let new = c.named_type.new.self in
     let n = c.in_ok-of.of in
     let x = c.args.group.now.of.name in
     let xs = c.args.group.now.names.items in
@@ -32,7 +32,7 @@ returns-in_ok-add_fields c =
 
 pub returns-else-not-is_component : goal.returns-else-not-is_component
 returns-else-not-is_component c =
-    let new = c.named.new.self in
+    let new = c.named_type.new.self in
     let x = c.args.group.now.of.name in
     let xs = c.args.group.now.names.items in
     let made = c.in_ok-of.ensures in

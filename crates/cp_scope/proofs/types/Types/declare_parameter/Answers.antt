@@ -7,7 +7,7 @@ use Rattle.cp_scope.proofs.types.Types.declare_parameter.Goals as goal
 
 pub returns : goal.returns
 returns c =
-    let new = c.named.new.self in
+    let new = c.named_type.new.self in
     let n = c.in_ok-of.of in
     let xs = c.args.group.now.names.items in
     let made = c.in_ok-of.ensures in

@@ -3,7 +3,7 @@ use Rattle.cp_steps.specs.Reports.{visit_members}
 use Rattle.cp_report.specs.Lists.{declared_member}
 use Rattle.cp_report.specs.Tellings.{visit_of}
 use Rattle.cp_report.proofs.MembersTold.{MembersToTell, drop_first, one_told}
-use Rattle.cp_report.proofs.walk.Walk.declared.Goals as goal
+use Rattle.cp_report.proofs.walk.Walk.variables.Goals as goal
 
 pub loop-declared-preserved : goal.loop-declared-preserved
 loop-declared-preserved c =

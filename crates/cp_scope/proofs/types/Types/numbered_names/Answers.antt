@@ -3,7 +3,7 @@ use Rattle.std.proofs.lemmas.List.{at_drop_all, at_drop_more}
 use Rattle.cp_scope.specs.declared.variables.Declared.{Declared}
 use Rattle.cp_scope.specs.Variables.{declared_entry}
 use Rattle.cp_scope.proofs.Counting.{PartlyNumbered, all_numbered, none_numbered, one_numbered}
-use Rattle.cp_scope.proofs.types.Types.numbered.Goals as goal
+use Rattle.cp_scope.proofs.types.Types.numbered_names.Goals as goal
 
 -- What is read past the end of a list of declared names.
 abbrev nothing : Declared

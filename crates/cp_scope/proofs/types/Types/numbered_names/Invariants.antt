@@ -3,7 +3,7 @@ use Rattle.cp_model.specs.Abstract.{Name}
 use Rattle.cp_model.specs.Declarations.{Variable}
 use Rattle.cp_scope.specs.Variables.{AreDeclared, declared_entry}
 use Rattle.cp_scope.proofs.Counting.{PartlyNumbered}
-use Rattle.cp_scope.proofs.types.Types.numbered.Given as goal
+use Rattle.cp_scope.proofs.types.Types.numbered_names.Given as goal
 
 -- a name that isn't in the table yet is among those that are left
 abbrev pub invariant-loop-d : goal.invariant-loop-d

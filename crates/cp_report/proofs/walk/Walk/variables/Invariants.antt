@@ -5,7 +5,7 @@ use Rattle.cp_scope.specs.Standing.{AreMembers, ScopeStands}
 use Rattle.cp_report.specs.Lists.{declared_member}
 use Rattle.cp_report.specs.Tellings.{visit_of}
 use Rattle.cp_report.proofs.MembersTold.{MembersToTell}
-use Rattle.cp_report.proofs.walk.Walk.declared.Given as goal
+use Rattle.cp_report.proofs.walk.Walk.variables.Given as goal
 
 -- What was told, and the variables that are left, come to all.
 abbrev pub invariant-loop-declared : goal.invariant-loop-declared

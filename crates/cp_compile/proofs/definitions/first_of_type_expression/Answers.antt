@@ -3,7 +3,7 @@ use Rattle.cp_model.specs.Erase as erase
 use Rattle.cp_model.specs.View as tree
 use Rattle.cp_code.specs.Compile.{first_of_type}
 use Rattle.cp_compile.proofs.TextsCompiled.{array_has_no_units}
-use Rattle.cp_compile.proofs.definitions.first_of_written.Goals as goal
+use Rattle.cp_compile.proofs.definitions.first_of_type_expression.Goals as goal
 
 pub returns-in-len1-up : goal.returns-in-len1-up
 returns-in-len1-up c =

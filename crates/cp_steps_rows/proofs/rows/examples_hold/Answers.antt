@@ -1,5 +1,0 @@
-use Rattle.cp_steps_rows.proofs.ExamplesComputed.{buffer_2-holds, buffer_3-holds, nested_mended_2-holds, philosophers_2-holds, philosophers_3-holds, readers_2-holds, readers_3-holds, readers_4-holds, scheduler_2-holds, scheduler_3-holds, sieve_2-holds, sieve_3-holds}
-use Rattle.cp_steps_rows.proofs.rows.examples_hold.Goals as goal
-
-pub returns : goal.returns
-returns c = (buffer_2-holds, buffer_3-holds, nested_mended_2-holds, philosophers_2-holds, philosophers_3-holds, readers_2-holds, readers_3-holds, readers_4-holds, scheduler_2-holds, scheduler_3-holds, sieve_2-holds, sieve_3-holds)
