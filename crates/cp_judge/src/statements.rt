@@ -5,12 +5,12 @@ ghost use Rattle.cp_model.specs.RulesJudged.{least};
 ghost use Rattle.cp_model.specs.RulesStatements as st;
 ghost use Rattle.cp_model.specs.View as view;
 
-use crate::assignments::assigned;
+use crate::assignments::judge_assignment;
 use crate::conditions::{condition, for_header, selector};
 use crate::environment::Environment;
-use crate::initialisation::initialised;
-use crate::labels::{Labels, labelled, selector_base};
-use crate::procedures::performed;
+use crate::initialisation::judge_init;
+use crate::labels::{Labels, judge_labels, selector_base};
+use crate::procedures::judge_call;
 use cp_model::rules::Violation;
 use cp_model::tree::{Arm, Statement};
 use std::alloc::{AllocError, Global};
@@ -29,11 +29,11 @@ pub fn statement(
     match s {
         Statement::Empty => Ok(()),
         Statement::Assign { target, at, value } => {
-            assigned(env, told, target, *at, value);
+            judge_assignment(env, told, target, *at, value);
             Ok(())
         }
         Statement::Call(d, list) => {
-            performed(env, told, d, list);
+            judge_call(env, told, d, list);
             Ok(())
         }
         Statement::Compound(list) => statements(env, alloc, told, list),
@@ -75,7 +75,7 @@ pub fn statement(
         }
         Statement::Cycle(list) => statements(env, alloc, told, list),
         Statement::Init { at, items } => {
-            initialised(env, told, *at, items);
+            judge_init(env, told, *at, items);
             Ok(())
         }
     }
@@ -114,7 +114,7 @@ fn labelled_arms(
 {
     let mut seen = Labels::new(alloc);
     for a in list {
-        labelled(env, told, base, &mut seen, &a.labels)?;
+        judge_labels(env, told, base, &mut seen, &a.labels)?;
         statement(env, alloc, told, &a.body)?;
     }
     Ok(())

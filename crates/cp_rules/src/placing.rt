@@ -12,7 +12,7 @@ ghost use Rattle.cp_rules.specs.Outer.{TellsOuter, index_type, is_written_struct
 use crate::checker::{Checker, Judged};
 use cp_judge::Environment;
 use cp_judge::constants::constant_at;
-use cp_judge::names::known;
+use cp_judge::names::find_entity;
 use cp_model::rules::{Entity, Position, Rule, Structure};
 use cp_model::tree::{Identifier, Sort, TypeExpression};
 
@@ -82,7 +82,7 @@ fn is_written_structure(t: &TypeExpression) -> bool
 fn known_type(env: &Environment, x: &Identifier) -> Option<usize>
     ensures { result ≡ meaning_of (types.named_type env.now x.now) }
 {
-    match known(env, x)? {
+    match find_entity(env, x)? {
         Entity::Type(t) => Some(t),
         _ => None,
     }

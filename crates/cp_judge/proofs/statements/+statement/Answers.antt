@@ -110,10 +110,10 @@ labelled_arms-loop-a-preserved t c =
     at_drop_more (λ os. st.arms env base seen (arms_of (map arm os))) all i o c.loop-a-test.true
     ∙ ap (λ p. st.arms env base seen (arms_of (map arm (p ∷ drop (i + 1) all)))) (sym c.a-item.is) in
     let view = ap (λ p. st.arms env base seen (arms_of (p ∷ map arm (drop (i + 1) all)))) (view_arm o) in
-    let told = rw c.deref.ensures.value at c.in_ok-labelled.ensures.told in
-    let seen_then = rw c.deref.ensures.value at c.in_ok-labelled.ensures.seen in
-    let behind = ap (λ vs. (one.violations ++ body) ++ vs) (sym (arms_told env base c.labelled.new.seen one.seen rest seen_then)) in
-    rest_told c.loop-a.told c.statement.new.told (one.violations ++ body) (st.arms env base c.labelled.new.seen rest) _
-    (more_told c.loop-a.told c.labelled.new.told c.statement.new.told one.violations body told c.in_ok-statement.ensures)
+    let told = rw c.deref.ensures.value at c.in_ok-judge_labels.ensures.told in
+    let seen_then = rw c.deref.ensures.value at c.in_ok-judge_labels.ensures.seen in
+    let behind = ap (λ vs. (one.violations ++ body) ++ vs) (sym (arms_told env base c.judge_labels.new.seen one.seen rest seen_then)) in
+    rest_told c.loop-a.told c.statement.new.told (one.violations ++ body) (st.arms env base c.judge_labels.new.seen rest) _
+    (more_told c.loop-a.told c.judge_labels.new.told c.statement.new.told one.violations body told c.in_ok-statement.ensures)
     (step ∙ view ∙ behind)
     ∙ c.loop-a.invariant

@@ -1,6 +1,6 @@
 use Rattle.cp_model.specs.RulesExpressions.{c2_operands}
 use Rattle.cp_judge.proofs.Tells.{both_left}
-use Rattle.cp_judge.proofs.expressions.operated.Goals as goal
+use Rattle.cp_judge.proofs.expressions.judge_operation.Goals as goal
 
 pub returns-in_err-left : goal.returns-in_err-left
 returns-in_err-left c = λ t0 t1 ja jb h g.

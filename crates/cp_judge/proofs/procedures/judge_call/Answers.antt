@@ -7,7 +7,7 @@ use Rattle.cp_model.specs.View.{designator, expression, expressions_of}
 use Rattle.cp_judge.specs.StatementParts as parts
 use Rattle.cp_judge.proofs.ExpressionsTold.{count_expressions, result_told}
 use Rattle.cp_judge.proofs.Tells.{more_told}
-use Rattle.cp_judge.proofs.procedures.performed.Goals as goal
+use Rattle.cp_judge.proofs.procedures.judge_call.Goals as goal
 
 pub returns : goal.returns
 returns c =
@@ -18,8 +18,8 @@ returns c =
     let count : length list ≡ n.count_of es = sym (count_expressions list) in
     let jc = parts.procedure_called env d (n.count_of es) in
     let ja = x.arguments env (x.wants_in env (x.designated env d) jc) es in
-    let callee = rw count at c.called-called.ensures.callee in
-    let wanted = rw count at c.called-called.ensures.wants in
+    let callee = rw count at c.judge_callee-called.ensures.callee in
+    let wanted = rw count at c.judge_callee-called.ensures.wants in
     let given = rw wanted at c.arguments.ensures in
-    let result = result_told env c.names_fit.new.told c.called-called.new.told c.arguments.new.told c.called-called.result.callee c.arguments.result jc ja callee given in
+    let result = result_told env c.names_fit.new.told c.judge_callee-called.new.told c.arguments.new.told c.judge_callee-called.result.callee c.arguments.result jc ja callee given in
     more_told c.args.told.now c.names_fit.new.told c.arguments.new.told (n.c2_c5_c8_named env mode.Value d) (violations_of (both jc ja (x.result_of env))) c.names_fit.ensures.0 result.0

@@ -1,7 +1,7 @@
 use Rattle.cp_model.specs.RulesStatements as st
 use Rattle.cp_model.specs.View.{designator, expression}
 use Rattle.cp_judge.proofs.StatementsTold.{component_told}
-use Rattle.cp_judge.proofs.assignments.assigned.Goals as goal
+use Rattle.cp_judge.proofs.assignments.judge_assignment.Goals as goal
 
 pub returns : goal.returns
 returns c =

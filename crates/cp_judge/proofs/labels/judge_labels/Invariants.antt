@@ -2,7 +2,7 @@ use Rattle.std.proofs.Common.{◌≡◌, drop}
 use Rattle.cp_model.specs.RulesJudged.{least}
 use Rattle.cp_model.specs.RulesStatements as st
 use Rattle.cp_judge.specs.Labels.{SameLabels}
-use Rattle.cp_judge.proofs.labels.labelled.Given as goal
+use Rattle.cp_judge.proofs.labels.judge_labels.Given as goal
 
 -- what is told and seen in the end, from this label on
 abbrev pub invariant-loop-c : goal.invariant-loop-c

@@ -1,6 +1,6 @@
 use Rattle.cp_model.specs.View.{designator, expression}
 use Rattle.cp_judge.proofs.InitTold.{unwanted_some, unwanted_none}
-use Rattle.cp_judge.proofs.initialisation.unwanted.Goals as goal
+use Rattle.cp_judge.proofs.initialisation.unwanted_argument.Goals as goal
 
 pub returns-in-Some : goal.returns-in-Some
 returns-in-Some c =

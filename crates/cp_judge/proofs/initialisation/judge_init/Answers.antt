@@ -3,7 +3,7 @@ use Rattle.std.proofs.lemmas.List.{at_drop_more}
 use Rattle.cp_model.specs.RulesStatements as st
 use Rattle.cp_model.specs.View.{init_item}
 use Rattle.cp_judge.proofs.Tells.{rest_told}
-use Rattle.cp_judge.proofs.initialisation.initialised.Goals as goal
+use Rattle.cp_judge.proofs.initialisation.judge_init.Goals as goal
 
 pub loop-i-preserved : goal.loop-i-preserved
 loop-i-preserved c =

@@ -5,7 +5,7 @@ use Rattle.cp_model.specs.View.{PlacedIndex, expression, operation, expression_l
 use Rattle.cp_model.specs.declared.tree.Expression.TheVariants.{rolls-Chain}
 use Rattle.cp_model.specs.declared.tree.Expression.TheFolds.{fold-roll-Expression}
 use Rattle.cp_judge.proofs.Views.{designator_in_chain}
-use Rattle.cp_judge.proofs.values.+designated.Goals as goal
+use Rattle.cp_judge.proofs.values.+designator_of.Goals as goal
 
 pub returns-in_default-as_slice : goal.returns-in_default-as_slice
 returns-in_default-as_slice t c =
