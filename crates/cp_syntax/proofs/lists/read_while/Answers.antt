@@ -2,7 +2,7 @@ use Rattle.std.proofs.Common.{◌≡◌, ◌∷◌, ◌++◌, [], map, ◌∙◌
 use Rattle.std.proofs.lemmas.List.{map_push}
 use Rattle.std.proofs.lemmas.Result.{err_from_is_err_and}
 use Rattle.cp_syntax.proofs.Loops.{repeat_ends, repeat_stops, repeat_goes, repeat_fails, fails_as}
-use Rattle.cp_syntax.proofs.lists.repeated.Goals as goal
+use Rattle.cp_syntax.proofs.lists.read_while.Goals as goal
 
 pub returns-then-not-goes_on : goal.returns-then-not-goes_on
 returns-then-not-goes_on g c test reader tests reads =

@@ -3,7 +3,7 @@ use Rattle.cp_model.specs.declared.token.Kind.{Kind}
 use Rattle.cp_grammar.specs.Reading.{Reader}
 use Rattle.cp_grammar.specs.Reading as reading
 use Rattle.cp_syntax.specs.Readers.{Reads, Tests}
-use Rattle.cp_syntax.proofs.lists.repeated.Given as goal
+use Rattle.cp_syntax.proofs.lists.read_while.Given as goal
 
 -- what is still to be read gives the whole
 abbrev pub invariant-loop-turn : goal.invariant-loop-turn

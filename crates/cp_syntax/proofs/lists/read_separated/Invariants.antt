@@ -3,7 +3,7 @@ use Rattle.cp_grammar.specs.Kinds.{is_symbol}
 use Rattle.cp_grammar.specs.Reading.{Reader, ◌>>=◌, take_token, repeat}
 use Rattle.cp_grammar.specs.Reading as reading
 use Rattle.cp_syntax.specs.Readers.{Reads}
-use Rattle.cp_syntax.proofs.lists.separated.Given as goal
+use Rattle.cp_syntax.proofs.lists.read_separated.Given as goal
 
 -- what is still to be read gives the whole
 abbrev pub invariant-loop-turn : goal.invariant-loop-turn

@@ -2,7 +2,7 @@ use Rattle.std.proofs.Common.{◌≡◌, ◌∷◌, ◌++◌, [], map, ◌∙◌
 use Rattle.std.proofs.lemmas.List.{map_push}
 use Rattle.std.proofs.lemmas.Result.{err_from_is_err_and}
 use Rattle.cp_syntax.proofs.Loops.{repeat_ends, repeat_stops, repeat_goes, repeat_fails, fails_as}
-use Rattle.cp_syntax.proofs.lists.separated.Goals as goal
+use Rattle.cp_syntax.proofs.lists.read_separated.Goals as goal
 
 pub returns-then-not-sees : goal.returns-then-not-sees
 returns-then-not-sees g c reader reads = sym (c.loop-turn.invariant reader reads) ∙ repeat_stops _ _ _ _ _ _ c.loop-turn-test.true (cc)
