@@ -5,7 +5,7 @@ ghost use Rattle.cp_model.specs.RulesEnvironment as r;
 ghost use Rattle.cp_model.specs.RulesNames as n;
 ghost use Rattle.cp_model.specs.RulesJudged.{meaning_of, Sound};
 ghost use Rattle.cp_model.specs.View.{designator};
-ghost use Rattle.cp_judge.specs.Callees.{wants_of, wants_if, TellsCallee, TellsWherever};
+ghost use Rattle.cp_judge.specs.Callees.{wants_of, wants_if, entry_function, entry_procedure, TellsCallee, TellsWherever};
 ghost use Rattle.cp_judge.specs.Tells.{Tells, TellsOf};
 
 use crate::environment::Environment;
@@ -132,6 +132,41 @@ fn judge_missing_entry(
     tell_violation(told, rule, x.at)
 }
 
+// A routine after a `.` as a function, where it has `entry`.
+fn entry_function(
+    told: &mut Option<Violation>,
+    rule: Rule,
+    x: &Identifier,
+    count: usize,
+    row: RoutineRow,
+) -> Option<Callee>
+    ensures { TellsWherever told.old told.new result
+        (λ env. entry_function env rule x.now count row) }
+{
+    if row.entry {
+        judge_function_call(told, rule, x, count, row)
+    } else {
+        judge_missing_entry(told, x, count, row)
+    }
+}
+
+// A routine after a `.` as a procedure, where it has `entry`.
+fn entry_procedure(
+    told: &mut Option<Violation>,
+    x: &Identifier,
+    count: usize,
+    row: RoutineRow,
+) -> Option<Callee>
+    ensures { TellsWherever told.old told.new result
+        (λ env. entry_procedure env x.now count row) }
+{
+    if row.entry {
+        judge_procedure_call(told, x, count, row)
+    } else {
+        judge_missing_entry(told, x, count, row)
+    }
+}
+
 /// C5: an entry routine is called by its name alone.
 fn by_name(told: &mut Option<Violation>, x: &Identifier, row: RoutineRow) -> bool
     ensures { TellsOf told.old told.new result (n.c5_by_name x.now row) }
@@ -162,10 +197,7 @@ pub fn function(
         }
         Entity::Entry(number) => {
             let row = env.routine(number);
-            if row.entry {
-                return judge_function_call(told, rule, x, count, row);
-            }
-            judge_missing_entry(told, x, count, row)
+            entry_function(told, rule, x, count, row)
         }
         Entity::UnfinishedRoutine(row) => {
             let finished = outside_definition(told, x, entity);
@@ -206,10 +238,7 @@ pub fn procedure(
         }
         Entity::Entry(number) => {
             let row = env.routine(number);
-            if row.entry {
-                return judge_procedure_call(told, x, count, row);
-            }
-            judge_missing_entry(told, x, count, row)
+            entry_procedure(told, x, count, row)
         }
         Entity::UnfinishedRoutine(row) => {
             let finished = outside_definition(told, x, entity);

@@ -144,9 +144,7 @@ pub fn need_of_statement(env: &Environment, s: &Statement) -> usize
         }
         Statement::Call(d, list) => need_of_designator(env, d).max(need_of_expressions(env, list)),
         Statement::Compound(list) => need_of_statements(env, list),
-        Statement::If { condition, then } => {
-            need_of_expression(env, condition).max(need_of_statement(env, then))
-        }
+        Statement::If { condition, then } => need_of_branch(env, then, condition),
         Statement::IfElse {
             condition,
             then,
@@ -158,9 +156,7 @@ pub fn need_of_statement(env: &Environment, s: &Statement) -> usize
         Statement::Case { selector, arms } => {
             need_of_expression(env, selector).max(need_of_arms(env, arms))
         }
-        Statement::While { condition, body } => {
-            need_of_expression(env, condition).max(need_of_statement(env, body))
-        }
+        Statement::While { condition, body } => need_of_branch(env, body, condition),
         Statement::Repeat { body, condition } => {
             need_of_statements(env, body).max(need_of_expression(env, condition))
         }
@@ -176,6 +172,15 @@ pub fn need_of_statement(env: &Environment, s: &Statement) -> usize
         Statement::Cycle(list) => need_of_statements(env, list),
         Statement::Init { items, .. } => need_of_items(env, items),
     }
+}
+
+// The need of a statement behind a condition.
+#[cycle(need_in_statements)]
+fn need_of_branch(env: &Environment, body: &Statement, condition: &Expression) -> usize
+    ensures { result ≡ max (n.need_expression env.now (expression condition.now))
+        (n.need_statement env.now (statement body.now)) }
+{
+    need_of_expression(env, condition).max(need_of_statement(env, body))
 }
 
 /// The need of statements, in words: the greatest need among them, or 0.
