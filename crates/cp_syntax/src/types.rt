@@ -122,7 +122,7 @@ impl<F: Fn(Global, usize, &[Token]) -> Read<'_, TypeExpression> + Copy> TypeRule
             (spec.type_of (spec.inner_type_at self.now.room) tokens.now) }
     {
         match peek(tokens) {
-            Some(Kind::Name(_)) => named_or_subrange(self.alloc, tokens),
+            Some(Kind::Name(_)) => name_or_subrange(self.alloc, tokens),
             Some(Kind::Number(_) | Kind::Character(_) | Kind::Symbol(Symbol::Minus)) => subrange(
                 self.alloc, tokens,
             ),
@@ -152,7 +152,7 @@ fn subrange_from(alloc: Global, low: Constant, tokens: &[Token]) -> Read<'_, Typ
 }
 
 #[tactic(auto, unfolding(cp_grammar::specs::Types::named_or_subrange))]
-fn named_or_subrange(alloc: Global, tokens: &[Token]) -> Read<'_, TypeExpression>
+fn name_or_subrange(alloc: Global, tokens: &[Token]) -> Read<'_, TypeExpression>
     ensures { Gives view.type_expression result
         (and_then (identifier_of tokens.now) (λ x. by_kind (spec.named_or_subrange x))) }
 {
