@@ -111,7 +111,7 @@ fn judge_case(
         (view.arms_of (map view.arm arms.now))))) }
 {
     let t = selector(env, told, e);
-    labelled_arms(env, alloc, told, selector_base(env, t), arms)
+    judge_arms(env, alloc, told, selector_base(env, t), arms)
 }
 
 // Statements, and the condition behind them.
@@ -153,7 +153,7 @@ pub fn statements(
 
 // The statements of a `case`, against the base of its selector, where that is known.
 #[cycle(statement)]
-fn labelled_arms(
+fn judge_arms(
     env: &Environment,
     alloc: Global,
     told: &mut Option<Violation>,

@@ -31,10 +31,10 @@ judge_case-returns t c =
     let env = c.args.env.now in
     let j = st.c2_selector env (expression c.args.e.now) in
     let base = base_told env c.selector-t.result j c.selector-t.ensures.1 in
-    on_ok c.labelled_arms.result
-    (more_told c.args.told.now c.selector-t.new.told c.labelled_arms.new.told (violations_of j) (st.arms env (st.selector_base env j) [] (arms_of (map arm c.args.arms.now)))
+    on_ok c.judge_arms.result
+    (more_told c.args.told.now c.selector-t.new.told c.judge_arms.new.told (violations_of j) (st.arms env (st.selector_base env j) [] (arms_of (map arm c.args.arms.now)))
     c.selector-t.ensures.0)
-    (rw (c.selector_base.ensures, base) at c.labelled_arms.ensures)
+    (rw (c.selector_base.ensures, base) at c.judge_arms.ensures)
 
 pub judge_repeat-returns : goal.judge_repeat-returns
 judge_repeat-returns t c =
@@ -91,8 +91,8 @@ statements-loop-s-preserved t c =
     rest_told c.loop-s.told c.statement.new.told (st.statement env (statement o)) (st.statements env (statements_of (map statement (drop (i + 1) all)))) _
     c.in_ok-statement.ensures step ∙ c.loop-s.invariant
 
-pub labelled_arms-loop-a-preserved : goal.labelled_arms-loop-a-preserved
-labelled_arms-loop-a-preserved t c =
+pub judge_arms-loop-a-preserved : goal.judge_arms-loop-a-preserved
+judge_arms-loop-a-preserved t c =
     let env = c.args.env.now in
     let base = c.args.base in
     let all = c.args.list.now in
