@@ -196,7 +196,7 @@ fn read_run(matches: &ArgMatches<'_>) -> Result<Run, OutOfRange>
     Ok(run_of(rounds, turn, workers, chunk, wave, tick))
 }
 
-fn misused(grammar: &mut clap::Command<'_>, kind: ErrorKind, text: &str) -> CommandError {
+fn usage_error(grammar: &mut clap::Command<'_>, kind: ErrorKind, text: &str) -> CommandError {
     match grammar.error(kind, text) {
         Ok(error) => CommandError::Usage(error),
         Err(_) => CommandError::Memory,
@@ -205,7 +205,7 @@ fn misused(grammar: &mut clap::Command<'_>, kind: ErrorKind, text: &str) -> Comm
 
 fn out_of_range(alloc: Global, grammar: &mut clap::Command<'_>, range: OutOfRange) -> CommandError {
     match format!(in alloc; "{range}") {
-        Ok(text) => misused(grammar, ErrorKind::ValueValidation, text.as_str()),
+        Ok(text) => usage_error(grammar, ErrorKind::ValueValidation, text.as_str()),
         Err(_) => CommandError::Memory,
     }
 }
@@ -258,10 +258,10 @@ fn read_matches<'a>(
     ensures { IfOk result HasRounds }
 {
     let Some((name, matches)) = matches.subcommand() else {
-        return Err(misused(grammar, ErrorKind::MissingSubcommand, "no command"));
+        return Err(usage_error(grammar, ErrorKind::MissingSubcommand, "no command"));
     };
     let Some(file) = matches.get_str("FILE") else {
-        return Err(misused(grammar, ErrorKind::MissingRequiredArgument, "no file"));
+        return Err(usage_error(grammar, ErrorKind::MissingRequiredArgument, "no file"));
     };
     if name == "check" {
         return Ok(Command::Check { file });

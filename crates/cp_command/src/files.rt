@@ -66,7 +66,7 @@ fn open<H: Files>(rt: &H, name: &str) -> Result<H::File, Refusal> {
 }
 
 // Opens the file of `explain`.
-fn open_told<'a, H: Files>(rt: &H, file: &'a str) -> Result<H::File, Failure<'a>> {
+fn open_text<'a, H: Files>(rt: &H, file: &'a str) -> Result<H::File, Failure<'a>> {
     match fs::open(rt, file) {
         Ok(opened) => Ok(opened),
         Err(error) => Err(match error.kind() {
@@ -153,7 +153,7 @@ fn explain_file<'a, H: Files + Input + Print>(
 ) -> Result<u8, Failure<'a>> {
     match file {
         STANDARD_INPUT => explain_from(rt, alloc, file, &mut rt.reader(), form),
-        _ => explain_from(rt, alloc, file, &mut open_told(rt, file)?, form),
+        _ => explain_from(rt, alloc, file, &mut open_text(rt, file)?, form),
     }
 }
 

@@ -58,7 +58,7 @@ impl<'t> Site<'t> {
     pub fn hidden_declaration(&self) -> Option<Declaration<'t>> {
         match self.name? {
             (_, NameRole::Member(..) | NameRole::Declared(_)) => None,
-            (x, _) => self.scope.hidden(Wanted::other_than(x)),
+            (x, _) => self.scope.find_hidden(Wanted::other_than(x)),
         }
     }
 
@@ -301,13 +301,13 @@ impl<'t> Site<'t> {
     fn c13(&self) -> Message {
         match (self.mark, self.role()) {
             (Some(Mark::InitialBegin), _) => m::INITIAL_SIZE,
-            (_, Some(NameRole::Declared(_))) => self.c13_declared(),
+            (_, Some(NameRole::Declared(_))) => self.c13_declaration(),
             _ => m::TYPE_SIZE,
         }
     }
 
     // A process or a monitor is too large, or there are too many of them.
-    fn c13_declared(&self) -> Message {
+    fn c13_declaration(&self) -> Message {
         match self.number {
             Some((Sort::Process, number)) if MOST < number => m::PROCESSES,
             Some((Sort::Monitor, number)) if MOST < number => m::MONITORS,

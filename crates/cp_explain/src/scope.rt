@@ -235,7 +235,7 @@ impl<'t> Scope<'t> {
     }
 
     /// What the initial process declares a name as, where that can't be seen in a system type.
-    pub fn hidden(&self, wanted: Wanted<'_>) -> Option<Declaration<'t>> {
+    pub fn find_hidden(&self, wanted: Wanted<'_>) -> Option<Declaration<'t>> {
         let _system = self.system?;
         match wanted.in_groups(&self.tree.variables) {
             Some(found) => Some(found),

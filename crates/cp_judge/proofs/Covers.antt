@@ -72,7 +72,7 @@ covers_root : (env : Environment) (x : Identifier) (ss : s.Selectors) (j : Judge
 covers_root env x ss (Sound e) = covers_first env x ss e
 covers_root env x ss (Broken v vs) = tt
 
-pub covers : (env : Environment) (d : s.Designator) → Covers (names.entity_named env d) (designated env d)
+pub covers : (env : Environment) (d : s.Designator) → Covers (names.designated_entity env d) (designated env d)
 covers env (s.Designate x ss) = covers_parts env (meaning_of (c1_named env x)) (then_judge (c1_named env x) (before_selectors env x ss)) ss (covers_root env x ss (c1_named env x))
 
 -- what is covered by no routine needs nothing
@@ -85,5 +85,5 @@ no_need env known (Sound e) c h = of e (subst (λ k. names.is_routine k ≡ fals
     of _ g = refl
 no_need env known (Broken v vs) c h = refl
 
-pub needs_nothing : (env : Environment) (d : s.Designator) → names.is_routine (names.entity_named env d) ≡ false → need_called env (designated env d) ≡ 0
-needs_nothing env d = no_need env (names.entity_named env d) (designated env d) (covers env d)
+pub needs_nothing : (env : Environment) (d : s.Designator) → names.is_routine (names.designated_entity env d) ≡ false → need_called env (designated env d) ≡ 0
+needs_nothing env d = no_need env (names.designated_entity env d) (designated env d) (covers env d)

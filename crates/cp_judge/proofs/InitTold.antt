@@ -17,12 +17,12 @@ use Rattle.cp_model.specs.RulesStatements as st
 use Rattle.cp_judge.specs.Designated.{designator_in}
 use Rattle.cp_judge.specs.InitParts as parts
 
-pub unselected_some : (x : Identifier) (ss : List Selector) → 1 ≤ length ss → parts.unselected x (parts.selectors ss) ≡ None
-unselected_some x [] some = absurd (omega (arith, some))
-unselected_some x (y ∷ ys) some = refl
+pub whole_name_some : (x : Identifier) (ss : List Selector) → 1 ≤ length ss → parts.whole_name x (parts.selectors ss) ≡ None
+whole_name_some x [] some = absurd (omega (arith, some))
+whole_name_some x (y ∷ ys) some = refl
 
-pub argument_named : (env : Environment) (u : ℕ) (e : s.Expression) (x : Identifier) → Some x ≡ parts.name_alone e → st.component_argument env u e ≡ parts.passed_alone env u x
-argument_named env u (s.Designated (s.Designate y s.NoSelectors)) x h = let same : y ≡ x = cc in ap (parts.passed_alone env u) same
+pub argument_named : (env : Environment) (u : ℕ) (e : s.Expression) (x : Identifier) → Some x ≡ parts.name_alone e → st.component_argument env u e ≡ parts.name_argument env u x
+argument_named env u (s.Designated (s.Designate y s.NoSelectors)) x h = let same : y ≡ x = cc in ap (parts.name_argument env u) same
 argument_named env u (s.Designated (s.Designate y (s.MoreSelectors z zs))) x h = absurd (cc)
 argument_named env u (s.Number at n) x h = absurd (cc)
 argument_named env u (s.Character at n) x h = absurd (cc)

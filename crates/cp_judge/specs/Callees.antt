@@ -1,10 +1,13 @@
 -- What is called, in the code and in the definitions.
-use Rattle.std.specs.Prelude.{◌≡◌, ℕ, List, [], ◌∷◌, map, Option, None, Some}
+use Rattle.std.specs.Prelude.{◌≡◌, ℕ, List, [], ◌∷◌, map, Option, None, Some, if◌then◌else◌}
 use Rattle.cp_model.specs.declared.rules.Violation.{Violation}
 use Rattle.cp_model.specs.RulesJudged.{Judged, Sound, least, violations_of, meaning_of}
 use Rattle.cp_model.specs.RulesEnvironment as r
 use Rattle.cp_model.specs.RulesNames as n
 use Rattle.cp_model.specs.declared.rules.Entity.{Entity}
+use Rattle.cp_model.specs.declared.rules.RoutineRow.{RoutineRow}
+use Rattle.cp_model.specs.declared.rules.Rule.{Rule}
+use Rattle.cp_model.specs.declared.tree.Identifier.{Identifier}
 use Rattle.cp_model.specs.declared.rules.Want.{Want}
 use Rattle.cp_model.specs.declared.rules.Want.TheVariants as want
 use Rattle.cp_judge.specs.declared.callees.Wants.{Wants}
@@ -44,3 +47,10 @@ wants_if env e (Some c) = wants_of env c.wants
 abbrev pub result_if : r.Environment → Option Callee → Option ℕ → Option ℕ
 result_if env (Some c) (Some t) = Some (n.given env t c.gives)
 result_if env c t = None
+
+-- what is called after a `.`: a routine that lacks `entry` isn't, and only the number of its arguments is judged
+abbrev pub entry_function : r.Environment → Rule → Identifier → ℕ → RoutineRow → Judged n.Callee
+entry_function env rule x count row = if row.entry then n.function_called env rule x count row else n.counted env x count row
+
+abbrev pub entry_procedure : r.Environment → Identifier → ℕ → RoutineRow → Judged n.Callee
+entry_procedure env x count row = if row.entry then n.procedure_called env x count row else n.counted env x count row

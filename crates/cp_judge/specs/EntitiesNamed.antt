@@ -38,5 +38,5 @@ abbrev pub parts : Environment → Option Entity → s.Selectors → Option Enti
 parts env e s.NoSelectors = e
 parts env e (s.MoreSelectors y ys) = parts env (part env e y) ys
 
-abbrev pub entity_named : Environment → s.Designator → Option Entity
-entity_named env (s.Designate x ss) = parts env (meaning_of (c1_named env x)) ss
+abbrev pub designated_entity : Environment → s.Designator → Option Entity
+designated_entity env (s.Designate x ss) = parts env (meaning_of (c1_named env x)) ss

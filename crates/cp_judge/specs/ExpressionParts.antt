@@ -16,11 +16,11 @@ use Rattle.cp_judge.specs.Tells.{Tells}
 use Rattle.cp_model.specs.RulesExpressions.{judge, designated, argument, mode_of, first_operand}
 
 -- the type of a designator
-abbrev pub typed : Environment → Mode → s.Designator → Judged ℕ
-typed env m d = then_judge (designated env d) (value_of env m d)
+abbrev pub type_of_designator : Environment → Mode → s.Designator → Judged ℕ
+type_of_designator env m d = then_judge (designated env d) (value_of env m d)
 
-abbrev pub used : Environment → Mode → s.Designator → Judged ℕ
-used env m d = also (c2_c5_c8_named env m d) (typed env m d)
+abbrev pub judge_use : Environment → Mode → s.Designator → Judged ℕ
+judge_use env m d = also (c2_c5_c8_named env m d) (type_of_designator env m d)
 
 -- what is called
 abbrev pub function_if : Environment → Mode → s.Designator → ℕ → Judged Entity → Judged Callee
@@ -43,5 +43,5 @@ argument_for env (Some w) e = argument env w e (judge env (mode_of w) e)
 abbrev pub array_of : Environment → ℕ → Judged Entity → Judged ArrayPart
 array_of env at j = then_judge j (c2_array env at)
 
-abbrev pub argument_typed : Environment → Want → s.Expression → Judged ℕ
-argument_typed env w e = then_judge (judge env (mode_of w) e) (type_rule env w e)
+abbrev pub type_of_argument : Environment → Want → s.Expression → Judged ℕ
+type_of_argument env w e = then_judge (judge env (mode_of w) e) (type_rule env w e)

@@ -24,8 +24,8 @@ component env x count = then_judge (system env x) (st.c12_count env x count)
 abbrev pub unwanted_designator : Environment → s.Designator → Judged ℕ
 unwanted_designator env d = also (c2_c5_c8_named env mode.Value d) (then_judge (designated env d) (st.unused env d))
 
-abbrev pub passed_alone : Environment → ℕ → Identifier → Judged ℕ
-passed_alone env u x = also (c8_named env mode.Value x) (then_judge (c1_named env x) (st.c12_passed env u x))
+abbrev pub name_argument : Environment → ℕ → Identifier → Judged ℕ
+name_argument env u x = also (c8_named env mode.Value x) (then_judge (c1_named env x) (st.c12_passed env u x))
 
 abbrev pub simple_agrees : Environment → ℕ → s.Expression → ℕ → Judged ℕ
 simple_agrees env u e t = provided (agree env u t) C12 (first_token e) t
@@ -42,12 +42,12 @@ name_if None = None
 abbrev pub selectors : List Selector → s.Selectors
 selectors ss = view.selectors_of (map view.selector ss)
 
-abbrev pub unselected : Identifier → s.Selectors → Option Identifier
-unselected x s.NoSelectors = Some x
-unselected x ss = None
+abbrev pub whole_name : Identifier → s.Selectors → Option Identifier
+whole_name x s.NoSelectors = Some x
+whole_name x ss = None
 
 abbrev pub name_alone : s.Expression → Option Identifier
-name_alone (s.Designated (s.Designate x ss)) = unselected x ss
+name_alone (s.Designated (s.Designate x ss)) = whole_name x ss
 name_alone e = None
 
 -- ---- lists
@@ -60,5 +60,5 @@ abbrev pub type_if : Option ParameterRow → Option ℕ
 type_if (Some p) = p.of
 type_if None = None
 
-abbrev pub initialised : Environment → ℕ → List s.InitItem → Violations
-initialised env at is = st.c12_init env at ++ st.init_items env is
+abbrev pub judge_init : Environment → ℕ → List s.InitItem → Violations
+judge_init env at is = st.c12_init env at ++ st.init_items env is

@@ -38,14 +38,14 @@ procedure_called env d count = also (n.c2_indexed env mode.Value d) (procedure_i
 
 -- ---- `for`
 
-abbrev pub plain_named : Environment → Identifier → Judged ℕ
-plain_named env v = then_judge (c1_named env v) (n.value_of env mode.Variable (st.plain v))
+abbrev pub plain_name : Environment → Identifier → Judged ℕ
+plain_name env v = then_judge (c1_named env v) (n.value_of env mode.Variable (st.plain v))
 
-abbrev pub plain_judged : Environment → Identifier → Judged ℕ
-plain_judged env v = also (n.c8_named env mode.Variable v) (plain_named env v)
+abbrev pub plain_variable : Environment → Identifier → Judged ℕ
+plain_variable env v = also (n.c8_named env mode.Variable v) (plain_name env v)
 
 abbrev pub simple_variable : Environment → Identifier → Judged ℕ
-simple_variable env v = then_judge (plain_judged env v) (λ t. provided (is_simple env t) C2 v.at t)
+simple_variable env v = then_judge (plain_variable env v) (λ t. provided (is_simple env t) C2 v.at t)
 
 abbrev pub for_header : Environment → Identifier → s.Expression → s.Expression → Violations
 for_header env v a b =

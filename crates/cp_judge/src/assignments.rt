@@ -12,10 +12,10 @@ ghost use Rattle.cp_judge.specs.Tells.{Tells, TellsOf, TellsBoth};
 
 use crate::designators::names_fit;
 use crate::environment::Environment;
-use crate::expressions::{judge, typed};
-use crate::names::known;
-use crate::telling::{answer_if, broken, tell};
-use crate::values::{designated, variable_designated};
+use crate::expressions::{judge, type_of_designator};
+use crate::names::find_entity;
+use crate::telling::{answer_if, tell, tell_violation};
+use crate::values::{designates_variable, designator_of};
 use cp_model::rules::{Entity, Mode, Returns, Rule, Violation};
 use cp_model::tree::{Designator, Expression, Identifier, Selector};
 
@@ -37,7 +37,7 @@ fn whole_result(told: &mut Option<Violation>, x: &Identifier, returns: Returns) 
                     at: x.at,
                 },
             );
-            broken(told, Rule::C10, x.at)
+            tell_violation(told, Rule::C10, x.at)
         }
     }
 }
@@ -55,7 +55,7 @@ fn part_of_result(told: &mut Option<Violation>, x: &Identifier, returns: Returns
             },
         );
     }
-    broken(told, Rule::C10, x.at)
+    tell_violation(told, Rule::C10, x.at)
 }
 
 fn own_result(
@@ -80,7 +80,7 @@ fn names_changeable(env: &Environment, told: &mut Option<Violation>, d: &Designa
         (designator d.now)) }
 {
     let fits = names_fit(env, told, Mode::Variable, d);
-    let is_variable = variable_designated(env, told, d);
+    let is_variable = designates_variable(env, told, d);
     fits && is_variable
 }
 
@@ -88,7 +88,7 @@ fn other_left(env: &Environment, told: &mut Option<Violation>, d: &Designator) -
     ensures { Tells told.old told.new result (st.other_left env.now (designator d.now)) }
 {
     let fits = names_changeable(env, told, d);
-    let t = typed(env, told, Mode::Variable, d);
+    let t = type_of_designator(env, told, Mode::Variable, d);
     answer_if(fits, t)
 }
 
@@ -96,7 +96,7 @@ fn other_left(env: &Environment, told: &mut Option<Violation>, d: &Designator) -
 fn left(env: &Environment, told: &mut Option<Violation>, d: &Designator) -> Option<usize>
     ensures { Tells told.old told.new result (st.left env.now (designator d.now)) }
 {
-    match known(env, &d.root) {
+    match find_entity(env, &d.root) {
         Some(Entity::UnfinishedRoutine(row)) => {
             own_result(told, &d.root, &d.selectors, row.returns)
         }
@@ -107,7 +107,7 @@ fn left(env: &Environment, told: &mut Option<Violation>, d: &Designator) -> Opti
 fn component(env: &Environment, x: &Identifier) -> Option<usize>
     ensures { result ≡ st.component_by env.now (r.c1_named env.now x.now) }
 {
-    match known(env, x) {
+    match find_entity(env, x) {
         Some(Entity::Variable(t, _)) => { if env.is_component(t) { Some(t) } else { None } }
         _ => None,
     }
@@ -127,7 +127,7 @@ fn component_alone(env: &Environment, x: &Identifier, selectors: &[Selector]) ->
 fn lone_component(env: &Environment, e: &Expression) -> Option<usize>
     ensures { result ≡ st.lone_component env.now (expression e.now) }
 {
-    let d = designated(e)?;
+    let d = designator_of(e)?;
     component_alone(env, &d.root, &d.selectors)
 }
 
@@ -157,7 +157,7 @@ fn is_component_type(env: &Environment, target: Option<usize>) -> bool
     }
 }
 
-fn agreed(
+fn judge_sides(
     env: &Environment,
     told: &mut Option<Violation>,
     at: usize,
@@ -169,7 +169,7 @@ fn agreed(
     if env.agree(a, b) {
         return Some(a);
     }
-    broken(told, Rule::C2, at)
+    tell_violation(told, Rule::C2, at)
 }
 
 // C2: the sides of an assignment don't agree.
@@ -182,11 +182,11 @@ fn sides(
 ) -> Option<usize>
     ensures { TellsBoth told.old told.new a b result (st.c2_sides env.now at) }
 {
-    agreed(env, told, at, a?, b?)
+    judge_sides(env, told, at, a?, b?)
 }
 
 /// An assignment, whose `:=` stands at the place. C2: its sides don't agree. C10: the left one is no variable.
-pub fn assigned(
+pub fn judge_assignment(
     env: &Environment,
     told: &mut Option<Violation>,
     d: &Designator,

@@ -5,14 +5,16 @@ ghost use Rattle.cp_model.specs.RulesEnvironment as r;
 ghost use Rattle.cp_model.specs.RulesNames as n;
 ghost use Rattle.cp_model.specs.RulesJudged.{meaning_of, Sound};
 ghost use Rattle.cp_model.specs.View.{designator};
-ghost use Rattle.cp_judge.specs.Callees.{wants_of, wants_if, TellsCallee, TellsWherever};
+ghost use Rattle.cp_judge.specs.Callees.{wants_of, wants_if, entry_function, entry_procedure, TellsCallee, TellsWherever};
 ghost use Rattle.cp_judge.specs.Tells.{Tells, TellsOf};
 
 use crate::environment::Environment;
-use crate::names::{in_place, sort_rule, unfinished};
+use crate::names::{in_place, outside_definition, sort_rule};
 use crate::places::last_name;
-use crate::standard::{standard_function_called, standard_procedure_called, standard_wants};
-use crate::telling::{answer_if, broken, tell, unless_holds};
+use crate::standard::{
+    judge_standard_function_call, judge_standard_procedure_call, standard_wants,
+};
+use crate::telling::{answer_if, tell, tell_violation, unless_holds};
 use cp_model::rules::{
     Entity, Gives, Mode, ParameterRow, Returns, RoutineRow, Rule, Violation, Want,
 };
@@ -52,12 +54,12 @@ fn gives(
     ensures { Tells told.old told.new result (n.function_gives rule x.now fits returns) }
 {
     match returns {
-        Returns::Nothing => broken(told, if fits { rule } else { Rule::C2 }, x.at),
+        Returns::Nothing => tell_violation(told, if fits { rule } else { Rule::C2 }, x.at),
         Returns::Value(t) => {
             if fits {
                 return Some(Gives::Value(t));
             }
-            broken(told, Rule::C2, x.at)
+            tell_violation(told, Rule::C2, x.at)
         }
         Returns::Broken(violation) => {
             unless_holds(told, fits, Rule::C2, x.at);
@@ -68,7 +70,7 @@ fn gives(
 }
 
 // A routine as a function with so many arguments.
-fn function_called(
+fn judge_function_call(
     told: &mut Option<Violation>,
     rule: Rule,
     x: &Identifier,
@@ -95,7 +97,7 @@ fn is_procedure(returns: Returns) -> bool
 }
 
 // A routine as a procedure with so many arguments.
-fn procedure_called(
+fn judge_procedure_call(
     told: &mut Option<Violation>,
     x: &Identifier,
     count: usize,
@@ -110,11 +112,11 @@ fn procedure_called(
             gives: Gives::Nothing,
         });
     }
-    broken(told, Rule::C2, x.at)
+    tell_violation(told, Rule::C2, x.at)
 }
 
 // A routine without `entry` after a `.`, which is not called. C2: a wrong number of arguments; else C5.
-fn counted(
+fn judge_missing_entry(
     told: &mut Option<Violation>,
     x: &Identifier,
     count: usize,
@@ -127,7 +129,42 @@ fn counted(
     } else {
         Rule::C2
     };
-    broken(told, rule, x.at)
+    tell_violation(told, rule, x.at)
+}
+
+// A routine after a `.` as a function, where it has `entry`.
+fn entry_function(
+    told: &mut Option<Violation>,
+    rule: Rule,
+    x: &Identifier,
+    count: usize,
+    row: RoutineRow,
+) -> Option<Callee>
+    ensures { TellsWherever told.old told.new result
+        (λ env. entry_function env rule x.now count row) }
+{
+    if row.entry {
+        judge_function_call(told, rule, x, count, row)
+    } else {
+        judge_missing_entry(told, x, count, row)
+    }
+}
+
+// A routine after a `.` as a procedure, where it has `entry`.
+fn entry_procedure(
+    told: &mut Option<Violation>,
+    x: &Identifier,
+    count: usize,
+    row: RoutineRow,
+) -> Option<Callee>
+    ensures { TellsWherever told.old told.new result
+        (λ env. entry_procedure env x.now count row) }
+{
+    if row.entry {
+        judge_procedure_call(told, x, count, row)
+    } else {
+        judge_missing_entry(told, x, count, row)
+    }
 }
 
 /// C5: an entry routine is called by its name alone.
@@ -156,29 +193,26 @@ pub fn function(
         Entity::Routine(number) => {
             let row = env.routine(number);
             let by_name = by_name(told, x, row);
-            answer_if(by_name, function_called(told, rule, x, count, row))
+            answer_if(by_name, judge_function_call(told, rule, x, count, row))
         }
         Entity::Entry(number) => {
             let row = env.routine(number);
-            if row.entry {
-                return function_called(told, rule, x, count, row);
-            }
-            counted(told, x, count, row)
+            entry_function(told, rule, x, count, row)
         }
         Entity::UnfinishedRoutine(row) => {
-            let finished = unfinished(told, x, entity);
-            answer_if(finished, function_called(told, rule, x, count, row))
+            let finished = outside_definition(told, x, entity);
+            answer_if(finished, judge_function_call(told, rule, x, count, row))
         }
         Entity::Standard(standard) => {
             let in_place = in_place(env, told, x, Entity::Standard(standard));
             answer_if(
                 in_place,
-                standard_function_called(told, rule, x, count, standard),
+                judge_standard_function_call(told, rule, x, count, standard),
             )
         }
         _ => {
-            unfinished(told, x, entity);
-            broken(told, rule, x.at)
+            outside_definition(told, x, entity);
+            tell_violation(told, rule, x.at)
         }
     }
 }
@@ -200,29 +234,26 @@ pub fn procedure(
         Entity::Routine(number) => {
             let row = env.routine(number);
             let by_name = by_name(told, x, row);
-            answer_if(by_name, procedure_called(told, x, count, row))
+            answer_if(by_name, judge_procedure_call(told, x, count, row))
         }
         Entity::Entry(number) => {
             let row = env.routine(number);
-            if row.entry {
-                return procedure_called(told, x, count, row);
-            }
-            counted(told, x, count, row)
+            entry_procedure(told, x, count, row)
         }
         Entity::UnfinishedRoutine(row) => {
-            let finished = unfinished(told, x, entity);
-            answer_if(finished, procedure_called(told, x, count, row))
+            let finished = outside_definition(told, x, entity);
+            answer_if(finished, judge_procedure_call(told, x, count, row))
         }
         Entity::Standard(standard) => {
             let in_place = in_place(env, told, x, Entity::Standard(standard));
             answer_if(
                 in_place,
-                standard_procedure_called(told, x, count, standard),
+                judge_standard_procedure_call(told, x, count, standard),
             )
         }
         _ => {
-            unfinished(told, x, entity);
-            broken(told, Rule::C2, x.at)
+            outside_definition(told, x, entity);
+            tell_violation(told, Rule::C2, x.at)
         }
     }
 }
@@ -234,7 +265,7 @@ fn parameters(row: RoutineRow) -> Wants
 }
 
 // What the arguments have to meet of what is called, whatever is broken in the call.
-fn wants_named(env: &Environment, entity: Entity) -> Wants
+fn wants_of_entity(env: &Environment, entity: Entity) -> Wants
     ensures { wants_of env.now result ≡ n.wants_named env.now (Sound entity) }
 {
     match entity {
@@ -252,7 +283,7 @@ pub fn wants_of_call(env: &Environment, entity: Option<Entity>, callee: Option<C
 {
     match (callee, entity) {
         (Some(callee), _) => callee.wants,
-        (None, Some(entity)) => wants_named(env, entity),
+        (None, Some(entity)) => wants_of_entity(env, entity),
         (None, None) => Wants::Nothing,
     }
 }

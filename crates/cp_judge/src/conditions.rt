@@ -13,21 +13,21 @@ ghost use Rattle.cp_judge.specs.Tells.{Tells, TellsOf};
 
 use crate::environment::{BOOLEAN, Environment, is_base};
 use crate::expressions::judge;
-use crate::names::{anywhere, named, queue_named, unfinished};
+use crate::names::{anywhere, judge_name, outside_definition, queue_in_place};
 use crate::places::first_token;
-use crate::telling::{answer_if, broken, unless_holds};
+use crate::telling::{answer_if, tell_violation, unless_holds};
 use crate::values::is_variable;
 use cp_model::rules::{Entity, Mode, Rule, Violation};
 use cp_model::tree::{Expression, Identifier};
 
 // C2: another type than is wanted.
-fn wanted(told: &mut Option<Violation>, fits: bool, at: usize, t: usize) -> Option<usize>
+fn require_type(told: &mut Option<Violation>, fits: bool, at: usize, t: usize) -> Option<usize>
     ensures { Tells told.old told.new result (provided fits C2 at t) }
 {
     if fits {
         return Some(t);
     }
-    broken(told, Rule::C2, at)
+    tell_violation(told, Rule::C2, at)
 }
 
 /// C2: a condition isn't Boolean.
@@ -35,7 +35,7 @@ pub fn condition(env: &Environment, told: &mut Option<Violation>, e: &Expression
     ensures { Tells told.old told.new result (st.c2_condition env.now (expression e.now)) }
 {
     let t = judge(env, told, Mode::Value, e)?;
-    wanted(told, is_base(BOOLEAN, env.base(t)), first_token(e), t)
+    require_type(told, is_base(BOOLEAN, env.base(t)), first_token(e), t)
 }
 
 /// C2: the selector of a `case` isn't simple.
@@ -43,7 +43,7 @@ pub fn selector(env: &Environment, told: &mut Option<Violation>, e: &Expression)
     ensures { Tells told.old told.new result (st.c2_selector env.now (expression e.now)) }
 {
     let t = judge(env, told, Mode::Value, e)?;
-    wanted(told, env.is_simple(t), first_token(e), t)
+    require_type(told, env.is_simple(t), first_token(e), t)
 }
 
 /// C2: a bound of a `for` doesn't agree with its variable, where the type of that is known.
@@ -58,7 +58,7 @@ pub fn bound(
 {
     let u = judge(env, told, Mode::Value, e)?;
     match variable {
-        Some(t) => wanted(told, env.agree(t, u), first_token(e), u),
+        Some(t) => require_type(told, env.agree(t, u), first_token(e), u),
         None => Some(u),
     }
 }
@@ -76,42 +76,42 @@ fn plain_value(
     match entity {
         Entity::Constant(base, _) => Some(base),
         Entity::Variable(t, _) => Some(t),
-        Entity::Type(_) => broken(told, Rule::C10, v.at),
+        Entity::Type(_) => tell_violation(told, Rule::C10, v.at),
         Entity::UnfinishedConstant => {
-            unfinished(told, v, entity);
-            broken(told, Rule::C10, v.at)
+            outside_definition(told, v, entity);
+            tell_violation(told, Rule::C10, v.at)
         }
         Entity::UnfinishedType => {
-            unfinished(told, v, entity);
-            broken(told, Rule::C10, v.at)
+            outside_definition(told, v, entity);
+            tell_violation(told, Rule::C10, v.at)
         }
         _ => {
             anywhere(env, told, v, entity);
-            broken(told, Rule::C10, v.at)
+            tell_violation(told, Rule::C10, v.at)
         }
     }
 }
 
-fn plain_named(env: &Environment, told: &mut Option<Violation>, v: &Identifier) -> Option<usize>
-    ensures { Tells told.old told.new result (parts.plain_named env.now v.now) }
+fn plain_name(env: &Environment, told: &mut Option<Violation>, v: &Identifier) -> Option<usize>
+    ensures { Tells told.old told.new result (parts.plain_name env.now v.now) }
 {
-    let entity = named(env, told, v)?;
+    let entity = judge_name(env, told, v)?;
     plain_value(env, told, v, entity)
 }
 
-fn plain_judged(env: &Environment, told: &mut Option<Violation>, v: &Identifier) -> Option<usize>
-    ensures { Tells told.old told.new result (parts.plain_judged env.now v.now) }
+fn plain_variable(env: &Environment, told: &mut Option<Violation>, v: &Identifier) -> Option<usize>
+    ensures { Tells told.old told.new result (parts.plain_variable env.now v.now) }
 {
-    let no_queue = queue_named(env, told, Mode::Variable, v);
-    let t = plain_named(env, told, v);
+    let no_queue = queue_in_place(env, told, Mode::Variable, v);
+    let t = plain_name(env, told, v);
     answer_if(no_queue, t)
 }
 
 fn simple_variable(env: &Environment, told: &mut Option<Violation>, v: &Identifier) -> Option<usize>
     ensures { Tells told.old told.new result (parts.simple_variable env.now v.now) }
 {
-    let t = plain_judged(env, told, v)?;
-    wanted(told, env.is_simple(t), v.at, t)
+    let t = plain_variable(env, told, v)?;
+    require_type(told, env.is_simple(t), v.at, t)
 }
 
 // C10: the variable of a `for` isn't a variable. C2: it isn't simple.

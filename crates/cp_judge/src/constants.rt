@@ -8,7 +8,7 @@ ghost use Rattle.cp_judge.specs.Tells.{TellsFirst};
 
 use crate::environment::{CHAR, Environment, INTEGER};
 use crate::names::resolve;
-use crate::telling::{unless_holds, violated};
+use crate::telling::{fail_with_violation, unless_holds};
 use cp_model::rules::{Entity, Rule, Violation};
 use cp_model::tree::{Constant, Identifier};
 
@@ -29,13 +29,13 @@ pub fn unfinished_of_other_sort<A>(told: &mut Option<Violation>, at: usize) -> R
     ensures { TellsFirst told.old told.new result
         (also (violation rules.C4 at ∷ []) (breaks rules.C2 at)) }
 {
-    let first = violated(told, Rule::C4, at);
+    let first = fail_with_violation(told, Rule::C4, at);
     unless_holds(told, false, Rule::C2, at);
     first
 }
 
 // C2: a constant is wanted, and the name is of another sort. C4: a constant inside its own definition.
-fn constant_named(
+fn constant_of_entity(
     told: &mut Option<Violation>,
     x: &Identifier,
     entity: Entity,
@@ -44,10 +44,10 @@ fn constant_named(
 {
     match entity {
         Entity::Constant(base, ordinal) => Ok((base, ordinal)),
-        Entity::UnfinishedConstant => violated(told, Rule::C4, x.at),
+        Entity::UnfinishedConstant => fail_with_violation(told, Rule::C4, x.at),
         Entity::UnfinishedType => unfinished_of_other_sort(told, x.at),
         Entity::UnfinishedRoutine(_) => unfinished_of_other_sort(told, x.at),
-        _ => violated(told, Rule::C2, x.at),
+        _ => fail_with_violation(told, Rule::C2, x.at),
     }
 }
 
@@ -65,7 +65,7 @@ pub fn constant(
         Constant::Character { ordinal, .. } => Ok((CHAR, i32::from(*ordinal))),
         Constant::Named(x) => {
             let entity = resolve(env, told, x)?;
-            constant_named(told, x, entity)
+            constant_of_entity(told, x, entity)
         }
     }
 }

@@ -8,7 +8,7 @@ ghost use Rattle.cp_judge.specs.Tells.{TellsOf};
 
 use crate::environment::Environment;
 use crate::members::member_of_type;
-use crate::names::{known, queue_named, sort_rule};
+use crate::names::{find_entity, queue_in_place, sort_rule};
 use crate::places::{first_name, last_name};
 use crate::telling::unless_holds;
 use cp_model::rules::{Entity, Member, Mode, NamedPart, Rule, Structure, Violation};
@@ -28,7 +28,7 @@ fn first_rule(mode: Mode) -> Rule
 fn is_type(env: &Environment, x: &Identifier) -> bool
     ensures { result ≡ n.is_type (r.c1_named env.now x.now) }
 {
-    match known(env, x) {
+    match find_entity(env, x) {
         Some(Entity::Type(_)) => true,
         Some(Entity::UnfinishedType) => true,
         _ => false,
@@ -58,10 +58,10 @@ fn no_indexed_type(
 }
 
 // The member of this name that the first name has, if it has one.
-fn member_selected(env: &Environment, x: &Identifier, y: &Identifier) -> Option<Member>
+fn find_member(env: &Environment, x: &Identifier, y: &Identifier) -> Option<Member>
     ensures { result ≡ n.member_selected env.now y.now.name (r.c1_named env.now x.now) }
 {
-    match known(env, x) {
+    match find_entity(env, x) {
         Some(Entity::Variable(t, _)) => member_of_type(env, t, y),
         _ => None,
     }
@@ -78,7 +78,7 @@ fn has_entry(
         (n.c5_member env.now y.now
         (n.member_selected env.now y.now.name (r.c1_named env.now x.now))) }
 {
-    match member_selected(env, x, y) {
+    match find_member(env, x, y) {
         Some(Member::Routine(number)) => {
             unless_holds(told, env.routine(number).entry, Rule::C5, y.at)
         }
@@ -120,7 +120,7 @@ pub fn names_fit(
 {
     let no_type = no_indexed_type(env, told, mode, d);
     let entry = entry_after_point(env, told, d);
-    let no_queue = queue_named(env, told, mode, first_name(d));
+    let no_queue = queue_in_place(env, told, mode, first_name(d));
     no_type && (entry && no_queue)
 }
 
@@ -129,7 +129,7 @@ pub fn names_fit(
 fn first_part(env: &Environment, x: &Identifier) -> NamedPart
     ensures { result ≡ n.first_part (r.c1_named env.now x.now) }
 {
-    let (is_value, of) = match known(env, x) {
+    let (is_value, of) = match find_entity(env, x) {
         Some(Entity::Constant(_, _)) => (true, None),
         Some(Entity::Variable(t, _)) => (true, Some(t)),
         _ => (false, None),

@@ -9,7 +9,7 @@ ghost use Rattle.cp_judge.specs.EntitiesNamed as spec;
 
 use crate::environment::Environment;
 use crate::members::member;
-use crate::names::{array, known};
+use crate::names::{array, find_entity};
 use cp_model::rules::Entity;
 use cp_model::tree::{Designator, Index, Selector};
 
@@ -57,10 +57,10 @@ fn part(env: &Environment, entity: Option<Entity>, s: &Selector) -> Option<Entit
 }
 
 /// What the names of a designator stand for, if that is known.
-pub fn entity_named(env: &Environment, d: &Designator) -> Option<Entity>
-    ensures { result ≡ spec.entity_named env.now (designator d.now) }
+pub fn find_designated_entity(env: &Environment, d: &Designator) -> Option<Entity>
+    ensures { result ≡ spec.designated_entity env.now (designator d.now) }
 {
-    let mut entity = known(env, &d.root);
+    let mut entity = find_entity(env, &d.root);
     for s in &d.selectors {
         entity = part(env, entity, s);
     }

@@ -23,7 +23,7 @@ use crate::operands::{first_operand, has_form, has_type, mode as mode_of, operan
 use crate::places::first_token;
 use crate::roots::root;
 use crate::telling::answer_if;
-use crate::values::{given, value};
+use crate::values::{result_type, value};
 use cp_model::rules::{ArrayPart, Entity, Mode, Violation, Want};
 use cp_model::tree::{Designator, Expression, Index, Operation, Operator, Selector};
 
@@ -40,10 +40,10 @@ pub fn judge(
     match e {
         Expression::Number { .. } => Some(INTEGER),
         Expression::Character { .. } => Some(CHAR),
-        Expression::Designated(d) => used(env, told, mode, d),
+        Expression::Designated(d) => judge_use(env, told, mode, d),
         Expression::Call(d, list) => {
             let fits = names_fit(env, told, first_operand(mode), d);
-            let called = called(env, told, mode, d, list.len());
+            let called = judge_callee(env, told, mode, d, list.len());
             let t = arguments(env, told, called.wants, list);
             answer_if(fits, result(env, called.callee, t))
         }
@@ -79,13 +79,13 @@ fn chain(
     let mut left = left;
     for o in rest {
         let right = judge(env, told, Mode::Value, &o.operand);
-        left = operated(env, told, o.operator, o.at, left, right);
+        left = judge_operation(env, told, o.operator, o.at, left, right);
     }
     left
 }
 
 // An operator, where the types of both operands are known.
-fn operated(
+fn judge_operation(
     env: &Environment,
     told: &mut Option<Violation>,
     operator: Operator,
@@ -100,36 +100,41 @@ fn operated(
 
 // A designator that is used as a value, or as what should be a variable.
 #[cycle(judge)]
-fn used(
+fn judge_use(
     env: &Environment,
     told: &mut Option<Violation>,
     mode: Mode,
     d: &Designator,
 ) -> Option<usize>
-    ensures { Tells told.old told.new result (parts.used env.now mode (designator d.now)) }
+    ensures { Tells told.old told.new result (parts.judge_use env.now mode (designator d.now)) }
 {
     let fits = names_fit(env, told, mode, d);
-    let t = typed(env, told, mode, d);
+    let t = type_of_designator(env, told, mode, d);
     answer_if(fits, t)
 }
 
 /// The type of a designator that is used as a value, or as what should be a variable.
 #[cycle(judge)]
-pub fn typed(
+pub fn type_of_designator(
     env: &Environment,
     told: &mut Option<Violation>,
     mode: Mode,
     d: &Designator,
 ) -> Option<usize>
-    ensures { Tells told.old told.new result (parts.typed env.now mode (designator d.now)) }
+    ensures { Tells told.old told.new result
+        (parts.type_of_designator env.now mode (designator d.now)) }
 {
-    let entity = designated(env, told, d)?;
+    let entity = judge_designator(env, told, d)?;
     value(env, told, mode, d, entity)
 }
 
 /// What a designator stands for.
 #[cycle(judge)]
-pub fn designated(env: &Environment, told: &mut Option<Violation>, d: &Designator) -> Option<Entity>
+pub fn judge_designator(
+    env: &Environment,
+    told: &mut Option<Violation>,
+    d: &Designator,
+) -> Option<Entity>
     ensures { Tells told.old told.new result (x.designated env.now (designator d.now)) }
 {
     let mut part = root(env, told, d);
@@ -155,12 +160,12 @@ fn select(
             let entity = part?;
             member(env, told, *at, name, entity)
         }
-        Selector::Indexed(indices) => indexed(env, told, part, indices),
+        Selector::Indexed(indices) => select_elements(env, told, part, indices),
     }
 }
 
 #[cycle(judge)]
-fn indexed(
+fn select_elements(
     env: &Environment,
     told: &mut Option<Violation>,
     part: Option<Entity>,
@@ -210,7 +215,7 @@ fn result(env: &Environment, callee: Option<Callee>, t: Option<usize>) -> Option
     ensures { result ≡ result_if env.now callee t }
 {
     match (callee, t) {
-        (Some(callee), Some(t)) => Some(given(env, t, callee.gives)),
+        (Some(callee), Some(t)) => Some(result_type(env, t, callee.gives)),
         _ => None,
     }
 }
@@ -233,7 +238,7 @@ fn function_if(
 }
 
 #[cycle(judge)]
-fn called(
+fn judge_callee(
     env: &Environment,
     told: &mut Option<Violation>,
     mode: Mode,
@@ -247,7 +252,7 @@ fn called(
         (parts.callee_of env.now mode (designator d.now) count) }
 {
     let no_value = no_indexed_value(env, told, mode, d);
-    let entity = designated(env, told, d);
+    let entity = judge_designator(env, told, d);
     let function = function_if(env, told, mode, d, count, entity);
     let callee = answer_if(no_value, function);
     Called {
@@ -291,19 +296,19 @@ fn argument(
         return judge(env, told, Mode::Value, e);
     };
     let has_form = has_form(env, told, want, e);
-    let t = argument_typed(env, told, want, e);
+    let t = type_of_argument(env, told, want, e);
     answer_if(has_form, t)
 }
 
 #[cycle(judge)]
-fn argument_typed(
+fn type_of_argument(
     env: &Environment,
     told: &mut Option<Violation>,
     want: Want,
     e: &Expression,
 ) -> Option<usize>
     ensures { Tells told.old told.new result
-        (parts.argument_typed env.now want (expression e.now)) }
+        (parts.type_of_argument env.now want (expression e.now)) }
 {
     let t = judge(env, told, mode_of(want), e)?;
     has_type(env, told, want, e, t)

@@ -13,10 +13,10 @@ use crate::callees::parameter;
 use crate::designators::names_fit;
 use crate::environment::{Environment, INTEGER};
 use crate::expressions::{self, judge};
-use crate::names::{anywhere, is_in_routine, named, queue_named};
+use crate::names::{anywhere, is_in_routine, judge_name, queue_in_place};
 use crate::places::{first_token, last_name};
-use crate::telling::{answer_if, broken, tell, unless_holds};
-use crate::values::designated;
+use crate::telling::{answer_if, tell, tell_violation, unless_holds};
+use crate::values::designator_of;
 use cp_model::rules::{Access, Entity, Mode, Rule, SystemRow, Violation};
 use cp_model::tree::{Designator, Expression, Identifier, InitItem, Selector};
 
@@ -31,9 +31,9 @@ fn own_system(
     match access {
         Access::Own => match system {
             Some(y) => Some(y),
-            None => broken(told, Rule::C12, x.at),
+            None => tell_violation(told, Rule::C12, x.at),
         },
-        _ => broken(told, Rule::C12, x.at),
+        _ => tell_violation(told, Rule::C12, x.at),
     }
 }
 
@@ -50,21 +50,25 @@ fn own_component(
         Entity::Variable(t, access) => own_system(told, x, access, env.system(t)),
         _ => {
             anywhere(env, told, x, entity);
-            broken(told, Rule::C12, x.at)
+            tell_violation(told, Rule::C12, x.at)
         }
     }
 }
 
-fn component_named(env: &Environment, told: &mut Option<Violation>, x: &Identifier) -> Option<usize>
+fn system_of_component(
+    env: &Environment,
+    told: &mut Option<Violation>,
+    x: &Identifier,
+) -> Option<usize>
     ensures { Tells told.old told.new result
         (then_judge (r.c1_named env.now x.now) (st.c12_component env.now x.now)) }
 {
-    let entity = named(env, told, x)?;
+    let entity = judge_name(env, told, x)?;
     own_component(env, told, x, entity)
 }
 
 // C12: a wrong number of arguments.
-fn counted(
+fn judge_argument_count(
     env: &Environment,
     told: &mut Option<Violation>,
     x: &Identifier,
@@ -77,7 +81,7 @@ fn counted(
     if row.count == count {
         return Some(row);
     }
-    broken(told, Rule::C12, x.at)
+    tell_violation(told, Rule::C12, x.at)
 }
 
 // The system type that is initialised, whatever the number of arguments is.
@@ -90,14 +94,14 @@ fn component(
     ensures told { told.new ≡ least told.old (violations_of (parts.component env.now x.now count)) }
     ensures system { result ≡ meaning_of (parts.system env.now x.now) }
 {
-    let y = component_named(env, told, x)?;
-    counted(env, told, x, count, y);
+    let y = system_of_component(env, told, x)?;
+    judge_argument_count(env, told, x, count, y);
     Some(y)
 }
 
 // ---- an argument of which nothing is wanted, or only a component's name
 
-fn unused(
+fn unused_entity(
     env: &Environment,
     told: &mut Option<Violation>,
     d: &Designator,
@@ -118,8 +122,8 @@ fn unused_designator(
         (then_judge (x.designated env.now (designator d.now))
         (st.unused env.now (designator d.now))) }
 {
-    let entity = expressions::designated(env, told, d)?;
-    unused(env, told, d, entity)
+    let entity = expressions::judge_designator(env, told, d)?;
+    unused_entity(env, told, d, entity)
 }
 
 fn unwanted_designator(
@@ -136,17 +140,21 @@ fn unwanted_designator(
 }
 
 // An argument of which nothing is wanted: what a designator stands for isn't judged as a value.
-fn unwanted(env: &Environment, told: &mut Option<Violation>, e: &Expression) -> Option<usize>
+fn unwanted_argument(
+    env: &Environment,
+    told: &mut Option<Violation>,
+    e: &Expression,
+) -> Option<usize>
     ensures { Tells told.old told.new result (st.unwanted env.now (expression e.now)) }
 {
-    match designated(e) {
+    match designator_of(e) {
         Some(d) => unwanted_designator(env, told, d),
         None => judge(env, told, Mode::Value, e),
     }
 }
 
 // C12: an argument that isn't of the component type that is wanted.
-fn passed(
+fn passed_entity(
     env: &Environment,
     told: &mut Option<Violation>,
     wanted: usize,
@@ -160,16 +168,16 @@ fn passed(
             if t == wanted {
                 return Some(t);
             }
-            broken(told, Rule::C12, x.at)
+            tell_violation(told, Rule::C12, x.at)
         }
         _ => {
             anywhere(env, told, x, entity);
-            broken(told, Rule::C12, x.at)
+            tell_violation(told, Rule::C12, x.at)
         }
     }
 }
 
-fn passed_named(
+fn passed_name(
     env: &Environment,
     told: &mut Option<Violation>,
     wanted: usize,
@@ -178,26 +186,26 @@ fn passed_named(
     ensures { Tells told.old told.new result
         (then_judge (r.c1_named env.now x.now) (st.c12_passed env.now wanted x.now)) }
 {
-    let entity = named(env, told, x)?;
-    passed(env, told, wanted, x, entity)
+    let entity = judge_name(env, told, x)?;
+    passed_entity(env, told, wanted, x, entity)
 }
 
-fn passed_alone(
+fn name_argument(
     env: &Environment,
     told: &mut Option<Violation>,
     wanted: usize,
     x: &Identifier,
 ) -> Option<usize>
-    ensures { Tells told.old told.new result (parts.passed_alone env.now wanted x.now) }
+    ensures { Tells told.old told.new result (parts.name_argument env.now wanted x.now) }
 {
-    let no_queue = queue_named(env, told, Mode::Value, x);
-    let t = passed_named(env, told, wanted, x);
+    let no_queue = queue_in_place(env, told, Mode::Value, x);
+    let t = passed_name(env, told, wanted, x);
     answer_if(no_queue, t)
 }
 
 // The name, where nothing is selected.
-fn unselected<'t>(x: &'t Identifier, selectors: &[Selector]) -> Option<&'t Identifier>
-    ensures { parts.name_if result ≡ parts.unselected x.now (parts.selectors selectors.now) }
+fn whole_name<'t>(x: &'t Identifier, selectors: &[Selector]) -> Option<&'t Identifier>
+    ensures { parts.name_if result ≡ parts.whole_name x.now (parts.selectors selectors.now) }
 {
     match selectors {
         [] => Some(x),
@@ -209,8 +217,8 @@ fn unselected<'t>(x: &'t Identifier, selectors: &[Selector]) -> Option<&'t Ident
 fn name_alone(e: &Expression) -> Option<&Identifier>
     ensures { parts.name_if result ≡ parts.name_alone (expression e.now) }
 {
-    let d = designated(e)?;
-    unselected(&d.root, &d.selectors)
+    let d = designator_of(e)?;
+    whole_name(&d.root, &d.selectors)
 }
 
 // C12: an argument for a component parameter that is no name.
@@ -224,7 +232,7 @@ fn component_argument(
         (st.component_argument env.now wanted (expression e.now)) }
 {
     match name_alone(e) {
-        Some(x) => passed_alone(env, told, wanted, x),
+        Some(x) => name_argument(env, told, wanted, x),
         None => {
             tell(
                 told,
@@ -233,7 +241,7 @@ fn component_argument(
                     at: first_token(e),
                 },
             );
-            unwanted(env, told, e);
+            unwanted_argument(env, told, e);
             None
         }
     }
@@ -252,7 +260,7 @@ fn simple_agrees(
     if env.agree(wanted, t) {
         return Some(t);
     }
-    broken(told, Rule::C12, first_token(e))
+    tell_violation(told, Rule::C12, first_token(e))
 }
 
 // C12: an argument that doesn't agree with a simple parameter.
@@ -278,7 +286,7 @@ fn argument(
     ensures { Tells told.old told.new result (st.init_argument env.now wanted (expression e.now)) }
 {
     match wanted {
-        None => unwanted(env, told, e),
+        None => unwanted_argument(env, told, e),
         Some(wanted) => {
             if env.is_component(wanted) {
                 component_argument(env, told, wanted, e)
@@ -316,14 +324,14 @@ fn arguments(
 fn item(env: &Environment, told: &mut Option<Violation>, item: &InitItem)
     ensures { told.new ≡ least told.old (st.init_item env.now (init_item item.now)) }
 {
-    queue_named(env, told, Mode::Value, &item.component);
+    queue_in_place(env, told, Mode::Value, &item.component);
     let system = component(env, told, &item.component, item.arguments.len());
     arguments(env, told, system, &item.arguments);
 }
 
 /// An `init`, whose word stands at the place. C12: it stands in a routine, or an item is wrong.
-pub fn initialised(env: &Environment, told: &mut Option<Violation>, at: usize, items: &[InitItem])
-    ensures { told.new ≡ least told.old (parts.initialised env.now at (map init_item items.now)) }
+pub fn judge_init(env: &Environment, told: &mut Option<Violation>, at: usize, items: &[InitItem])
+    ensures { told.new ≡ least told.old (parts.judge_init env.now at (map init_item items.now)) }
 {
     unless_holds(told, !is_in_routine(env.region().part), Rule::C12, at);
     for i in items {

@@ -10,7 +10,7 @@ ghost use Rattle.cp_judge.specs.Tells.{Tells, TellsOf};
 
 use crate::constants::{constant, constant_at};
 use crate::environment::Environment;
-use crate::telling::{answer_if, broken, unless_holds};
+use crate::telling::{answer_if, tell_violation, unless_holds};
 use cp_model::rules::{Rule, Violation};
 use cp_model::tree::Constant;
 use std::alloc::{AllocError, Global};
@@ -75,13 +75,13 @@ fn once(
         (provided (not (st.is_among label seen.now)) rules.C3 at label) }
 {
     if seen.has(label) {
-        return broken(told, Rule::C3, at);
+        return tell_violation(told, Rule::C3, at);
     }
     Some(label)
 }
 
 // C2: a label of another base than the selector's, where that is known.
-fn fitting(
+fn judge_known_label(
     told: &mut Option<Violation>,
     base: Option<usize>,
     seen: &Labels,
@@ -96,7 +96,7 @@ fn fitting(
 }
 
 /// The labels of one statement of a `case`, behind those that were seen. It fails only for want of memory.
-pub fn labelled(
+pub fn judge_labels(
     env: &Environment,
     told: &mut Option<Violation>,
     base: Option<usize>,
@@ -109,13 +109,13 @@ pub fn labelled(
         (spec.SameLabels seen.new (st.labels env.now base seen.old list.now).seen) }
 {
     for c in list {
-        label(env, told, base, seen, c)?;
+        judge_label(env, told, base, seen, c)?;
     }
     Ok(())
 }
 
 // A label, behind those that were seen.
-fn label(
+fn judge_label(
     env: &Environment,
     told: &mut Option<Violation>,
     base: Option<usize>,
@@ -133,7 +133,7 @@ fn label(
     match constant(env, told, c) {
         Err(_) => Ok(()),
         Ok(label) => {
-            fitting(told, base, seen, constant_at(c), label);
+            judge_known_label(told, base, seen, constant_at(c), label);
             seen.add(label)
         }
     }

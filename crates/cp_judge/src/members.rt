@@ -7,8 +7,8 @@ ghost use Rattle.cp_model.specs.RulesNames as n;
 ghost use Rattle.cp_judge.specs.Tells.{Tells, TellsOf};
 
 use crate::environment::Environment;
-use crate::names::member_named;
-use crate::telling::broken;
+use crate::names::entity_of_member;
+use crate::telling::tell_violation;
 use cp_model::rules::{Entity, Member, Rule, Structure, Violation};
 use cp_model::tree::Identifier;
 
@@ -23,15 +23,15 @@ pub fn member(
     ensures { Tells told.old told.new result (n.member_of env.now at x.now entity) }
 {
     let Entity::Variable(t, access) = entity else {
-        return broken(told, Rule::C2, at);
+        return tell_violation(told, Rule::C2, at);
     };
     match env.structure(t) {
-        Structure::Record(k) => member_named(told, x, access, env.member(k, x)),
+        Structure::Record(k) => entity_of_member(told, x, access, env.member(k, x)),
         Structure::System(y) => {
             let k = env.system_row(y).members;
-            member_named(told, x, access, env.member(k, x))
+            entity_of_member(told, x, access, env.member(k, x))
         }
-        _ => broken(told, Rule::C2, at),
+        _ => tell_violation(told, Rule::C2, at),
     }
 }
 

@@ -9,7 +9,7 @@ ghost use Rattle.cp_judge.specs.Tells.{Tells, TellsFirst, TellsOf};
 
 use crate::environment::Environment;
 use crate::places::{first_name, has_field, last_name};
-use crate::telling::{broken, tell, unless_holds, violated};
+use crate::telling::{fail_with_violation, tell, tell_violation, unless_holds};
 use cp_model::rules::{
     Access, ArrayPart, Entity, Member, Mode, Part, Region, Rule, Standard, Structure, Violation,
 };
@@ -24,8 +24,8 @@ pub fn resolve(
     ensures { TellsFirst told.old told.new result (r.c1_named env.now x.now) }
 {
     match env.find(x.name.as_bytes()) {
-        None => violated(told, Rule::C1, x.at),
-        Some(Entity::Hidden) => violated(told, Rule::C1, x.at),
+        None => fail_with_violation(told, Rule::C1, x.at),
+        Some(Entity::Hidden) => fail_with_violation(told, Rule::C1, x.at),
         Some(Entity::Broken(violation)) => {
             tell(told, violation);
             Err(violation)
@@ -35,14 +35,14 @@ pub fn resolve(
 }
 
 /// What a name stands for, if nothing is broken in it, which is told.
-pub fn named(env: &Environment, told: &mut Option<Violation>, x: &Identifier) -> Option<Entity>
+pub fn judge_name(env: &Environment, told: &mut Option<Violation>, x: &Identifier) -> Option<Entity>
     ensures { Tells told.old told.new result (r.c1_named env.now x.now) }
 {
     resolve(env, told, x).ok()
 }
 
 /// What a name stands for, if that is known.
-pub fn known(env: &Environment, x: &Identifier) -> Option<Entity>
+pub fn find_entity(env: &Environment, x: &Identifier) -> Option<Entity>
     ensures { result ≡ meaning_of (r.c1_named env.now x.now) }
 {
     match env.find(x.name.as_bytes()) {
@@ -54,7 +54,7 @@ pub fn known(env: &Environment, x: &Identifier) -> Option<Entity>
 }
 
 /// C4: a constant, type or routine is named inside its own definition.
-pub fn unfinished(told: &mut Option<Violation>, x: &Identifier, entity: Entity) -> bool
+pub fn outside_definition(told: &mut Option<Violation>, x: &Identifier, entity: Entity) -> bool
     ensures { TellsOf told.old told.new result (r.c4_unfinished x.now entity) }
 {
     let finished = match entity {
@@ -141,13 +141,13 @@ pub fn anywhere(
 ) -> bool
     ensures { TellsOf told.old told.new result (r.c4_c9_named env.now x.now entity) }
 {
-    let finished = unfinished(told, x, entity);
+    let finished = outside_definition(told, x, entity);
     let in_place = in_place(env, told, x, entity);
     finished && in_place
 }
 
 /// What a member of a record or a component stands for. C1: there is none of this name.
-pub fn member_named(
+pub fn entity_of_member(
     told: &mut Option<Violation>,
     x: &Identifier,
     access: Access,
@@ -157,7 +157,7 @@ pub fn member_named(
         → Tells told.old told.new result (n.member_named env x.now access member) }
 {
     match member {
-        None => broken(told, Rule::C1, x.at),
+        None => tell_violation(told, Rule::C1, x.at),
         Some(Member::Field(t)) => Some(Entity::Variable(t, access)),
         Some(Member::Routine(routine)) => Some(Entity::Entry(routine)),
     }
@@ -181,7 +181,7 @@ pub fn array(
             });
         }
     }
-    broken(told, Rule::C2, at)
+    tell_violation(told, Rule::C2, at)
 }
 
 /// C2: an index that doesn't agree. The element is a part of the same variable.
@@ -197,20 +197,20 @@ pub fn element(
     if env.agree(part.index, t) {
         return Some(Entity::Variable(part.element, part.access));
     }
-    broken(told, Rule::C2, at)
+    tell_violation(told, Rule::C2, at)
 }
 
 fn is_queue_variable(env: &Environment, x: &Identifier) -> bool
     ensures { result ≡ n.has_queues env.now (r.c1_named env.now x.now) }
 {
-    match known(env, x) {
+    match find_entity(env, x) {
         Some(Entity::Variable(t, _)) => env.has_queues(t),
         _ => false,
     }
 }
 
 /// C8: a variable with queues named elsewhere than as the argument of `delay`, `continue`, `empty`.
-pub fn queue_named(
+pub fn queue_in_place(
     env: &Environment,
     told: &mut Option<Violation>,
     mode: Mode,

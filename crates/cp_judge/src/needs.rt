@@ -11,10 +11,10 @@ ghost use Rattle.cp_model.specs.RulesNeeds as n;
 ghost use Rattle.cp_model.specs.View.{designator, expression, selector, index, operation, statement, arm, init_item, indices_of, expressions_of, selectors_of, statements_of, arms_of};
 ghost use Rattle.cp_judge.specs.Needs as parts;
 
-use crate::entities::{entity_named, is_routine};
+use crate::entities::{find_designated_entity, is_routine};
 use crate::environment::Environment;
-use crate::expressions::designated;
-use crate::names::known;
+use crate::expressions::judge_designator;
+use crate::names::find_entity;
 use cp_model::rules::{Entity, SystemRow};
 use cp_model::tree::{
     Arm, Designator, Expression, Identifier, Index, InitItem, Operation, Selector, Sort, Statement,
@@ -65,7 +65,7 @@ fn need_of_expressions(env: &Environment, list: &[Expression]) -> usize
 fn need_of_designator(env: &Environment, d: &Designator) -> usize
     ensures { result ≡ n.need_designator env.now (designator d.now) }
 {
-    need_of_designated(env, d).max(need_of_selectors(env, &d.selectors))
+    need_of_callee(env, d).max(need_of_selectors(env, &d.selectors))
 }
 
 #[cycle(need_in_expressions)]
@@ -102,10 +102,10 @@ fn need_of_indices(env: &Environment, indices: &[Index]) -> usize
 
 // The need of the routine that a designator stands for, if it is one. What is in its indices is judged only where its names stand
 // for a routine: in a text they never do, since no array has components in it.
-fn need_of_designated(env: &Environment, d: &Designator) -> usize
+fn need_of_callee(env: &Environment, d: &Designator) -> usize
     ensures { result ≡ n.need_called env.now (x.designated env.now (designator d.now)) }
 {
-    if is_routine(entity_named(env, d)) {
+    if is_routine(find_designated_entity(env, d)) {
         need_if_called(env, designation(env, d))
     } else {
         0
@@ -117,7 +117,7 @@ fn designation(env: &Environment, d: &Designator) -> Option<Entity>
     ensures { result ≡ meaning_of (x.designated env.now (designator d.now)) }
 {
     let mut told = None;
-    designated(env, &mut told, d)
+    judge_designator(env, &mut told, d)
 }
 
 // The need of the routine that is called, if it is one.
@@ -144,9 +144,7 @@ pub fn need_of_statement(env: &Environment, s: &Statement) -> usize
         }
         Statement::Call(d, list) => need_of_designator(env, d).max(need_of_expressions(env, list)),
         Statement::Compound(list) => need_of_statements(env, list),
-        Statement::If { condition, then } => {
-            need_of_expression(env, condition).max(need_of_statement(env, then))
-        }
+        Statement::If { condition, then } => need_of_branch(env, then, condition),
         Statement::IfElse {
             condition,
             then,
@@ -158,9 +156,7 @@ pub fn need_of_statement(env: &Environment, s: &Statement) -> usize
         Statement::Case { selector, arms } => {
             need_of_expression(env, selector).max(need_of_arms(env, arms))
         }
-        Statement::While { condition, body } => {
-            need_of_expression(env, condition).max(need_of_statement(env, body))
-        }
+        Statement::While { condition, body } => need_of_branch(env, body, condition),
         Statement::Repeat { body, condition } => {
             need_of_statements(env, body).max(need_of_expression(env, condition))
         }
@@ -176,6 +172,15 @@ pub fn need_of_statement(env: &Environment, s: &Statement) -> usize
         Statement::Cycle(list) => need_of_statements(env, list),
         Statement::Init { items, .. } => need_of_items(env, items),
     }
+}
+
+// The need of a statement behind a condition.
+#[cycle(need_in_statements)]
+fn need_of_branch(env: &Environment, body: &Statement, condition: &Expression) -> usize
+    ensures { result ≡ max (n.need_expression env.now (expression condition.now))
+        (n.need_statement env.now (statement body.now)) }
+{
+    need_of_expression(env, condition).max(need_of_statement(env, body))
 }
 
 /// The need of statements, in words: the greatest need among them, or 0.
@@ -221,7 +226,7 @@ fn need_of_item(env: &Environment, i: &InitItem) -> usize
 fn need_if_initialised(env: &Environment, component: &Identifier) -> usize
     ensures { result ≡ n.need_initialised env.now (r.c1_named env.now component.now) }
 {
-    match known(env, component) {
+    match find_entity(env, component) {
         Some(Entity::Variable(t, _)) => need_of_system(env, env.system(t)),
         _ => 0,
     }

@@ -10,7 +10,7 @@ ghost use Rattle.cp_judge.specs.Tells.{Tells, TellsOf};
 
 use crate::environment::{BOOLEAN, CHAR, Environment, INTEGER, QUEUE, is_base};
 use crate::places::first_token;
-use crate::telling::broken;
+use crate::telling::tell_violation;
 use crate::values::variable;
 use cp_model::rules::{Mode, Rule, Violation, Want};
 use cp_model::tree::{Expression, Operator};
@@ -66,7 +66,7 @@ pub fn operands(
     if operands_fit(operator, env.base(a), env.base(b)) {
         return Some(operator_gives(operator));
     }
-    broken(told, Rule::C2, at)
+    tell_violation(told, Rule::C2, at)
 }
 
 /// C2: the operand of a sign or of `not`, which wants this base.
@@ -82,7 +82,7 @@ pub fn operand(
     if is_base(wanted, env.base(t)) {
         return Some(wanted);
     }
-    broken(told, Rule::C2, at)
+    tell_violation(told, Rule::C2, at)
 }
 
 /// How the first name of an argument is judged.
@@ -137,7 +137,7 @@ fn fits_type(
     if fits {
         return Some(t);
     }
-    broken(told, rule, first_token(e))
+    tell_violation(told, rule, first_token(e))
 }
 
 /// C10 of an argument that should be a variable, whatever is broken in it.
@@ -186,5 +186,5 @@ pub fn has_type(
     if is_wanted(env, want, t) {
         return Some(t);
     }
-    broken(told, Rule::C2, first_token(e))
+    tell_violation(told, Rule::C2, first_token(e))
 }

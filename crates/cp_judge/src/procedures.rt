@@ -13,7 +13,7 @@ ghost use Rattle.cp_judge.specs.Tells.{Tells};
 use crate::callees::{Called, Callee, procedure, wants_of_call};
 use crate::designators::{names_fit, no_indexed_value};
 use crate::environment::Environment;
-use crate::expressions::{arguments, designated};
+use crate::expressions::{arguments, judge_designator};
 use crate::telling::answer_if;
 use cp_model::rules::{Entity, Mode, Violation};
 use cp_model::tree::{Designator, Expression};
@@ -34,7 +34,12 @@ fn procedure_if(
     procedure(env, told, d, count, entity)
 }
 
-fn called(env: &Environment, told: &mut Option<Violation>, d: &Designator, count: usize) -> Called
+fn judge_callee(
+    env: &Environment,
+    told: &mut Option<Violation>,
+    d: &Designator,
+    count: usize,
+) -> Called
     ensures callee { TellsCallee env.now told.old told.new result.callee
         (parts.procedure_called env.now (designator d.now) count) }
     ensures wants { wants_of env.now result.wants ≡ x.wants_in env.now
@@ -42,7 +47,7 @@ fn called(env: &Environment, told: &mut Option<Violation>, d: &Designator, count
         (parts.procedure_called env.now (designator d.now) count) }
 {
     let no_value = no_indexed_value(env, told, Mode::Value, d);
-    let entity = designated(env, told, d);
+    let entity = judge_designator(env, told, d);
     let procedure = procedure_if(env, told, d, count, entity);
     let callee = answer_if(no_value, procedure);
     Called {
@@ -52,7 +57,7 @@ fn called(env: &Environment, told: &mut Option<Violation>, d: &Designator, count
 }
 
 /// A procedure's call. C2: what is called is no procedure, or an argument doesn't fit.
-pub fn performed(
+pub fn judge_call(
     env: &Environment,
     told: &mut Option<Violation>,
     d: &Designator,
@@ -62,6 +67,6 @@ pub fn performed(
         (st.performed env.now (designator d.now) (expressions_of (map expression list.now))) }
 {
     names_fit(env, told, Mode::Value, d);
-    let called = called(env, told, d, list.len());
+    let called = judge_callee(env, told, d, list.len());
     arguments(env, told, called.wants, list);
 }

@@ -8,7 +8,7 @@ ghost use Rattle.cp_model.specs.View.{designator, selector, selectors_of};
 ghost use Rattle.cp_judge.specs.Tells.{Tells};
 
 use crate::environment::Environment;
-use crate::names::{anywhere, named};
+use crate::names::{anywhere, judge_name};
 use crate::telling::answer_if;
 use cp_model::rules::{Entity, Violation};
 use cp_model::tree::{Designator, Identifier, Selector};
@@ -40,6 +40,6 @@ pub fn root(env: &Environment, told: &mut Option<Violation>, d: &Designator) -> 
         (n.before_selectors env.now d.now.root
         (selectors_of (map selector d.now.selectors.items)))) }
 {
-    let entity = named(env, told, &d.root)?;
+    let entity = judge_name(env, told, &d.root)?;
     before_selectors(env, told, &d.root, &d.selectors, entity)
 }

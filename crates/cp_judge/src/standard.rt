@@ -7,7 +7,7 @@ ghost use Rattle.cp_judge.specs.Callees.{wants_of, callee_if, TellsWherever};
 
 use crate::callees::{Callee, Wants};
 use crate::environment::{BOOLEAN, CHAR, INTEGER};
-use crate::telling::broken;
+use crate::telling::tell_violation;
 use cp_model::rules::{Gives, Rule, Standard, Violation, Want};
 use cp_model::tree::Identifier;
 
@@ -82,7 +82,7 @@ fn standard_procedure(standard: Standard) -> Option<Callee>
 }
 
 // A standard routine that is called. C2: a wrong number of arguments.
-fn standard_called(
+fn judge_standard_call(
     told: &mut Option<Violation>,
     rule: Rule,
     x: &Identifier,
@@ -93,16 +93,16 @@ fn standard_called(
         (λ env. n.standard_called rule x.now fits (callee_if env callee)) }
 {
     if !fits {
-        return broken(told, Rule::C2, x.at);
+        return tell_violation(told, Rule::C2, x.at);
     }
     match callee {
         Some(callee) => Some(callee),
-        None => broken(told, rule, x.at),
+        None => tell_violation(told, rule, x.at),
     }
 }
 
 /// A standard function that is called with so many arguments.
-pub fn standard_function_called(
+pub fn judge_standard_function_call(
     told: &mut Option<Violation>,
     rule: Rule,
     x: &Identifier,
@@ -115,11 +115,11 @@ pub fn standard_function_called(
 {
     let fits = standard_fits(standard, count);
     let callee = standard_function(standard);
-    standard_called(told, rule, x, fits, callee)
+    judge_standard_call(told, rule, x, fits, callee)
 }
 
 /// A standard procedure that is called with so many arguments.
-pub fn standard_procedure_called(
+pub fn judge_standard_procedure_call(
     told: &mut Option<Violation>,
     x: &Identifier,
     count: usize,
@@ -131,5 +131,5 @@ pub fn standard_procedure_called(
 {
     let fits = standard_fits(standard, count);
     let callee = standard_procedure(standard);
-    standard_called(told, Rule::C2, x, fits, callee)
+    judge_standard_call(told, Rule::C2, x, fits, callee)
 }

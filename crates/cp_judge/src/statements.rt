@@ -1,18 +1,20 @@
 //! Statements: the rules inside them.
 
 ghost use Rattle.std.specs.Prelude.{◌≡◌, ◌++◌, [], ◌∷◌, OnOk, map, Option, None, Some};
-ghost use Rattle.cp_model.specs.RulesJudged.{least};
+ghost use Rattle.cp_model.specs.RulesJudged.{least, violations_of};
 ghost use Rattle.cp_model.specs.RulesStatements as st;
+ghost use Rattle.cp_model.specs.Syntax as syntax;
 ghost use Rattle.cp_model.specs.View as view;
+ghost use Rattle.cp_judge.specs.StatementParts as parts;
 
-use crate::assignments::assigned;
+use crate::assignments::judge_assignment;
 use crate::conditions::{condition, for_header, selector};
 use crate::environment::Environment;
-use crate::initialisation::initialised;
-use crate::labels::{Labels, labelled, selector_base};
-use crate::procedures::performed;
+use crate::initialisation::judge_init;
+use crate::labels::{Labels, judge_labels, selector_base};
+use crate::procedures::judge_call;
 use cp_model::rules::Violation;
-use cp_model::tree::{Arm, Statement};
+use cp_model::tree::{Arm, Expression, Identifier, Statement};
 use std::alloc::{AllocError, Global};
 
 /// A statement. It fails only for want of memory, for the labels of a `case`.
@@ -27,58 +29,108 @@ pub fn statement(
         (told.new ≡ least told.old (st.statement env.now (view.statement s.now))) }
 {
     match s {
-        Statement::Empty => Ok(()),
-        Statement::Assign { target, at, value } => {
-            assigned(env, told, target, *at, value);
-            Ok(())
-        }
-        Statement::Call(d, list) => {
-            performed(env, told, d, list);
-            Ok(())
-        }
-        Statement::Compound(list) => statements(env, alloc, told, list),
-        Statement::If { condition: e, then } => {
-            condition(env, told, e);
-            statement(env, alloc, told, then)
-        }
+        Statement::Empty => {}
+        Statement::Assign { target, at, value } => judge_assignment(env, told, target, *at, value),
+        Statement::Call(d, list) => judge_call(env, told, d, list),
+        Statement::Compound(list) => statements(env, alloc, told, list)?,
+        Statement::If { condition: e, then } => judge_branch(env, alloc, told, then, e)?,
         Statement::IfElse {
             condition: e,
             then,
             otherwise,
         } => {
-            condition(env, told, e);
-            statement(env, alloc, told, then)?;
-            statement(env, alloc, told, otherwise)
+            judge_branch(env, alloc, told, then, e)?;
+            statement(env, alloc, told, otherwise)?;
         }
-        Statement::Case { selector: e, arms } => {
-            let t = selector(env, told, e);
-            labelled_arms(env, alloc, told, selector_base(env, t), arms)
-        }
-        Statement::While { condition: e, body } => {
-            condition(env, told, e);
-            statement(env, alloc, told, body)
-        }
-        Statement::Repeat { body, condition: e } => {
-            statements(env, alloc, told, body)?;
-            condition(env, told, e);
-            Ok(())
-        }
+        Statement::Case { selector: e, arms } => judge_case(env, alloc, told, arms, e)?,
+        Statement::While { condition: e, body } => judge_branch(env, alloc, told, body, e)?,
+        Statement::Repeat { body, condition: e } => judge_repeat(env, alloc, told, body, e)?,
         Statement::For {
             variable,
             from,
             last,
             body,
             ..
-        } => {
-            for_header(env, told, variable, from, last);
-            statement(env, alloc, told, body)
-        }
-        Statement::Cycle(list) => statements(env, alloc, told, list),
-        Statement::Init { at, items } => {
-            initialised(env, told, *at, items);
-            Ok(())
-        }
+        } => judge_for(env, alloc, told, body, variable, from, last)?,
+        Statement::Cycle(list) => statements(env, alloc, told, list)?,
+        Statement::Init { at, items } => judge_init(env, told, *at, items),
     }
+    Ok(())
+}
+
+// A statement behind a condition.
+#[cycle(statement)]
+fn judge_branch(
+    env: &Environment,
+    alloc: Global,
+    told: &mut Option<Violation>,
+    body: &Statement,
+    e: &Expression,
+) -> Result<(), AllocError>
+    ensures { OnOk result
+        (told.new ≡ least told.old
+        (violations_of (st.c2_condition env.now (view.expression e.now)) ++ st.statement env.now
+        (view.statement body.now))) }
+{
+    condition(env, told, e);
+    statement(env, alloc, told, body)
+}
+
+// A statement behind the variable and the bounds of a `for`.
+#[cycle(statement)]
+fn judge_for(
+    env: &Environment,
+    alloc: Global,
+    told: &mut Option<Violation>,
+    body: &Statement,
+    v: &Identifier,
+    from: &Expression,
+    last: &Expression,
+) -> Result<(), AllocError>
+    ensures { OnOk result
+        (told.new ≡ least told.old
+        (parts.for_header env.now v.now (view.expression from.now) (view.expression last.now)
+        ++ st.statement env.now (view.statement body.now))) }
+{
+    for_header(env, told, v, from, last);
+    statement(env, alloc, told, body)
+}
+
+// A selector, and the statements behind it.
+#[cycle(statement)]
+fn judge_case(
+    env: &Environment,
+    alloc: Global,
+    told: &mut Option<Violation>,
+    arms: &[Arm],
+    e: &Expression,
+) -> Result<(), AllocError>
+    ensures { OnOk result
+        (told.new ≡ least told.old
+        (st.statement env.now (syntax.Case (view.expression e.now)
+        (view.arms_of (map view.arm arms.now))))) }
+{
+    let t = selector(env, told, e);
+    judge_arms(env, alloc, told, selector_base(env, t), arms)
+}
+
+// Statements, and the condition behind them.
+#[cycle(statement)]
+fn judge_repeat(
+    env: &Environment,
+    alloc: Global,
+    told: &mut Option<Violation>,
+    body: &[Statement],
+    e: &Expression,
+) -> Result<(), AllocError>
+    ensures { OnOk result
+        (told.new ≡ least told.old
+        (st.statements env.now (view.statements_of (map view.statement body.now)) ++ violations_of
+        (st.c2_condition env.now (view.expression e.now)))) }
+{
+    statements(env, alloc, told, body)?;
+    condition(env, told, e);
+    Ok(())
 }
 
 /// Statements, one after another.
@@ -101,7 +153,7 @@ pub fn statements(
 
 // The statements of a `case`, against the base of its selector, where that is known.
 #[cycle(statement)]
-fn labelled_arms(
+fn judge_arms(
     env: &Environment,
     alloc: Global,
     told: &mut Option<Violation>,
@@ -114,7 +166,7 @@ fn labelled_arms(
 {
     let mut seen = Labels::new(alloc);
     for a in list {
-        labelled(env, told, base, &mut seen, &a.labels)?;
+        judge_labels(env, told, base, &mut seen, &a.labels)?;
         statement(env, alloc, told, &a.body)?;
     }
     Ok(())

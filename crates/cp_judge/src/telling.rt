@@ -24,7 +24,7 @@ pub fn tell(told: &mut Option<Violation>, violation: Violation)
 }
 
 /// Tells that a rule is broken at a place.
-pub fn broken<A>(told: &mut Option<Violation>, rule: Rule, at: usize) -> Option<A>
+pub fn tell_violation<A>(told: &mut Option<Violation>, rule: Rule, at: usize) -> Option<A>
     ensures { Tells told.old told.new result (breaks rule at) }
 {
     tell(told, Violation { rule, at });
@@ -32,7 +32,11 @@ pub fn broken<A>(told: &mut Option<Violation>, rule: Rule, at: usize) -> Option<
 }
 
 /// Tells that a rule is broken at a place, and answers that violation.
-pub fn violated<A>(told: &mut Option<Violation>, rule: Rule, at: usize) -> Result<A, Violation>
+pub fn fail_with_violation<A>(
+    told: &mut Option<Violation>,
+    rule: Rule,
+    at: usize,
+) -> Result<A, Violation>
     ensures { TellsFirst told.old told.new result (breaks rule at) }
 {
     let violation = Violation { rule, at };

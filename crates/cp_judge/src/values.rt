@@ -9,14 +9,14 @@ ghost use Rattle.cp_judge.specs.Designated.{designator_if, designator_in};
 
 use crate::callees::function;
 use crate::environment::{Environment, INTEGER};
-use crate::names::{anywhere, known, sort_rule, unfinished};
+use crate::names::{anywhere, find_entity, outside_definition, sort_rule};
 use crate::places::{first_name, first_token, last_name};
-use crate::telling::{broken, unless_holds};
+use crate::telling::{tell_violation, unless_holds};
 use cp_model::rules::{Access, Entity, Gives, Mode, Rule, Violation};
 use cp_model::tree::{Designator, Expression, Identifier, Selector};
 
 /// The type of what a call gives, whose first argument is of a type.
-pub fn given(env: &Environment, argument: usize, gives: Gives) -> usize
+pub fn result_type(env: &Environment, argument: usize, gives: Gives) -> usize
     ensures { result ≡ n.given env.now argument gives }
 {
     match gives {
@@ -40,7 +40,7 @@ fn function_alone(
     match mode {
         Mode::Variable => {
             anywhere(env, told, first_name(d), entity);
-            broken(told, Rule::C10, first_name(d).at)
+            tell_violation(told, Rule::C10, first_name(d).at)
         }
         _ => {
             let callee = function(env, told, mode, d, 0, entity)?;
@@ -74,20 +74,20 @@ pub fn value(
             if is_no_component(env, mode, t) {
                 return Some(t);
             }
-            broken(told, sort_rule(mode, d), last_name(d).at)
+            tell_violation(told, sort_rule(mode, d), last_name(d).at)
         }
-        Entity::Type(_) => broken(told, sort_rule(mode, d), last_name(d).at),
+        Entity::Type(_) => tell_violation(told, sort_rule(mode, d), last_name(d).at),
         Entity::UnfinishedConstant => {
-            unfinished(told, last_name(d), entity);
-            broken(told, sort_rule(mode, d), last_name(d).at)
+            outside_definition(told, last_name(d), entity);
+            tell_violation(told, sort_rule(mode, d), last_name(d).at)
         }
         Entity::UnfinishedType => {
-            unfinished(told, last_name(d), entity);
-            broken(told, sort_rule(mode, d), last_name(d).at)
+            outside_definition(told, last_name(d), entity);
+            tell_violation(told, sort_rule(mode, d), last_name(d).at)
         }
         _ => {
             let gives = function_alone(env, told, mode, d, entity)?;
-            Some(given(env, INTEGER, gives))
+            Some(result_type(env, INTEGER, gives))
         }
     }
 }
@@ -115,7 +115,7 @@ pub fn is_variable(env: &Environment, x: &Identifier, selectors: &[Selector]) ->
     ensures { result ≡ n.is_variable env.now (selectors_of (map selector selectors.now))
         (r.c1_named env.now x.now) }
 {
-    match known(env, x) {
+    match find_entity(env, x) {
         Some(Entity::Variable(t, access)) => {
             is_changeable(access) && !(env.is_component(t) && selects_field_first(selectors))
         }
@@ -125,7 +125,7 @@ pub fn is_variable(env: &Environment, x: &Identifier, selectors: &[Selector]) ->
 }
 
 /// C10: not a variable or `var` parameter or a part of one.
-pub fn variable_designated(env: &Environment, told: &mut Option<Violation>, d: &Designator) -> bool
+pub fn designates_variable(env: &Environment, told: &mut Option<Violation>, d: &Designator) -> bool
     ensures { TellsOf told.old told.new result (n.c10_designator env.now (designator d.now)) }
 {
     unless_holds(
@@ -137,13 +137,13 @@ pub fn variable_designated(env: &Environment, told: &mut Option<Violation>, d: &
 }
 
 /// The designator that an expression is, if it is one. A chain of one operand is that operand.
-pub fn designated(e: &Expression) -> Option<&Designator>
+pub fn designator_of(e: &Expression) -> Option<&Designator>
     ensures { designator_if result ≡ designator_in (expression e.now) }
 {
     match e {
         Expression::Designated(d) => Some(d),
         Expression::Chain { first, rest } => match rest.as_slice() {
-            [] => designated(first),
+            [] => designator_of(first),
             _ => None,
         },
         _ => None,
@@ -154,8 +154,8 @@ pub fn designated(e: &Expression) -> Option<&Designator>
 pub fn variable(env: &Environment, told: &mut Option<Violation>, e: &Expression) -> bool
     ensures { TellsOf told.old told.new result (n.c10_variable env.now (expression e.now)) }
 {
-    match designated(e) {
-        Some(d) => variable_designated(env, told, d),
+    match designator_of(e) {
+        Some(d) => designates_variable(env, told, d),
         None => unless_holds(told, false, Rule::C10, first_token(e)),
     }
 }

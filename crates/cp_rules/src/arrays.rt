@@ -72,7 +72,7 @@ impl<'t> Checker<'t> {
         })
     }
 
-    fn bounds_known(
+    fn judge_bounds(
         &mut self,
         at: usize,
         low: Judged<(usize, i32)>,
@@ -92,7 +92,7 @@ impl<'t> Checker<'t> {
     {
         let first = self.constant(low);
         let last = self.constant(high);
-        self.bounds_known(constant_at(high), first, last)
+        self.judge_bounds(constant_at(high), first, last)
     }
 
     /// Adds a type, and answers its number. It fails only when memory runs out.
@@ -107,7 +107,7 @@ impl<'t> Checker<'t> {
     }
 
     /// Makes a type of a row, where that is known. It fails only when memory runs out.
-    pub fn made(&mut self, row: Judged<TypeRow>) -> Result<Judged<usize>, AllocError>
+    pub fn make_type(&mut self, row: Judged<TypeRow>) -> Result<Judged<usize>, AllocError>
         ensures { IfOk result
             (λ answer. Knows self.old self.new answer (made self.old.env [] row)) }
     {
@@ -118,7 +118,7 @@ impl<'t> Checker<'t> {
     }
 
     // C13: an array of too many words.
-    fn array_known(
+    fn judge_array(
         &mut self,
         at: usize,
         index: Judged<usize>,
@@ -146,8 +146,8 @@ impl<'t> Checker<'t> {
         ensures { IfOk result
             (λ answer. Knows self.old self.new answer (array self.old.env at index element)) }
     {
-        let row = self.array_known(at, index, element);
-        self.made(row)
+        let row = self.judge_array(at, index, element);
+        self.make_type(row)
     }
 
     /// An array of arrays, one for each index type. It fails only when memory runs out.

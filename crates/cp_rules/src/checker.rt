@@ -7,7 +7,7 @@ ghost use Rattle.cp_rules.specs.Checking.{State, Judges, after, declared_name, t
 
 use crate::standard::standard_environment;
 use cp_judge::Environment;
-use cp_judge::telling::{unless_holds, violated};
+use cp_judge::telling::{fail_with_violation, unless_holds};
 use cp_model::rules::{Entity, Rule, Violation};
 use cp_model::tree::Identifier;
 use std::alloc::{AllocError, Global};
@@ -47,7 +47,7 @@ impl<'t> Checker<'t> {
     pub fn breaks<A>(&mut self, rule: Rule, at: usize) -> Judged<A>
         ensures { Judges self.old self.new result (j.breaks rule at) }
     {
-        violated(&mut self.earliest, rule, at)
+        fail_with_violation(&mut self.earliest, rule, at)
     }
 
     /// Tells that a rule is broken at a place unless the test holds.

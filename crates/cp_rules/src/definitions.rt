@@ -110,7 +110,7 @@ impl<'t> Checker<'t> {
     {
         let outside = self.mark();
         self.declare(x, Entity::UnfinishedType)?;
-        let of = self.type_placed(Position::Definition, t)?;
+        let of = self.judge_type(Position::Definition, t)?;
         self.leave(outside);
         self.add(x, type_entity(of))
     }

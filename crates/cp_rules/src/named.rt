@@ -13,7 +13,7 @@ use cp_model::tree::{Constant, Identifier};
 
 impl<'t> Checker<'t> {
     /// What a name stands for. C1: it isn't visible; what is broken in its declaration was told there.
-    pub fn named(&mut self, x: &Identifier) -> Judged<Entity>
+    pub fn judge_name(&mut self, x: &Identifier) -> Judged<Entity>
         ensures { Judges self.old self.new result (r.c1_named self.old.env x.now) }
     {
         resolve(&self.environment, &mut self.earliest, x)
@@ -27,7 +27,7 @@ impl<'t> Checker<'t> {
     }
 
     // C2: a type is wanted, and the name is of another sort. C4: a type inside its own definition.
-    fn type_named(&mut self, x: &Identifier, entity: Entity) -> Judged<usize>
+    fn type_of_entity(&mut self, x: &Identifier, entity: Entity) -> Judged<usize>
         ensures { Judges self.old self.new result (types.c2_type x.now entity) }
     {
         match entity {
@@ -43,7 +43,7 @@ impl<'t> Checker<'t> {
     pub fn named_type(&mut self, x: &Identifier) -> Judged<usize>
         ensures { Judges self.old self.new result (types.named_type self.old.env x.now) }
     {
-        let entity = self.named(x)?;
-        self.type_named(x, entity)
+        let entity = self.judge_name(x)?;
+        self.type_of_entity(x, entity)
     }
 }

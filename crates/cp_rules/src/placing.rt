@@ -12,7 +12,7 @@ ghost use Rattle.cp_rules.specs.Outer.{TellsOuter, index_type, is_written_struct
 use crate::checker::{Checker, Judged};
 use cp_judge::Environment;
 use cp_judge::constants::constant_at;
-use cp_judge::names::known;
+use cp_judge::names::find_entity;
 use cp_model::rules::{Entity, Position, Rule, Structure};
 use cp_model::tree::{Identifier, Sort, TypeExpression};
 
@@ -82,7 +82,7 @@ fn is_written_structure(t: &TypeExpression) -> bool
 fn known_type(env: &Environment, x: &Identifier) -> Option<usize>
     ensures { result ≡ meaning_of (types.named_type env.now x.now) }
 {
-    match known(env, x)? {
+    match find_entity(env, x)? {
         Entity::Type(t) => Some(t),
         _ => None,
     }
@@ -122,7 +122,7 @@ fn misplaces_queues(env: &Environment, position: Position, t: &TypeExpression) -
 
 impl<'t> Checker<'t> {
     // C6: a system type where none may stand. C8: a type with queues where none may stand.
-    fn placed_at(&mut self, position: Position, at: usize, t: usize) -> Judged<usize>
+    fn judge_position_at(&mut self, position: Position, at: usize, t: usize) -> Judged<usize>
         ensures { Judges self.old self.new result (types.c6_c8_placed self.old.env position at t) }
     {
         let env = &self.environment;
@@ -142,7 +142,7 @@ impl<'t> Checker<'t> {
 
     /// Judges where a written type stands, which was judged in itself. C6: a system type where none may stand. C8: a type with queues
     /// where none may stand, also where something is broken inside it.
-    pub fn placed(
+    pub fn judge_position(
         &mut self,
         position: Position,
         t: &TypeExpression,
@@ -152,7 +152,7 @@ impl<'t> Checker<'t> {
             (placed self.old.env position (view.type_expression t.now) of) }
     {
         match of {
-            Ok(number) => self.placed_at(position, type_at(t), number),
+            Ok(number) => self.judge_position_at(position, type_at(t), number),
             Err(violation) => {
                 if misplaces_queues(&self.environment, position, t) {
                     self.breaks(Rule::C8, type_at(t))

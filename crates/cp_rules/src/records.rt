@@ -9,7 +9,7 @@ ghost use Rattle.cp_rules.specs.Outer.{Knows};
 ghost use Rattle.cp_rules.specs.Records.{broken_in, is_new, or_first, record_of, with_field, with_fields, words_if, words_of_member, words_of_members};
 
 use crate::checker::{Checker, Judged};
-use crate::words::{capped, is_within, sum};
+use crate::words::{is_within, sum};
 use cp_judge::Environment;
 use cp_judge::environment::Members;
 use cp_model::rules::{Member, Rule, Structure, TypeRow, Violation};
@@ -133,7 +133,7 @@ impl<'t> Checker<'t> {
 
     /// Makes a record type of these fields, unless something is broken in them. C13: it has too many words. It fails only when memory
     /// runs out.
-    pub fn made_record(
+    pub fn make_record(
         &mut self,
         at: usize,
         fields: FieldList<'t>,

@@ -78,7 +78,7 @@ impl<'t> Checker<'t> {
         }
     }
 
-    fn result_named(&mut self, x: &Identifier) -> Judged<usize>
+    fn result_of_name(&mut self, x: &Identifier) -> Judged<usize>
         ensures { Judges self.old self.new result (result_judged self.old.env x.now) }
     {
         let t = self.named_type(x)?;
@@ -91,7 +91,7 @@ impl<'t> Checker<'t> {
     {
         match name {
             None => None,
-            Some(x) => Some(self.result_named(x)),
+            Some(x) => Some(self.result_of_name(x)),
         }
     }
 }

@@ -10,7 +10,7 @@ ghost use Rattle.cp_rules.specs.Systems.{HeadsSystem, JudgesParts, added_system,
 
 use crate::checker::Checker;
 use crate::headings::Heading;
-use crate::words::{capped, sum};
+use crate::words::sum;
 use cp_judge::environment::Members;
 use cp_model::rules::{Entity, Part, Position, Region, Structure, SystemRow, TypeRow};
 use cp_model::tree::{Identifier, Sort, System};

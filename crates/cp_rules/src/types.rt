@@ -37,7 +37,7 @@ impl<'t> Checker<'t> {
             TypeExpression::Named(x) => Ok(self.named_type(x)),
             TypeExpression::Subrange(low, high) => {
                 let row = self.subrange(low, high);
-                self.made(row)
+                self.make_type(row)
             }
             TypeExpression::Array {
                 at,
@@ -46,7 +46,7 @@ impl<'t> Checker<'t> {
             } => {
                 let indices = self.index_types(indices)?;
                 let of = self.type_of(element)?;
-                let of = self.placed(Position::Element, element, of);
+                let of = self.judge_position(Position::Element, element, of);
                 self.arrays(*at, indices, of)
             }
             TypeExpression::Record { at, groups } => self.record_type(*at, groups),
@@ -78,7 +78,7 @@ impl<'t> Checker<'t> {
         for group in groups {
             self.field_group(&mut fields, group)?;
         }
-        self.made_record(at, fields)
+        self.make_record(at, fields)
     }
 
     // Fields of one type.
@@ -99,14 +99,14 @@ impl<'t> Checker<'t> {
             (records.group self.old.env fields.old.members (view.variables group.now)).violations) }
     {
         let of = self.type_of(&group.of)?;
-        let of = self.placed(Position::Field, &group.of, of);
+        let of = self.judge_position(Position::Field, &group.of, of);
         self.add_fields(fields, &group.names, number_or_any(of))?;
         fields.note(of);
         Ok(())
     }
 
     /// Judges a type where it is written. It fails only when memory runs out.
-    pub fn type_placed(
+    pub fn judge_type(
         &mut self,
         position: Position,
         t: &'t TypeExpression,
@@ -116,6 +116,6 @@ impl<'t> Checker<'t> {
             (ty.type_placed self.old.env position (view.type_expression t.now))) }
     {
         let of = self.type_of(t)?;
-        Ok(self.placed(position, t, of))
+        Ok(self.judge_position(position, t, of))
     }
 }

@@ -75,7 +75,7 @@ impl<'t> Checker<'t> {
     {
         let mark = self.mark();
         self.declare_all(&group.names, UNFINISHED)?;
-        let of = self.type_placed(position, &group.of)?;
+        let of = self.judge_type(position, &group.of)?;
         self.leave(mark);
         Ok(of)
     }

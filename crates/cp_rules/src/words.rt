@@ -14,7 +14,7 @@ pub fn is_within(words: usize) -> bool
 }
 
 /// So many words, or one above the limit where there are more.
-pub fn capped(words: usize) -> usize
+pub fn cap(words: usize) -> usize
     ensures { result ≡ capped words }
 {
     words.min(LIMIT + 1)
@@ -24,12 +24,12 @@ pub fn capped(words: usize) -> usize
 pub fn sum(a: usize, b: usize) -> usize
     ensures { result ≡ capped (a + b) }
 {
-    capped(capped(a) + capped(b))
+    cap(cap(a) + cap(b))
 }
 
 /// The words of so many of these.
 pub fn product(count: usize, words: usize) -> usize
     ensures { result ≡ capped (count * words) }
 {
-    capped(capped(count) * capped(words))
+    cap(cap(count) * cap(words))
 }

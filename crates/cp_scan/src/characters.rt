@@ -12,7 +12,7 @@ use cp_model::token::Kind;
 
 // The character constant by its ordinal, whose `'(:` stands before this rest of the text.
 #[tactic(auto, unfolding(crate::specs::Pieces::coded))]
-fn coded(rest: &[u8]) -> Front
+fn character_by_ordinal(rest: &[u8]) -> Front
     ensures { result ≡ spec.coded rest.now }
 {
     let n = digit_count(rest);
@@ -38,7 +38,7 @@ pub fn character(rest: &[u8]) -> Front
     if c == APOSTROPHE && is_printable(b) && b != APOSTROPHE {
         Ok((Some(Kind::Character(b)), 3))
     } else if b == b'(' && c == b':' {
-        coded(&rest[2..])
+        character_by_ordinal(&rest[2..])
     } else {
         Err(Cause::Character)
     }

@@ -79,7 +79,7 @@ fn kind_of_word(letters: Vec<u8>) -> Kind
     }
 }
 
-fn lowered(alloc: Global, text: &[u8]) -> Result<Vec<u8>, AllocError>
+fn lower_letters(alloc: Global, text: &[u8]) -> Result<Vec<u8>, AllocError>
     ensures { IfOk result (λ letters. letters.items ≡ map character.lower text.now) }
 {
     text.iter().map(|b| lower(*b)).collect(alloc)
@@ -94,6 +94,6 @@ pub fn word(alloc: Global, text: &[u8]) -> Result<Front, AllocError>
     if n > LONGEST_WORD {
         return Ok(Err(Cause::Word));
     }
-    let letters = lowered(alloc, &text[..n])?;
+    let letters = lower_letters(alloc, &text[..n])?;
     Ok(Ok((Some(kind_of_word(letters)), n)))
 }

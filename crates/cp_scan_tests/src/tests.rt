@@ -6,15 +6,15 @@ use std::alloc::{AllocError, Global};
 use std::test::Fail;
 
 // The tokens as `KIND@FROM..TO` with a blank between them, or the refusal as `CAUSE at PLACE`.
-fn shown(alloc: Global, text: &[u8]) -> Result<String, AllocError> {
+fn show(alloc: Global, text: &[u8]) -> Result<String, AllocError> {
     match scan(alloc, text) {
-        Ok(tokens) => shown_tokens(alloc, &tokens),
+        Ok(tokens) => show_tokens(alloc, &tokens),
         Err(ScanError::Refused { cause, at }) => format!(in alloc; "{cause:?} at {at}"),
         Err(ScanError::Memory) => Err(AllocError),
     }
 }
 
-fn shown_tokens(alloc: Global, tokens: &[Token]) -> Result<String, AllocError> {
+fn show_tokens(alloc: Global, tokens: &[Token]) -> Result<String, AllocError> {
     let mut line = String::new(alloc);
     for token in tokens {
         if !line.is_empty() {
@@ -69,11 +69,7 @@ fn longest_marks(rt: HostRuntime) -> Result<(), Fail> {
         ),
     ];
     for (text, want) in rows {
-        assert_eq!(rt;
-            shown(rt.alloc(), text.as_bytes())?.as_str(),
-            want,
-            "{text}"
-        );
+        assert_eq!(rt; show(rt.alloc(), text.as_bytes())?.as_str(), want, "{text}");
     }
     Ok(())
 }
@@ -102,11 +98,7 @@ fn character_constants(rt: HostRuntime) -> Result<(), Fail> {
         ("'\x7f'", "Character at 0"),
     ];
     for (text, want) in rows {
-        assert_eq!(rt;
-            shown(rt.alloc(), text.as_bytes())?.as_str(),
-            want,
-            "{text}"
-        );
+        assert_eq!(rt; show(rt.alloc(), text.as_bytes())?.as_str(), want, "{text}");
     }
     Ok(())
 }
@@ -131,11 +123,7 @@ fn words_and_numbers(rt: HostRuntime) -> Result<(), Fail> {
         ("99999999999999999999999999999999999999999", "Number at 0"),
     ];
     for (text, want) in rows {
-        assert_eq!(rt;
-            shown(rt.alloc(), text.as_bytes())?.as_str(),
-            want,
-            "{text}"
-        );
+        assert_eq!(rt; show(rt.alloc(), text.as_bytes())?.as_str(), want, "{text}");
     }
     Ok(())
 }
@@ -156,11 +144,7 @@ fn comments_and_refusals(rt: HostRuntime) -> Result<(), Fail> {
         ("99999 ! \"", "Number at 0"),
     ];
     for (text, want) in rows {
-        assert_eq!(rt;
-            shown(rt.alloc(), text.as_bytes())?.as_str(),
-            want,
-            "{text}"
-        );
+        assert_eq!(rt; show(rt.alloc(), text.as_bytes())?.as_str(), want, "{text}");
     }
     Ok(())
 }
@@ -172,7 +156,7 @@ fn reserved_words(rt: HostRuntime) -> Result<(), Fail> {
         procedure process program record repeat set then to type univ until var while with";
     let mut count = 0usize;
     for word in words.split_whitespace() {
-        let tokens = shown(rt.alloc(), word.as_bytes())?;
+        let tokens = show(rt.alloc(), word.as_bytes())?;
         let want = format!(in rt.alloc(); "{word}@0..{}", word.len())?;
         assert!(rt;
             tokens.as_str().eq_ignore_ascii_case(want.as_str()),
@@ -189,15 +173,15 @@ fn reserved_words(rt: HostRuntime) -> Result<(), Fail> {
 fn bytes_that_begin_nothing(rt: HostRuntime) -> Result<(), Fail> {
     for b in [0u8, 11, 12, 127, 128, 255] {
         let outside = [b'a', b' ', b];
-        assert_eq!(rt; shown(rt.alloc(), &outside)?.as_str(), "Byte at 2", "{b}");
+        assert_eq!(rt; show(rt.alloc(), &outside)?.as_str(), "Byte at 2", "{b}");
         let inside = [b'"', b, b'"', b'a'];
-        assert_eq!(rt; shown(rt.alloc(), &inside)?.as_str(), "a@3..4", "{b}");
+        assert_eq!(rt; show(rt.alloc(), &inside)?.as_str(), "a@3..4", "{b}");
     }
     Ok(())
 }
 
 // A text of a front, so many equal bytes, and an end.
-fn padded(alloc: Global, front: &str, b: u8, n: usize, end: &str) -> Result<Vec<u8>, AllocError> {
+fn pad(alloc: Global, front: &str, b: u8, n: usize, end: &str) -> Result<Vec<u8>, AllocError> {
     let mut text = Vec::from_slice(alloc, front.as_bytes())?;
     for _ in 0..n {
         text.push(b)?;
@@ -209,9 +193,9 @@ fn padded(alloc: Global, front: &str, b: u8, n: usize, end: &str) -> Result<Vec<
 #[test]
 fn long_pieces(rt: HostRuntime) -> Result<(), Fail> {
     let alloc = rt.alloc();
-    let longest = padded(alloc, "x", b'Y', 63, " z")?;
+    let longest = pad(alloc, "x", b'Y', 63, " z")?;
     assert_eq!(rt;
-        shown(alloc, &longest)?.as_str(),
+        show(alloc, &longest)?.as_str(),
         "xyyyyyyyyyyyyyyyyyyyyyyyyyyyyyyyyyyyyyyyyyyyyyyyyyyyyyyyyyyyyyyy@0..64 z@65..66"
     );
     let rows = [
@@ -230,15 +214,15 @@ fn long_pieces(rt: HostRuntime) -> Result<(), Fail> {
         ("!", b'!', 1_048_576, "", "Size at 1048576"),
     ];
     for (front, b, n, end, want) in rows {
-        let text = padded(alloc, front, b, n, end)?;
-        assert_eq!(rt; shown(alloc, &text)?.as_str(), want, "{front} {b} {n}");
+        let text = pad(alloc, front, b, n, end)?;
+        assert_eq!(rt; show(alloc, &text)?.as_str(), want, "{front} {b} {n}");
     }
     Ok(())
 }
 
 #[test]
 fn the_limit_counts_bytes(rt: HostRuntime) -> Result<(), Fail> {
-    let text = padded(rt.alloc(), "", b';', LONGEST_TEXT, "")?;
+    let text = pad(rt.alloc(), "", b';', LONGEST_TEXT, "")?;
     let tokens = scan(rt.alloc(), &text).map_err(|_| "refused")?;
     assert_eq!(rt; tokens.len(), 1_048_576);
     Ok(())

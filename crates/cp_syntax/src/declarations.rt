@@ -11,7 +11,7 @@ ghost use Rattle.cp_grammar.specs.Statements.{Deeper, deeper_at};
 ghost use Rattle.cp_grammar.specs.Declarations as spec;
 ghost use Rattle.cp_grammar.specs.Text as text;
 
-use crate::lists::{one_or_more, repeated};
+use crate::lists::{one_or_more, read_while};
 use crate::names::{constant, identifier, names};
 use crate::routines::{body, parameters, routines, variables};
 use crate::tokens::{Read, after, expect, peek, sees_name};
@@ -78,7 +78,7 @@ fn enumeration(alloc: Global, tokens: &[Token]) -> Read<'_, Defined>
 }
 
 #[tactic(auto, unfolding(cp_grammar::specs::Declarations::written_type))]
-fn written(alloc: Global, room: usize, tokens: &[Token]) -> Read<'_, Defined>
+fn written_type(alloc: Global, room: usize, tokens: &[Token]) -> Read<'_, Defined>
     ensures { Gives view.defined_type result
         (spec.written_type (type_at room) (deeper_at room) tokens.now) }
 {
@@ -88,7 +88,7 @@ fn written(alloc: Global, room: usize, tokens: &[Token]) -> Read<'_, Defined>
 
 /// What a type definition gives its name to.
 #[tactic(auto, unfolding(cp_grammar::specs::Declarations::defined_of, cp_grammar::specs::Declarations::defined_by))]
-fn defined(alloc: Global, room: usize, tokens: &[Token]) -> Read<'_, Defined>
+fn defined_type(alloc: Global, room: usize, tokens: &[Token]) -> Read<'_, Defined>
     ensures { Gives view.defined_type result
         (spec.defined_of (type_at room) (deeper_at room) tokens.now) }
 {
@@ -98,9 +98,9 @@ fn defined(alloc: Global, room: usize, tokens: &[Token]) -> Read<'_, Defined>
             Symbol::Monitor => system_type(alloc, room, Sort::Monitor, tokens),
             Symbol::Class => system_type(alloc, room, Sort::Class, tokens),
             Symbol::OpenParenthesis => enumeration(alloc, tokens),
-            _ => written(alloc, room, tokens),
+            _ => written_type(alloc, room, tokens),
         },
-        _ => written(alloc, room, tokens),
+        _ => written_type(alloc, room, tokens),
     }
 }
 
@@ -111,7 +111,7 @@ fn type_definition(alloc: Global, room: usize, tokens: &[Token]) -> Read<'_, Typ
 {
     let (name, rest) = identifier(alloc, tokens)?;
     let (_, rest) = expect(rest, Symbol::Equal)?;
-    let (defined, rest) = defined(alloc, room, rest)?;
+    let (defined, rest) = defined_type(alloc, room, rest)?;
     let (_, rest) = expect(rest, Symbol::Semicolon)?;
     Ok((TypeDefinition { name, defined }, rest))
 }
@@ -174,7 +174,7 @@ fn begins_section(tokens: &[Token]) -> bool
 fn tree(alloc: Global, room: usize, tokens: &[Token]) -> Read<'_, Tree>
     ensures { Gives view.tree result (text.tree_of (type_at room) (deeper_at room) tokens.now) }
 {
-    let (sections, rest) = repeated(
+    let (sections, rest) = read_while(
         Vec::new(alloc),
         begins_section,
         |rest| section(alloc, room, rest),

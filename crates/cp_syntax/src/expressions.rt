@@ -8,7 +8,7 @@ ghost use Rattle.cp_grammar.specs.Reading.{kind_at, Gives};
 ghost use Rattle.cp_grammar.specs.Expressions as spec;
 ghost use Rattle.cp_syntax.specs.Nests.{FactorsAt};
 
-use crate::lists::{one_or_more, repeated, separated};
+use crate::lists::{one_or_more, read_separated, read_while};
 use crate::operators::{product_operator, relation_operator, sign, sum_operator};
 use crate::tokens::{Read, after, place, sees};
 use cp_grammar::Stop;
@@ -55,7 +55,7 @@ impl<F: Fn(Global, usize, &[Token]) -> Read<'_, Expression>> Expressions<F> {
             (spec.term_of (spec.factor_at self.now.room) tokens.now) }
     {
         let (first, rest) = self.factor(tokens)?;
-        let (products, rest) = repeated(
+        let (products, rest) = read_while(
             Vec::new(self.alloc),
             |rest| product_operator(rest).is_some(),
             |rest| self.product(rest),
@@ -76,7 +76,10 @@ impl<F: Fn(Global, usize, &[Token]) -> Read<'_, Expression>> Expressions<F> {
             return self.term(tokens);
         };
         let (operand, rest) = self.term(after(tokens))?;
-        Ok((signed(self.alloc, sign, place(tokens), operand)?, rest))
+        Ok((
+            signed_expression(self.alloc, sign, place(tokens), operand)?,
+            rest,
+        ))
     }
 
     /// An operator between terms, and the term behind it.
@@ -102,7 +105,7 @@ impl<F: Fn(Global, usize, &[Token]) -> Read<'_, Expression>> Expressions<F> {
             (spec.simple_of (spec.factor_at self.now.room) tokens.now) }
     {
         let (first, rest) = self.signed_term(tokens)?;
-        let (additions, rest) = repeated(
+        let (additions, rest) = read_while(
             Vec::new(self.alloc),
             |rest| sum_operator(rest).is_some(),
             |rest| self.addition(rest),
@@ -137,7 +140,7 @@ impl<F: Fn(Global, usize, &[Token]) -> Read<'_, Expression>> Expressions<F> {
         ensures { Gives (λ v. map view.expression v.items) result
             (spec.expressions_from (spec.factor_at self.now.room) tokens.now) }
     {
-        separated(
+        read_separated(
             self.alloc,
             Symbol::Comma,
             |rest| self.expression(rest),
@@ -214,7 +217,7 @@ fn relation(alloc: Global, left: Expression, right: Operation) -> Result<Express
     chain(alloc, left, rest)
 }
 
-fn signed(
+fn signed_expression(
     alloc: Global,
     sign: Sign,
     at: usize,

@@ -10,7 +10,7 @@ ghost use Rattle.cp_grammar.specs.Expressions as spec;
 ghost use Rattle.cp_syntax.specs.Nests.{FactorsAt, FactorsBelow};
 
 use crate::expressions::Expressions;
-use crate::lists::repeated;
+use crate::lists::read_while;
 use crate::names::identifier;
 use crate::tokens::{Read, after, expect, peek, place, sees};
 use cp_grammar::Stop;
@@ -59,14 +59,14 @@ impl<F: Fn(Global, usize, &[Token]) -> Read<'_, Expression> + Copy> Factors<F> {
 
     /// Indices in brackets.
     #[tactic(auto, unfolding(cp_grammar::specs::Expressions::indexed_of))]
-    fn indexed<'a>(&self, tokens: &'a [Token]) -> Read<'a, Selector>
+    fn index_selector<'a>(&self, tokens: &'a [Token]) -> Read<'a, Selector>
         requires { FactorsBelow self.now.room (F.pre self.now.factor) (F.post self.now.factor) }
         ensures { Gives view.selector result
             (spec.indexed_of (spec.inner_at self.now.room) tokens.now) }
     {
         let (indices, rest) = self.inner(tokens)?.indices(tokens)?;
         let (_, rest) = expect(rest, Symbol::CloseBracket)?;
-        Ok((indexed(indices), rest))
+        Ok((index_selector(indices), rest))
     }
 
     /// A field or indices, by the mark that stands next.
@@ -78,7 +78,7 @@ impl<F: Fn(Global, usize, &[Token]) -> Read<'_, Expression> + Copy> Factors<F> {
     {
         match peek(tokens) {
             Some(Kind::Symbol(Symbol::Dot)) => self.field(tokens),
-            Some(Kind::Symbol(Symbol::OpenBracket)) => self.indexed(tokens),
+            Some(Kind::Symbol(Symbol::OpenBracket)) => self.index_selector(tokens),
             _ => Err(Stop::Wrong(tokens.len())),
         }
     }
@@ -91,7 +91,7 @@ impl<F: Fn(Global, usize, &[Token]) -> Read<'_, Expression> + Copy> Factors<F> {
             (spec.designator_of (spec.inner_at self.now.room) tokens.now) }
     {
         let (root, rest) = identifier(self.alloc, tokens)?;
-        let (selectors, rest) = repeated(
+        let (selectors, rest) = read_while(
             Vec::new(self.alloc),
             begins_selector,
             |rest| self.selector(rest),
@@ -127,14 +127,14 @@ impl<F: Fn(Global, usize, &[Token]) -> Read<'_, Expression> + Copy> Factors<F> {
 
     /// A designator, or a function called with arguments.
     #[tactic(auto, unfolding(cp_grammar::specs::Expressions::named_of, cp_grammar::specs::Expressions::call_or_part))]
-    fn named<'a>(&self, tokens: &'a [Token]) -> Read<'a, Expression>
+    fn designator_or_call<'a>(&self, tokens: &'a [Token]) -> Read<'a, Expression>
         requires { FactorsBelow self.now.room (F.pre self.now.factor) (F.post self.now.factor) }
         ensures { Gives view.expression result
             (spec.named_of (spec.inner_at self.now.room) tokens.now) }
     {
         let (d, rest) = self.designator(tokens)?;
         if !sees(rest, Symbol::OpenParenthesis) {
-            return Ok((designated(d), rest));
+            return Ok((designator_expression(d), rest));
         }
         let (arguments, rest) = self.arguments(rest)?;
         Ok((call(d, arguments), rest))
@@ -142,25 +142,25 @@ impl<F: Fn(Global, usize, &[Token]) -> Read<'_, Expression> + Copy> Factors<F> {
 
     /// An expression in parentheses.
     #[tactic(auto, unfolding(cp_grammar::specs::Expressions::parenthesized_of))]
-    fn parenthesized<'a>(&self, tokens: &'a [Token]) -> Read<'a, Expression>
+    fn parentheses<'a>(&self, tokens: &'a [Token]) -> Read<'a, Expression>
         requires { FactorsBelow self.now.room (F.pre self.now.factor) (F.post self.now.factor) }
         ensures { Gives view.expression result
             (spec.parenthesized_of (spec.inner_at self.now.room) tokens.now) }
     {
         let (inner, rest) = self.inner(tokens)?.expression(after(tokens))?;
         let (_, rest) = expect(rest, Symbol::CloseParenthesis)?;
-        Ok((parenthesized(self.alloc, place(tokens), inner)?, rest))
+        Ok((parentheses(self.alloc, place(tokens), inner)?, rest))
     }
 
     /// A factor behind a `not`.
     #[tactic(auto, unfolding(cp_grammar::specs::Expressions::not_of))]
-    fn negated<'a>(&self, tokens: &'a [Token]) -> Read<'a, Expression>
+    fn negation<'a>(&self, tokens: &'a [Token]) -> Read<'a, Expression>
         requires { FactorsBelow self.now.room (F.pre self.now.factor) (F.post self.now.factor) }
         ensures { Gives view.expression result
             (spec.not_of (spec.inner_at self.now.room) tokens.now) }
     {
         let (operand, rest) = self.inner(tokens)?.factor(after(tokens))?;
-        Ok((negated(self.alloc, place(tokens), operand)?, rest))
+        Ok((negation(self.alloc, place(tokens), operand)?, rest))
     }
 
     /// A factor, by the token that stands next.
@@ -174,9 +174,9 @@ impl<F: Fn(Global, usize, &[Token]) -> Read<'_, Expression> + Copy> Factors<F> {
         match peek(tokens) {
             Some(Kind::Number(value)) => Ok((number(at, *value), after(tokens))),
             Some(Kind::Character(ordinal)) => Ok((character(at, *ordinal), after(tokens))),
-            Some(Kind::Name(_)) => self.named(tokens),
-            Some(Kind::Symbol(Symbol::OpenParenthesis)) => self.parenthesized(tokens),
-            Some(Kind::Symbol(Symbol::Not)) => self.negated(tokens),
+            Some(Kind::Name(_)) => self.designator_or_call(tokens),
+            Some(Kind::Symbol(Symbol::OpenParenthesis)) => self.parentheses(tokens),
+            Some(Kind::Symbol(Symbol::Not)) => self.negation(tokens),
             _ => Err(Stop::Wrong(tokens.len())),
         }
     }
@@ -197,7 +197,7 @@ fn field(at: usize, name: Identifier) -> Selector
     Selector::Field { at, name }
 }
 
-fn indexed(indices: Vec<Index>) -> Selector
+fn index_selector(indices: Vec<Index>) -> Selector
     ensures { view.selector result ≡ s.Indexed (indices_of (map view.index indices.items)) }
 {
     Selector::Indexed(indices)
@@ -222,7 +222,7 @@ fn character(at: usize, ordinal: u8) -> Expression
     Expression::Character { at, ordinal }
 }
 
-fn designated(d: Designator) -> Expression
+fn designator_expression(d: Designator) -> Expression
     ensures { view.expression result ≡ s.Designated (view.designator d) }
 {
     Expression::Designated(d)
@@ -235,7 +235,7 @@ fn call(d: Designator, arguments: Vec<Expression>) -> Expression
     Expression::Call(d, arguments)
 }
 
-fn parenthesized(alloc: Global, at: usize, inner: Expression) -> Result<Expression, AllocError>
+fn parentheses(alloc: Global, at: usize, inner: Expression) -> Result<Expression, AllocError>
     ensures { IfOk result (λ e. view.expression e ≡ s.Parenthesized at (view.expression inner)) }
 {
     Ok(Expression::Parenthesized {
@@ -244,7 +244,7 @@ fn parenthesized(alloc: Global, at: usize, inner: Expression) -> Result<Expressi
     })
 }
 
-fn negated(alloc: Global, at: usize, operand: Expression) -> Result<Expression, AllocError>
+fn negation(alloc: Global, at: usize, operand: Expression) -> Result<Expression, AllocError>
     ensures { IfOk result (λ e. view.expression e ≡ s.Not at (view.expression operand)) }
 {
     Ok(Expression::Not {

@@ -12,7 +12,7 @@ use cp_model::token::{Symbol, Token};
 use std::alloc::Global;
 
 /// Items behind those found, as long as the next token says so.
-pub fn repeated<X: Node + Drop, G: Fn(&[Token]) -> bool, F: Fn(&[Token]) -> Read<'_, X>>(
+pub fn read_while<X: Node + Drop, G: Fn(&[Token]) -> bool, F: Fn(&[Token]) -> Read<'_, X>>(
     found: Vec<X>,
     goes_on: G,
     item: F,
@@ -55,11 +55,11 @@ pub fn one_or_more<X: Node + Drop, G: Fn(&[Token]) -> bool, F: Fn(&[Token]) -> R
     let (first, rest) = item(tokens)?;
     let mut found = Vec::new(alloc);
     found.push(first)?;
-    repeated(found, goes_on, item, rest)
+    read_while(found, goes_on, item, rest)
 }
 
 /// One item or more, with this symbol between them.
-pub fn separated<X: Node + Drop, F: Fn(&[Token]) -> Read<'_, X>>(
+pub fn read_separated<X: Node + Drop, F: Fn(&[Token]) -> Read<'_, X>>(
     alloc: Global,
     symbol: Symbol,
     item: F,

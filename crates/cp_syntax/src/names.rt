@@ -4,7 +4,7 @@ ghost use Rattle.std.specs.Prelude.{◌≡◌};
 ghost use Rattle.cp_grammar.specs.Reading.{kind_at, Gives};
 ghost use Rattle.cp_grammar.specs.Names as spec;
 
-use crate::lists::separated;
+use crate::lists::read_separated;
 use crate::tokens::{Read, after, peek, place};
 use cp_grammar::Stop;
 use cp_model::token::{Kind, Symbol, Token};
@@ -36,7 +36,7 @@ pub fn identifier(alloc: Global, tokens: &[Token]) -> Read<'_, Identifier>
 pub fn names(alloc: Global, tokens: &[Token]) -> Read<'_, Vec<Identifier>>
     ensures { Gives (λ v. v.items) result (spec.names_of tokens.now) }
 {
-    separated(alloc, Symbol::Comma, |rest| identifier(alloc, rest), tokens)
+    read_separated(alloc, Symbol::Comma, |rest| identifier(alloc, rest), tokens)
 }
 
 /// A constant.
@@ -76,5 +76,5 @@ fn negative(at: usize, tokens: &[Token]) -> Read<'_, Constant>
 pub fn constants(alloc: Global, tokens: &[Token]) -> Read<'_, Vec<Constant>>
     ensures { Gives (λ v. v.items) result (spec.constants_of tokens.now) }
 {
-    separated(alloc, Symbol::Comma, |rest| constant(alloc, rest), tokens)
+    read_separated(alloc, Symbol::Comma, |rest| constant(alloc, rest), tokens)
 }

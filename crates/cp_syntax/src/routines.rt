@@ -9,7 +9,7 @@ ghost use Rattle.cp_grammar.specs.Statements.{deeper_at};
 ghost use Rattle.cp_grammar.specs.Declarations as spec;
 ghost use Rattle.cp_syntax.specs.Views.{heading};
 
-use crate::lists::{one_or_more, repeated, separated};
+use crate::lists::{one_or_more, read_separated, read_while};
 use crate::names::{identifier, names};
 use crate::statements::block;
 use crate::tokens::{Read, after, expect, optional_symbol, peek, sees, sees_name};
@@ -45,7 +45,7 @@ pub fn parameters(alloc: Global, tokens: &[Token]) -> Read<'_, Vec<Parameters>>
     if !sees(tokens, Symbol::OpenParenthesis) {
         return Ok((Vec::new(alloc), tokens));
     }
-    let (groups, rest) = separated(
+    let (groups, rest) = read_separated(
         alloc,
         Symbol::Semicolon,
         |rest| parameter_group(alloc, rest),
@@ -190,7 +190,7 @@ pub fn routines(alloc: Global, room: usize, tokens: &[Token]) -> Read<'_, Vec<Ro
     ensures { Gives (λ v. map view.routine v.items) result
         (spec.routines_of (type_at room) (deeper_at room) tokens.now) }
 {
-    repeated(
+    read_while(
         Vec::new(alloc),
         begins_routine,
         |rest| routine(alloc, room, rest),

@@ -9,7 +9,7 @@ ghost use Rattle.cp_grammar.specs.Expressions.{inner_at};
 ghost use Rattle.cp_grammar.specs.Statements as spec;
 
 use crate::factors::{designator, expression, optional_arguments};
-use crate::lists::separated;
+use crate::lists::read_separated;
 use crate::names::identifier;
 use crate::tokens::{Read, after, place, sees};
 use cp_model::token::{Symbol, Token};
@@ -18,7 +18,7 @@ use std::alloc::Global;
 
 /// An assignment, or a procedure called.
 #[tactic(auto, unfolding(cp_grammar::specs::Statements::designated_of, cp_grammar::specs::Statements::assign_or_perform))]
-pub fn designated(alloc: Global, room: usize, tokens: &[Token]) -> Read<'_, Statement>
+pub fn assignment_or_call(alloc: Global, room: usize, tokens: &[Token]) -> Read<'_, Statement>
     ensures { Gives view.statement result (spec.designated_of (inner_at room) tokens.now) }
 {
     let (d, rest) = designator(alloc, room, tokens)?;
@@ -35,7 +35,7 @@ pub fn designated(alloc: Global, room: usize, tokens: &[Token]) -> Read<'_, Stat
 pub fn init(alloc: Global, room: usize, tokens: &[Token]) -> Read<'_, Statement>
     ensures { Gives view.statement result (spec.init_of (inner_at room) tokens.now) }
 {
-    let (items, rest) = separated(
+    let (items, rest) = read_separated(
         alloc,
         Symbol::Comma,
         |rest| init_item(alloc, room, rest),

@@ -11,9 +11,9 @@ ghost use Rattle.cp_grammar.specs.Statements as spec;
 ghost use Rattle.cp_syntax.specs.Nests.{StatementsAt, StatementsBelow};
 
 use crate::factors::expression;
-use crate::lists::separated;
+use crate::lists::read_separated;
 use crate::names::{constants, identifier};
-use crate::simple_statements::{designated, init};
+use crate::simple_statements::{assignment_or_call, init};
 use crate::tokens::{Read, after, expect, peek, place, sees};
 use cp_grammar::Stop;
 use cp_model::token::{Kind, Symbol, Token};
@@ -49,7 +49,7 @@ impl<F: Fn(Global, usize, &[Token]) -> Read<'_, Statement>> Statements<F> {
         ensures { Gives (λ v. map view.statement v.items) result
             (spec.statements_from (spec.statement_at self.now.room) tokens.now) }
     {
-        separated(
+        read_separated(
             self.alloc,
             Symbol::Semicolon,
             |rest| self.statement(rest),
@@ -147,7 +147,12 @@ impl<F: Fn(Global, usize, &[Token]) -> Read<'_, Statement> + Copy> StatementRule
         let inner = self.inner(tokens)?;
         let (selector, rest) = inner.expression(after(tokens))?;
         let (_, rest) = expect(rest, Symbol::Of)?;
-        let (arms, rest) = separated(self.alloc, Symbol::Semicolon, |rest| inner.arm(rest), rest)?;
+        let (arms, rest) = read_separated(
+            self.alloc,
+            Symbol::Semicolon,
+            |rest| inner.arm(rest),
+            rest,
+        )?;
         let (_, rest) = expect(rest, Symbol::End)?;
         Ok((case(selector, arms), rest))
     }
@@ -217,7 +222,7 @@ impl<F: Fn(Global, usize, &[Token]) -> Read<'_, Statement> + Copy> StatementRule
             (spec.statement_of (inner_at self.now.room) (spec.deeper_at self.now.room) tokens.now) }
     {
         match peek(tokens) {
-            Some(Kind::Name(_)) => designated(self.alloc, self.room, tokens),
+            Some(Kind::Name(_)) => assignment_or_call(self.alloc, self.room, tokens),
             Some(Kind::Symbol(symbol)) => match symbol {
                 Symbol::Begin => self.compound(tokens),
                 Symbol::If => self.conditional(tokens),

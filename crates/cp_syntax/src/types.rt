@@ -10,7 +10,7 @@ ghost use Rattle.cp_grammar.specs.Names.{identifier_of, constant_of};
 ghost use Rattle.cp_grammar.specs.Types as spec;
 ghost use Rattle.cp_syntax.specs.Nests.{TypesAt, TypesBelow};
 
-use crate::lists::separated;
+use crate::lists::read_separated;
 use crate::names::{constant, identifier, names};
 use crate::tokens::{Read, after, expect, peek, place};
 use cp_grammar::Stop;
@@ -85,7 +85,7 @@ impl<F: Fn(Global, usize, &[Token]) -> Read<'_, TypeExpression> + Copy> TypeRule
     {
         let inner = self.inner(tokens)?;
         let (_, rest) = expect(after(tokens), Symbol::OpenBracket)?;
-        let (indices, rest) = separated(
+        let (indices, rest) = read_separated(
             self.alloc,
             Symbol::Comma,
             |rest| inner.type_expression(rest),
@@ -104,7 +104,7 @@ impl<F: Fn(Global, usize, &[Token]) -> Read<'_, TypeExpression> + Copy> TypeRule
             (spec.record_of (spec.inner_type_at self.now.room) tokens.now) }
     {
         let inner = self.inner(tokens)?;
-        let (groups, rest) = separated(
+        let (groups, rest) = read_separated(
             self.alloc,
             Symbol::Semicolon,
             |rest| inner.group(rest),
@@ -122,7 +122,7 @@ impl<F: Fn(Global, usize, &[Token]) -> Read<'_, TypeExpression> + Copy> TypeRule
             (spec.type_of (spec.inner_type_at self.now.room) tokens.now) }
     {
         match peek(tokens) {
-            Some(Kind::Name(_)) => named_or_subrange(self.alloc, tokens),
+            Some(Kind::Name(_)) => name_or_subrange(self.alloc, tokens),
             Some(Kind::Number(_) | Kind::Character(_) | Kind::Symbol(Symbol::Minus)) => subrange(
                 self.alloc, tokens,
             ),
@@ -148,28 +148,28 @@ fn subrange_from(alloc: Global, low: Constant, tokens: &[Token]) -> Read<'_, Typ
 {
     let (_, rest) = expect(tokens, Symbol::DotDot)?;
     let (high, rest) = constant(alloc, rest)?;
-    Ok((bounded(low, high), rest))
+    Ok((subrange_between(low, high), rest))
 }
 
 #[tactic(auto, unfolding(cp_grammar::specs::Types::named_or_subrange))]
-fn named_or_subrange(alloc: Global, tokens: &[Token]) -> Read<'_, TypeExpression>
+fn name_or_subrange(alloc: Global, tokens: &[Token]) -> Read<'_, TypeExpression>
     ensures { Gives view.type_expression result
         (and_then (identifier_of tokens.now) (λ x. by_kind (spec.named_or_subrange x))) }
 {
     let (name, rest) = identifier(alloc, tokens)?;
     match peek(rest) {
         Some(Kind::Symbol(Symbol::DotDot)) => subrange_from(alloc, Constant::Named(name), rest),
-        _ => Ok((named(name), rest)),
+        _ => Ok((type_name(name), rest)),
     }
 }
 
-fn named(name: Identifier) -> TypeExpression
+fn type_name(name: Identifier) -> TypeExpression
     ensures { view.type_expression result ≡ s.Named name }
 {
     TypeExpression::Named(name)
 }
 
-fn bounded(low: Constant, high: Constant) -> TypeExpression
+fn subrange_between(low: Constant, high: Constant) -> TypeExpression
     ensures { view.type_expression result ≡ s.Subrange low high }
 {
     TypeExpression::Subrange(low, high)

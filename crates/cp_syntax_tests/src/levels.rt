@@ -148,7 +148,7 @@ const NESTS: &[Nest] = &[
 ];
 
 /// A text with so many of them, one in the other.
-fn nested(alloc: Global, nest: &Nest, count: usize) -> Result<String, AllocError> {
+fn nest_text(alloc: Global, nest: &Nest, count: usize) -> Result<String, AllocError> {
     let mut text = String::new(alloc);
     text.push_str(nest.before)?;
     for _level in 0..count {
@@ -166,7 +166,7 @@ fn nested(alloc: Global, nest: &Nest, count: usize) -> Result<String, AllocError
 fn a_text_has_two_hundred_levels(rt: HostRuntime) -> Result<(), Fail> {
     for nest in NESTS {
         let count = 200usize.saturating_sub(nest.open);
-        let text = nested(rt.alloc(), nest, count)?;
+        let text = nest_text(rt.alloc(), nest, count)?;
         let tokens = tokens(rt.alloc(), text.as_str())?;
         let told = parse(rt.alloc(), tokens.as_slice(), text.len()).err();
         assert_eq!(rt; told, None, "{}", nest.opens);
@@ -178,7 +178,7 @@ fn a_text_has_two_hundred_levels(rt: HostRuntime) -> Result<(), Fail> {
 fn the_token_that_opens_one_more_is_told(rt: HostRuntime) -> Result<(), Fail> {
     for nest in NESTS {
         let count = 200usize.saturating_sub(nest.open);
-        let text = nested(rt.alloc(), nest, count.saturating_add(1))?;
+        let text = nest_text(rt.alloc(), nest, count.saturating_add(1))?;
         let tokens = tokens(rt.alloc(), text.as_str())?;
         let told = parse(rt.alloc(), tokens.as_slice(), text.len()).err();
         let at = nest

@@ -17,23 +17,23 @@ fn arguments(rt: &HostRuntime) -> io::Result<Vec<String>> {
 }
 
 // Where standard error can't be written, the exit status alone says what happened.
-fn failed(rt: &HostRuntime, failure: &Failure) -> ExitCode {
+fn report_failure(rt: &HostRuntime, failure: &Failure) -> ExitCode {
     let _ = eprintln!(rt; "{failure}");
     ExitCode::from(failure.exit())
 }
 
-fn refused(rt: &HostRuntime, refusal: Refusal) -> ExitCode {
-    failed(rt, &Failure::Refused(refusal))
+fn report_refusal(rt: &HostRuntime, refusal: Refusal) -> ExitCode {
+    report_failure(rt, &Failure::Refused(refusal))
 }
 
-fn misused(rt: &HostRuntime, error: &CommandError) -> ExitCode {
+fn report_misuse(rt: &HostRuntime, error: &CommandError) -> ExitCode {
     let _ = eprint!(rt; "{error}");
     ExitCode::from(USAGE)
 }
 
-fn unread(rt: &HostRuntime, error: &io::Error) -> ExitCode {
+fn report_unread_arguments(rt: &HostRuntime, error: &io::Error) -> ExitCode {
     if error.kind() == io::ErrorKind::OutOfMemory {
-        return refused(rt, Refusal::Memory);
+        return report_refusal(rt, Refusal::Memory);
     }
     let _ = eprintln!(rt; "error: an argument is not UTF-8");
     ExitCode::from(USAGE)
@@ -42,15 +42,15 @@ fn unread(rt: &HostRuntime, error: &io::Error) -> ExitCode {
 fn main(rt: HostRuntime) -> ExitCode {
     let arguments = match arguments(&rt) {
         Ok(arguments) => arguments,
-        Err(error) => return unread(&rt, &error),
+        Err(error) => return report_unread_arguments(&rt, &error),
     };
     let command = match read_command(rt.alloc(), arguments.as_slice()) {
         Ok(command) => command,
-        Err(CommandError::Memory) => return refused(&rt, Refusal::Memory),
-        Err(error) => return misused(&rt, &error),
+        Err(CommandError::Memory) => return report_refusal(&rt, Refusal::Memory),
+        Err(error) => return report_misuse(&rt, &error),
     };
     match perform(&rt, rt.alloc(), &command) {
         Ok(status) => ExitCode::from(status),
-        Err(failure) => failed(&rt, &failure),
+        Err(failure) => report_failure(&rt, &failure),
     }
 }

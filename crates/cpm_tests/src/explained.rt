@@ -1,6 +1,6 @@
 //! Explanations: one text for each message, positions, excerpts, declarations, access graphs, and streams that fail.
 
-use super::jobs::{nested, repeated};
+use super::jobs::{nest, repeat};
 use super::messages::{ROWS, Row};
 use super::streams::{Narrow, Slow};
 use cp_execute::refusal::Refusal;
@@ -16,11 +16,7 @@ use std::test::Fail;
 const NOWHERE: usize = 1_000_000;
 
 // What is answered and written for a text.
-fn explained(
-    alloc: Global,
-    text: &[u8],
-    form: Form,
-) -> (Result<Option<Refusal>, Refusal>, Vec<u8>) {
+fn explain(alloc: Global, text: &[u8], form: Form) -> (Result<Option<Refusal>, Refusal>, Vec<u8>) {
     let mut text = text;
     let mut out = Vec::new(alloc);
     let answer = explain_text(alloc, b"t.cp", &mut text, form, &mut out);
@@ -28,7 +24,7 @@ fn explained(
 }
 
 // The text of a row, and the place that it marks.
-fn marked(alloc: Global, row: Row) -> Result<(Vec<u8>, usize), AllocError> {
+fn text_and_place(alloc: Global, row: Row) -> Result<(Vec<u8>, usize), AllocError> {
     let mut text = Vec::new(alloc);
     let mut at = 0;
     for byte in row.text.as_bytes() {
@@ -43,11 +39,11 @@ fn marked(alloc: Global, row: Row) -> Result<(Vec<u8>, usize), AllocError> {
 #[test]
 fn each_way_to_break_a_rule_has_its_message(rt: HostRuntime) -> Result<(), Fail> {
     for row in ROWS.as_slice() {
-        let (text, at) = marked(rt.alloc(), *row)?;
+        let (text, at) = text_and_place(rt.alloc(), *row)?;
         let column = at.saturating_add(1);
         let (rule, message) = (row.rule, row.message);
         let first = format!(in rt.alloc(); "t.cp:1:{column}: {rule}: {message}\n")?;
-        let (answer, out) = explained(rt.alloc(), &text, Form::Lines);
+        let (answer, out) = explain(rt.alloc(), &text, Form::Lines);
         assert!(rt; matches!(answer, Ok(Some(_))));
         assert!(rt; out.as_slice().starts_with(first.as_bytes()));
     }
@@ -55,8 +51,8 @@ fn each_way_to_break_a_rule_has_its_message(rt: HostRuntime) -> Result<(), Fail>
 }
 
 // The text `var a0, a1, ..: TYPE; begin end.` with so many names, of which the last stands at the place that is answered.
-fn declaring(alloc: Global, front: &str, count: usize) -> Result<(Vec<u8>, usize), AllocError> {
-    let mut text = repeated(alloc, front.as_bytes(), b"", 0, b"")?;
+fn declare_names(alloc: Global, front: &str, count: usize) -> Result<(Vec<u8>, usize), AllocError> {
+    let mut text = repeat(alloc, front.as_bytes(), b"", 0, b"")?;
     let mut at = 0;
     for number in 0..count {
         if 0 < number {
@@ -75,12 +71,12 @@ fn one_component_too_many_is_told(rt: HostRuntime) -> Result<(), Fail> {
         ("type t = process; begin end; var ", 255, "process"),
         ("type t = monitor; begin end; var ", 256, "monitor"),
     ] {
-        let (text, at) = declaring(rt.alloc(), front, count)?;
+        let (text, at) = declare_names(rt.alloc(), front, count)?;
         let (column, last) = (at.saturating_add(1), count.saturating_sub(1));
         let first = format!(in rt.alloc();
             "t.cp:1:{column}: C13: `a{last}` is one {words} too many\n"
         )?;
-        let (_, out) = explained(rt.alloc(), &text, Form::Lines);
+        let (_, out) = explain(rt.alloc(), &text, Form::Lines);
         assert!(rt; out.as_slice().starts_with(first.as_bytes()));
     }
     Ok(())
@@ -90,7 +86,7 @@ fn one_component_too_many_is_told(rt: HostRuntime) -> Result<(), Fail> {
 fn an_explanation_shows_the_line_and_the_declaration(rt: HostRuntime) {
     let text =
         b"type source = monitor;\n  procedure entry take(count: char);\n  begin\n    accept(count)\n  end;\n  begin end;\nbegin end.\n";
-    let (answer, out) = explained(rt.alloc(), text, Form::Lines);
+    let (answer, out) = explain(rt.alloc(), text, Form::Lines);
     assert!(rt;
         answer
             == Ok(Some(Refusal::Check {
@@ -114,7 +110,7 @@ fn an_explanation_shows_the_line_and_the_declaration(rt: HostRuntime) {
 #[test]
 fn a_name_that_is_declared_later_is_told(rt: HostRuntime) {
     let text = b"procedure p;\nbegin q end;\nprocedure q;\nbegin end;\nbegin p end.\n";
-    let (_, out) = explained(rt.alloc(), text, Form::Lines);
+    let (_, out) = explain(rt.alloc(), text, Form::Lines);
     assert!(rt;
         out.as_slice()
             == b"t.cp:2:7: C1: `q` is not declared
@@ -131,7 +127,7 @@ fn a_name_that_is_declared_later_is_told(rt: HostRuntime) {
 #[test]
 fn a_name_of_the_initial_process_is_told(rt: HostRuntime) {
     let text = b"type p = process;\nbegin n := 1 end;\nvar n: integer;\nbegin end.\n";
-    let (_, out) = explained(rt.alloc(), text, Form::Lines);
+    let (_, out) = explain(rt.alloc(), text, Form::Lines);
     assert!(rt;
         out.as_slice()
             == b"t.cp:2:7: C1: `n` is not declared
@@ -148,43 +144,43 @@ fn a_name_of_the_initial_process_is_told(rt: HostRuntime) {
 #[test]
 fn excerpts_show_any_line(rt: HostRuntime) -> Result<(), Fail> {
     // The end of a text, on the line after the last line feed.
-    let (_, out) = explained(rt.alloc(), b"begin\n", Form::Lines);
+    let (_, out) = explain(rt.alloc(), b"begin\n", Form::Lines);
     assert!(rt;
         out.as_slice().starts_with(b"t.cp:2:1: Y2: the text ends too early\n  2 | \n    | ^\n")
     );
     // A tab is one column, and shown as its byte.
-    let (_, out) = explained(rt.alloc(), b"\tbegin\tx := 1 end.", Form::Lines);
+    let (_, out) = explain(rt.alloc(), b"\tbegin\tx := 1 end.", Form::Lines);
     assert!(rt;
         out.as_slice().starts_with(
             b"t.cp:1:8: C1: `x` is not declared\n  1 | \\09begin\\09x := 1 end.\n    |            ^\n"
         )
     );
     // Of a longer line 100 bytes are shown, 60 of them before the place.
-    let text = repeated(rt.alloc(), b"begin", b" ", 200, b"x := 1 end.")?;
-    let (_, out) = explained(rt.alloc(), &text, Form::Lines);
-    let shown = repeated(
+    let text = repeat(rt.alloc(), b"begin", b" ", 200, b"x := 1 end.")?;
+    let (_, out) = explain(rt.alloc(), &text, Form::Lines);
+    let shown = repeat(
         rt.alloc(),
         b"t.cp:1:206: C1: `x` is not declared\n  1 | ",
         b" ",
         60,
         b"x := 1 end.\n    | ",
     )?;
-    let shown = repeated(rt.alloc(), &shown, b" ", 60, b"^\n")?;
+    let shown = repeat(rt.alloc(), &shown, b" ", 60, b"^\n")?;
     assert!(rt; out.as_slice().starts_with(&shown));
     Ok(())
 }
 
 #[test]
 fn long_and_deep_texts_are_told(rt: HostRuntime) -> Result<(), Fail> {
-    let text = repeated(rt.alloc(), b"begin end.", b" ", 1_048_567, b"")?;
-    let (_, out) = explained(rt.alloc(), &text, Form::Lines);
+    let text = repeat(rt.alloc(), b"begin end.", b" ", 1_048_567, b"")?;
+    let (_, out) = explain(rt.alloc(), &text, Form::Lines);
     assert!(rt;
         out.as_slice()
             .starts_with(b"t.cp:1:1048577: S6: the text is too long\n")
     );
     // The 201st `begin`, of six bytes each.
-    let text = nested(rt.alloc(), [b"", b"begin ", b"", b"end ", b"."], 201)?;
-    let (_, out) = explained(rt.alloc(), &text, Form::Lines);
+    let text = nest(rt.alloc(), [b"", b"begin ", b"", b"end ", b"."], 201)?;
+    let (_, out) = explain(rt.alloc(), &text, Form::Lines);
     assert!(rt;
         out.as_slice()
             .starts_with(b"t.cp:1:1201: Y3: the text is nested too deep\n")
@@ -214,7 +210,7 @@ begin init a, b; init p(a, 1), q(b, 2) end.";
 
 #[test]
 fn an_accepted_text_has_an_access_graph(rt: HostRuntime) {
-    let (answer, out) = explained(rt.alloc(), NETWORK, Form::Lines);
+    let (answer, out) = explain(rt.alloc(), NETWORK, Form::Lines);
     assert!(rt; answer == Ok(None));
     assert!(rt;
         out.as_slice()
@@ -230,7 +226,7 @@ in sender: l -> s
 "
                 .as_slice()
     );
-    let (_, out) = explained(rt.alloc(), NETWORK, Form::Dot);
+    let (_, out) = explain(rt.alloc(), NETWORK, Form::Dot);
     assert!(rt;
         out.as_slice()
             == b"digraph access {
@@ -262,7 +258,7 @@ fn rules_have_pages(rt: HostRuntime) {
 #[test]
 fn each_read_and_write_of_an_explanation_fails_in_turn(rt: HostRuntime) {
     let text = b"begin x := 1 end.".as_slice();
-    let (_, due) = explained(rt.alloc(), text, Form::Lines);
+    let (_, due) = explain(rt.alloc(), text, Form::Lines);
     for fails_at in 0..=text.len() {
         let mut slow = Slow {
             text,

@@ -19,7 +19,7 @@ pub(crate) fn job(rounds: u32, turn: u32) -> Result<Job, AllocError> {
 }
 
 // What is answered and written for a text and an input.
-pub(crate) fn done<H: Threads + Wait + Sync>(
+pub(crate) fn execute_job<H: Threads + Wait + Sync>(
     rt: &H,
     alloc: Global,
     text: &[u8],
@@ -34,7 +34,7 @@ pub(crate) fn done<H: Threads + Wait + Sync>(
 }
 
 // One part between two others, so many times.
-pub(crate) fn repeated(
+pub(crate) fn repeat(
     alloc: Global,
     front: &[u8],
     part: &[u8],
@@ -51,14 +51,10 @@ pub(crate) fn repeated(
 }
 
 // `front` and so many of `open`, `inner`, and as many of `close` and `back`.
-pub(crate) fn nested(
-    alloc: Global,
-    parts: [&[u8]; 5],
-    times: usize,
-) -> Result<Vec<u8>, AllocError> {
+pub(crate) fn nest(alloc: Global, parts: [&[u8]; 5], times: usize) -> Result<Vec<u8>, AllocError> {
     let [front, open, inner, close, back] = parts;
-    let mut text = repeated(alloc, front, open, times, inner)?;
-    let end = repeated(alloc, b"", close, times, back)?;
+    let mut text = repeat(alloc, front, open, times, inner)?;
+    let end = repeat(alloc, b"", close, times, back)?;
     text.extend_from_slice(&end)?;
     Ok(text)
 }

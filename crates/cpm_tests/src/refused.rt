@@ -1,6 +1,6 @@
 //! Texts and inputs that are refused: the cause, its place, and that nothing is written.
 
-use super::jobs::{done, job, repeated};
+use super::jobs::{execute_job, job, repeat};
 use cp_execute::execute::Job;
 use cp_execute::refusal::Refusal;
 use cp_model::rules::Rule;
@@ -31,7 +31,7 @@ fn texts_are_refused_at_their_places(rt: HostRuntime) {
         (b"begin a := 1; b := 2 end.", check(Rule::C1, 6)),
     ];
     for (text, refusal) in cases {
-        let (answer, out) = done(&rt, rt.alloc(), text, b"", &Job::Check);
+        let (answer, out) = execute_job(&rt, rt.alloc(), text, b"", &Job::Check);
         assert!(rt; answer == Err(refusal));
         assert!(rt; out.is_empty());
     }
@@ -39,8 +39,8 @@ fn texts_are_refused_at_their_places(rt: HostRuntime) {
 
 #[test]
 fn a_text_too_long_is_refused(rt: HostRuntime) -> Result<(), Fail> {
-    let text = repeated(rt.alloc(), b"begin end.", b" ", 1_048_567, b"")?;
-    let (answer, out) = done(&rt, rt.alloc(), &text, b"", &Job::Check);
+    let text = repeat(rt.alloc(), b"begin end.", b" ", 1_048_567, b"")?;
+    let (answer, out) = execute_job(&rt, rt.alloc(), &text, b"", &Job::Check);
     assert!(rt; answer == Err(scan(Cause::Size, 1_048_576)));
     assert!(rt; out.is_empty());
     Ok(())
@@ -48,8 +48,8 @@ fn a_text_too_long_is_refused(rt: HostRuntime) -> Result<(), Fail> {
 
 #[test]
 fn a_name_too_long_is_refused(rt: HostRuntime) -> Result<(), Fail> {
-    let text = repeated(rt.alloc(), b"var ", b"a", 65, b": integer; begin end.")?;
-    let (answer, _) = done(&rt, rt.alloc(), &text, b"", &Job::Check);
+    let text = repeat(rt.alloc(), b"var ", b"a", 65, b": integer; begin end.")?;
+    let (answer, _) = execute_job(&rt, rt.alloc(), &text, b"", &Job::Check);
     assert!(rt; answer == Err(scan(Cause::Word, 4)));
     Ok(())
 }
@@ -73,10 +73,10 @@ fn processes(alloc: Global, count: usize) -> Result<Vec<u8>, AllocError> {
 #[test]
 fn a_process_too_many_is_refused(rt: HostRuntime) -> Result<(), Fail> {
     let text = processes(rt.alloc(), 254)?;
-    let (answer, _) = done(&rt, rt.alloc(), &text, b"", &Job::Check);
+    let (answer, _) = execute_job(&rt, rt.alloc(), &text, b"", &Job::Check);
     assert!(rt; answer == Ok(()));
     let text = processes(rt.alloc(), 255)?;
-    let (answer, _) = done(&rt, rt.alloc(), &text, b"", &Job::Check);
+    let (answer, _) = execute_job(&rt, rt.alloc(), &text, b"", &Job::Check);
     assert!(rt; answer == Err(check(Rule::C13, 1451)));
     Ok(())
 }
@@ -84,14 +84,14 @@ fn a_process_too_many_is_refused(rt: HostRuntime) -> Result<(), Fail> {
 #[test]
 fn inputs_are_refused_after_the_text(rt: HostRuntime) -> Result<(), Fail> {
     let long: Vec<u8> = Vec::from_elem(rt.alloc(), 128, 1_048_577)?;
-    let last = repeated(rt.alloc(), b"", b"a", 1_048_575, b"\xff")?;
+    let last = repeat(rt.alloc(), b"", b"a", 1_048_575, b"\xff")?;
     let cases: [(&[u8], &[u8], Refusal); 3] = [
         (b"begin end.", &long, Refusal::InputSize),
         (b"begin end.", &last, Refusal::InputByte { at: 1_048_575 }),
         (b"begin end", b"\x80", Refusal::Unfinished { at: 9 }),
     ];
     for (text, input, refusal) in cases {
-        let (answer, out) = done(&rt, rt.alloc(), text, input, &job(1, 100)?);
+        let (answer, out) = execute_job(&rt, rt.alloc(), text, input, &job(1, 100)?);
         assert!(rt; answer == Err(refusal));
         assert!(rt; out.is_empty());
     }

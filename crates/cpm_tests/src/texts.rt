@@ -1,6 +1,6 @@
 //! Whole texts, from their bytes to their reports. The reports are worked by hand.
 
-use super::jobs::{done, job, nested, repeated};
+use super::jobs::{execute_job, job, nest, repeat};
 use cp_execute::execute::Job;
 use cp_execute::refusal::Refusal;
 use std::test::Fail;
@@ -87,7 +87,7 @@ fn texts_have_their_reports(rt: HostRuntime) -> Result<(), Fail> {
         (COUNTERS, 5, 4, AFTER_FIVE_ROUNDS),
     ];
     for (text, rounds, turn, report) in cases {
-        let (answer, out) = done(&rt, rt.alloc(), text, b"", &job(rounds, turn)?);
+        let (answer, out) = execute_job(&rt, rt.alloc(), text, b"", &job(rounds, turn)?);
         assert!(rt; answer == Ok(()));
         assert!(rt; out.as_slice() == report);
     }
@@ -96,15 +96,15 @@ fn texts_have_their_reports(rt: HostRuntime) -> Result<(), Fail> {
 
 #[test]
 fn a_check_writes_a_line(rt: HostRuntime) {
-    let (answer, out) = done(&rt, rt.alloc(), COUNTERS, b"\xff", &Job::Check);
+    let (answer, out) = execute_job(&rt, rt.alloc(), COUNTERS, b"\xff", &Job::Check);
     assert!(rt; answer == Ok(()));
     assert!(rt; out.as_slice() == b"accepted\n".as_slice());
 }
 
 #[test]
 fn the_longest_text_runs(rt: HostRuntime) -> Result<(), Fail> {
-    let text = repeated(rt.alloc(), b"begin end.", b" ", 1_048_566, b"")?;
-    let (answer, out) = done(&rt, rt.alloc(), &text, b"", &job(0, 10)?);
+    let text = repeat(rt.alloc(), b"begin end.", b" ", 1_048_566, b"")?;
+    let (answer, out) = execute_job(&rt, rt.alloc(), &text, b"", &job(0, 10)?);
     assert!(rt; answer == Ok(()));
     assert!(rt; out.as_slice() == UNSTARTED);
     Ok(())
@@ -112,8 +112,8 @@ fn the_longest_text_runs(rt: HostRuntime) -> Result<(), Fail> {
 
 #[test]
 fn the_longest_name_is_accepted(rt: HostRuntime) -> Result<(), Fail> {
-    let text = repeated(rt.alloc(), b"var ", b"a", 64, b": integer; begin end.")?;
-    let (answer, out) = done(&rt, rt.alloc(), &text, b"", &Job::Check);
+    let text = repeat(rt.alloc(), b"var ", b"a", 64, b": integer; begin end.")?;
+    let (answer, out) = execute_job(&rt, rt.alloc(), &text, b"", &Job::Check);
     assert!(rt; answer == Ok(()));
     assert!(rt; out.as_slice() == b"accepted\n".as_slice());
     Ok(())
@@ -121,34 +121,34 @@ fn the_longest_name_is_accepted(rt: HostRuntime) -> Result<(), Fail> {
 
 #[test]
 fn two_hundred_levels_are_accepted(rt: HostRuntime) -> Result<(), Fail> {
-    let text = nested(rt.alloc(), [b"", b"begin ", b"", b"end ", b"."], 200)?;
-    let (answer, out) = done(&rt, rt.alloc(), &text, b"", &job(0, 10)?);
+    let text = nest(rt.alloc(), [b"", b"begin ", b"", b"end ", b"."], 200)?;
+    let (answer, out) = execute_job(&rt, rt.alloc(), &text, b"", &job(0, 10)?);
     assert!(rt; answer == Ok(()));
     assert!(rt; out.as_slice() == UNSTARTED);
-    let text = nested(
+    let text = nest(
         rt.alloc(),
         [b"begin display(", b"(", b"1", b")", b") end."],
         198,
     )?;
-    let (answer, _) = done(&rt, rt.alloc(), &text, b"", &Job::Check);
+    let (answer, _) = execute_job(&rt, rt.alloc(), &text, b"", &Job::Check);
     assert!(rt; answer == Ok(()));
     Ok(())
 }
 
 #[test]
 fn a_level_more_is_refused(rt: HostRuntime) -> Result<(), Fail> {
-    let text = nested(rt.alloc(), [b"", b"begin ", b"", b"end ", b"."], 201)?;
-    let (answer, _) = done(&rt, rt.alloc(), &text, b"", &Job::Check);
+    let text = nest(rt.alloc(), [b"", b"begin ", b"", b"end ", b"."], 201)?;
+    let (answer, _) = execute_job(&rt, rt.alloc(), &text, b"", &Job::Check);
     assert!(rt; answer == Err(Refusal::TooDeep { at: 1200 }));
-    let (answer, out) = done(&rt, rt.alloc(), &text, b"", &job(0, 10)?);
+    let (answer, out) = execute_job(&rt, rt.alloc(), &text, b"", &job(0, 10)?);
     assert!(rt; answer == Err(Refusal::TooDeep { at: 1200 }));
     assert!(rt; out.is_empty());
-    let text = nested(
+    let text = nest(
         rt.alloc(),
         [b"begin display(", b"(", b"1", b")", b") end."],
         199,
     )?;
-    let (answer, _) = done(&rt, rt.alloc(), &text, b"", &Job::Check);
+    let (answer, _) = execute_job(&rt, rt.alloc(), &text, b"", &Job::Check);
     assert!(rt; answer == Err(Refusal::TooDeep { at: 212 }));
     Ok(())
 }

@@ -9,14 +9,14 @@ pub returns-then-fits : goal.returns-then-fits
 returns-then-fits c =
     let env = c.args.env.now in
     let d = designator c.args.d.now in
-    let told = append_told c.args.told.now c.names_fit-fits.new.told c.variable_designated-is_variable.new.told c.names_fit-fits.result c.variable_designated-is_variable.result
-    (n.c2_c5_c8_named env mode.Variable d) (n.c10_designator env d) c.names_fit-fits.ensures c.variable_designated-is_variable.ensures in
+    let told = append_told c.args.told.now c.names_fit-fits.new.told c.designates_variable-is_variable.new.told c.names_fit-fits.result c.designates_variable-is_variable.result
+    (n.c2_c5_c8_named env mode.Variable d) (n.c10_designator env d) c.names_fit-fits.ensures c.designates_variable-is_variable.ensures in
     (told.0, rw c.if-fits.true at told.1)
 
 pub returns-else-fits : goal.returns-else-fits
 returns-else-fits c =
     let env = c.args.env.now in
     let d = designator c.args.d.now in
-    let told = append_told c.args.told.now c.names_fit-fits.new.told c.variable_designated-is_variable.new.told c.names_fit-fits.result c.variable_designated-is_variable.result
-    (n.c2_c5_c8_named env mode.Variable d) (n.c10_designator env d) c.names_fit-fits.ensures c.variable_designated-is_variable.ensures in
+    let told = append_told c.args.told.now c.names_fit-fits.new.told c.designates_variable-is_variable.new.told c.names_fit-fits.result c.designates_variable-is_variable.result
+    (n.c2_c5_c8_named env mode.Variable d) (n.c10_designator env d) c.names_fit-fits.ensures c.designates_variable-is_variable.ensures in
     (told.0, c.if-fits.false ∙ (rw c.if-fits.false at told.1))

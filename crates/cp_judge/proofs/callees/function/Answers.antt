@@ -1,9 +1,7 @@
-use Rattle.std.proofs.Common.{ap, sym, ◌∙◌}
 use Rattle.cp_model.specs.RulesEnvironment as r
 use Rattle.cp_model.specs.RulesNames as n
 use Rattle.cp_model.specs.View.{designator}
 use Rattle.cp_model.specs.declared.rules.Entity.TheVariants as entity
-use Rattle.cp_model.specs.declared.rules.RoutineRow.{RoutineRow}
 use Rattle.cp_judge.proofs.CalleesTold.{also_callee}
 use Rattle.cp_judge.proofs.callees.function.Goals as goal
 
@@ -12,13 +10,10 @@ returns-in-Standard c =
     let env = c.args.env.now in
     let d = designator c.args.d.now in
     let s = c.in-Standard.standard in
-    rw (c.in-Standard.is, c.answer_if-in-Standard.ensures) (also_callee env c.args.told.now c.in_place-in_place.new.told c.standard_function_called.new.told
-    c.in_place-in_place.result (r.c9_standard env (n.last_name d) (entity.Standard s)) c.standard_function_called.result (n.standard_called (n.sort_rule c.args.mode d) (n.last_name d) (n.standard_fits s c.args.count) (n.standard_function s))
-    (rw c.last_name-x.ensures at c.in_place-in_place.ensures) ((rw (c.last_name-x.ensures, c.sort_rule-rule.ensures) at c.standard_function_called.ensures) env))
+    rw (c.in-Standard.is, c.answer_if-in-Standard.ensures) (also_callee env c.args.told.now c.in_place-in_place.new.told c.judge_standard_function_call.new.told
+    c.in_place-in_place.result (r.c9_standard env (n.last_name d) (entity.Standard s)) c.judge_standard_function_call.result (n.standard_called (n.sort_rule c.args.mode d) (n.last_name d) (n.standard_fits s c.args.count) (n.standard_function s))
+    (rw c.last_name-x.ensures at c.in_place-in_place.ensures) ((rw (c.last_name-x.ensures, c.sort_rule-rule.ensures) at c.judge_standard_function_call.ensures) env))
 
-pub returns-else-row : goal.returns-else-row
-returns-else-row c =
-    let env = c.args.env.now in
-    let row = c.routine-row-in-Entry.ensures in
-    let no_entry = sym (ap (λ (w : RoutineRow). w.entry) row) ∙ c.if-row.false in
-    rw (c.in-Entry.is, no_entry) ((rw (c.last_name-x.ensures, row) at c.counted.ensures) env)
+pub returns-in-Entry : goal.returns-in-Entry
+returns-in-Entry c =
+    rw c.in-Entry.is ((rw (c.last_name-x.ensures, c.sort_rule-rule.ensures, c.routine-row-in-Entry.ensures) at c.entry_function.ensures) c.args.env.now)

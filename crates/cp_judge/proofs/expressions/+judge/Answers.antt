@@ -23,8 +23,8 @@ argument-returns t c =
     let e = expression c.args.e.now in
     let w = c.in-Some.want in
     rw (c.in-Some.is, argument_parts env w e (x.judge env (x.mode_of w) e), c.answer_if.ensures)
-    (also_told c.args.told.now c.has_form-has_form.new.told c.argument_typed-t.new.told c.has_form-has_form.result (form_rules env w e)
-    c.argument_typed-t.result (parts.argument_typed env w e) c.has_form-has_form.ensures c.argument_typed-t.ensures)
+    (also_told c.args.told.now c.has_form-has_form.new.told c.type_of_argument-t.new.told c.has_form-has_form.result (form_rules env w e)
+    c.type_of_argument-t.result (parts.type_of_argument env w e) c.has_form-has_form.ensures c.type_of_argument-t.ensures)
 
 pub chain-loop-o-preserved : goal.chain-loop-o-preserved
 chain-loop-o-preserved t c = λ t0 m e told.
@@ -38,12 +38,12 @@ chain-loop-o-preserved t c = λ t0 m e told.
     at_drop_more (λ os. chain_of f (map operation os)) rest i o c.loop-o-test.true ∙ ap (λ p. chain_of f (map operation (p ∷ drop (i + 1) rest))) (sym c.o-item.is) in
     let view = ap (λ p. chain_of f (p ∷ map operation (drop (i + 1) rest))) (view_operation o) in (
       s.Binary f o.operator o.at (expression o.operand),
-      rw (first_operand_again m) (c.operated-left.ensures t0 c.loop-o.told (x.judge env (x.first_operand m) f) (x.judge env mode.Value (expression o.operand)) so_far.1 c.judge-right.ensures),
+      rw (first_operand_again m) (c.judge_operation-left.ensures t0 c.loop-o.told (x.judge env (x.first_operand m) f) (x.judge env mode.Value (expression o.operand)) so_far.1 c.judge-right.ensures),
       sym (step ∙ view) ∙ so_far.2,
     )
 
-pub indexed-loop-i-preserved : goal.indexed-loop-i-preserved
-indexed-loop-i-preserved t c = λ t0 j told.
+pub select_elements-loop-i-preserved : goal.select_elements-loop-i-preserved
+select_elements-loop-i-preserved t c = λ t0 j told.
     let env = c.args.env.now in
     let so_far = c.loop-i.invariant t0 j told in
     let k = so_far.0 in
@@ -102,35 +102,35 @@ judge-returns-in-Call t c =
     let count : c.len.result ≡ n.count_of es = c.len.ensures ∙ sym c.deref.ensures.len ∙ ap length c.deref.ensures.value ∙ sym (count_expressions list) in
     let jc = parts.callee_of env c.args.mode d (n.count_of es) in
     let ja = x.arguments env (x.wants_in env (x.designated env d) jc) es in
-    let callee = rw count at c.called-called.ensures.callee in
-    let wanted = rw count at c.called-called.ensures.wants in
+    let callee = rw count at c.judge_callee-called.ensures.callee in
+    let wanted = rw count at c.judge_callee-called.ensures.wants in
     let given = rw (wanted, c.deref.ensures.value) at c.arguments-t.ensures in
-    let result = result_told env c.names_fit-fits.new.told c.called-called.new.told c.arguments-t.new.told c.called-called.result.callee c.arguments-t.result jc ja callee given in
+    let result = result_told env c.names_fit-fits.new.told c.judge_callee-called.new.told c.arguments-t.new.told c.judge_callee-called.result.callee c.arguments-t.result jc ja callee given in
     rw (v, c.answer_if.ensures, c.result.ensures) (also_told c.args.told.now c.names_fit-fits.new.told c.arguments-t.new.told c.names_fit-fits.result
-    (n.c2_c5_c8_named env (x.first_operand c.args.mode) d) (result_if env c.called-called.result.callee c.arguments-t.result) (both jc ja (x.result_of env))
+    (n.c2_c5_c8_named env (x.first_operand c.args.mode) d) (result_if env c.judge_callee-called.result.callee c.arguments-t.result) (both jc ja (x.result_of env))
     (rw c.first_operand.ensures at c.names_fit-fits.ensures) result)
 
-pub used-returns : goal.used-returns
-used-returns t c =
+pub judge_use-returns : goal.judge_use-returns
+judge_use-returns t c =
     let env = c.args.env.now in
     let d = designator c.args.d.now in
-    rw c.answer_if.ensures (also_told c.args.told.now c.names_fit-fits.new.told c.typed-t.new.told c.names_fit-fits.result (n.c2_c5_c8_named env c.args.mode d)
-    c.typed-t.result (parts.typed env c.args.mode d) c.names_fit-fits.ensures c.typed-t.ensures)
+    rw c.answer_if.ensures (also_told c.args.told.now c.names_fit-fits.new.told c.type_of_designator-t.new.told c.names_fit-fits.result (n.c2_c5_c8_named env c.args.mode d)
+    c.type_of_designator-t.result (parts.type_of_designator env c.args.mode d) c.names_fit-fits.ensures c.type_of_designator-t.ensures)
 
-pub called-returns-clause-callee : goal.called-returns-clause-callee
-called-returns-clause-callee t c =
+pub judge_callee-returns-clause-callee : goal.judge_callee-returns-clause-callee
+judge_callee-returns-clause-callee t c =
     let env = c.args.env.now in
     let d = designator c.args.d.now in
     let je = x.designated env d in
     let t1 = c.no_indexed_value-no_value.new.told in
     rw c.answer_if-callee.ensures (also_callee env c.args.told.now t1 c.function_if-function.new.told c.no_indexed_value-no_value.result (n.c2_indexed env c.args.mode d)
     c.function_if-function.result (parts.function_if env c.args.mode d c.args.count je) c.no_indexed_value-no_value.ensures
-    (c.function_if-function.ensures t1 je c.designated-entity.ensures))
+    (c.function_if-function.ensures t1 je c.judge_designator-entity.ensures))
 
-pub called-returns-clause-wants : goal.called-returns-clause-wants
-called-returns-clause-wants t c =
+pub judge_callee-returns-clause-wants : goal.judge_callee-returns-clause-wants
+judge_callee-returns-clause-wants t c =
     let env = c.args.env.now in
     let d = designator c.args.d.now in
     let je = x.designated env d in
-    c.wants_of_call.ensures ∙ wants_told env c.designated-entity.result je c.answer_if-callee.result (parts.callee_of env c.args.mode d c.args.count) c.designated-entity.ensures.1
-    (called-returns-clause-callee t c).1
+    c.wants_of_call.ensures ∙ wants_told env c.judge_designator-entity.result je c.answer_if-callee.result (parts.callee_of env c.args.mode d c.args.count) c.judge_designator-entity.ensures.1
+    (judge_callee-returns-clause-callee t c).1

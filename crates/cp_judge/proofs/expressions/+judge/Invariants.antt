@@ -27,14 +27,14 @@ invariant-chain-loop-o l =
     × (chain_of f (map operation (drop l.o-index l.rest)) ≡ chain_of e (map operation l.fn.rest))
 
 -- what is told so far is told of the selectors so far
-abbrev pub invariant-designated-loop-s : goal.invariant-designated-loop-s
-invariant-designated-loop-s l =
+abbrev pub invariant-judge_designator-loop-s : goal.invariant-judge_designator-loop-s
+invariant-judge_designator-loop-s l =
     (j : Judged Entity) × Tells l.fn.told l.told l.part j
     × (x.selected l.env j (selectors_of (map selector (drop l.s-index l.s-items))) ≡ x.designated l.fn.env (designator l.fn.d))
 
 -- what is told so far is told of the indices so far
-abbrev pub invariant-indexed-loop-i : goal.invariant-indexed-loop-i
-invariant-indexed-loop-i l =
+abbrev pub invariant-select_elements-loop-i : goal.invariant-select_elements-loop-i
+invariant-select_elements-loop-i l =
     (t : Option Violation) (j : Judged Entity) → Tells t l.fn.told l.fn.part j
     → (k : Judged Entity) × Tells t l.told l.part k
     × (x.indexed l.env k (indices_of (map index (drop l.i-index l.indices))) ≡ x.indexed l.fn.env j (indices_of (map index l.fn.indices)))

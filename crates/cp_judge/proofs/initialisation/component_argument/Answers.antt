@@ -8,7 +8,7 @@ use Rattle.cp_judge.proofs.InitTold.{argument_named, argument_unnamed}
 use Rattle.cp_judge.proofs.initialisation.component_argument.Goals as goal
 
 pub returns-in-Some : goal.returns-in-Some
-returns-in-Some c = rw (argument_named c.args.env.now c.args.wanted (expression c.args.e.now) c.in-Some.x.now c.in-Some.ensures) c.passed_alone.ensures
+returns-in-Some c = rw (argument_named c.args.env.now c.args.wanted (expression c.args.e.now) c.in-Some.x.now c.in-Some.ensures) c.name_argument.ensures
 
 pub returns-in-None : goal.returns-in-None
 returns-in-None c =
@@ -16,4 +16,4 @@ returns-in-None c =
     let e = expression c.args.e.now in
     let told : c.tell.new.told ≡ earlier c.args.told.now (violation C12 (first_token e)) = rw c.first_token.ensures at c.tell.ensures in
     rw (argument_unnamed env c.args.wanted e c.in-None.ensures)
-    (c.unwanted.ensures.0 ∙ ap (λ t. least t (violations_of (st.unwanted env e))) told, refl)
+    (c.unwanted_argument.ensures.0 ∙ ap (λ t. least t (violations_of (st.unwanted env e))) told, refl)

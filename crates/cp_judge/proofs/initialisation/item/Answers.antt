@@ -24,4 +24,4 @@ returns c =
     let arguments = st.init_arguments env (st.parameters_in env (parts.system env x)) es in
     let named = n.c8_named env mode.Value x in
     more_told c.args.told.now c.component-system.new.told c.arguments.new.told (named ++ violations_of j) arguments
-    (more_told c.args.told.now c.queue_named.new.told c.component-system.new.told named (violations_of j) c.queue_named.ensures.0 told) rest
+    (more_told c.args.told.now c.queue_in_place.new.told c.component-system.new.told named (violations_of j) c.queue_in_place.ensures.0 told) rest

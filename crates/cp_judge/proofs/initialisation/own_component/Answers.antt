@@ -11,5 +11,5 @@ returns-in_default c =
     let env = c.args.env.now in
     let x = c.args.x.now in
     rw (component_other env x c.args.entity c.in_default.not-Variable)
-    (beside_told c.args.told.now c.anywhere.new.told c.broken.new.told c.anywhere.result (r.c4_c9_named env x c.args.entity)
-    c.broken.result (violation C12 x.at) [] c.anywhere.ensures c.broken.ensures)
+    (beside_told c.args.told.now c.anywhere.new.told c.tell_violation.new.told c.anywhere.result (r.c4_c9_named env x c.args.entity)
+    c.tell_violation.result (violation C12 x.at) [] c.anywhere.ensures c.tell_violation.ensures)

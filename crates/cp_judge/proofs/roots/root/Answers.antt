@@ -10,5 +10,5 @@ returns c =
     let env = c.args.env.now in
     let x = c.args.d.now.root in
     let ss = selectors_of (map selector c.args.d.now.selectors.items) in
-    then_some (n.before_selectors env x ss) c.args.told.now c.named.new.told (r.c1_named env x) c.before_selectors.new.told c.in_ok-entity.entity c.before_selectors.result
+    then_some (n.before_selectors env x ss) c.args.told.now c.judge_name.new.told (r.c1_named env x) c.before_selectors.new.told c.in_ok-entity.entity c.before_selectors.result
     c.in_ok-entity.ensures (rw c.deref.ensures.value at c.before_selectors.ensures)

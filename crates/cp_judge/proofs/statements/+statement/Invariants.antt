@@ -11,7 +11,7 @@ invariant-statements-loop-s l =
     least l.told (st.statements env (statements_of (map statement (drop l.s-index l.list)))) ≡ least l.fn.told (st.statements env (statements_of (map statement l.list)))
 
 -- what is told in the end, from this labelled statement on
-abbrev pub invariant-labelled_arms-loop-a : goal.invariant-labelled_arms-loop-a
-invariant-labelled_arms-loop-a l =
+abbrev pub invariant-judge_arms-loop-a : goal.invariant-judge_arms-loop-a
+invariant-judge_arms-loop-a l =
     let env = l.env in
     least l.told (st.arms env l.base l.seen (arms_of (map arm (drop l.a-index l.list)))) ≡ least l.fn.told (st.arms env l.base [] (arms_of (map arm l.list)))

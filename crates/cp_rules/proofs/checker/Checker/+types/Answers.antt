@@ -23,10 +23,10 @@ type_of-returns-in-Subrange t c =
     let low = c.in-Subrange.low in
     let high = c.in-Subrange.high in
     let v : view.type_expression c.args.t.now ≡ s.Subrange low high = rw c.in-Subrange.is (view_subrange low high) in
-    if_ok c.made.result
-    (λ of known. rw v (row_made old c.subrange-row.new.self c.made.new.self
+    if_ok c.make_type.result
+    (λ of known. rw v (row_made old c.subrange-row.new.self c.make_type.new.self
     (both (ty.constant old.env low) (ty.constant old.env high) (ty.c2_c3_subrange (ty.constant_at high))) c.subrange-row.result of c.subrange-row.ensures known))
-    c.made.ensures
+    c.make_type.ensures
 
 pub type_of-returns-in_ok-of-in-Array : goal.type_of-returns-in_ok-of-in-Array
 type_of-returns-in_ok-of-in-Array t c =
@@ -36,10 +36,10 @@ type_of-returns-in_ok-of-in-Array t c =
     let v : view.type_expression c.args.t.now ≡ s.Array at is e = rw c.in-Array.is (view_array at c.in-Array.indices c.in-Array.element) in
     let indices = rw c.deref.ensures.value at c.in_ok-indices-in-Array.ensures in
     let element = rw c.deref-in-Array.ensures at c.in_ok-of-in-Array.ensures in
-    let placed = rw c.deref-in-Array-2.ensures at c.placed-of.ensures in
+    let placed = rw c.deref-in-Array-2.ensures at c.judge_position-of.ensures in
     if_ok c.arrays.result
-    (λ answer known. rw v (array_made c.args.self.now c.index_types.new.self c.type_of.new.self c.placed-of.new.self c.arrays.new.self
-    at is e c.in_ok-indices-in-Array.indices.items c.in_ok-of-in-Array.of c.placed-of.result answer indices element placed known))
+    (λ answer known. rw v (array_made c.args.self.now c.index_types.new.self c.type_of.new.self c.judge_position-of.new.self c.arrays.new.self
+    at is e c.in_ok-indices-in-Array.indices.items c.in_ok-of-in-Array.of c.judge_position-of.result answer indices element placed known))
     c.arrays.ensures
 
 pub index_types-loop-t-preserved : goal.index_types-loop-t-preserved
@@ -67,9 +67,9 @@ added : (t : ℕ) (c : goal.field_group-After-note t)
     c.args.fields.now.first c.note.new.self.first
 added t c =
     let g : s.Variables = record { names = c.args.group.now.names.items; of = view.type_expression c.args.group.now.of } in
-    group_added c.args.self.now c.type_of.new.self c.placed-of.new.self c.add_fields.new.self g
+    group_added c.args.self.now c.type_of.new.self c.judge_position-of.new.self c.add_fields.new.self g
     c.args.fields.now.members c.note.new.self.members c.args.fields.now.first c.add_fields.new.fields.first c.note.new.self.first
-    c.in_ok-of.of c.placed-of.result c.number_or_any.result c.in_ok-of.ensures c.placed-of.ensures c.number_or_any.ensures
+    c.in_ok-of.of c.judge_position-of.result c.number_or_any.result c.in_ok-of.ensures c.judge_position-of.ensures c.number_or_any.ensures
     (rw c.deref.ensures.value at c.in_ok-add_fields.ensures.told)
     (ap (λ f. f.members) c.note.ensures ∙ (rw c.deref.ensures.value at c.in_ok-add_fields.ensures.members))
     (rw c.deref.ensures.value at c.in_ok-add_fields.ensures.first) (ap (λ f. f.first) c.note.ensures)
@@ -117,9 +117,9 @@ record_type-returns t c =
     let ms = c.loop-group.fields.members in
     let none = drop_all i all c.loop-group-test.false in
     let rest = λ (gs : List Fields). records.groups old.env ms (map view.variables gs) in
-    if_ok c.made_record.result
-    (λ answer known. record_made c.args.self.now old c.made_record.new.self c.args.at (map view.variables all) ms c.loop-group.fields.first answer
+    if_ok c.make_record.result
+    (λ answer known. record_made c.args.self.now old c.make_record.new.self c.args.at (map view.variables all) ms c.loop-group.fields.first answer
     (sym (ap (λ (gs : List Fields). with_groups old (rest gs)) none) ∙ c.loop-group.invariant.made)
     (sym (ap (λ (gs : List Fields). (rest gs).members) none) ∙ c.loop-group.invariant.members)
     (sym (ap (λ (gs : List Fields). or_first c.loop-group.fields.first (rest gs).violations) none ∙ or_nothing c.loop-group.fields.first) ∙ c.loop-group.invariant.first) known)
-    c.made_record.ensures
+    c.make_record.ensures

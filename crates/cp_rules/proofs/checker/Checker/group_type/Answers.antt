@@ -8,5 +8,5 @@ pub returns : goal.returns
 returns c =
     let g : s.Variables = record { names = c.args.group.now.names.items; of = view.type_expression c.args.group.now.of } in
     rw (view_fields c.args.group.now)
-    (group_left c.args.self.now c.args.position g c.declare_all.new.self c.type_placed.new.self c.leave.new.self c.mark-mark.result c.in_ok-of.of
+    (group_left c.args.self.now c.args.position g c.declare_all.new.self c.judge_type.new.self c.leave.new.self c.mark-mark.result c.in_ok-of.of
     c.mark-mark.ensures (rw c.deref.ensures.value at c.in_ok-declare_all.ensures) c.in_ok-of.ensures c.leave.ensures)
