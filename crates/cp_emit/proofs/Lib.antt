@@ -6,6 +6,8 @@ pub mod Loops
 pub mod Drafting
 pub mod PlansJoined
 pub mod Planning
+pub mod FillsJoined
+pub mod MembersStarted
 pub mod StartingValues
 pub mod Membership
 pub mod ComponentsPlanned

@@ -16,6 +16,7 @@ use Rattle.cp_emit.specs.declared.draft.Work.{Work}
 use Rattle.cp_emit.specs.declared.draft.Work.TheVariants as work
 use Rattle.cp_emit.specs.Drafts.{closed, planned, starts_of, with_end}
 use Rattle.cp_emit.specs.Planning.{AllDone, Done, Leaves}
+use Rattle.cp_emit.specs.StartValues.{IsFilledBy, StaysZero}
 use Rattle.cp_emit.proofs.PlansJoined.{array_closed, array_repeated}
 
 same_row : (types : Types) (n : ℕ) (r s : TypeRow) → row_at types n ≡ Some r → row_at types n ≡ Some s → r ≡ s
@@ -103,15 +104,21 @@ module _ (zeros : Bool) (g : GlobalScope) (types : Types) where
       go NoMembers stand all = all
       go (MoreMembers x t others) stand all = absurd stand
 
-  -- ---- Arrays
+  -- ---- One value
 
-  pub array_filled : (old new : Draft) (low high n : ℤ) (t : ResolvedType) (at count : ℕ) → new.left ≡ old.left
-      → planned new ≡ fill_unless zeros at count n (planned old) → count ≡ words g (ArrayOf low high t) → Some n ≡ start_of t
-      → Leaves zeros g types old new (plan zeros g (ArrayOf low high t) at)
-  array_filled old new low high n t at count left is many start =
-      leaves_planned old new (plan zeros g (ArrayOf low high t) at) left
-      (is ∙ (ap (λ k. fill_unless zeros at k n (planned old)) many
-      ∙ ap (λ o. plan_of_array zeros at (words g t) (count_between low high) o (plan zeros g t at []) (planned old)) start))
+  -- Nothing was planned, where the words are 0 before.
+  pub nothing_planned : (d : Draft) (t : ResolvedType) (at : ℕ) → zeros ≡ true → StaysZero t → Leaves zeros g types d d (plan zeros g t at)
+  nothing_planned d t at is zero after all =
+      subst (λ xs. AllDone zeros g types d.left.items xs after) (ap (λ b. plan b g t at (planned d)) is ∙ zero g at (planned d)) all
+
+  -- All words were filled at once.
+  pub words_filled : (old new : Draft) (n : ℤ) (t : ResolvedType) (at count : ℕ) → new.left ≡ old.left
+      → planned new ≡ fill_unless zeros at count n (planned old) → count ≡ words g t → IsFilledBy n t → Leaves zeros g types old new (plan zeros g t at)
+  words_filled old new n t at count left is many filled =
+      leaves_planned old new (plan zeros g t at) left
+      (is ∙ (ap (λ k. fill_unless zeros at k n (planned old)) many ∙ sym (filled zeros g at (planned old))))
+
+-- ---- Arrays
 
 pub array_left : (zeros : Bool) (g : GlobalScope) (types : Types) (old new : Draft) (low high : ℤ) (t : ResolvedType) (element at size count n : ℕ)
     → Stands types element t → None ≡ start_of t → size ≡ words g t → count ≡ count_between low high

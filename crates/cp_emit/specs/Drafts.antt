@@ -33,4 +33,5 @@ joined_with None first next rest = first ∷ next ∷ rest
 abbrev pub Joins : (at count : ℕ) (value : ℤ) → Start → Option Start → Type 0
 Joins at count value next both =
     (rest : List code.Start)
-    → fill_before at count value (view.start next ∷ rest) ≡ joined_with both (code.Fill at count value) (view.start next) rest
+    → fill_before at count value (view.start next ∷ rest)
+    ≡ joined_with both (code.Fill at count value) (view.start next) rest

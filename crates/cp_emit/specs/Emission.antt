@@ -46,11 +46,13 @@ operation_from e cs o = with_calls (map coded_call cs) (view.operation o) (place
 -- The unit under way, once it ends.
 abbrev pub unit_ended : Emitter → ℕ → List Start → op.CodeUnit
 unit_ended e entry starts =
-    code_unit entry (map view.start starts) (need_of_all (units_of e) e.words (drop e.first (operations_of e)))
+    code_unit entry (map view.start starts)
+    (need_of_all (units_of e) e.words (drop e.first (operations_of e)))
 
 -- ---- Loops
 
--- The operation that closes a loop, once its body begins there. That of a `while` leads to the body where its test holds.
+-- The operation that closes a loop, once its body begins there. That of a `while` leads to the body
+-- where its test holds.
 abbrev pub with_body : ℕ → op.Operation → op.Operation
 with_body body (op.Cycle b) = op.Cycle body
 with_body body (op.ForNext c) = op.ForNext (record c { body = body })

@@ -32,7 +32,8 @@ Done zeros g types (work.EndOfArray n) now after = after ≡ closed n now
 abbrev pub AllDone : Bool → GlobalScope → Types → List Work → List Start → List Start → Type 0
 AllDone zeros g types [] now after = after ≡ now
 AllDone zeros g types (w ∷ ws) now after =
-    (between : List Start) × AllDone zeros g types ws now between × Done zeros g types w between after
+    (between : List Start) × AllDone zeros g types ws now between
+    × Done zeros g types w between after
 
 -- What was left after this is left after that, which plans so much more or leaves it to be planned.
 abbrev pub Leaves : Bool → GlobalScope → Types → Draft → Draft → (List Start → List Start) → Type 0

@@ -1,19 +1,90 @@
 -- When a list tells by which values variables start.
-use Rattle.std.specs.Prelude.{◌≡◌, ℕ, ℤ, List, Option, Some, slice_get}
-use Rattle.cp_model.specs.Types.{ResolvedType}
-use Rattle.cp_code.specs.Plans.{start_of}
+use Rattle.std.specs.Prelude.{◌≡◌, Bool, true, ℕ, ℤ, List, Option, None, Some, slice_get}
+use Rattle.cp_model.specs.Abstract.{Name}
+use Rattle.cp_model.specs.Types.{GlobalScope, Members, Queue, ResolvedType, Simple}
+use Rattle.cp_typing.specs.Words.{words, words_of_members}
+use Rattle.cp_code.specs.Plans.{fill_unless, plan, plan_of_members, start_of}
+use Rattle.cp_code.specs.Programs.{Start}
 use Rattle.cp_scope.specs.declared.types.TypeRow.{TypeRow}
 use Rattle.cp_scope.specs.declared.types.Types.{Types}
-use Rattle.cp_scope.specs.Standing.{Stands, row_at}
+use Rattle.cp_scope.specs.Standing.{AreMembers, Stands, row_at}
+use Rattle.cp_emit.specs.declared.start_values.StartValue.{StartValue}
+
+-- ---- Types
+
+-- All words of a variable of this type are filled at once by this value.
+abbrev pub IsFilledBy : ℤ → ResolvedType → Type 0
+IsFilledBy n t =
+    (zeros : Bool) (g : GlobalScope) (at : ℕ) (rest : List Start)
+    → plan zeros g t at rest ≡ fill_unless zeros at (words g t) n rest
+
+-- Nothing is planned where its words are 0 before.
+abbrev pub StaysZero : ResolvedType → Type 0
+StaysZero t = (g : GlobalScope) (at : ℕ) (rest : List Start) → plan true g t at rest ≡ rest
+
+-- It is planned part by part: it is neither simple nor a queue, nor an array of simple elements.
+abbrev pub HasParts : ResolvedType → Type 0
+HasParts (Simple b low high n) = ⊥
+HasParts Queue = ⊥
+HasParts t = None ≡ start_of t
+
+-- All its words are filled at once by the value, if there is one.
+abbrev pub FillIs : Option ℤ → ResolvedType → Type 0
+FillIs (Some n) t = IsFilledBy n t
+FillIs None t = HasParts t
+
+-- The words of a variable of this type start as it tells.
+pub record StartsBy (value : StartValue) (t : ResolvedType) : Type 0 where
+  pub elements : value.elements ≡ start_of t
+  pub words : FillIs value.words t
+  pub zero : value.zero ≡ true → StaysZero t
 
 -- Those of types by their numbers.
-abbrev pub AreStartValues : Types → List (Option ℤ) → Type 0
+abbrev pub AreStartValues : Types → List StartValue → Type 0
 AreStartValues types values =
-    (n : ℕ) (value : Option ℤ) (t : ResolvedType) → slice_get values n ≡ Some value
-    → Stands types n t → value ≡ start_of t
+    (n : ℕ) (value : StartValue) (t : ResolvedType) → slice_get values n ≡ Some value
+    → Stands types n t → StartsBy value t
 
 -- That of what this row stands for.
-abbrev pub StartsRow : List (Option ℤ) → TypeRow → Option ℤ → Type 0
+abbrev pub StartsRow : List StartValue → TypeRow → StartValue → Type 0
 StartsRow values r value =
     (types : Types) (n : ℕ) (t : ResolvedType) → AreStartValues types values
-    → row_at types n ≡ Some r → Stands types n t → value ≡ start_of t
+    → row_at types n ≡ Some r → Stands types n t → StartsBy value t
+
+-- ---- What is known of a number
+
+-- All words of its type are filled at once by the value, if there is one.
+abbrev pub FillsAt : List StartValue → ℕ → Option ℤ → Type 0
+FillsAt values n None = Unit {0}
+FillsAt values n (Some value) =
+    (types : Types) (t : ResolvedType) → AreStartValues types values → Stands types n t
+    → IsFilledBy value t
+
+abbrev pub StaysZeroAt : List StartValue → ℕ → Type 0
+StaysZeroAt values n =
+    (types : Types) (t : ResolvedType) → AreStartValues types values → Stands types n t
+    → StaysZero t
+
+-- ---- Members
+
+-- All words of these members are filled at once by this value.
+abbrev pub AreFilledBy : ℤ → Members → Type 0
+AreFilledBy n ms =
+    (zeros : Bool) (g : GlobalScope) (at : ℕ) (rest : List Start)
+    → plan_of_members zeros g ms at rest ≡ fill_unless zeros at (words_of_members g ms) n rest
+
+abbrev pub StayZero : Members → Type 0
+StayZero ms =
+    (g : GlobalScope) (at : ℕ) (rest : List Start) → plan_of_members true g ms at rest ≡ rest
+
+-- All words of members of these names and numbers are filled at once by the value, if there is one.
+abbrev pub FillsMembers : List StartValue → List (Name × ℕ) → Option ℤ → Type 0
+FillsMembers values fields None = Unit {0}
+FillsMembers values fields (Some value) =
+    (types : Types) (ms : Members) → AreStartValues types values → AreMembers types fields ms
+    → AreFilledBy value ms
+
+abbrev pub KeepsMembersZero : List StartValue → List (Name × ℕ) → Type 0
+KeepsMembersZero values fields =
+    (types : Types) (ms : Members) → AreStartValues types values → AreMembers types fields ms
+    → StayZero ms

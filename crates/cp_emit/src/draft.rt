@@ -29,8 +29,8 @@ pub struct Draft {
 }
 
 // The fill that both are, if the second goes on where the first ends, and with the same value.
-fn joined(at: u32, count: u32, value: i32, next: Start) -> Result<Option<Start>, CompileError>
-    ensures { IfOk result (λ joined. Joins at count value next joined) }
+fn join(at: u32, count: u32, value: i32, next: Start) -> Result<Option<Start>, CompileError>
+    ensures { IfOk result (λ both. Joins at count value next both) }
 {
     match next {
         Start::Fill {
@@ -68,7 +68,7 @@ impl Draft {
             self.starts.push(first)?;
             return Ok(());
         };
-        match joined(at, count, value, next)? {
+        match join(at, count, value, next)? {
             Some(both) => self.starts.push(both)?,
             None => {
                 self.starts.push(next)?;

@@ -1,4 +1,5 @@
-//! Operations as they are emitted: with their calls, and loops that are closed once their body stands.
+//! Operations as they are emitted: with their calls, and loops that are closed once their body
+//! stands.
 
 ghost use Rattle.std.specs.Prelude.{◌≡◌, [], ◌∷◌, ◌++◌, IfOk, OnOk, length, map};
 ghost use Rattle.cp_emit.specs.Emission.{Emits, Goes, calls_from, changed_at, operation_from, operations_of, place_of, with_body, with_repeated};
@@ -76,7 +77,8 @@ impl Emitter {
         Ok(place)
     }
 
-    /// Completes the operation that closes a loop, once its body begins there: of a `cycle`, a `for` or a `while`.
+    /// Completes the operation that closes a loop, once its body begins there: of a `cycle`, a
+    /// `for` or a `while`.
     pub fn close_loop(&mut self, place: u32, body: u32)
         ensures { Goes self.old self.new
             (changed_at place (with_body body) (operations_of self.old)) }
@@ -92,7 +94,8 @@ impl Emitter {
         complete_repeat_at(&mut self.operations, place, body);
     }
 
-    // Emits calls that lead to the next place, the last one first, and answers where they are entered.
+    // Emits calls that lead to the next place, the last one first, and answers where they are
+    // entered.
     fn emit_calls(&mut self, calls: Vec<CodedCall>, next: u32) -> Result<u32, CompileError>
         ensures entry { IfOk result
             (λ entry. entry ≡ (calls_from self.old calls.items next).entry) }

@@ -16,7 +16,8 @@ pub struct CodedCall {
     pub into: u32,
 }
 
-/// The operations and units so far, of which the unit under way begins at an operation, with so many words of an activation.
+/// The operations and units so far, of which the unit under way begins at an operation, with so
+/// many words of an activation.
 #[derive(Debug, Drop)]
 pub struct Emitter {
     pub(crate) operations: Vec<Operation>,

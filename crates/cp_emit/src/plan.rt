@@ -3,12 +3,13 @@
 //! A plan is made from its end, by a stack of what is left to plan, for types name one another to
 //! any depth. Each equals the plan of `cp_code`'s `specs/Plans.antt`.
 
-ghost use Rattle.std.specs.Prelude.{◌≡◌, ◌∷◌, ◌++◌, ◌+◌, [], Bool, List, ℕ, suc, IfOk, OnOk, map, slice_get};
+ghost use Rattle.std.specs.Prelude.{◌≡◌, ◌∷◌, ◌++◌, ◌+◌, [], Bool, List, None, ℕ, suc, IfOk, OnOk, map, slice_get};
 ghost use Rattle.cp_code.specs.Layout.{local_words};
-ghost use Rattle.cp_code.specs.Plans.{plan, plan_of_members};
+ghost use Rattle.cp_code.specs.Plans.{plan, plan_of_members, start_of};
 ghost use Rattle.cp_code.specs.Programs as code;
 ghost use Rattle.cp_emit.specs.Drafts.{planned};
 ghost use Rattle.cp_emit.specs.Planning.{AllDone, Done, Knows, Leaves, types_of};
+ghost use Rattle.cp_emit.specs.StartValues.{HasParts};
 ghost use Rattle.cp_emit.specs.declared.draft.Work.TheVariants as work;
 ghost use Rattle.cp_model.specs.Declarations.{Variable};
 ghost use Rattle.cp_model.specs.Erase as erase;
@@ -20,7 +21,7 @@ ghost use Rattle.cp_scope.specs.Standing.{AreMembers, ScopeStands, Stands, entry
 ghost use Rattle.cp_typing.specs.Words.{words};
 
 use crate::draft::{Draft, Work};
-use crate::start_values::start_values;
+use crate::start_values::{StartValue, start_values};
 use cp_model::tree::{Parameters, Sort, System};
 use cp_scope::{CompileError, Field, Tables, TypeRow, count_between, small_number};
 use std::alloc::Global;
@@ -37,7 +38,7 @@ fn count_of(low: i32, high: i32) -> Result<u32, CompileError>
 pub struct Planner<'a, 't> {
     pub(crate) alloc: Global,
     pub(crate) tables: &'a Tables<'t>,
-    pub(crate) values: Vec<Option<i32>>,
+    pub(crate) values: Vec<StartValue>,
 }
 
 impl<'a, 't> Planner<'a, 't> {
@@ -86,8 +87,8 @@ impl<'a, 't> Planner<'a, 't> {
         }
     }
 
-    // The value by which all words of this type start, if there is one, of a type that is known.
-    fn value(&self, of: usize) -> Option<Option<i32>>
+    // By which values the words of this type start, of a type that is known.
+    fn start_value(&self, of: usize) -> Option<StartValue>
         ensures { result ≡ slice_get self.now.values.items of }
     {
         self.values.get(of).copied()
@@ -137,11 +138,10 @@ impl<'a, 't> Planner<'a, 't> {
         Ok(())
     }
 
-    // Plans an array, or leaves its first element to be planned.
+    // Plans that an array is repeated, and leaves its first element to be planned.
     fn plan_array(
         &self,
         zeros: bool,
-        of: usize,
         low: i32,
         high: i32,
         element: usize,
@@ -149,22 +149,15 @@ impl<'a, 't> Planner<'a, 't> {
         draft: &mut Draft,
     ) -> Result<(), CompileError>
         ensures { OnOk result ((g : GlobalScope) (t : ResolvedType) → Knows self.now g
-            → Stands (types_of self.now) of (ArrayOf low high t)
-            → Stands (types_of self.now) element t
+            → Stands (types_of self.now) element t → None ≡ start_of t
             → Leaves zeros g (types_of self.now) draft.old draft.new
             (plan zeros g (ArrayOf low high t) at)) }
     {
-        match self.value(element) {
-            None => Err(CompileError::Unaccepted),
-            Some(Some(value)) => draft.fill_unless(zeros, at, self.words(of)?, value),
-            Some(None) => {
-                let count = count_of(low, high)?;
-                draft.repeat(at, self.words(element)?, count)?;
-                draft.leave_end(zeros)?;
-                draft.left.push(Work::Variable { of: element, at })?;
-                Ok(())
-            }
-        }
+        let count = count_of(low, high)?;
+        draft.repeat(at, self.words(element)?, count)?;
+        draft.leave_end(zeros)?;
+        draft.left.push(Work::Variable { of: element, at })?;
+        Ok(())
     }
 
     // Leaves the members of a component to be planned, where they lie in its variable.
@@ -191,7 +184,37 @@ impl<'a, 't> Planner<'a, 't> {
         }
     }
 
-    // Plans a variable of this type, or leaves its parts to be planned.
+    // Leaves the parts of a variable to be planned, of a type whose words aren't filled at once:
+    // those of a simple type and of a queue always are.
+    fn plan_parts(
+        &self,
+        zeros: bool,
+        of: usize,
+        at: u32,
+        draft: &mut Draft,
+    ) -> Result<(), CompileError>
+        ensures { OnOk result ((g : GlobalScope) (t : ResolvedType) → Knows self.now g
+            → Stands (types_of self.now) of t → HasParts t
+            → Leaves zeros g (types_of self.now) draft.old draft.new
+            (plan zeros g t at)) }
+    {
+        let types = &self.tables.types;
+        match types.row(of) {
+            Some(TypeRow::Array { low, high, element }) => {
+                self.plan_array(zeros, *low, *high, *element, at, draft)
+            }
+            Some(TypeRow::Record(fields)) => self.leave_members(zeros, fields, at, draft),
+            Some(TypeRow::Component { system, members }) => match types.system(*system) {
+                Some(system) => self.plan_component(zeros, system, members, at, draft),
+                None => Err(CompileError::Unaccepted),
+            },
+            Some(TypeRow::Unknown) => Ok(()),
+            Some(TypeRow::Simple(_) | TypeRow::Queue) | None => Err(CompileError::Unaccepted),
+        }
+    }
+
+    // Plans a variable of this type: not at all where its words stay 0, by one fill where they
+    // start by one value, else part by part.
     fn plan_variable(
         &self,
         zeros: bool,
@@ -204,20 +227,13 @@ impl<'a, 't> Planner<'a, 't> {
             → Leaves zeros g (types_of self.now) draft.old draft.new
             (plan zeros g t at)) }
     {
-        let types = &self.tables.types;
-        match types.row(of) {
-            None => Err(CompileError::Unaccepted),
-            Some(TypeRow::Simple(simple)) => draft.fill_unless(zeros, at, 1, simple.start),
-            Some(TypeRow::Array { low, high, element }) => {
-                self.plan_array(zeros, of, *low, *high, *element, at, draft)
-            }
-            Some(TypeRow::Record(fields)) => self.leave_members(zeros, fields, at, draft),
-            Some(TypeRow::Queue) => draft.fill_unless(zeros, at, 1, 0),
-            Some(TypeRow::Component { system, members }) => match types.system(*system) {
-                Some(system) => self.plan_component(zeros, system, members, at, draft),
-                None => Err(CompileError::Unaccepted),
-            },
-            Some(TypeRow::Unknown) => Ok(()),
+        let start = self.start_value(of).ok_or(CompileError::Unaccepted)?;
+        if zeros && start.zero {
+            return Ok(());
+        }
+        match start.words {
+            Some(value) => draft.fill_unless(zeros, at, self.words(of)?, value),
+            None => self.plan_parts(zeros, of, at, draft),
         }
     }
 

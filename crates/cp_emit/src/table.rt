@@ -1,4 +1,5 @@
-//! Where a `case` leads: by a place for each number where the labels lie close to one another, else by the labels.
+//! Where a `case` leads: by a place for each number where the labels lie close to one another, else
+//! by the labels.
 
 ghost use Rattle.std.specs.Prelude.{◌≡◌, ℕ, ◌*◌, None, Some, IfErr, IfOk, [], if◌then◌else◌, int_le, length, map, replicate, slice_set};
 ghost use Rattle.cp_code.specs.CodedStatements as coded;
@@ -92,7 +93,8 @@ fn places(
     Ok(places)
 }
 
-/// The table of a `case` with these arms. One with a place for each number has at most four places a label.
+/// The table of a `case` with these arms. One with a place for each number has at most four places
+/// a label.
 pub fn table_of(alloc: Global, arms: Vec<Arm>) -> Result<Table, CompileError>
     ensures table { IfOk result (λ table. view.table table ≡ coded.table_of (map arm arms.items)) }
     ensures memory { IfErr result (λ e. e ≡ error.Memory) }

@@ -1,14 +1,11 @@
-use Rattle.std.proofs.Common.{◌≡◌, ◌∷◌, ◌+◌, List, [], drop, get_or, map, subst}
+use Rattle.std.proofs.Common.{◌≡◌, ◌∷◌, ◌+◌, List, drop, get_or, map, subst}
 use Rattle.std.proofs.lemmas.List.{at_drop_all, at_drop_more}
 use Rattle.cp_scope.specs.declared.types.Field.{Field}
 use Rattle.cp_scope.specs.Standing.{entry}
 use Rattle.cp_emit.specs.Planning.{types_of}
+use Rattle.cp_emit.proofs.MembersStarted.{nothing}
 use Rattle.cp_emit.proofs.Planning.{PartlyLeft, all_left, one_left}
 use Rattle.cp_emit.proofs.plan.Planner.leave_members.Goals as goal
-
--- What is read past the end of a list of fields.
-abbrev nothing : Field
-nothing = record { name = record { ref_ptr = (0, 0); now = [] }; of = 0 }
 
 pub loop-member-preserved : goal.loop-member-preserved
 loop-member-preserved c = λ g ms knows stand.
