@@ -118,12 +118,13 @@ def named_texts(path):
 def write_module(folder):
     """One folder: its texts and statements, their proof, and the public function that stands on them."""
     name, title = folder.name, folder.name.capitalize()
+    texts = {path: named_texts(path) for path in sorted(folder.glob('*.txt'))}
     lines = [f'-- Worked texts and their answers: {name}. Written by worked/make_rows.py.',
-             'use Rattle.std.specs.Prelude.{◌≡◌, true, false, [], ◌∷◌, ◌++◌, codes}', 'use Rattle.cp_model.specs.Report.{Text}',
+             'use Rattle.std.specs.Prelude.{◌≡◌, true, false, [], ◌∷◌, ◌++◌, codes}',
+             *(['use Rattle.cp_model.specs.Report.{Text}'] if any(texts.values()) else []),
              'use Rattle.cp_rows.specs.Answers.{check_answer, run_answer, replay_answer, consumed_answer}', '']
     names = []
-    for path in sorted(folder.glob('*.txt')):
-        named = named_texts(path)
+    for path, named in texts.items():
         for text, own in named.items():
             lines += [f'abbrev pub {own} : Text', f'{own} = {as_bytes(text)}', '']
         for k, (text, head, answer) in enumerate(cases_of(path), 1):

@@ -1,6 +1,5 @@
 -- Worked texts and their answers: classes. Written by worked/make_rows.py.
 use Rattle.std.specs.Prelude.{◌≡◌, true, false, [], ◌∷◌, ◌++◌, codes}
-use Rattle.cp_model.specs.Report.{Text}
 use Rattle.cp_rows.specs.Answers.{check_answer, run_answer, replay_answer, consumed_answer}
 
 abbrev pub classes_and_rights_1 : Type 0

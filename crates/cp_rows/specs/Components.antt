@@ -1,6 +1,5 @@
 -- Worked texts and their answers: components. Written by worked/make_rows.py.
 use Rattle.std.specs.Prelude.{◌≡◌, true, false, [], ◌∷◌, ◌++◌, codes}
-use Rattle.cp_model.specs.Report.{Text}
 use Rattle.cp_rows.specs.Answers.{check_answer, run_answer, replay_answer, consumed_answer}
 
 abbrev pub a_routine_without_entry_1 : Type 0
