@@ -21,7 +21,7 @@ use Rattle.cp_code.specs.StandsFor.{UnitStands, body_environment, routine_enviro
 use Rattle.cp_code.specs.Compile.{unit_texts}
 use Rattle.cp_code.specs.Example.{b, c, d, m, p, get, go, run, add, initial, program, tree}
 
-abbrev g : GlobalScope
+abbrev pub g : GlobalScope
 g = globals tree
 
 abbrev texts : List UnitText
@@ -33,19 +33,19 @@ no_unit = record { start = 0; starts = []; words = 0; temps = 0; frames = 0 }
 abbrev unit_at : op.Program → ℕ → CodeUnit
 unit_at program n = elim (slice_get program.units n) [ None ↦ no_unit | Some u ↦ u ]
 
-le : (x y : ℕ) → nat_le x y ≡ true → x ≤ y
+pub le : (x y : ℕ) → nat_le x y ≡ true → x ≤ y
 le x y h = leb-true x y h
 
-abbrev int : ResolvedType
+abbrev pub int : ResolvedType
 int = full_range Integer
 
-abbrev one : ResolvedType → declared.Variable
+abbrev pub one : ResolvedType → declared.Variable
 one t = record { by_reference = false; type = t }
 
-abbrev lent : ResolvedType → declared.Variable
+abbrev pub lent : ResolvedType → declared.Variable
 lent t = record { by_reference = true; type = t }
 
-abbrev type_of : System → ResolvedType
+abbrev pub type_of : System → ResolvedType
 type_of s = ComponentOf s (reported_members g s)
 
 -- ---- code

@@ -28,5 +28,5 @@ mod FactsStand
 mod OperationsStand
 mod AssignmentsStand
 mod ProceduresStand
-mod Example
+pub mod Example
 mod Negatives

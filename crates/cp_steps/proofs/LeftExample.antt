@@ -3,13 +3,10 @@
 -- The example is the text of cp_code. Inside `get`, which `go` calls in an expression, `go` waits for the value with its whole
 -- assignment left, `run` goes on behind its call of `go`, and the process behind its call of `run`.
 use Rattle.std.proofs.Common.{◌≡◌, ℤ, ℕ, ◌≤◌, ◌+◌, pos, negsuc, List, [], ◌∷◌, true, false, None, Some, refl}
-use Rattle.std.specs.Prelude.{codes, nat_le}
-use Rattle.std.proofs.lemmas.Bool.{leb-true}
+use Rattle.std.specs.Prelude.{codes}
 use Rattle.cp_model.specs.Abstract as a
-use Rattle.cp_model.specs.Abstract.{Integer, System}
-use Rattle.cp_model.specs.Types.{ComponentOf, GlobalScope, ResolvedType, full_range}
-use Rattle.cp_model.specs.Declarations as declared
-use Rattle.cp_model.specs.Declarations.{globals, reported_members}
+use Rattle.cp_model.specs.Abstract.{Integer}
+use Rattle.cp_model.specs.Declarations.{reported_members}
 use Rattle.cp_model.specs.Environments.{Environment, Frame}
 use Rattle.cp_model.specs.Locations.{ByName, Location, OfActivation, under}
 use Rattle.cp_model.specs.Components.{process_location}
@@ -23,13 +20,11 @@ use Rattle.cp_code.specs.StatementsFor.{CodeFor}
 use Rattle.cp_code.specs.StandsFor.{body_environment, routine_environment}
 use Rattle.cp_code.specs.Compile.{unit_texts}
 use Rattle.cp_code.specs.Example.{b, c, d, m, p, get, go, run, add, program, setup, tree}
+use Rattle.cp_code.proofs.Example.{g, int, le, lent, one, type_of}
 use Rattle.cp_steps.specs.PrivateStates as machine
 use Rattle.cp_steps.specs.Machines.{unit_at}
 use Rattle.cp_steps.specs.Addresses.{ClassLies, Ground, OwnWords, ProcessLies}
 use Rattle.cp_steps.specs.Left.{Left, Running, Runs, held_below, kept_below, site}
-
-abbrev g : GlobalScope
-g = globals tree
 
 abbrev ground : Ground
 ground = record { program = program; texts = unit_texts tree; setup = setup; p = 2; own = 9 + (unit_at program 8).words; sight = OwnWords; monitors_lie = tt }
@@ -39,21 +34,6 @@ temps_count = (unit_at program 8).temps
 
 abbrev frames_limit : ℕ
 frames_limit = (unit_at program 8).frames
-
-le : (x y : ℕ) → nat_le x y ≡ true → x ≤ y
-le x y h = leb-true x y h
-
-abbrev int : ResolvedType
-int = full_range Integer
-
-abbrev one : ResolvedType → declared.Variable
-one t = record { by_reference = false; type = t }
-
-abbrev lent : ResolvedType → declared.Variable
-lent t = record { by_reference = true; type = t }
-
-abbrev type_of : System → ResolvedType
-type_of s = ComponentOf s (reported_members g s)
 
 -- ---- The process
 
