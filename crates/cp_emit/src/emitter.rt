@@ -5,6 +5,7 @@ ghost use Rattle.cp_code.specs.CodeNeeds.{need_of_all};
 ghost use Rattle.cp_emit.specs.PlainNeeds.{plain_need};
 ghost use Rattle.cp_threaded.specs.View as view;
 
+use crate::allowance::Allowance;
 use crate::need::Need;
 use cp_threaded::operation::{Call, Operation};
 use cp_threaded::program::CodeUnit;
@@ -22,6 +23,7 @@ pub struct CodedCall {
 pub struct Emitter {
     pub(crate) operations: Vec<Operation>,
     pub(crate) units: Vec<CodeUnit>,
+    pub(crate) allowance: Allowance,
     pub(crate) first: usize,
     pub(crate) words: u32,
     pub(crate) need: Need,

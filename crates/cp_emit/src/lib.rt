@@ -6,6 +6,7 @@
 //! - `need`: what an operation and a unit need of words, temps and frames.
 //! - `table`: where a `case` leads.
 //! - `starts`: plans, by which the words of activations and components start.
+//! - `allowance`: how long they may be.
 //! - `plan`, `draft`: a plan as it is made, from its end, by a stack of what is left to plan.
 //! - `members`, `start_values`: what plans are made from.
 //!
@@ -13,6 +14,7 @@
 //! of operations.
 #![tactic(auto)]
 
+pub mod allowance;
 pub mod call;
 pub mod draft;
 pub mod emission;

@@ -15,6 +15,7 @@ ghost use Rattle.cp_scope.specs.Texts.{AreSystems};
 ghost use Rattle.cp_scope.specs.Variables.{AreDeclared, declared_entry};
 ghost use Rattle.cp_threaded.specs.View as view;
 
+use crate::allowance::Allowance;
 use crate::draft::Draft;
 use crate::members::{add_members, own_parameters};
 use crate::plan::Planner;
@@ -136,9 +137,11 @@ impl<'a, 't> Planner<'a, 't> {
         ensures complete { IfOk result (λ plans. length self.now.tables.now.systems.items
             ≤ length plans.items) }
     {
+        let mut allowance = Allowance::new();
         let mut plans = Vec::new(self.alloc);
         while let Some(table) = self.table(plans.len()) {
             let starts = self.component(&table.parameters, &table.variables)?;
+            allowance.take(&starts)?;
             plans.push(Plan { starts })?;
         }
         Ok(plans)

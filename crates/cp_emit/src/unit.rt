@@ -5,6 +5,7 @@ ghost use Rattle.cp_scope.specs.declared.error.CompileError.TheVariants as error
 ghost use Rattle.cp_emit.specs.Emission.{operations_of, place_of, unit_ended, units_of};
 ghost use Rattle.cp_threaded.specs.View as view;
 
+use crate::allowance::Allowance;
 use crate::emitter::Emitter;
 use crate::need::Need;
 use cp_scope::CompileError;
@@ -21,6 +22,7 @@ impl Emitter {
         Emitter {
             operations: Vec::new(alloc),
             units: Vec::new(alloc),
+            allowance: Allowance::new(),
             first: 0,
             words: 0,
             need: Need::none(),
@@ -46,6 +48,7 @@ impl Emitter {
         ensures unit { OnOk result
             (units_of self.new ≡ units_of self.old ++ unit_ended self.old entry starts.items ∷ []) }
     {
+        self.allowance.take(&starts)?;
         let need = self.need;
         self.units.push(CodeUnit {
             start: entry,
