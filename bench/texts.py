@@ -1,5 +1,5 @@
 #!/usr/bin/env python3
-"""Measures whole texts: seconds and memory of `cpm run FILE --rounds 1` or `cpm check FILE`, from the start of the program to its end.
+"""Measures whole texts: seconds and memory of `cpm run FILE --rounds 1`, and for declarations of `cpm check FILE` too.
 
 Build the program first (`rt run < stdin` in crates/cpm leaves out/cpm), then call this script. The last line has the steps
 a second of 255 counting processes.
@@ -67,17 +67,21 @@ def measure(words):
     return best
 
 
+def report(what, text, *words):
+    seconds, kilobytes = measure(words)
+    print(f'{what:34} {words[0]:5} {len(text):>9} bytes {seconds:6.2f} s {kilobytes / 1024:5.0f} MB')
+
+
 def main():
     with tempfile.TemporaryDirectory() as folder:
         file = pathlib.Path(folder) / 'text.cp'
         for what, text in TEXTS.items():
             file.write_text(text)
-            seconds, kilobytes = measure(['run', file, '--rounds', '1'])
-            print(f'{what:32} {len(text):>9} bytes {seconds:6.2f} s {kilobytes / 1024:5.0f} MB')
+            report(what, text, 'run', file, '--rounds', '1')
         for what, text in DECLARATIONS.items():
             file.write_text(text)
-            seconds, kilobytes = measure(['check', file])
-            print(f'{what:32} {len(text):>9} bytes {seconds:6.2f} s {kilobytes / 1024:5.0f} MB')
+            report(what, text, 'check', file)
+            report(what, text, 'run', file, '--rounds', '1')
         file.write_text(COUNTING)
         seconds, _ = measure(['run', file, '--rounds', '100', '--turn', '10000'])
         print(f'255 processes: {255 * 10_000 * 100 / seconds / 1e6:.0f} million steps a second')

@@ -2,7 +2,7 @@
 
 use crate::finder::Finder;
 use crate::site::{Call, Mark, NameRole, Purpose};
-use cp_model::tree::{Arm, Constant, InitItem, Statement};
+use cp_model::tree::{Arm, Constant, Expression, Identifier, InitItem, Statement};
 
 impl<'t> Finder<'t> {
     #[cycle(statements)]
@@ -74,14 +74,23 @@ impl<'t> Finder<'t> {
                 last,
                 body,
                 ..
-            } => {
-                self.name(variable, NameRole::Counter);
-                self.expression_for(from, Purpose::Bound);
-                self.expression_for(last, Purpose::Bound);
-                self.statement(body);
-            }
+            } => self.for_statement(variable, from, last, body),
             _ => {}
         }
+    }
+
+    #[cycle(statements)]
+    fn for_statement(
+        &mut self,
+        counter: &'t Identifier,
+        first: &'t Expression,
+        last: &'t Expression,
+        body: &'t Statement,
+    ) {
+        self.name(counter, NameRole::Counter);
+        self.expression_for(first, Purpose::Bound);
+        self.expression_for(last, Purpose::Bound);
+        self.statement(body);
     }
 
     #[cycle(statements)]

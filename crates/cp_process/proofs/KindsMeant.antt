@@ -15,7 +15,7 @@ use Rattle.cp_model.specs.States.{Setup, State}
 use Rattle.cp_model.specs.Turns as meaning
 use Rattle.cp_code.specs.Programs.{Program}
 use Rattle.cp_code.specs.StandsFor.{StandsFor}
-use Rattle.cp_steps.specs.Addresses.{Ground, words_seen}
+use Rattle.cp_steps.specs.Addresses.{Ground}
 use Rattle.cp_steps.specs.KernelSteps.{needs_kernel}
 use Rattle.cp_steps.specs.Laws.{ground_of}
 use Rattle.cp_steps.specs.Left.{innermost_gate}

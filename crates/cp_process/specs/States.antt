@@ -1,9 +1,9 @@
 -- The code's private state, and what a step reads beside and leaves, as the plain data of the definitions.
-use Rattle.std.specs.Prelude.{◌≡◌, ℕ, zero, suc, ℤ, List, [], ◌∷◌, ◌++◌, Option, None, Some, Result, Ok, Err, length, slice_get}
+use Rattle.std.specs.Prelude.{◌≡◌, ℕ, zero, suc, ℤ, List, [], ◌∷◌, ◌++◌, true, Option, None, Some, Result, Ok, Err, length, slice_get}
 use Rattle.cp_model.specs.States as model
 use Rattle.cp_model.specs.declared.state.Fault.{Fault}
 use Rattle.cp_steps.specs.PrivateStates as plain
-use Rattle.cp_steps.specs.PrivateStates.{Acting, PrivateState, fault_in}
+use Rattle.cp_steps.specs.PrivateStates.{Acting, PrivateState, fault_in, is_running}
 use Rattle.cp_steps.specs.KernelSteps as kernel
 use Rattle.cp_process.specs.declared.effect.Effect.{Effect}
 use Rattle.cp_process.specs.declared.effect.Effect.TheVariants as effect_case
@@ -118,6 +118,11 @@ outside_of w own = record {
 pub record IsAlone (w : Outside) : Type 0 where
   pub gates : w.gates.now ≡ []
   pub stages : w.stages.now ≡ []
+
+-- It runs and holds no gate: its next step may be private.
+pub record IsReady (x : Private) : Type 0 where
+  pub running : is_running (activity x.activity) ≡ true
+  pub free : x.gate ≡ 0
 
 -- ---- Effects and outcomes
 

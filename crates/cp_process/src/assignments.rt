@@ -6,7 +6,7 @@ ghost use Rattle.cp_model.specs.Integers.{same_integer};
 ghost use Rattle.cp_model.specs.Places.{within};
 ghost use Rattle.cp_steps.specs.Steps as plain;
 ghost use Rattle.cp_steps.specs.PrivateStates.{go_to, private_outcome};
-ghost use Rattle.cp_process.specs.States.{IsStep, joined, outcome};
+ghost use Rattle.cp_process.specs.States.{IsReady, IsStep, joined, outcome};
 ghost use Rattle.cp_threaded.specs.Reaches.{capped};
 ghost use Rattle.cp_threaded.specs.View as view;
 
@@ -59,6 +59,7 @@ impl Private {
         ensures output { self.new.output ≡ self.old.output }
         ensures own { length self.new.memory.words.items ≡ length self.old.memory.words.items }
         ensures number { self.new.number ≡ self.old.number }
+        ensures ready { IsReady self.old → IsReady self.new }
         ensures shared { length shared.new ≡ length shared.old }
     {
         if !bounds.contain(n) {
@@ -89,6 +90,7 @@ impl Private {
         ensures output { self.new.output ≡ self.old.output }
         ensures own { length self.new.memory.words.items ≡ length self.old.memory.words.items }
         ensures number { self.new.number ≡ self.old.number }
+        ensures ready { IsReady self.old → IsReady self.new }
         ensures shared { length shared.new ≡ length shared.old }
     {
         let reach = self.reach(shared, outside);

@@ -2,7 +2,7 @@
 
 ghost use Rattle.std.specs.Prelude.{◌≡◌, ◌<◌, ◌^◌, ℕ, ℤ, List, length, map};
 ghost use Rattle.cp_code.specs.Starts.{block, paste, started};
-ghost use Rattle.cp_process.specs.States.{joined};
+ghost use Rattle.cp_process.specs.States.{IsReady, joined};
 ghost use Rattle.cp_steps.specs.PrivateStates as plain;
 ghost use Rattle.cp_threaded.specs.Reaches.{capped};
 ghost use Rattle.cp_threaded.specs.View as view;
@@ -22,6 +22,7 @@ impl Private {
         ensures output { self.new.output ≡ self.old.output }
         ensures own { length self.new.memory.words.items ≡ length self.old.memory.words.items }
         ensures number { self.new.number ≡ self.old.number }
+        ensures ready { IsReady self.old → IsReady self.new }
         ensures shared { length shared.new ≡ length shared.old }
     {
         words::write(&mut self.memory.words, shared, at, n);

@@ -1,8 +1,10 @@
 //! One step of a process.
 
-ghost use Rattle.std.specs.Prelude.{◌≡◌, ◌<◌, ◌^◌, false, ℕ, [], Some, length};
+ghost use Rattle.std.specs.Prelude.{◌≡◌, ◌<◌, ◌^◌, false, true, ℕ, List, [], length};
 ghost use Rattle.cp_process.specs.Rooms.{HasRoomFor, KeepsRoom};
-ghost use Rattle.cp_process.specs.States.{IsAlone, IsStep, effect, joined, outside_of, private_of};
+ghost use Rattle.cp_process.specs.States.{IsAlone, IsReady, IsStep, activity, effect, joined, outside_of, private_of};
+ghost use Rattle.cp_code.specs.Programs as code;
+ghost use Rattle.cp_steps.specs.PrivateStates.{is_running};
 ghost use Rattle.cp_steps.specs.Steps as plain;
 ghost use Rattle.cp_threaded.specs.View as view;
 
@@ -133,7 +135,8 @@ impl Private {
         }
     }
 
-    // Makes a private step that assigns a value: the most common one, so it takes no way through all operations.
+    // Makes a private step that assigns a value: the most common one, so it takes no way through all operations. Tells whether the
+    // process is ready as before: a fault has ended it if not.
     #[inline(always)]
     fn assign(
         &mut self,
@@ -143,7 +146,7 @@ impl Private {
         low: &i32,
         high: &i32,
         next: &u32,
-    )
+    ) -> bool
         ensures step { let input = outside.now.input.now in let o = joined self.old input [] in
             let w = outside_of outside.now (length self.old.memory.words.items) in
             joined self.new input []
@@ -151,29 +154,43 @@ impl Private {
             (view.term value.now) (λ n. plain.set_within o low.now high.now at n next.now))).0 }
         ensures output { self.new.output ≡ self.old.output }
         ensures number { self.new.number ≡ self.old.number }
+        ensures ready { IsReady self.old → result ≡ true → IsReady self.new }
+        ensures faulted { result ≡ false → is_running (activity self.new.activity) ≡ false }
     {
         if let Err(fault) = self.set(&mut [], outside, to, value, low, high, next) {
             self.activity = Activity::Faulted(fault);
+            return false;
         }
+        true
     }
 
-    /// One step, if the next one is private; else nothing. Tells whether it was.
+    /// Whether it runs and holds no gate, so that its next step may be private.
     #[inline(always)]
-    pub(crate) fn private_step(&mut self, program: &Program, outside: &Outside) -> bool
+    pub(crate) fn is_ready(&self) -> bool
+        ensures ready { result ≡ true → IsReady self.now }
+        ensures rest { result ≡ false → (program : code.Program) (clock : ℕ) (input : List ℕ)
+            → plain.private_step program clock (private_of self.now input)
+            ≡ private_of self.now input }
+    {
+        matches!(self.activity, Activity::Running) && self.gate == 0
+    }
+
+    /// Takes the next step of a process that is ready, if it is private. Tells whether one more may be.
+    #[inline(always)]
+    pub(crate) fn take_step(&mut self, program: &Program, outside: &Outside) -> bool
         requires alone { IsAlone outside.now }
+        requires ready { IsReady self.old }
         requires room { HasRoomFor self.old 1 }
         ensures step { private_of self.new outside.now.input.now ≡ plain.private_step
             (view.program program.now) outside.now.clock
             (private_of self.old outside.now.input.now) }
+        ensures ready { result ≡ true → IsReady self.new }
         ensures rest { result ≡ false → plain.private_step (view.program program.now)
-            outside.now.clock (private_of self.old outside.now.input.now)
-            ≡ private_of self.old outside.now.input.now }
+            outside.now.clock (private_of self.new outside.now.input.now)
+            ≡ private_of self.new outside.now.input.now }
         ensures number { self.new.number ≡ self.old.number }
         ensures room { KeepsRoom self.old self.new }
     {
-        if !matches!(self.activity, Activity::Running) || self.gate != 0 {
-            return false;
-        }
         let Some(operation) = program.operation(self.place) else {
             return false;
         };
@@ -185,14 +202,13 @@ impl Private {
             next,
         } = operation
         {
-            self.assign(outside, to, value, low, high, next);
-            return true;
+            return self.assign(outside, to, value, low, high, next);
         }
         if needs_kernel(operation) {
             return false;
         }
         self.make(operation, program, &mut [], outside);
-        true
+        self.is_ready()
     }
 }
 

@@ -25,8 +25,11 @@ fn take_steps(program: &Program, private: &mut Private, outside: &Outside, count
     ensures length { vec_len private.new.output ≤ vec_len private.old.output + 11 * count }
     ensures capacity { vec_capacity private.old.output ≤ vec_capacity private.new.output }
 {
+    if !private.is_ready() {
+        return;
+    }
     for _i in 0..count {
-        if !private.private_step(program, outside) {
+        if !private.take_step(program, outside) {
             return;
         }
     }
@@ -41,7 +44,7 @@ pub fn private_step(program: &Program, private: &mut Private, input: &[u8], cloc
     ensures number { private.new.number ≡ private.old.number }
     ensures room { KeepsRoom private.old private.new }
 {
-    private.private_step(program, &Outside::alone(input, clock));
+    take_steps(program, private, &Outside::alone(input, clock), 1);
     law::private_steps();
 }
 

@@ -12,7 +12,7 @@ returns-clause-meaning c =
     λ setup F p own s before I now P.
     let program = view.program c.args.program.now in
     let o = private_of c.args.private.now c.args.input.now in
-    let step : private_of c.private_step.new.self c.args.input.now ≡ private_step program c.args.clock o = search rules in
+    let step : private_of c.take_steps.new.private c.args.input.now ≡ private_step program c.args.clock o = search rules in
     let there = step ∙ ap (λ k. private_step program k o) now in
     subst (PartOf (ground_of program setup F p own) (meaning.private_step setup s p) before) (sym there)
     (c.private_steps.ensures.step program setup F p own s before o I P)

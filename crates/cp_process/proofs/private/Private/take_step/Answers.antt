@@ -6,7 +6,7 @@ use Rattle.cp_steps.specs.Steps.{act, alone, is_private, operation_of}
 use Rattle.cp_threaded.specs.View as view
 use Rattle.cp_process.specs.States.{joined, outside_of, private_of}
 use Rattle.cp_process.proofs.Unshared.{outside_alone, private_joined, stepped}
-use Rattle.cp_process.proofs.private.Private.private_step.Goals as goal
+use Rattle.cp_process.proofs.private.Private.take_step.Goals as goal
 
 pub returns-clause-step : goal.returns-clause-step
 returns-clause-step c =
@@ -28,3 +28,7 @@ returns-clause-step c =
 
 pub returns-in-Set-clause-number : goal.returns-in-Set-clause-number
 returns-in-Set-clause-number c = c.assign.ensures.number
+
+pub returns-clause-rest : goal.returns-clause-rest
+returns-clause-rest c =
+    λ over. c.is_ready.ensures.rest over (view.program c.args.program.now) c.args.outside.now.clock c.args.outside.now.input.now
