@@ -99,26 +99,28 @@ impl Private {
         self.set_within(shared, at, n, Bounds::new(*low, *high), *next)
     }
 
+    #[inline(always)]
     pub(crate) fn set_result(
         &mut self,
         shared: &mut [i32],
         outside: &Outside,
         value: &Term,
-        bounds: Bounds,
-        next: u32,
+        low: &i32,
+        high: &i32,
+        next: &u32,
     ) -> Result<Effect, Fault>
         requires { length shared.old < 2 ^ 30 }
         ensures step { IsStep self.old shared.old outside.now self.new shared.new result
             (λ w o. plain.with_value w o (view.term value.now) (λ n. plain.set_within o
-            bounds.low bounds.high o.base n next)) }
+            low.now high.now o.base n next.now)) }
         ensures output { self.new.output ≡ self.old.output }
         ensures own { length self.new.memory.words.items ≡ length self.old.memory.words.items }
         ensures number { self.new.number ≡ self.old.number }
         ensures shared { length shared.new ≡ length shared.old }
     {
-        let n = self.evaluate(shared, outside, value)?;
+        let n = self.evaluate_here(shared, outside, value)?;
         let at = self.memory.base as usize;
-        self.set_within(shared, at, n, bounds, next)
+        self.set_within(shared, at, n, Bounds::new(*low, *high), *next)
     }
 
     pub(crate) fn copy_words(

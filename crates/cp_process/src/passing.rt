@@ -25,12 +25,14 @@ pub(crate) struct Destination {
 }
 
 impl Private {
+    // The bounds are read when the value is there, so that they aren't kept while it is found.
     fn pass_value(
         &mut self,
         shared: &mut [i32],
         outside: &Outside,
         at: usize,
-        bounds: Bounds,
+        low: &i32,
+        high: &i32,
         term: &Term,
     ) -> Result<(), Fault>
         requires shared { length shared.old < 2 ^ 30 }
@@ -38,14 +40,14 @@ impl Private {
         ensures step { (own : ℕ) → let o = joined self.old outside.now.input.now shared.old in
             passed (joined self.new outside.now.input.now shared.new) result ≡ plain.pass_result o
             (value_of (view_of (outside_of outside.now own) o) (view.term term.now))
-            (λ n. plain.pass_value o at bounds.low bounds.high n) }
+            (λ n. plain.pass_value o at low.now high.now n) }
         ensures output { self.new.output ≡ self.old.output }
         ensures own { length self.new.memory.words.items ≡ length self.old.memory.words.items }
         ensures number { self.new.number ≡ self.old.number }
         ensures shared { length shared.new ≡ length shared.old }
     {
         let n = self.evaluate_here(shared, outside, term)?;
-        if !bounds.contain(n) {
+        if !Bounds::new(*low, *high).contain(n) {
             return Err(Fault::Range);
         }
         self.set_word(shared, at, n);
@@ -151,13 +153,7 @@ impl Private {
                 low,
                 high,
                 term,
-            } => {
-                let bounds = Bounds {
-                    low: *low,
-                    high: *high,
-                };
-                self.pass_value(shared, outside, to + *at as usize, bounds, term)
-            }
+            } => self.pass_value(shared, outside, to + *at as usize, low, high, term),
             Argument::Copy { at, size, from } => {
                 self.pass_copy(shared, outside, to + *at as usize, *size, from)
             }

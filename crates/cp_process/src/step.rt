@@ -50,7 +50,7 @@ impl Private {
                 high,
                 value,
                 next,
-            } => self.set_result(shared, outside, value, Bounds::new(*low, *high), *next),
+            } => self.set_result(shared, outside, value, low, high, next),
             Operation::CopyWords {
                 to,
                 from,

@@ -1,13 +1,8 @@
-use Rattle.std.proofs.Common.{rules, ◌≡◌, to_z, of_z}
-use Rattle.std.specs.Int.{w32}
 use Rattle.cp_process.proofs.private.Private.pass_one.Goals as goal
 
 pub returns-in-Value-clause-step : goal.returns-in-Value-clause-step
 returns-in-Value-clause-step c =
-    λ own.
-    let low : to_z w32 (of_z w32 c.in-Value.low) ≡ c.in-Value.low = search rules in
-    let high : to_z w32 (of_z w32 c.in-Value.high) ≡ c.in-Value.high = search rules in
-    rw c.in-Value.is (rw (low, high) at c.pass_value.ensures.step own)
+    λ own. rw c.in-Value.is (c.pass_value.ensures.step own)
 
 pub returns-in-Copy-clause-step : goal.returns-in-Copy-clause-step
 returns-in-Copy-clause-step c = λ own. rw c.in-Copy.is (c.pass_copy.ensures.step own)
