@@ -2,7 +2,7 @@
 
 use crate::finder::Finder;
 use crate::site::{Call, Mark, NameRole, Purpose};
-use cp_model::tree::{Arm, Constant, Expression, Identifier, InitItem, Statement};
+use cp_model::tree::{Arm, Constant, InitItem, Statement};
 
 impl<'t> Finder<'t> {
     #[cycle(statements)]
@@ -34,6 +34,18 @@ impl<'t> Finder<'t> {
             Statement::Init { at, items } => {
                 self.mark(*at, Mark::Init);
                 self.items(items);
+            }
+            Statement::For {
+                variable,
+                from,
+                last,
+                body,
+                ..
+            } => {
+                self.name(variable, NameRole::Counter);
+                self.expression_for(from, Purpose::Bound);
+                self.expression_for(last, Purpose::Bound);
+                self.statement(body);
             }
             _ => self.control_statement(s),
         }
@@ -68,29 +80,8 @@ impl<'t> Finder<'t> {
                 self.statements(body);
                 self.expression_for(condition, Purpose::Condition);
             }
-            Statement::For {
-                variable,
-                from,
-                last,
-                body,
-                ..
-            } => self.for_statement(variable, from, last, body),
             _ => {}
         }
-    }
-
-    #[cycle(statements)]
-    fn for_statement(
-        &mut self,
-        counter: &'t Identifier,
-        first: &'t Expression,
-        last: &'t Expression,
-        body: &'t Statement,
-    ) {
-        self.name(counter, NameRole::Counter);
-        self.expression_for(first, Purpose::Bound);
-        self.expression_for(last, Purpose::Bound);
-        self.statement(body);
     }
 
     #[cycle(statements)]
