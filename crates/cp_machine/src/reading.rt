@@ -48,7 +48,8 @@ impl Machine {
 
     /// The private state of process p, if there is one.
     pub fn private(&self, p: usize) -> Option<&Private>
-        ensures { option_map (λ x. private_of x.now (input_of self.now.setting.inputs.items p)) result
+        ensures { option_map
+            (λ x. private_of x.now (input_of self.now.setting.inputs.items p)) result
             ≡ slice_get (machine_of self.now).parts (p - 1) }
     {
         match self.parts.privates.get(p.saturating_sub(1)) {

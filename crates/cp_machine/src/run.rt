@@ -36,7 +36,8 @@ fn make_rounds<'a, C: Course, R: Wait, G: TurnGate>(
     requires few { done + length cells.now < 2 ^ 64 }
     requires course { IsCourseOf C.turned C.input C.most setting.now plan.now.turn.steps }
     ensures made { IfOk result
-        (λ _. PartsAfter setting.now plan.now.turn.steps done (length cells.now) parts.old parts.new) }
+        (λ _. PartsAfter setting.now plan.now.turn.steps done (length cells.now) parts.old
+        parts.new) }
     ensures partly { IfErr result
         (λ n. (n < length cells.now)
         × PartsAfter setting.now plan.now.turn.steps done n parts.old parts.new) }

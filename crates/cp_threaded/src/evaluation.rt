@@ -136,7 +136,8 @@ impl<'a> Reach<'a> {
     // The word at a place, or 0 where it is missing. The place may be told as the greatest number.
     #[inline(always)]
     fn word(&self, at: usize) -> i32
-        ensures word { result ≡ starts.word (self.now.memory.now.words.items ++ self.now.shared.now) at }
+        ensures word { result
+            ≡ starts.word (self.now.memory.now.words.items ++ self.now.shared.now) at }
         ensures capped { (place : ℕ) → capped place ≡ at
             → result ≡ starts.word (self.now.memory.now.words.items ++ self.now.shared.now) place }
     {
