@@ -1,4 +1,4 @@
--- What the check of a text answers.
+-- What the check of a text returns.
 use Rattle.std.specs.Prelude.{◌≡◌, Result, Ok, Err, Some}
 use Rattle.cp_model.specs.Syntax as s
 use Rattle.cp_model.specs.Erase as erase
@@ -14,7 +14,8 @@ use Rattle.cp_check.specs.declared.checking.CheckError.TheVariants as refused
 abbrev pub IsProgramOf : s.Tree → Program → Type 0
 IsProgramOf t program = (setup : Setup) → setup.tree ≡ erase.abstract t → StandsFor (view.program program) setup
 
--- A program stands for the text, which is accepted. Of a text that isn't accepted the earliest violation is told.
+-- If there is a program, the text is accepted and the program stands for it. If a rule is broken,
+-- the violation is the earliest one of the text.
 abbrev pub Checks : s.Tree → Result Program CheckError → Type 0
 Checks t (Ok program) = Accepted t × IsProgramOf t program
 Checks t (Err (refused.Broken v)) = told t ≡ Some v

@@ -16,17 +16,18 @@ use std::alloc::{AllocError, Global};
 /// Why a text has no program.
 #[derive(Clone, Copy, Debug, PartialEq, Eq)]
 pub enum CheckError {
-    /// A rule is broken: the earliest violation, and at its place the lowest rule.
+    /// A rule is broken: the earliest violation, and of several at the same place the lowest rule.
     Broken(Violation),
     /// Memory ran out.
     Memory,
 }
 
-/// The program of an accepted text.
+/// Compiles an accepted text into its program.
 ///
 /// # Errors
 ///
-/// `AllocError` where memory runs out: the numbers of an accepted text fit.
+/// `AllocError` if memory runs out. There is no other error, since the numbers of an accepted text
+/// fit.
 pub fn program(alloc: Global, tree: &Tree) -> Result<Program, AllocError>
     requires accepted { Accepted (view.tree tree.now) }
     ensures { IfOk result (IsProgramOf (view.tree tree.now)) }
@@ -38,9 +39,11 @@ pub fn program(alloc: Global, tree: &Tree) -> Result<Program, AllocError>
     }
 }
 
-/// The program of an accepted text.
+/// Judges a text and compiles it into its program.
 ///
-/// It fails with `Broken` where a rule is broken in the text, or when memory runs out.
+/// # Errors
+///
+/// `Broken` if the text breaks a rule, `Memory` if memory runs out.
 pub fn check(alloc: Global, tree: &Tree) -> Result<Program, CheckError>
     ensures { Checks (view.tree tree.now) result }
 {

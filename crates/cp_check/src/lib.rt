@@ -1,4 +1,5 @@
-//! The check of a text: the rules of the language first (cp_rules), and then its program (cp_compile).
+//! The check of a text: first by the rules of the language (cp_rules), then by compiling it into
+//! its program (cp_compile).
 #![tactic(auto)]
 
 pub mod checking;

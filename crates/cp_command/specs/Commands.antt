@@ -1,4 +1,4 @@
--- The commands: the numbers of a run, and what is told where there is no command.
+-- The commands: the numbers of a run, and the error if there is no command.
 use Rattle.std.specs.Prelude.{◌≡◌, ◌≢◌, ◌≤◌, ℕ, None}
 use Rattle.clap.specs.Words.{kind_of}
 use Rattle.clap.specs.declared.error.Error.{Error}
@@ -14,21 +14,21 @@ abbrev pub Has : ℕ → ℕ → ℕ → ℕ → ℕ → ℕ → Run → Type 0
 Has rounds turn workers chunk wave tick run =
     (run.rounds ≡ rounds) × (run.plan.turn.steps ≡ turn) × (run.plan.workers ≡ workers) × (run.plan.chunk ≡ chunk) × (run.plan.wave ≡ wave) × (run.tick.rounds ≡ tick)
 
--- No run has more rounds than these.
+-- A run has at most 1,000,000 rounds.
 abbrev pub HasRounds : Command → Type 0
 HasRounds (command.Check file) = Unit {0}
 HasRounds (command.Explain file form) = Unit {0}
 HasRounds (command.ExplainRule page) = Unit {0}
 HasRounds (command.Run file run input) = run.rounds ≤ 1000000
 
--- The command where there are no words.
+-- The command if there are no words after the program's name.
 abbrev pub IsWithoutWords : Command → Type 0
 IsWithoutWords (command.Check file) = ⊥
 IsWithoutWords (command.Explain file form) = ⊥
 IsWithoutWords (command.ExplainRule page) = ⊥
 IsWithoutWords (command.Run file run input) = (file ≡ None) × Has 2 100 2 1 255 1 run × (input ≡ None)
 
--- clap tells that memory was refused by the kind of its error.
+-- The kind of clap's error shows whether memory ran out.
 pub record ComesFrom (of : Error) (e : CommandError) : Type 0 where
   pub memory : kind_of of ≡ kind.OutOfMemory → e ≡ error.Memory
   pub usage : kind_of of ≢ kind.OutOfMemory → e ≡ error.Usage of

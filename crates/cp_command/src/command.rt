@@ -20,20 +20,22 @@ use thiserror::Error;
 /// What cpm is asked to do.
 #[derive(Clone, Copy, Debug)]
 pub enum Command<'a> {
-    /// `check FILE`: to judge the text of a file.
+    /// `check FILE`: judges the text of a file.
     Check {
         file: &'a str,
     },
-    /// `explain FILE`: to judge the text of a file, and to tell what is wrong with it, or the access graph of an accepted one.
+    /// `explain FILE`: judges the text of a file and explains what is wrong with it, or writes the
+    /// access graph of an accepted text.
     Explain {
         file: &'a str,
         form: Form,
     },
-    /// `explain RULE`: to tell a rule.
+    /// `explain RULE`: explains a rule.
     ExplainRule {
         page: &'static str,
     },
-    /// `run FILE`: to run the text of a file, or of standard input where there is no file. The input is that of a file, or empty.
+    /// `run FILE`: runs the text of a file, or of standard input if `file` is `None`. The input
+    /// comes from a file, or is empty.
     Run {
         file: Option<&'a str>,
         run: Run,
@@ -41,10 +43,10 @@ pub enum Command<'a> {
     },
 }
 
-/// Why there is no command.
+/// Why the arguments give no command.
 #[derive(Debug, Drop, Error)]
 pub enum CommandError {
-    /// The words aren't those of a command, or ask for help. The exit status is 2.
+    /// The arguments aren't those of a command, or ask for help. The exit status is 2.
     #[error("{0}")]
     Usage(clap::Error),
     /// M: memory was refused.
@@ -71,7 +73,7 @@ impl From<clap::Error> for CommandError {
     }
 }
 
-// An option whose number lies outside its range.
+// The number of an option is outside its range.
 #[derive(Clone, Copy, Debug, Error)]
 #[error("--{name} takes decimal digits, from {low} to {most}")]
 struct OutOfRange {
@@ -80,7 +82,7 @@ struct OutOfRange {
     most: u32,
 }
 
-// The run of these numbers.
+// The run with these numbers.
 fn run_of(rounds: u32, turn: u32, workers: u32, chunk: u32, wave: u32, tick: u32) -> Run
     requires plan { AreInRange turn workers chunk wave }
     requires tick { (1 ≤ tick) × (tick ≤ 1000000) }
@@ -163,7 +165,7 @@ fn grammar<'a>(alloc: Global) -> Result<clap::Command<'a>, AllocError> {
         .subcommand(run_words(alloc)?)
 }
 
-// The number of an option, or its default.
+// The number of an option, or `otherwise` if it isn't given.
 fn count(
     matches: &ArgMatches<'_>,
     name: &'static str,
@@ -210,12 +212,12 @@ fn out_of_range(alloc: Global, grammar: &mut clap::Command<'_>, range: OutOfRang
     }
 }
 
-/// The command that words tell, of which the first is the program's name. No others mean to run the text of standard input for 2
-/// rounds.
+/// Parses the words of a command line, the first of which is the program's name. If there are no
+/// others, the command is to run the text of standard input for 2 rounds.
 ///
 /// # Errors
 ///
-/// `Usage` where the words are those of no command, or ask for help, and `Memory` where memory runs out.
+/// `Usage` if the words are those of no command or ask for help, and `Memory` if memory runs out.
 pub fn read_command<'a, S: AsStr>(
     alloc: Global,
     words: &'a [S],
@@ -236,7 +238,7 @@ pub fn read_command<'a, S: AsStr>(
     read_matches(alloc, &mut grammar, &matches)
 }
 
-// To explain the text of a file, or the rule of that name.
+// Explains the rule with that name, or else the text of the file with that name.
 fn explain<'a>(file: &'a str, dot: bool) -> Command<'a>
     ensures { HasRounds result }
 {
@@ -249,7 +251,8 @@ fn explain<'a>(file: &'a str, dot: bool) -> Command<'a>
     }
 }
 
-// The command that the matches tell. The grammar asks for a command and its file, so neither is missing.
+// The command of parsed arguments. The grammar requires a command and its file, so neither is
+// missing.
 fn read_matches<'a>(
     alloc: Global,
     grammar: &mut clap::Command<'a>,

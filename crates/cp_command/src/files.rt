@@ -1,4 +1,4 @@
-//! A command is done with files and the standard streams.
+//! Carrying out a command with files and the standard streams.
 
 ghost use Rattle.std.specs.Prelude.{◌≡◌};
 ghost use Rattle.cp_command.specs.declared.files.Failure.TheVariants as failure;
@@ -17,19 +17,19 @@ use std::sync::Wait;
 use std::thread::Threads;
 use thiserror::Error;
 
-/// The word that stands for standard input in the place of a file.
+/// The word that stands for standard input in place of a file name.
 const STANDARD_INPUT: &str = "-";
 
-/// The exit status where a file can't be opened or read.
+/// The exit status if a file can't be opened or read.
 const FAULT: u8 = 4;
 
-/// Why a command has no answer.
+/// Why a command has no result.
 #[derive(Debug, Drop, Error)]
 pub enum Failure<'a> {
     /// The text or the input is refused, memory ran out, or a read or a write failed.
     #[error("{0}")]
     Refused(Refusal),
-    /// The file of `explain` can't be opened, and what the system says.
+    /// The file of `explain` can't be opened, with the system's reason.
     #[error("{file} can't be opened: {error}")]
     Unopened { file: &'a str, error: io::Error },
     /// The file of `explain` can't be read.
@@ -38,7 +38,8 @@ pub enum Failure<'a> {
 }
 
 impl<'a> Failure<'a> {
-    /// The exit status: 1 where the text or the input is refused, 3 where memory is, 4 where opening, reading or writing failed.
+    /// The exit status: 1 if the text or the input is refused, 3 if memory runs out, 4 if opening,
+    /// reading or writing fails.
     pub fn exit(&self) -> u8 {
         match self {
             Failure::Refused(refusal) => exit_of(refusal),
@@ -76,7 +77,7 @@ fn open_text<'a, H: Files>(rt: &H, file: &'a str) -> Result<H::File, Failure<'a>
     }
 }
 
-// Does a job, and prints what is due.
+// Does a job, and prints its result.
 fn print<H: Print + Threads + Wait + Sync, R: Read, S: Read>(
     rt: &H,
     alloc: Global,
@@ -100,7 +101,7 @@ fn check<H: Files + Input + Print + Threads + Wait + Sync>(
     }
 }
 
-// Runs a text on the input of a file, or on none.
+// Runs a text on the input in a file, or on no input.
 fn run_on_input<H: Files + Print + Threads + Wait + Sync, R: Read>(
     rt: &H,
     alloc: Global,
@@ -128,7 +129,7 @@ fn run_file<H: Files + Input + Print + Threads + Wait + Sync>(
     }
 }
 
-// Explains the text of a reader, and answers the exit status.
+// Explains the text of a reader, and returns the exit status.
 fn explain_from<'a, H: Print, R: Read>(
     rt: &H,
     alloc: Global,
@@ -165,12 +166,14 @@ fn print_page<H: Print>(rt: &H, page: &str) -> Result<(), Refusal> {
     }
 }
 
-/// Does a command, and answers the exit status: 0, or that of a refusal that was explained. Its files are opened in the order text, input
-/// before any is read; what is due is printed on standard output.
+/// Carries out a command, and returns the exit status: 0, or that of a refusal that was explained.
+/// Opens the text and then the input before it reads either, and prints the result to standard
+/// output.
 ///
 /// # Errors
 ///
-/// I1 where a file can't be opened, and those of [`execute`] and [`explain_text`].
+/// I1 if a file can't be opened, `Unopened` or `Unread` for the file of `explain`, and the refusals
+/// of [`execute`] and [`explain_text`].
 pub fn perform<'a, H: Files + Input + Print + Threads + Wait + Sync>(
     rt: &H,
     alloc: Global,

@@ -1,6 +1,7 @@
-//! The command line: `command` parses arguments into a command, and `files` carries it out with files and the standard streams.
+//! The command line: `command` parses arguments into a command, and `files` carries it out with
+//! files and the standard streams.
 //!
-//! What arguments mean is defined in `specs/Commands.antt` and `specs/Numbers.antt`.
+//! `specs/Commands.antt` and `specs/Numbers.antt` define what arguments mean.
 #![tactic(auto)]
 
 pub mod command;

@@ -3,7 +3,7 @@
 ghost use Rattle.std.specs.Prelude.{◌≡◌, ◌≤◌, IfSome};
 ghost use Rattle.cp_command.specs.Numbers.{number_within};
 
-/// The number that decimal digits alone tell, where it lies from `low` to `most`.
+/// Parses a text of decimal digits alone, and returns its number if that lies from `low` to `most`.
 pub fn number(text: &[u8], low: u32, most: u32) -> Option<u32>
     requires small { most ≤ 1000000 }
     ensures value { result ≡ number_within low most text.now }

@@ -1,4 +1,4 @@
--- What parts that are read or written one after the other make together.
+-- What parts that are read or written one after another amount to together.
 use Rattle.std.proofs.Common.{◌≡◌, ℕ, ◌+◌, ◌-◌, ◌≤◌, List, ◌++◌, Option, None, Some, IfSome, length, take, drop, sym, ap, subst, ◌∙◌, arith, append-nil, take_all, take-append-drop}
 use Rattle.std.proofs.lemmas.List.{drop-take, take-take, take_at, take_rest}
 use Rattle.std.proofs.KnownBytes.{Appends-trans}
@@ -13,7 +13,7 @@ written_more : (a b c : Option (List ℕ)) (n m : ℕ) (xs : List ℕ) → Appen
     → Appends a c (take (n + m) xs)
 written_more a b c n m xs p q = subst (Appends a c) (take_more_of n m xs) (Appends-trans a b c _ _ p q)
 
--- The same, of the slice of what is left.
+-- The same, for the slice of what is left.
 pub written_part : (a b c : Option (List ℕ)) (n m : ℕ) (xs : List ℕ) → Appends a b (take n xs)
     → Appends b c (take m (take (length xs - n) (drop n xs))) → Appends a c (take (n + m) xs)
 written_part a b c n m xs p q = written_more a b c n m xs p (subst (λ l. Appends b c (take m l)) (take_rest xs n) q)
@@ -21,7 +21,7 @@ written_part a b c n m xs p q = written_more a b c n m xs p (subst (λ l. Append
 pub written_all : (a b : Option (List ℕ)) (n : ℕ) (xs : List ℕ) → length xs ≤ n → Appends a b (take n xs) → Appends a b xs
 written_all a b n xs h p = subst (Appends a b) (take_all n xs h) p
 
--- What was read up to the end, or up to so many bytes.
+-- What was read up to the end of the reader, or up to `most` bytes.
 pub read_to_end : (most : ℕ) (a b : Option (List ℕ)) (text : List ℕ) → Consumes a b text → length text ≤ most → IsAtEnd b
     → IfSome a (λ xs. text ≡ take most xs)
 read_to_end most None b text p h e = tt

@@ -1,4 +1,4 @@
--- An accepted text is refused for a fault alone.
+-- An accepted text is refused only with a fault.
 use Rattle.std.proofs.Common.{◌≡◌, ◌≤◌, ◌⊎◌, ℕ, false, List, length, Option, None, Some, Result, Ok, Err, IfErr, IfOk, IfSome, OnErr, ap, sym, ◌∙◌, subst, arith, inl, inr}
 use Rattle.std.specs.Result.{is_err}
 use Rattle.std.proofs.lemmas.List.{take_all}
@@ -33,7 +33,7 @@ one_tree xs t u h g =
     tree_is_unique nesting_limit h.tokens t u h.reads
     (subst (λ (ts : List Token). Reads ts u) (one_list xs g.tokens h.tokens g.spelled h.spelled) g.reads)
 
--- ---- none of the causes in a text stands in an accepted one
+-- ---- no cause of a refusal occurs in an accepted text
 
 not_found : (xs : List ℕ) (tokens : List Token) (c : Cause) (at : ℕ) → Spells xs tokens → tokens_of xs ≡ Err (c, at) → ⊥
 not_found xs tokens c at h f = let e = spelled_found xs tokens h in cc
@@ -70,14 +70,14 @@ is_fault xs t (refusal.Check rule at) is h =
 is_fault xs t (refusal.InputByte at) is h = h
 is_fault xs t refusal.InputSize is h = h
 
--- What is read of a text within the limit is the text.
+-- The part that is read of a text within the limit is the whole text.
 front_of : (xs : List ℕ) → length xs ≤ longest_text → front xs ≡ xs
 front_of xs h = take_all 1048577 xs (Prim.omega (arith, h))
 
 front_fault : (xs : List ℕ) (t : s.Tree) (e : Refusal) → IsAccepted xs t → Refuses (front xs) e → IsFault e
 front_fault xs t e is h = is_fault (front xs) t e (subst (λ (ys : List ℕ). IsAccepted ys t) (sym (front_of xs is.text.within)) is) h
 
--- A read that failed says nothing of the text, and is a fault.
+-- A failed read says nothing about the text, and is a fault.
 text_fault : (xs : List ℕ) (t : s.Tree) (e : Refusal) → IsAccepted xs t → RefusesText xs e → IsFault e
 text_fault xs t refusal.Read is h = tt
 text_fault xs t refusal.Write is h = tt
@@ -104,7 +104,7 @@ input_fault ys (refusal.InputByte at) h = inr h
 input_fault ys refusal.InputSize h = inr h
 input_fault ys refusal.Write h = inr h
 
--- ---- of known texts and inputs
+-- ---- known texts and inputs
 
 pub known_fault : (known : Option (List ℕ)) (e : Refusal) → IfSome known (λ xs. RefusesText xs e) → IsFaultOfAccepted known e
 known_fault known e h xs t same is = text_fault xs t e is (of_known (λ zs. RefusesText zs e) known xs h same)
@@ -121,7 +121,7 @@ write_fault e w = subst (λ (r : Refusal). IsFault r) (sym w) tt
 pub memory_fault : (e : Refusal) → e ≡ refusal.Memory → IsFault e
 memory_fault e m = subst (λ (r : Refusal). IsFault r) (sym m) tt
 
--- What follows of an error.
+-- What follows from an error.
 pub on_err : {T E A : Type 0} {P : E → Type 0} (r : Result T E) → ((e : E) → A → P e) → OnErr r A → IfErr r P
 on_err (Ok x) f h = h
 on_err (Err e) f h = f e h

@@ -37,7 +37,7 @@ have_inputs program setup input all parts given p first last =
 
 -- ---- The report after a run
 
--- A machine that starts so, and made so many rounds, has the report of one processor.
+-- A machine that starts like this has, after `rounds` rounds, the report of a single processor.
 pub report_is : (before after : Machine) (program : Program) (setup : Setup) (inputs : List Bytes) (n rounds : ℕ) → RunIsReported → StandsFor program setup
     → HaveInputs program inputs setup → machine_of before ≡ first_machine program setup.tick (input_of inputs) → IsStarted program setup.tick inputs before
     → machine_of after ≡ phased_rounds n (numbers_from 1 (processes_of before)) rounds (machine_of before)

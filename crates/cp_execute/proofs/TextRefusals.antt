@@ -1,4 +1,4 @@
--- Why a text is refused, and what is read of one within the limit.
+-- Why a text is refused, and what is read of a text within the limit.
 use Rattle.std.proofs.Common.{◌≡◌, ◌≤◌, refl, ℕ, zero, suc, Bool, true, false, List, [], ◌∷◌, length, take, Option, None, Some, Result, Ok, Err, IfOk, IfErr, IfSome, ap, sym, ◌∙◌, subst, arith}
 use Rattle.std.proofs.lemmas.Bool.Decides.{nat_tests}
 use Rattle.std.specs.Prelude.{if◌then◌else◌, nat_le}
@@ -24,13 +24,13 @@ refuses_tokens text tokens (syntax.Unfinished at) spelled refused = (tokens, spe
 refuses_tokens text tokens (syntax.TooDeep at) spelled refused = (tokens, spelled, refused)
 refuses_tokens text tokens syntax.Memory spelled refused = tt
 
--- Where no more than n bytes are in the first n + 1, these are all.
+-- If the first n + 1 elements of a list number at most n, they are the whole list.
 pub take_all : (n : ℕ) (xs : List ℕ) → length (take (suc n) xs) ≤ n → take (suc n) xs ≡ xs
 take_all n [] h = refl
 take_all zero (x ∷ xs) h = absurd (Prim.omega (arith, h))
 take_all (suc n) (x ∷ xs) h = ap (λ (ys : List ℕ). x ∷ ys) (take_all n xs (Prim.omega (arith, h)))
 
--- ---- of known bytes
+-- ---- known bytes
 
 pub of_known : (P : List ℕ → Type 0) (known : Option (List ℕ)) (xs : List ℕ) → IfSome known P → known ≡ Some xs → P xs
 of_known P None xs h e = absurd (Prim.grind (arith, e))
@@ -71,7 +71,7 @@ pub known_accepted : (r : Result Tree Refusal) (bytes : List ℕ) → IfOk r (λ
 known_accepted (Err e) bytes h = h
 known_accepted (Ok t) bytes h = h.accepted
 
--- ---- of known inputs
+-- ---- known inputs
 
 judged_within : (bytes : List ℕ) → judged bytes ≡ Ok tt → length bytes ≤ 1048576
 judged_within bytes e = by (nat_le (length bytes) 1048576) refl e
@@ -94,7 +94,7 @@ judged_from_writes at (b ∷ bs) e = by (nat_le b 127) (judged_from_writes (suc 
     by true later e = later e
     by false later e = Prim.grind (arith, e)
 
--- An input is never refused for a write.
+-- An input is never refused because of a write.
 pub judged_writes : (bytes : List ℕ) (e : Refusal) → judged bytes ≡ Err e → e ≡ refusal.Write → ⊥
 judged_writes bytes e h w = by (nat_le (length bytes) 1048576) (h ∙ ap (λ (r : Refusal). Err r) w)
   where

@@ -5,7 +5,7 @@ use Rattle.cp_model.specs.Input.{cut}
 use Rattle.cp_execute.specs.declared.refusal.Refusal.{Refusal}
 use Rattle.cp_execute.specs.declared.refusal.Refusal.TheVariants as refusal
 
--- The first byte above 127 is refused, by its place from `at` on.
+-- Refuses the first byte above 127. Its place is counted from `at`.
 abbrev pub judged_from : ℕ → List ℕ → Result (Unit {0}) Refusal
 judged_from at [] = Ok tt
 judged_from at (b ∷ bs) = if nat_le b 127 then judged_from (suc at) bs else Err (refusal.InputByte at)
@@ -13,7 +13,7 @@ judged_from at (b ∷ bs) = if nat_le b 127 then judged_from (suc at) bs else Er
 abbrev pub judged : List ℕ → Result (Unit {0}) Refusal
 judged input = if nat_le (length input) 1048576 then judged_from 0 input else Err refusal.InputSize
 
--- An input is its first part, and after a byte 28 the rest.
+-- An input is its first part, and then, after a byte 28, the rest.
 abbrev pub front_part : List ℕ → List ℕ
 front_part [] = []
 front_part (b ∷ bs) = if nat_eq b 28 then [] else b ∷ front_part bs
@@ -25,7 +25,7 @@ after_separator (b ∷ bs) = if nat_eq b 28 then bs else after_separator bs
 abbrev pub Bytes : Type 0
 Bytes = Vec ℕ Global
 
--- all are the inputs of the first n processes.
+-- `all` holds the inputs of the first `n` processes.
 pub record AreParts (input : List ℕ) (n : ℕ) (all : List Bytes) : Type 0 where
   pub count : length all ≡ n
   pub each : (i : ℕ) (v : Bytes) → slice_get all i ≡ Some v → v.items ≡ cut input (suc i)

@@ -1,4 +1,4 @@
--- The numbers of causes in the lines of the commands, and the exit statuses.
+-- The numbers of causes in the lines that the commands write, and the exit statuses.
 use Rattle.std.specs.Prelude.{ℕ}
 use Rattle.cp_scan.specs.declared.refusal.Cause.{Cause}
 use Rattle.cp_scan.specs.declared.refusal.Cause.TheVariants as cause
@@ -21,7 +21,7 @@ scan_number cause.Number = 4
 scan_number cause.Word = 5
 scan_number cause.Size = 6
 
--- 1 where the text or the input is refused, 3 where memory is, 4 where reading or writing failed.
+-- 1 if the text or the input is refused, 3 if memory runs out, 4 if reading or writing fails.
 abbrev pub exit_status : Refusal → ℕ
 exit_status refusal.Memory = 3
 exit_status refusal.Read = 4

@@ -1,4 +1,4 @@
--- The trees of texts, and why a text is refused.
+-- The syntax trees of texts, and why a text is refused.
 use Rattle.std.specs.Prelude.{◌≡◌, ◌≤◌, ℕ, List, Some, length}
 use Rattle.cp_model.specs.Syntax as s
 use Rattle.cp_model.specs.Grammar.{Reads}
@@ -13,7 +13,7 @@ use Rattle.cp_syntax.specs.declared.refusal.SyntaxError.TheVariants as syntax
 use Rattle.cp_execute.specs.declared.refusal.Refusal.{Refusal}
 use Rattle.cp_execute.specs.declared.refusal.Refusal.TheVariants as refusal
 
--- The bytes are spelled by tokens that read as this tree. A text has one such tree at most.
+-- Tokens spell the bytes and read as this tree. A text has at most one such tree.
 pub record IsTextOf (text : List ℕ) (t : s.Tree) : Type 0 where
   pub within : length text ≤ longest_text
   pub tokens : List Token
@@ -28,7 +28,7 @@ pub record IsAccepted (bytes : List ℕ) (t : s.Tree) : Type 0 where
 abbrev pub RefusesTokens : List ℕ → SyntaxError → Type 0
 RefusesTokens text e = (tokens : List Token) × Spells text tokens × Refused tokens (length text) e
 
--- Why a text isn't accepted. Running out of memory says nothing of the text.
+-- Why a text isn't accepted. Running out of memory says nothing about the text.
 abbrev pub Refuses : List ℕ → Refusal → Type 0
 Refuses text (refusal.Scan cause at) = TellsFirstCause text (scan.Refused cause at)
 Refuses text (refusal.Unexpected at) = RefusesTokens text (syntax.Unexpected at)

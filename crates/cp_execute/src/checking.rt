@@ -1,4 +1,4 @@
-//! From the bytes of a text to its tree, or why it has none or isn't accepted.
+//! From the bytes of a text to its syntax tree, or to the reason why it has none or isn't accepted.
 
 ghost use Rattle.std.specs.Prelude.{◌≡◌, IfErr, IfOk};
 ghost use Rattle.cp_model.specs.View as view;
@@ -32,11 +32,11 @@ fn rules_refusal(error: text::Refusal) -> Refusal
     }
 }
 
-/// The tree of a text.
+/// Parses a text into its syntax tree.
 ///
 /// # Errors
 ///
-/// S and Y where the text has none, M where memory runs out.
+/// A refusal of S or Y if the text has no tree, and M if memory runs out.
 pub fn tree_of(alloc: Global, text: &[u8]) -> Result<Tree, Refusal>
     ensures tree { IfOk result (λ t. IsTextOf text.now (view.tree t)) }
     ensures refused { IfErr result (Refuses text.now) }
@@ -51,11 +51,11 @@ pub fn tree_of(alloc: Global, text: &[u8]) -> Result<Tree, Refusal>
     }
 }
 
-/// The tree of an accepted text.
+/// Parses a text and judges it by the rules, and returns its syntax tree if it is accepted.
 ///
 /// # Errors
 ///
-/// S, Y and C where the text isn't accepted, in this order; M where memory runs out.
+/// A refusal of S, Y or C, in this order, if the text isn't accepted, and M if memory runs out.
 pub(crate) fn accept(alloc: Global, text: &[u8]) -> Result<Tree, Refusal>
     ensures accepted { IfOk result (λ t. IsAccepted text.now (view.tree t)) }
     ensures refused { IfErr result (Refuses text.now) }

@@ -1,4 +1,4 @@
-//! Judging an input, and cutting it into the inputs of the processes.
+//! Checking an input, and cutting it into the inputs of the processes.
 
 ghost use Rattle.std.specs.Prelude.{◌≡◌, ◌≤◌, ◌+◌, ℕ, suc, IfOk, Some, drop, length, slice_get, take};
 ghost use Rattle.cp_model.specs.Input.{cut};
@@ -7,18 +7,18 @@ ghost use Rattle.cp_execute.specs.Cutting.{AreParts, after_separator, front_part
 use crate::refusal::Refusal;
 use std::alloc::{AllocError, Global};
 
-/// The most bytes that an input may have.
+/// The largest number of bytes that an input may have.
 pub const LONGEST_INPUT: usize = 1_048_576;
 
 const LAST_CHARACTER: u8 = 127;
 
 const SEPARATOR: u8 = 28;
 
-/// Refuses an input that is too long, or else its first byte that is no character.
+/// Refuses an input that is too long, or else the first byte of it that is not a character.
 ///
 /// # Errors
 ///
-/// I4 (`InputSize`) and I3 (`InputByte`), in this order.
+/// I4 (`InputSize`) or I3 (`InputByte`), checked in this order.
 pub fn check_input(input: &[u8]) -> Result<(), Refusal>
     ensures { result ≡ judged input.now }
 {
@@ -33,7 +33,7 @@ pub fn check_input(input: &[u8]) -> Result<(), Refusal>
     Ok(())
 }
 
-// How long the first part of an input is.
+// The length of the first part of an input.
 fn part_length(input: &[u8]) -> usize
     ensures within { result ≤ length input.now }
     ensures front { take result input.now ≡ front_part input.now }
@@ -47,7 +47,7 @@ fn part_length(input: &[u8]) -> usize
     input.len()
 }
 
-// What follows the first part and its separator.
+// The input after its first part and the separator.
 fn rest(input: &[u8], part: usize) -> &[u8]
     requires { part ≤ length input.now }
     ensures { result.now ≡ drop (part + 1) input.now }
@@ -59,11 +59,12 @@ fn rest(input: &[u8], part: usize) -> &[u8]
     }
 }
 
-/// The inputs of so many processes: the parts of the input between bytes 28. A missing part is empty.
+/// Cuts an input into the inputs of `processes` processes: the parts between bytes 28. A missing
+/// part is empty.
 ///
 /// # Errors
 ///
-/// `AllocError` where memory runs out.
+/// `AllocError` if memory runs out.
 pub fn cut_input(alloc: Global, input: &[u8], processes: usize) -> Result<Vec<Vec<u8>>, AllocError>
     ensures parts { IfOk result (λ all. AreParts input.now processes all.items) }
 {

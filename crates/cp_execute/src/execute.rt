@@ -1,4 +1,4 @@
-//! The commands: a text is read and checked, and perhaps run on an input, and what is due is written.
+//! The jobs: read and check a text, run it on an input if that is asked for, and write the result.
 
 ghost use Rattle.std.specs.Prelude.{◌≡◌, ◌≤◌, ℕ, IfErr, IfOk, IfSome, List, Some, OnErr, OnOk, length, take};
 ghost use Rattle.std.specs.Io.KnownBytes.{Appends, Keeps};
@@ -22,12 +22,12 @@ use std::io::{Read, Write};
 use std::sync::Wait;
 use std::thread::Threads;
 
-/// What is to be done with a text.
+/// What to do with a text.
 #[derive(Clone, Copy, Debug)]
 pub enum Job {
-    /// To write `accepted`.
+    /// Writes `accepted`.
     Check,
-    /// To run it, and to write the report.
+    /// Runs the text and writes the report.
     Run(Run),
 }
 
@@ -40,7 +40,7 @@ fn read_refusal(error: ReadError) -> Refusal
     }
 }
 
-// The tree of the text that a reader has, where that is accepted.
+// Reads a text and returns its syntax tree if the text is accepted.
 fn read_accepted<R: Read>(alloc: Global, text: &mut R) -> Result<Tree, Refusal>
     ensures accepted { IfOk result (λ t. Accepted (view.tree t)) }
     ensures text { IfOk result
@@ -55,7 +55,7 @@ fn read_accepted<R: Read>(alloc: Global, text: &mut R) -> Result<Tree, Refusal>
     accept(alloc, &bytes)
 }
 
-// The input that a reader has.
+// Reads an input and checks it.
 fn read_input<S: Read>(alloc: Global, input: &mut S) -> Result<Vec<u8>, Refusal>
     ensures input { IfOk result (λ bytes. IfSome (S.remaining input.old) (λ ys. bytes.items ≡ ys)) }
     ensures refused { IfErr result (λ e. IfSome (S.remaining input.old) (λ ys. RefusesInput ys e)) }
@@ -88,8 +88,8 @@ fn finish<W: Write>(out: &mut W, bytes: &[u8]) -> Result<(), Refusal>
 ///
 /// # Errors
 ///
-/// I1, S, Y, C and M of the text, and I2 where a write failed. After I2 a beginning of the line was written, and else nothing. An
-/// accepted text is refused for M, I1 or I2 alone.
+/// I1, S, Y, C or M for the text, and I2 if a write fails. After I2 a prefix of the line has been
+/// written, and after any other refusal nothing. An accepted text is refused only with M, I1 or I2.
 pub fn check_text<R: Read, W: Write>(
     alloc: Global,
     text: &mut R,
@@ -110,12 +110,14 @@ pub fn check_text<R: Read, W: Write>(
     finish(out, b"accepted\n")
 }
 
-/// Runs the text of a reader on the input of another, and writes the report.
+/// Runs the text of one reader on the input of another, and writes the report.
 ///
 /// # Errors
 ///
-/// First of the text: I1, S, Y, C; then of the input: I1, I4, I3; and M, and I2 where a write failed. After I2 a beginning of the report was
-/// written, and else nothing. An accepted text with an input that is none of I4 and I3 is refused for M, I1 or I2 alone.
+/// For the text I1, S, Y or C, then for the input I1, I4 or I3. Also M, and I2 if a write fails.
+/// After I2 a prefix of the report has been written, and after any other refusal nothing. If the
+/// text is accepted and the input isn't refused with I4 or I3, the run is refused only with M, I1
+/// or I2.
 pub fn run_text<H: Threads + Wait + Sync, R: Read, S: Read, W: Write, G: TurnGate>(
     rt: &H,
     alloc: Global,
@@ -146,7 +148,7 @@ pub fn run_text<H: Threads + Wait + Sync, R: Read, S: Read, W: Write, G: TurnGat
     finish(out, &report)
 }
 
-/// Does a job with the text of a reader, and writes what is due: `accepted` and a line feed, or the report.
+/// Does a job with the text of a reader, and writes `accepted` and a line feed, or the report.
 ///
 /// # Errors
 ///

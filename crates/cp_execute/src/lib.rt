@@ -1,11 +1,13 @@
-//! `execute`: from the bytes of a text and of an input to the bytes of its report, or to a refusal.
+//! From the bytes of a text and of an input to the bytes of the report, or to a refusal.
 //!
 //! - `execute`: the jobs, from the bytes of readers to those of a writer.
-//! - `reading`, `checking`: a text is read, and its tree judged. `cutting`: the inputs of its processes.
-//! - `running`: the program of an accepted text is made and run, and then its report.
-//! - `writing`, `refusal`: what is due is written; why it isn't.
+//! - `reading`: reads a text or an input. `checking`: parses a text and judges its tree.
+//! - `cutting`: checks an input and cuts it into the inputs of the processes.
+//! - `running`: builds and runs the program of an accepted text, and makes the report.
+//! - `writing`: writes the result. `refusal`: why a command has no result.
 //!
-//! What an answer means is defined in `specs/Executed.antt`, and what each refusal means in `specs/Refusals.antt` and `specs/Texts.antt`.
+//! `specs/Executed.antt` defines what a result means, `specs/Refusals.antt` and `specs/Texts.antt`
+//! what each refusal means.
 #![tactic(auto)]
 
 pub mod checking;

@@ -7,12 +7,12 @@ ghost use Rattle.cp_execute.specs.declared.reading.ReadError.TheVariants as erro
 use std::alloc::{AllocError, Global};
 use std::io::Read;
 
-/// A text and an input have at most 1,048,576 bytes. One more tells that there are too many.
+/// A text or an input has at most 1,048,576 bytes. Reading one byte more shows that it is too long.
 pub const MOST_READ: usize = 1_048_577;
 
 const LONGEST_PART: usize = 4096;
 
-/// Why the bytes of a reader weren't read.
+/// Why the bytes of a reader couldn't be read.
 #[derive(Clone, Copy, Debug, PartialEq, Eq)]
 pub enum ReadError {
     /// A read failed.
@@ -29,7 +29,7 @@ impl From<AllocError> for ReadError {
     }
 }
 
-// One read, into a buffer that isn't empty.
+// Reads once, into a buffer that isn't empty.
 fn fill<R: Read>(reader: &mut R, buffer: &mut [u8]) -> Result<usize, ReadError>
     requires some { 0 < length buffer.old }
     ensures count { IfOk result (λ n. n ≤ length buffer.new) }
@@ -46,7 +46,8 @@ fn fill<R: Read>(reader: &mut R, buffer: &mut [u8]) -> Result<usize, ReadError>
     }
 }
 
-// Appends what one read gives, of which there is nothing only at the end.
+// Reads once and appends the bytes to `text`. A read of no bytes means that the reader is at its
+// end.
 fn read_part<R: Read>(reader: &mut R, text: &mut Vec<u8>) -> Result<usize, ReadError>
     requires room { vec_len text.old < 1048577 }
     ensures count { IfOk result (λ n. vec_len text.new ≡ vec_len text.old + n) }
@@ -65,12 +66,12 @@ fn read_part<R: Read>(reader: &mut R, text: &mut Vec<u8>) -> Result<usize, ReadE
     Ok(count)
 }
 
-/// The bytes of a reader to its end, or the first 1,048,577 of them. No byte beyond these is read, and no buffer that is handed to
-/// the reader is empty.
+/// Reads all bytes of a reader, or only the first 1,048,577 of them. No byte after these is read,
+/// and the reader is never given an empty buffer.
 ///
 /// # Errors
 ///
-/// `Read` where a read failed, `Memory` where memory runs out.
+/// `Read` if a read fails, `Memory` if memory runs out.
 pub fn read_text<R: Read>(alloc: Global, reader: &mut R) -> Result<Vec<u8>, ReadError>
     ensures bytes { IfOk result
         (λ text. IfSome (R.remaining reader.old) (λ xs. text.items ≡ take 1048577 xs)) }

@@ -1,4 +1,4 @@
-//! Why a command ends without its answer: the line that it writes then, and its exit status.
+//! Why a command has no result: the line that it writes then, and its exit status.
 
 ghost use Rattle.std.specs.Prelude.{◌≡◌};
 ghost use Rattle.cp_execute.specs.Refusals.{exit_status, of_scan};
@@ -10,13 +10,14 @@ use cp_scope::CompileError;
 use std::alloc::{AllocError, AllocFailed};
 use thiserror::Error;
 
-/// Why a command has no answer. A place is a byte of the text or of the input, counted from 0.
+/// Why a command has no result. A place is the offset of a byte in the text or in the input, from
+/// 0.
 #[derive(Clone, Copy, Debug, PartialEq, Eq, Error)]
 pub enum Refusal {
-    /// S1 to S6: the text has no tokens.
+    /// S1 to S6: the text can't be split into tokens.
     #[error("refused S{} at {at}", scan_number(*cause))]
     Scan { cause: Cause, at: usize },
-    /// Y1: no text goes on like this.
+    /// Y1: no text continues like this.
     #[error("refused Y1 at {at}")]
     Unexpected { at: usize },
     /// Y2: the text ends too early.
@@ -45,7 +46,7 @@ pub enum Refusal {
     Write,
 }
 
-/// The number of a cause of S.
+/// The number of a cause in S1 to S6.
 pub fn scan_number(cause: Cause) -> u8
     ensures { result ≡ Rattle.cp_execute.specs.Refusals.scan_number cause }
 {
@@ -59,8 +60,8 @@ pub fn scan_number(cause: Cause) -> u8
     }
 }
 
-/// The exit status of a command that ends so: 1 where the text or the input is refused, 3 where memory is, 4 where reading or
-/// writing failed.
+/// The exit status after a refusal: 1 if the text or the input is refused, 3 if memory runs out, 4
+/// if reading or writing fails.
 pub fn exit_of(refusal: &Refusal) -> u8
     ensures { result ≡ exit_status refusal.now }
 {
@@ -109,7 +110,7 @@ impl From<Violation> for Refusal {
     }
 }
 
-// The tables of an accepted text are refused for memory alone.
+// Building the tables of an accepted text fails only if memory runs out.
 impl From<CompileError> for Refusal {
     ghost from_gives = { λ _ r. r ≡ refusal.Memory };
 

@@ -21,7 +21,7 @@ use std::alloc::Global;
 use std::sync::Wait;
 use std::thread::Threads;
 
-/// The numbers of a run: how many rounds it has, how each is made, and how often the clock ticks.
+/// The parameters of a run: the number of rounds, how each is made, and how often the clock ticks.
 #[derive(Clone, Copy, Debug)]
 pub struct Run {
     pub rounds: u32,
@@ -29,11 +29,11 @@ pub struct Run {
     pub tick: Tick,
 }
 
-/// The report after a run of the program of an accepted text.
+/// Runs the program of an accepted text and returns the report.
 ///
 /// # Errors
 ///
-/// M where memory runs out.
+/// M if memory runs out.
 pub(crate) fn report_of<H: Threads + Wait + Sync, G: TurnGate>(
     rt: &H,
     alloc: Global,

@@ -1,4 +1,4 @@
-//! Writing all of a text, by writes that may take a part of it each.
+//! Writing all bytes of a slice, where each write may take only some of them.
 
 ghost use Rattle.std.specs.Prelude.{◌≡◌, ◌<◌, ◌≤◌, ℕ, IfOk, OnErr, OnOk, length, take};
 ghost use Rattle.std.specs.Io.KnownBytes.{Appends, Keeps};
@@ -9,7 +9,7 @@ use std::io::Write;
 #[derive(Clone, Copy, Debug, PartialEq, Eq)]
 pub struct WriteFailed;
 
-// One write of what is left, which isn't nothing. It takes at least one byte.
+// Writes once from what is left, which isn't empty. A write that succeeds takes at least one byte.
 fn write_part<W: Write>(out: &mut W, part: &[u8]) -> Result<usize, WriteFailed>
     requires some { 0 < length part.now }
     ensures count { IfOk result (λ n. (0 < n) × (n ≤ length part.now)) }
@@ -24,11 +24,12 @@ fn write_part<W: Write>(out: &mut W, part: &[u8]) -> Result<usize, WriteFailed>
     }
 }
 
-/// Writes all the bytes. No write is asked to take nothing.
+/// Writes all the bytes. No write is called with an empty slice.
 ///
 /// # Errors
 ///
-/// `WriteFailed` where a write failed, or took no byte of those that were left. What went out is a beginning of the bytes.
+/// `WriteFailed` if a write fails or takes none of the bytes that are left. A prefix of the bytes
+/// has then been written.
 pub fn write_all<W: Write>(out: &mut W, bytes: &[u8]) -> Result<(), WriteFailed>
     ensures whole { OnOk result (Appends (W.contents out.old) (W.contents out.new) bytes.now) }
     ensures beginning { OnErr result ((n : ℕ) × (n ≤ length bytes.now)

@@ -1,5 +1,5 @@
--- A position counts what stands before its place. By the first byte: the bytes have no line feed, or they are whole lines and the
--- beginning of one more.
+-- A position counts the lines and bytes before its place. By the first byte: either the bytes have
+-- no line feed, or they are whole lines and the start of one more.
 use Rattle.std.specs.Prelude.{◌≡◌, refl, ◌⊎◌, ℕ, suc, ◌+◌, Bool, true, false, List, [], ◌∷◌, ◌++◌, length, nat_eq, take}
 use Rattle.std.proofs.Common.{ap, arith, inl, inr}
 use Rattle.std.proofs.lemmas.Bool.{eqb-true}

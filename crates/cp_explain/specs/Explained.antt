@@ -1,4 +1,5 @@
--- What an explanation is of: the same judgement as that of `check`, and the position of a refusal in its first line.
+-- What an explanation promises: the same judgement as `check`, and the position of a refusal in its
+-- first line.
 use Rattle.std.specs.Prelude.{◌≡◌, ℕ, List, [], ◌++◌, Option, None, Some, codes}
 use Rattle.std.specs.Io.KnownBytes.{Appends}
 use Rattle.cp_model.specs.Syntax as s
@@ -28,7 +29,7 @@ place_of (refusal.TooDeep at) = at
 place_of (refusal.Check rule at) = at
 place_of _ = 0
 
--- The front of the first line: the file, the line, the column, and the refusal.
+-- The start of the first line: the file, the line, the column, and the code of the refusal.
 abbrev pub heading : List ℕ → List ℕ → Refusal → List ℕ
 heading file text e =
     file ++ codes ":" ++ natural (line_at text (place_of e)) ++ codes ":" ++ natural (column_at text (place_of e)) ++ codes ": " ++ code_of e ++ codes ": "
@@ -36,11 +37,11 @@ heading file text e =
 abbrev pub Begins : List ℕ → List ℕ → Type 0
 Begins front page = (rest : List ℕ) × (page ≡ front ++ rest)
 
--- A text is accepted, or it is refused so and the page begins with that.
+-- The text is accepted, or it is refused with `e` and the page begins with the heading for `e`.
 abbrev pub Explains : List ℕ → List ℕ → Option Refusal → List ℕ → Type 0
 Explains file text None page = (t : s.Tree) × IsAccepted text t
 Explains file text (Some e) page = Refuses text e × Begins (heading file text e) page
 
--- Of a known text: a page that explains it was written, whole or from its beginning.
+-- If the text is known: a page was written that explains it, or the first part of it that is read.
 abbrev pub Wrote : List ℕ → Option (List ℕ) → Option Refusal → Option (List ℕ) → Option (List ℕ) → Type 0
 Wrote file text e old new = (xs : List ℕ) → text ≡ Some xs → (page : List ℕ) × Explains file (front xs) e page × Appends old new page

@@ -5,7 +5,7 @@ abbrev pub line_feeds : List ℕ → ℕ
 line_feeds [] = 0
 line_feeds (b ∷ bs) = if nat_eq b 10 then suc (line_feeds bs) else line_feeds bs
 
--- The column after these bytes, of which the first stands in a column.
+-- The column after these bytes, if the first of them is in column `n`.
 abbrev pub column_from : ℕ → List ℕ → ℕ
 column_from n [] = n
 column_from n (b ∷ bs) = if nat_eq b 10 then column_from 1 bs else column_from (suc n) bs
@@ -16,11 +16,12 @@ line_at text at = suc (line_feeds (take at text))
 abbrev pub column_at : List ℕ → ℕ → ℕ
 column_at text at = column_from 1 (take at text)
 
--- Whole lines: nothing, or bytes of which the last one is a line feed.
+-- Whole lines: no bytes, or bytes of which the last one is a line feed.
 abbrev pub AreLines : List ℕ → Type 0
 AreLines bs = (bs ≡ []) ⊎ ((front : List ℕ) × (bs ≡ front ++ 10 ∷ []))
 
--- What stands before a place is whole lines, and then so many bytes of the line of the place as its column says, less one.
+-- The bytes before a place are `line - 1` whole lines, and then `column - 1` bytes of the line of
+-- the place.
 pub record Counts (text : List ℕ) (at line column : ℕ) : Type 0 where
   pub lines : List ℕ
   pub rest : List ℕ

@@ -1,4 +1,4 @@
-//! Which message fits a broken rule, by what stands at the place.
+//! Which message fits a broken rule, depending on what stands at the place.
 
 use crate::messages as m;
 use crate::messages::Message;
@@ -7,10 +7,10 @@ use crate::site::{Call, Declaring, Mark, NameRole, Purpose, Site, TypePlace};
 use cp_model::rules::Rule;
 use cp_model::tree::{Designator, Identifier, Parameters, Routine, Sort};
 
-/// There are at most so many processes, with the initial one, and so many monitors.
+/// The largest number of processes, counting the initial one, and of monitors.
 const MOST: usize = 255;
 
-// How many parameters these groups declare.
+// The number of parameters that these groups declare.
 fn count(groups: &[Parameters]) -> usize {
     let mut count: usize = 0;
     for group in groups {
@@ -38,7 +38,7 @@ impl<'t> Site<'t> {
         Some(role)
     }
 
-    // The routine that a name after a component's `.` means.
+    // The routine that a name after a component's `.` stands for.
     fn member(&self, d: &Designator, x: &'t Identifier) -> Option<Declaration<'t>> {
         let system = self.scope.system_of(&d.root)?;
         Wanted::other_than(x).in_routines(&system.routines)
@@ -54,7 +54,8 @@ impl<'t> Site<'t> {
         }
     }
 
-    /// The declaration of a name that can't be seen at the place, since the initial process keeps it for itself.
+    /// The declaration of a name that isn't visible at the place because the initial process keeps
+    /// it for itself.
     pub fn hidden_declaration(&self) -> Option<Declaration<'t>> {
         match self.name? {
             (_, NameRole::Member(..) | NameRole::Declared(_)) => None,
@@ -70,7 +71,7 @@ impl<'t> Site<'t> {
         matches!(self.kind(), Some(Kind::Constant | Kind::EnumerationValue))
     }
 
-    // A variable or a parameter that is no component.
+    // Whether the name is that of a variable or a parameter, which may be a component.
     fn is_variable(&self) -> bool {
         matches!(
             self.kind(),
@@ -188,7 +189,8 @@ impl<'t> Site<'t> {
         }
     }
 
-    // A routine of the text that is called with so many arguments: their number is wrong, or what it answers.
+    // The message for a call of a declared routine with `arguments` arguments: their number is
+    // wrong, or else the value doesn't fit.
     fn call_message(&self, arguments: usize) -> Message {
         match self.declaration() {
             Some(declared) if is_taken(declared.routine, arguments) => self.disagreement(),
@@ -196,7 +198,8 @@ impl<'t> Site<'t> {
         }
     }
 
-    // A standard routine: what is wrong is what it is used for, or else the number of its arguments.
+    // The message for a call of a standard routine: its value doesn't fit, or else the number of
+    // its arguments is wrong.
     fn standard_call(&self) -> Message {
         match self.purpose {
             Some(_) => self.disagreement(),
@@ -288,7 +291,7 @@ impl<'t> Site<'t> {
         }
     }
 
-    // Whether the name is that of a component that is a variable here.
+    // Whether the name is that of a component that is declared as a variable here.
     fn names_own_component(&self) -> bool {
         match self.identifier() {
             Some(x) => {

@@ -1,4 +1,4 @@
-//! Components: which ones a text, or a system type, declares or has rights to.
+//! The components that a text or a system type declares or has rights to.
 
 use cp_model::tree::{
     Defined, Fields, Identifier, Parameters, Section, Sort, System, Tree, TypeDefinition,
@@ -14,7 +14,7 @@ pub struct Systems<'t> {
 }
 
 impl<'t> Systems<'t> {
-    /// Those of a tree. It fails only when memory runs out.
+    /// Collects the system types of a tree. Fails only if memory runs out.
     pub fn of(alloc: Global, tree: &'t Tree) -> Result<Systems<'t>, AllocError> {
         let mut systems = Systems {
             names: NameTable::new(alloc),
@@ -45,13 +45,15 @@ impl<'t> Systems<'t> {
     }
 }
 
-/// A component: the name of its variable, or of the parameter that has the right to it, and that of its type.
+/// A component: the name of its variable, or of the parameter that gives the right to it, and the
+/// name of its type.
 #[derive(Clone, Copy)]
 pub struct Component<'t> {
     pub name: &'t Identifier,
     pub of: &'t Identifier,
     pub sort: Sort,
-    /// A process's number, from 2, or a monitor's, from 1, where the initial process declares it.
+    /// The number of a process, from 2, or of a monitor, from 1, if the initial process declares
+    /// it.
     pub number: usize,
 }
 
@@ -64,7 +66,7 @@ pub struct Components<'t> {
 }
 
 impl<'t> Components<'t> {
-    /// Those among these parameters and variables. It fails only when memory runs out.
+    /// Collects the components among these parameters and variables. Fails only if memory runs out.
     pub fn of(
         alloc: Global,
         systems: &Systems<'t>,
@@ -87,18 +89,18 @@ impl<'t> Components<'t> {
         Ok(components)
     }
 
-    /// How many there are.
+    /// The number of components.
     pub fn len(&self) -> usize {
         self.names.len()
     }
 
-    /// A component by its place among all, from 0.
+    /// The component at an index among all of them, from 0.
     pub fn get(&self, index: usize) -> Option<Component<'t>> {
         let (_, component) = self.names.get(index)?;
         Some(component)
     }
 
-    /// The component of a name.
+    /// The component with this name.
     pub fn find(&self, x: &Identifier) -> Option<Component<'t>> {
         self.names.find(x.name.as_bytes())
     }

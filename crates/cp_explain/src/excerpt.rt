@@ -1,4 +1,4 @@
-//! The line of a place, with a caret under it.
+//! The line that a place is in, with a caret under the place.
 
 ghost use Rattle.std.specs.Prelude.{◌≤◌, length};
 
@@ -8,13 +8,14 @@ use cp_report::text::hex;
 use itoa::Buffer;
 use std::alloc::AllocError;
 
-/// A longer line is cut.
+/// The largest number of bytes that is shown of a line. A longer line is cut.
 const WIDTH: usize = 100;
 
-/// What of the text stands before the place when its line is cut.
+/// How many bytes before the place are shown if the start of its line is cut off.
 const BEFORE: usize = 60;
 
-// How many columns a byte is shown in: an unprintable one as `\` and two hexadecimal digits.
+// The number of columns that a byte is shown in. One that isn't printable is shown as `\` and two
+// hexadecimal digits.
 fn width(byte: u8) -> usize {
     if is_printable(byte) { 1 } else { 3 }
 }
@@ -46,7 +47,7 @@ fn width_of(bytes: &[u8]) -> usize {
     all
 }
 
-// Where the line of a place ends.
+// The end of the line that `at` is in.
 fn line_end(text: &[u8], at: usize) -> usize
     requires { at ≤ length text.now }
     ensures { (at ≤ result) × (result ≤ length text.now) }
@@ -59,13 +60,14 @@ fn line_end(text: &[u8], at: usize) -> usize
     text.len()
 }
 
-// How many digits a number has.
+// The number of decimal digits of a number.
 fn digits(number: usize) -> usize {
     let mut buffer = Buffer::new();
     buffer.format(number).len()
 }
 
-/// Adds the line of the byte `at`, at this position, and a line with a caret under it.
+/// Adds the line of the byte `at`, which has this position, and a line with a caret under that
+/// byte.
 pub fn excerpt(
     page: &mut Page,
     text: &[u8],

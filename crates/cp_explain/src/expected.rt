@@ -1,4 +1,4 @@
-//! Which tokens can stand at a place: each is tried in the place of what stands there.
+//! Which tokens can stand at a place. Each is tried instead of what stands there.
 
 use crate::page::Page;
 use cp_model::token::{Span, Token};
@@ -6,10 +6,11 @@ use cp_scan::scan;
 use cp_syntax::{SyntaxError, parse};
 use std::alloc::{AllocError, Global};
 
-/// After more tokens than these none are tried, so that an explanation takes no longer than a check and some milliseconds.
+/// If more tokens than this stand before the place, none is tried, so that an explanation takes no
+/// longer than a check and some milliseconds.
 const MOST_TOKENS: usize = 4_000;
 
-// A token of each kind, and what it is called; a word or a mark is called as it is spelled.
+// A token of each kind, and what it is called. A word or a mark is called by its spelling.
 const TOKENS: [(&str, Option<&str>); 53] = [
     ("x", Some("a name")),
     ("1", Some("a number")),
@@ -66,7 +67,7 @@ const TOKENS: [(&str, Option<&str>); 53] = [
     ("var", None),
 ];
 
-// Whether some text goes on so after these tokens. Adds the token and takes it away again.
+// Whether some text continues with this token after `tokens`. Adds the token and removes it again.
 fn can_follow(
     alloc: Global,
     tokens: &mut Vec<Token>,
@@ -93,7 +94,7 @@ fn can_follow(
     answer
 }
 
-// Adds one more token that can stand there.
+// Adds one more token that can stand at the place.
 fn push_token(
     page: &mut Page,
     is_first: bool,
@@ -109,12 +110,13 @@ fn push_token(
     page.bytes(b"`")
 }
 
-// How many tokens stand before a place.
+// The number of tokens before a place.
 fn count_before(tokens: &[Token], at: usize) -> usize {
     tokens.iter().filter(|token| token.span.from < at).count()
 }
 
-/// Adds a line with the tokens that can stand at a place, unless too many stand before it. It fails only when memory runs out.
+/// Adds a line with the tokens that can stand at a place, unless too many stand before it. Fails
+/// only if memory runs out.
 pub fn push_expected(
     alloc: Global,
     page: &mut Page,

@@ -1,4 +1,5 @@
-//! The explanation of a text: the judgement of `check`, told for people (`specs/Explained.antt`).
+//! The explanation of a text: the judgement of `check`, written for people
+//! (`specs/Explained.antt`).
 
 ghost use Rattle.std.specs.Prelude.{◌≡◌, ◌++◌, IfErr, IfOk, IfSome, None, OnErr, OnOk, Some};
 ghost use Rattle.std.specs.Io.KnownBytes.{Keeps};
@@ -21,14 +22,14 @@ use cp_rules::text::{self, judge};
 use std::alloc::{AllocError, Global};
 use std::io::{Read, Write};
 
-/// What is told of a text, and why it is refused, unless it is accepted.
+/// The explanation of a text, and why it is refused, unless it is accepted.
 #[derive(Drop)]
 pub struct Explanation {
     page: Page,
     refusal: Option<Refusal>,
 }
 
-// Where a text is refused.
+// The place at which a text is refused.
 fn place(refusal: &Refusal) -> usize
     ensures { result ≡ place_of refusal.now }
 {
@@ -82,7 +83,7 @@ fn heading_of(
     Ok(page)
 }
 
-// The explanation of a refusal, of which this is told after the heading.
+// Explains a refusal: by its heading, and then by `told`.
 fn explain_refusal(
     alloc: Global,
     file: &[u8],
@@ -124,7 +125,8 @@ fn of_tree(
     }
 }
 
-/// Explains a text: of one that is accepted the access graph, of another one the first refusal. It fails only when memory runs out.
+/// Explains a text: by the access graph if it is accepted, or else by the first refusal. Fails only
+/// if memory runs out.
 pub fn explain(
     alloc: Global,
     file: &[u8],
@@ -157,11 +159,12 @@ fn read<R: Read>(alloc: Global, text: &mut R) -> Result<Vec<u8>, Refusal>
     }
 }
 
-/// Explains the text of a reader, and answers why it is refused, unless it is accepted.
+/// Explains the text of a reader, and returns why it is refused, unless it is accepted.
 ///
 /// # Errors
 ///
-/// I1 where a read failed, M where memory runs out, and I2 where a write failed. Nothing was written but after I2.
+/// I1 if a read fails, M if memory runs out, and I2 if a write fails. After I1 and M nothing has
+/// been written.
 pub fn explain_text<R: Read, W: Write>(
     alloc: Global,
     file: &[u8],

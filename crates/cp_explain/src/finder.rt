@@ -1,10 +1,10 @@
-//! Finds what stands at a place of a text, by a walk over its tree.
+//! Finds what stands at a place of a text, by walking over its tree.
 
 use crate::scope::Scope;
 use crate::site::{Mark, NameRole, Purpose, Site};
 use cp_model::tree::{Identifier, Tree};
 
-/// Walks over a tree, and keeps what stands at one place of it.
+/// Walks over a tree, and records what stands at one place of it.
 #[derive(Drop)]
 pub struct Finder<'t> {
     pub(crate) at: usize,
@@ -13,7 +13,7 @@ pub struct Finder<'t> {
 }
 
 impl<'t> Finder<'t> {
-    /// A walk that looks for the token at a place.
+    /// Returns a finder for the token at a place.
     pub fn new(tree: &'t Tree, at: usize) -> Finder<'t> {
         let scope = Scope {
             tree,
@@ -47,7 +47,7 @@ impl<'t> Finder<'t> {
         }
     }
 
-    // The outermost expression that begins at the place tells what is wanted there.
+    // Of the expressions that begin at the place, the outermost one says what is wanted there.
     pub(crate) fn purpose(&mut self, at: usize, purpose: Purpose<'t>) {
         if at == self.at && self.site.purpose.is_none() {
             self.site.scope = self.scope;

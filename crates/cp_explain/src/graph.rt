@@ -1,4 +1,5 @@
-//! The access graph of an accepted text: its components, and which has a right to which, as `init` hands them over.
+//! The access graph of an accepted text: its components, and which of them has a right to which, as
+//! `init` hands the rights over.
 
 use crate::components::{Component, Components, Systems};
 use crate::page::Page;
@@ -13,7 +14,7 @@ use std::alloc::{AllocError, Global};
 pub enum Form {
     /// As lines for people.
     Lines,
-    /// As a graph of Graphviz.
+    /// As a graph for Graphviz.
     Dot,
 }
 
@@ -22,14 +23,14 @@ pub enum Form {
 struct Drawing<'t> {
     page: Page,
     form: Form,
-    // What the names of the body that is being walked over stand for.
+    // The components that the names in the current body stand for.
     components: Components<'t>,
-    // The system type whose body that is; none for the initial process.
+    // The system type that has this body, or `None` for the initial process.
     inside: Option<&'t Identifier>,
 }
 
 impl<'t> Drawing<'t> {
-    // The name of a component, with its number where it has one.
+    // Writes the name of a component, with its number if it has one.
     fn component(&mut self, component: Component<'t>) -> Result<(), AllocError> {
         if let (Form::Dot, Some(x)) = (self.form, self.inside) {
             self.page.bytes(x.name.as_bytes())?;
@@ -56,7 +57,7 @@ impl<'t> Drawing<'t> {
         self.quote()
     }
 
-    // A line that says which component there is.
+    // Writes a line that declares a component.
     fn component_line(&mut self, component: Component<'t>) -> Result<(), AllocError> {
         if self.form == Form::Dot {
             self.page.bytes(b"  ")?;
@@ -78,7 +79,7 @@ impl<'t> Drawing<'t> {
         self.page.bytes(b"\n")
     }
 
-    // A line that says which right a component has.
+    // Writes a line that says to which component another one has a right.
     fn right(&mut self, from: Component<'t>, to: Component<'t>) -> Result<(), AllocError> {
         match (self.form, self.inside) {
             (Form::Dot, _) => self.page.bytes(b"  ")?,
@@ -169,7 +170,7 @@ impl<'t> Drawing<'t> {
         Ok(())
     }
 
-    // The rights that the body of a system type hands over.
+    // Writes the rights that the body of a system type hands over.
     fn system(
         &mut self,
         alloc: Global,
@@ -211,10 +212,10 @@ impl<'t> Drawing<'t> {
     }
 }
 
-/// The components of an accepted text, and which has a right to which.
+/// Writes the components of an accepted text, and which of them has a right to which.
 ///
-/// The rights that the initial process hands over are told by component, those that the body of a system type hands over by type. It
-/// fails only when memory runs out.
+/// Rights that the initial process hands over are listed by component, and those that the body of a
+/// system type hands over by type. Fails only if memory runs out.
 pub fn graph(alloc: Global, tree: &Tree, form: Form) -> Result<Page, AllocError> {
     let systems = Systems::of(alloc, tree)?;
     let mut drawing = Drawing {

@@ -1,11 +1,14 @@
-//! Explanations: the judgement of `check`, told for people.
+//! Explanations: the judgement of `check`, written for people.
 //!
-//! `explain::explain_text` reads a text, judges it as `check` does, and writes what is told. Of a refused text that is the place as a line and
-//! a column (`position`), the message for the rule that is broken, the line with a caret (`excerpt`), the advice, and where the name is
-//! declared. `finder` and the walks find what stands at the place (`site`), `choice` the message for that (`messages`), `scope` what a name
-//! is declared as; `told` puts these together. Of an accepted text it is the access graph (`components`, `graph`).
+//! `explain::explain_text` reads a text, judges it as `check` does, and writes the explanation. For
+//! a refused text that is the place as a line and a column (`position`), the message for the broken
+//! rule, the line with a caret (`excerpt`), the advice, and where the name is declared. `finder`
+//! and the walks find what stands at the place (`site`), `choice` picks the message for that
+//! (`messages`), and `scope` looks up what a name is declared as. `told` puts these together. For
+//! an accepted text the explanation is the access graph (`components`, `graph`).
 //!
-//! Proved: the judgement, the position, and the front of the first line (`specs/Explained.antt`). The words are tested.
+//! The judgement, the position and the start of the first line are proved (`specs/Explained.antt`).
+//! The wording is tested.
 #![tactic(auto)]
 
 mod choice;

@@ -1,6 +1,7 @@
-//! The messages: one for each way to break a rule of the spelling, the syntax or the language. `$` stands for the name at the place.
+//! The messages: one for each way to break a rule of spelling, syntax or the language. `$` stands
+//! for the name at the place.
 
-/// What is wrong, and how to mend it.
+/// What is wrong, and how to fix it.
 #[derive(Clone, Copy, Debug, PartialEq, Eq)]
 pub struct Message {
     pub head: &'static str,

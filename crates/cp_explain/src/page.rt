@@ -9,7 +9,7 @@ use cp_report::text::push_natural;
 use std::alloc::{AllocError, Global};
 use std::marker::Model;
 
-/// Text that grows at its end. Each call fails only when memory runs out.
+/// Text that grows at its end. Each call fails only if memory runs out.
 #[derive(Drop)]
 pub struct Page {
     bytes: Vec<u8>,
@@ -24,7 +24,7 @@ impl Model for Page {
 }
 
 impl Page {
-    /// No text.
+    /// Returns an empty page.
     pub fn new(alloc: Global) -> Page
         ensures { result ≡ Rattle.std.specs.Prelude.[] }
     {
@@ -33,7 +33,7 @@ impl Page {
         }
     }
 
-    /// Its bytes.
+    /// The bytes of the page.
     pub fn as_bytes(&self) -> &[u8]
         ensures { result.now ≡ self.now }
     {
@@ -54,7 +54,7 @@ impl Page {
         push_natural(&mut self.bytes, n as u64)
     }
 
-    /// Adds so many blanks.
+    /// Adds `count` blanks.
     pub fn blanks(&mut self, count: usize) -> Result<(), AllocError> {
         for _ in 0..count {
             self.bytes(b" ")?;
@@ -67,7 +67,7 @@ impl Page {
         self.bytes(text.as_bytes())
     }
 
-    /// Adds a name between grave accents.
+    /// Adds a name between backquotes.
     pub fn name(&mut self, x: &Identifier) -> Result<(), AllocError> {
         self.bytes(b"`")?;
         self.bytes(x.name.as_bytes())?;
@@ -81,7 +81,7 @@ impl Page {
         self.number(position.column)
     }
 
-    /// Adds a text in which `$` stands for a name.
+    /// Adds a text, with each `$` replaced by the name if there is one.
     pub fn template(&mut self, text: &str, x: Option<&Identifier>) -> Result<(), AllocError> {
         for byte in text.as_bytes() {
             match (*byte, x) {

@@ -3,7 +3,8 @@
 ghost use Rattle.std.specs.Prelude.{◌≡◌, suc};
 ghost use Rattle.cp_explain.specs.Positions.{column_at, column_from, line_at, line_feeds};
 
-/// Where a place stands: its line and its column, both counted from 1. A line ends with a line feed, and each byte is a column.
+/// The line and the column of a place, both counted from 1. A line ends with a line feed, and each
+/// byte takes one column.
 #[derive(Clone, Copy, Debug, PartialEq, Eq)]
 pub struct Position {
     pub line: usize,
@@ -28,7 +29,7 @@ impl Position {
         position
     }
 
-    /// The position of the byte `at`, counted from 0, or of the end of a text that is shorter.
+    /// The position of the byte `at`, counted from 0, or of the end of the text if it is shorter.
     pub fn of(text: &[u8], at: usize) -> Position
         ensures line { result.line ≡ line_at text.now at }
         ensures column { result.column ≡ column_at text.now at }

@@ -1,13 +1,14 @@
-//! What a name stands for at a place of a text, as its declarations say.
+//! What a name stands for at a place of a text, according to its declarations.
 //!
-//! No name of an accepted text hides another. In a text that breaks a rule, the innermost declaration is told.
+//! In an accepted text no name hides another. In a text that breaks a rule, the innermost
+//! declaration counts.
 
 use cp_model::tree::{
     ConstantDefinition, Defined, Fields, Identifier, Parameters, Routine, Section, Sort, System,
     Tree, TypeDefinition, TypeExpression,
 };
 
-/// What a declaration makes of its name.
+/// What a name is declared as.
 #[derive(Clone, Copy, Debug, PartialEq, Eq)]
 pub enum Kind {
     Constant,
@@ -21,20 +22,20 @@ pub enum Kind {
     Function,
 }
 
-/// A declaration of a text: its name, and what it makes of that.
+/// A declaration in a text: the name, and what it is declared as.
 #[derive(Clone, Copy)]
 pub struct Declaration<'t> {
     pub name: &'t Identifier,
     pub kind: Kind,
-    /// The name of its type, where it is a variable or a parameter whose type has one.
+    /// The name of the type, if this is a variable or a parameter whose type has a name.
     pub of: Option<&'t Identifier>,
-    /// What it declares, where it is a routine.
+    /// The routine that is declared, if this is one.
     pub routine: Option<&'t Routine>,
-    /// What it defines, where it is a system type.
+    /// The system type that is defined, if this is one.
     pub system: Option<&'t System>,
 }
 
-/// A name that is looked for, but for its declaration at one place.
+/// A name to look up, ignoring its declaration at one place.
 #[derive(Clone, Copy)]
 pub struct Wanted<'a> {
     name: &'a [u8],
@@ -42,7 +43,7 @@ pub struct Wanted<'a> {
 }
 
 impl<'a> Wanted<'a> {
-    /// The declarations of a name, but for what stands where it does.
+    /// Looks for a declaration of the name `x` other than `x` itself.
     pub fn other_than(x: &'a Identifier) -> Wanted<'a> {
         Wanted {
             name: x.name.as_bytes(),
@@ -91,7 +92,7 @@ impl<'a> Wanted<'a> {
         None
     }
 
-    /// The routine of this name.
+    /// Finds the routine with this name.
     pub fn in_routines<'t>(&self, routines: &'t [Routine]) -> Option<Declaration<'t>> {
         for routine in routines {
             if self.is(&routine.name) {
@@ -176,7 +177,8 @@ fn type_name(of: &TypeExpression) -> Option<&Identifier> {
     }
 }
 
-/// Where names are looked up: in a routine, if the place stands in one, in a system type, if it stands in one, and in the text.
+/// Where names are looked up: in the routine and in the system type that the place is in, if any,
+/// and in the text.
 #[derive(Clone, Copy)]
 pub struct Scope<'t> {
     pub tree: &'t Tree,
@@ -185,7 +187,7 @@ pub struct Scope<'t> {
 }
 
 impl<'t> Scope<'t> {
-    /// The variables of the component: of the system type, or of the initial process.
+    /// The variables of the system type, or else of the initial process.
     pub fn variables(&self) -> &'t [Fields] {
         match self.system {
             Some(system) => &system.variables,
@@ -212,12 +214,12 @@ impl<'t> Scope<'t> {
         wanted.in_parameters(&self.system?.parameters)
     }
 
-    /// The variable of the component that has this name.
+    /// Finds the component's own variable with this name.
     pub fn own_variable(&self, wanted: Wanted<'_>) -> Option<Declaration<'t>> {
         wanted.in_groups(self.variables())
     }
 
-    /// What a name is declared as, innermost first.
+    /// Finds the innermost declaration of a name.
     pub fn find(&self, wanted: Wanted<'_>) -> Option<Declaration<'t>> {
         if let Some(found) = self.in_routine(wanted) {
             return Some(found);
@@ -234,7 +236,7 @@ impl<'t> Scope<'t> {
         }
     }
 
-    /// What the initial process declares a name as, where that can't be seen in a system type.
+    /// Finds the declaration of a name by the initial process that isn't visible in a system type.
     pub fn find_hidden(&self, wanted: Wanted<'_>) -> Option<Declaration<'t>> {
         let _system = self.system?;
         match wanted.in_groups(&self.tree.variables) {
@@ -243,7 +245,7 @@ impl<'t> Scope<'t> {
         }
     }
 
-    /// The system type of a component that is declared here.
+    /// The system type of the component with this name.
     pub fn system_of(&self, x: &Identifier) -> Option<&'t System> {
         let of = self.find(Wanted::other_than(x))?.of?;
         self.find(Wanted::other_than(of))?.system

@@ -1,9 +1,9 @@
-//! What stands at a place of a text: which part a name plays there, or what an expression is wanted for.
+//! What stands at a place of a text: the role of a name there, or the purpose of an expression.
 
 use crate::scope::Scope;
 use cp_model::tree::{Designator, Identifier, Sort};
 
-/// The declaration in which a name stands.
+/// What a name is declared as.
 #[derive(Clone, Copy)]
 pub enum Declaring {
     Constant,
@@ -12,7 +12,7 @@ pub enum Declaring {
     Field,
     /// A variable of a routine.
     RoutineVariable,
-    /// A variable of a component, by its type.
+    /// A variable that a system type or the initial process declares.
     Variable,
     Parameter,
     Routine,
@@ -33,20 +33,21 @@ pub enum TypePlace {
     Result,
 }
 
-/// The part that a name plays.
+/// The role of a name.
 #[derive(Clone, Copy)]
 pub enum NameRole<'t> {
     Declared(Declaring),
     Type(TypePlace),
     Constant,
-    /// The first name of an expression's designator: a value is wanted.
+    /// A name alone as an expression: a value is wanted.
     Value,
-    /// The first name of the left side of `:=`.
+    /// A name alone on the left side of `:=`.
     Target,
-    /// The name of what is called, with so many arguments: a function in an expression, else a procedure.
+    /// The name of a routine that is called with this number of arguments: a function in an
+    /// expression, otherwise a procedure.
     Function(usize),
     Procedure(usize),
-    /// The first name of a designator that has parts.
+    /// The first name of a designator that has selectors.
     Root(&'t Designator),
     /// The name after a `.`.
     Member(&'t Designator, Call),
@@ -54,12 +55,12 @@ pub enum NameRole<'t> {
     Component(usize),
 }
 
-/// Whether what a name after a `.` belongs to is called, and with how many arguments.
+/// Whether the name after a `.` is called, and with how many arguments.
 #[derive(Clone, Copy)]
 pub enum Call {
     Function(usize),
     Procedure(usize),
-    /// It is no last part.
+    /// Not called: other selectors follow, or the designator is the left side of `:=`.
     No,
 }
 
@@ -70,13 +71,14 @@ pub enum Purpose<'t> {
     Selector,
     Bound,
     Index,
-    /// An argument of a routine, by its number from 1.
+    /// An argument of a routine, by its number from 0.
     Argument(&'t Designator, usize),
-    /// An argument of `init`, by its number from 1.
+    /// An argument of `init`, by its number from 0.
     InitArgument(&'t Identifier, usize),
 }
 
-/// A token that is no name and begins no expression.
+/// The role of an operator, a mark, a word, a written type or a constant. A constant's name has a
+/// role as a name too.
 #[derive(Clone, Copy)]
 pub enum Mark {
     Operator,
@@ -91,20 +93,21 @@ pub enum Mark {
     InitialBegin,
     /// A written type.
     Type(TypePlace),
-    /// A constant that isn't a name, or the second bound of a subrange.
+    /// The first bound of a subrange, which is a constant as the following ones are.
     FirstBound,
     LastBound,
     Label,
     DefinitionValue,
 }
 
-/// What stands at a place. A name that begins an expression has a purpose beside its role.
+/// What stands at a place. A name that begins an expression has a purpose as well as a role.
 #[derive(Drop)]
 pub struct Site<'t> {
     pub scope: Scope<'t>,
     pub name: Option<(&'t Identifier, NameRole<'t>)>,
     pub purpose: Option<Purpose<'t>>,
     pub mark: Option<Mark>,
-    /// The number of the process or monitor that the name declares, where the initial process declares it.
+    /// The number of the process or monitor that the name declares, if the initial process declares
+    /// it.
     pub number: Option<(Sort, usize)>,
 }

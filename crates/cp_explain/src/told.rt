@@ -1,4 +1,5 @@
-//! What is told of a broken rule: the message, the line with a caret, the advice, and where the name is declared.
+//! The explanation of a refusal after its heading: the message, the line with a caret, the advice,
+//! and where the name is declared.
 
 use crate::components::{Components, Systems};
 use crate::excerpt::excerpt;
@@ -42,7 +43,7 @@ fn of_scan(cause: Cause) -> Message {
     }
 }
 
-// The message of a text that has no tree.
+// The message for a text that has no tree.
 fn of_syntax(refusal: Refusal) -> Message {
     match refusal {
         Refusal::Scan { cause, .. } => of_scan(cause),
@@ -52,7 +53,7 @@ fn of_syntax(refusal: Refusal) -> Message {
     }
 }
 
-// The message, the line of the place, and the advice.
+// Adds the message, the line of the place, and the advice.
 fn push_message(
     page: &mut Page,
     text: &[u8],
@@ -68,7 +69,7 @@ fn push_message(
     page.bytes(b"\n")
 }
 
-// Where the name is declared, if that isn't here.
+// Adds where the name at the place is declared.
 fn push_declaration(
     page: &mut Page,
     text: &[u8],
@@ -92,7 +93,7 @@ fn push_declaration(
     })
 }
 
-// Where the initial process declares a name that can't be seen here.
+// Adds where the initial process declares a name that isn't visible at the place.
 fn push_hidden(page: &mut Page, text: &[u8], declared: Declaration<'_>) -> Result<(), AllocError> {
     page.bytes(b"  ")?;
     page.name(declared.name)?;
@@ -103,7 +104,7 @@ fn push_hidden(page: &mut Page, text: &[u8], declared: Declaration<'_>) -> Resul
     )
 }
 
-// That a page tells more.
+// Adds a hint to the page that explains the rule.
 fn push_hint(page: &mut Page, letter: &str, number: u8) -> Result<(), AllocError> {
     page.text("  `cpm explain ")?;
     page.text(letter)?;
@@ -111,7 +112,7 @@ fn push_hint(page: &mut Page, letter: &str, number: u8) -> Result<(), AllocError
     page.text("` tells more.\n")
 }
 
-/// What is told of a text that has no tree, after the heading. It fails only when memory runs out.
+/// Explains why a text has no tree, after the heading. Fails only if memory runs out.
 pub fn of_no_tree(
     alloc: Global,
     text: &[u8],
@@ -135,7 +136,7 @@ pub fn of_no_tree(
     Ok(page)
 }
 
-// The number of the process or monitor that a name declares.
+// The sort and the number of the component that a name declares.
 fn number(
     alloc: Global,
     tree: &Tree,
@@ -152,7 +153,7 @@ fn number(
     })
 }
 
-/// What is told of a broken rule, after the heading. It fails only when memory runs out.
+/// Explains a broken rule, after the heading. Fails only if memory runs out.
 pub fn of_violation(
     alloc: Global,
     text: &[u8],

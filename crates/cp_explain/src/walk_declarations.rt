@@ -8,7 +8,7 @@ use cp_model::tree::{
 };
 
 impl<'t> Finder<'t> {
-    /// What stands at the place, in the whole text.
+    /// Finds what stands at a place of a whole text.
     pub fn find(tree: &'t Tree, at: usize) -> Site<'t> {
         let mut finder = Finder::new(tree, at);
         finder.sections(&tree.sections);

@@ -19,7 +19,7 @@ fn first_token(e: &Expression) -> usize {
 }
 
 impl<'t> Finder<'t> {
-    /// An expression that is wanted for something.
+    /// Walks over an expression that is wanted for `purpose`.
     #[cycle(expressions)]
     pub(crate) fn expression_for(&mut self, e: &'t Expression, purpose: Purpose<'t>) {
         self.purpose(first_token(e), purpose);
@@ -60,7 +60,7 @@ impl<'t> Finder<'t> {
         }
     }
 
-    // What each argument is wanted for.
+    // Records what each argument is wanted for.
     pub(crate) fn purposes(&mut self, d: &'t Designator, list: &'t [Expression]) {
         for number in 0..list.len() {
             self.purpose(first_token(&list[number]), Purpose::Argument(d, number));
@@ -74,7 +74,8 @@ impl<'t> Finder<'t> {
         }
     }
 
-    /// A designator whose first name plays this part, if it stands alone. What stands after its last `.` is called so.
+    /// Walks over a designator. If its first name stands alone, it has the role `alone`. A name
+    /// after its last `.` is called as `call` says.
     #[cycle(expressions)]
     pub(crate) fn designator(&mut self, d: &'t Designator, alone: NameRole<'t>, call: Call) {
         self.names(d, alone, call);

@@ -51,7 +51,7 @@ impl<'t> Finder<'t> {
         }
     }
 
-    // The statements that test a value.
+    // Walks over a statement that tests a value.
     #[cycle(statements)]
     fn control_statement(&mut self, s: &'t Statement) {
         match s {

@@ -74,7 +74,7 @@ variables_reads limit (g ∷ gs) ts rest h block =
     (λ g ts rest h u. variable_group_reads limit g ts rest h) (g ∷ gs))
     h.0 rest h.2 (λ g. tt) (block_is_no_name (kind_at rest) block))
 
--- what follows the definitions before variables: none that begins with a name
+-- what follows the definitions before variables: nothing that begins with a name
 pub variables_begin : (limit : ℕ) (gs : List s.Variables) (ts mid : List Token) → variables limit gs ts mid → begins_block (kind_at mid) ≡ true
     → (is_name (kind_at ts) ≡ false) × (begins_section (kind_at ts) ≡ false)
 variables_begin limit [] ts mid h block = rw h (block_is_no_name (kind_at mid) block, block_is_no_section (kind_at mid) block)
@@ -168,7 +168,7 @@ enumeration_by : (p : Reader s.TypeExpression) (d : Option Deeper) → defined_b
 unfolding defined_by
 enumeration_by p d = refl
 
--- neither a system type nor an enumeration begins with this token
+-- this token begins neither a system type nor an enumeration
 abbrev begins_type : Option Kind → Bool
 begins_type (Some (kind.Symbol symbol.Process)) = false
 begins_type (Some (kind.Symbol symbol.Monitor)) = false
@@ -252,7 +252,7 @@ types_go : (p : Reader s.TypeExpression) (d : Option Deeper) (ds : List s.TypeDe
 unfolding section_of section_by
 types_go p d ds ts mid rest w h = rw (w.1.1, h) refl
 
--- a section goes on while a name follows
+-- a section continues as long as a name follows
 abbrev NoName : s.Section → Option Kind → Type 0
 NoName x k = is_name k ≡ false
 

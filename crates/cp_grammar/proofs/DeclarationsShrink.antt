@@ -1,4 +1,5 @@
--- A declaration stands for at least one token, and a list of them for no more than there are.
+-- A declaration consists of at least one token, and a list of declarations of no more tokens than
+-- there are.
 use Rattle.std.proofs.Common.{ℕ, zero, suc, ◌<◌, ◌≤◌, List, [], ◌∷◌, length, Option, Some, None, arith}
 use Rattle.cp_model.specs.Languages.{optional}
 use Rattle.cp_model.specs.Syntax as s

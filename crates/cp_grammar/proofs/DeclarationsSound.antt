@@ -1,4 +1,4 @@
--- What is read as a declaration or as a whole text is in the grammar.
+-- What is read as a declaration or as a whole text is allowed by the grammar.
 use Rattle.std.proofs.Common.{◌≡◌, ℕ, Bool, true, false, cond, List, [], ◌∷◌, Option, Some, None, refl}
 use Rattle.cp_model.specs.Languages.{Language, symbol, identifier, ◌⋅◌, optional, each, separated}
 use Rattle.cp_model.specs.Syntax as s
@@ -83,7 +83,7 @@ abbrev pub heading : Heading → Language
 heading h =
     routine_word h.result_type ⋅ optional symbol.Entry h.entry ⋅ identifier h.name ⋅ parameters h.parameters ⋅ result_type h.result_type ⋅ symbol symbol.Semicolon
 
--- the word before a routine with this result or none
+-- the word before a routine with this result type or none
 abbrev WordAt : Bool → List Token → Type 0
 WordAt b ts = (t : Option Identifier) → Returns b t → routine_word t ts (tail ts)
 

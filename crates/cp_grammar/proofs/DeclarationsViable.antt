@@ -1,4 +1,4 @@
--- A declaration that was begun can be gone on with.
+-- A declaration of which a part was read can be completed.
 use Rattle.std.proofs.Common.{◌≡◌, ℕ, suc, Bool, true, false, cond, List, [], ◌∷◌, ◌++◌, Option, Some, None, refl}
 use Rattle.cp_model.specs.Languages.{Language, token, symbol_at, each}
 use Rattle.cp_model.specs.Syntax as s
@@ -57,7 +57,7 @@ unfolding result_type_of
 result_viable true = then (expect_viable symbol.Colon) (λ p. finish (λ t. Some t) identifier_viable (λ t m0 rest h ts c. ((m0, (p, c), h), tt)))
 result_viable false = pure_viable None (λ ts. (refl, tt))
 
--- this word stands before a routine with this result or none
+-- this word comes before a routine with this result type or none
 abbrev Word : Bool → Symbol → Type 0
 Word b w = (t : Option Identifier) (at : ℕ) (ts rest : List Token) → Returns b t → symbol_at w at ts rest → routine_word t ts rest
 
@@ -107,7 +107,7 @@ module _ (limit : ℕ) {p : Reader s.TypeExpression} (v : ViableType limit p) wh
       (λ gs mid rest h ts t. behind_var limit gs ts mid rest (at, t) h)))
       (λ ts. ([], refl, λ rest. refl))
 
--- where a level may be opened, there is an empty body
+-- if a level may be opened, there is an empty body
 pub some_body : (room : ℕ) → Inhabited (body (suc room))
 some_body room =
     let last : Token = of_kind (kind.Symbol symbol.End) in (

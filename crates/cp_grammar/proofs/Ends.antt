@@ -1,4 +1,4 @@
--- What ends an expression has none of the operators and selectors that would carry it on.
+-- A token that ends an expression is none of the operators and selectors that would continue it.
 use Rattle.std.proofs.Common.{◌≡◌, true, false, Option, Some, None, refl}
 use Rattle.cp_model.specs.GrammarExpressions.{is_product, is_sum, is_relation, operator_symbol}
 use Rattle.cp_model.specs.declared.token.Kind.{Kind}

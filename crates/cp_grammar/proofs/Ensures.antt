@@ -12,7 +12,7 @@ abbrev pub Ensures : {A : Type 0} → Outcome A → (A → List Token → Type 0
 Ensures (Ok x) Q = Q x.0 x.1
 Ensures (Err e) Q = Unit {0}
 
--- what the reader takes is in the language of what it answers
+-- the tokens that a reader takes are in the language of its result
 abbrev pub Sound : {A : Type 0} → Reader A → (A → Language) → Type 0
 Sound p f = (ts : List Token) → Ensures (p ts) (λ x rest. f x ts rest)
 
@@ -48,7 +48,7 @@ optional_sound x ts = optional_if x ts (is_symbol x (kind_at ts)) refl
 
 -- ---- levels
 
--- the readers of one level deeper are right, and there are none where no level may be opened
+-- the readers one level deeper are sound, and there are none if no level may be opened
 abbrev pub SoundInner : {B : Type 0} → (ℕ → B → Type 0) → ℕ → Option B → Type 0
 SoundInner P zero None = Unit {0}
 SoundInner P (suc room) (Some f) = P room f
@@ -65,7 +65,7 @@ module _ {A B : Type 0} (P : ℕ → B → Type 0) (Q : ℕ → A → List Token
 
 -- ---- lists
 
--- what holds of the items so far and the tokens behind them is kept by a further item
+-- a further item preserves what holds for the items so far and the tokens after them
 module _ {A : Type 0} (goes_on : Option Kind → Bool) (item : Reader A) (Holds : List A → List Token → Type 0)
     (ok : (xs : List A) (ts : List Token) → Holds xs ts → goes_on (kind_at ts) ≡ true → Ensures (item ts) (λ x rest. Holds (xs ++ x ∷ []) rest)) where
   pub repeat_sound : (n : ℕ) (xs : List A) (ts : List Token) → Holds xs ts → Ensures (repeat goes_on item n xs ts) Holds

@@ -21,17 +21,18 @@ use Rattle.cp_grammar.proofs.ExpressionsShrink.{expression_shrinks}
 use Rattle.cp_grammar.proofs.OperatorsSound.{IsFactor, IsTerm, IsSimple}
 use Rattle.cp_grammar.proofs.ExpressionsSound.{chain_push}
 
--- ---- what the pieces read
+-- ---- what the parts read
 
 abbrev pub FactorReads : s.Expression → Type 0
 FactorReads e = (room : ℕ) (ts rest : List Token) → expression room e ts rest → ends_factor (kind_at rest) ≡ true → factor_at room ts ≡ Ok (e, rest)
 
 module _ (operators : Option Kind → Option Operator) (operand : Reader s.Expression) where
-  -- the chain behind its first operand, where these operations were found and so many turns are left
+  -- the rest of a chain after its first operand, if these operations were found and up to n more
+  -- may be read
   abbrev pub chain_after : s.Expression → ℕ → List s.Operation → Reader s.Expression
   chain_after first n os = repeat (goes_on operators operand) (operation_of operators operand) n os >>= λ os. pure (chain_of first os)
 
-  -- the reader stands behind the expression, and looks for a further operator
+  -- the reader has read the expression, and looks for another operator
   abbrev pub Comes : Reader s.Expression → s.Expression → List Token → List Token → Type 0
   Comes reader e ts rest = (n : ℕ) × (first : s.Expression) × (os : List s.Operation) × (chain_of first os ≡ e) × (length rest ≤ n)
       × (reader ts ≡ chain_after first n os rest)
@@ -232,7 +233,7 @@ relation_complete e f t i reads = record {
   whole = reads;
 }
 
--- the operands of an operator, with what the grammar says of them
+-- the operands of an operator, with what the grammar says about them
 record Operands (a : s.Expression) (o : Operator) (at : ℕ) (b : s.Expression) (room : ℕ) (ts rest : List Token) : Type 0 where
   pub left : IsLeft o a
   pub right : IsRight o b

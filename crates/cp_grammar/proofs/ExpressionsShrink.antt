@@ -1,4 +1,4 @@
--- An expression stands for at least one token.
+-- An expression consists of at least one token.
 use Rattle.std.proofs.Common.{ℕ, zero, suc, ◌<◌, ◌≤◌, length, arith, List}
 use Rattle.cp_model.specs.Syntax as s
 use Rattle.cp_model.specs.GrammarExpressions.{operator_symbol, sign_symbol, expression, expressions, more_expressions, designator, selectors, selector, indices, more_indices, arguments}

@@ -1,4 +1,4 @@
--- What is read as an expression is in the grammar.
+-- What is read as an expression is allowed by the grammar.
 use Rattle.std.proofs.Common.{◌≡◌, ℕ, zero, suc, Bool, true, false, cond, List, [], ◌∷◌, ◌++◌, length, Option, Some, None, refl, sym, ap, subst}
 use Rattle.cp_model.specs.Languages.{symbol, symbol_at, ◌⋅◌, opens, each, each_behind, separated}
 use Rattle.cp_model.specs.Syntax as s
@@ -33,7 +33,7 @@ chain_push e (x ∷ os) o = chain_push (s.Binary e x.operator x.at x.operand) os
 module _ (room : ℕ) (operators : Option Kind → Option Operator) (class : Operator → Bool) (L R : s.Expression → Type 0)
     (table : Table operators class L R)
     (operand : Reader s.Expression) (ok : (ts : List Token) → Ensures (operand ts) (λ e rest. expression room e ts rest × R e)) where
-  -- an operator of the class, and an operand behind it
+  -- an operator of the class, and an operand after it
   abbrev OperationAt : List Token → s.Operation → List Token → Type 0
   OperationAt ts o rest = (class o.operator ≡ true) × symbol_at (operator_symbol o.operator) o.at ts (tail ts)
       × expression room o.operand (tail ts) rest × R o.operand
@@ -70,7 +70,7 @@ module _ (room : ℕ) (operators : Option Kind → Option Operator) (class : Ope
 
 -- ---- from terms to expressions
 
--- the factor reader f is right where so many levels may be opened
+-- the reader f of factors is sound if this many levels may be opened
 abbrev pub SoundFactor : ℕ → Reader s.Expression → Type 0
 SoundFactor room f = (ts : List Token) → Ensures (f ts) (λ e rest. expression room e ts rest × IsFactor e)
 
@@ -141,7 +141,7 @@ module _ (room : ℕ) (f : Reader s.Expression) (ok : SoundFactor room f) where
   expressions_sound ts = ensures_weaker _ _ _ (separated_sound (expression room) symbol.Comma (expression_of f) (expression_of_sound room f ok) ts)
       (λ es rest h. separated_expressions room es ts rest h)
 
-  -- an index behind this symbol
+  -- an index after this symbol
   abbrev IndexAt : Symbol → PlacedIndex → List Token → List Token → Type 0
   IndexAt x i ts rest = symbol_at x i.at ts (tail ts) × expression room i.value (tail ts) rest
 

@@ -55,7 +55,7 @@ more_push depth (x ∷ xs) i =
     ∙ ap (λ (l : List ℕ). 0 ∷ l) (sym (append_assoc (expression_levels depth x.value) (more_indices_levels depth (indices_of xs))
     (index_levels depth i)))
 
--- the levels behind the `[`
+-- the levels after the `[`
 abbrev IndicesHave : ℕ → List PlacedIndex → List ℕ → Type 0
 IndicesHave depth [] l = ⊥
 IndicesHave depth (i ∷ is) l = (suc depth ∷ l) ≡ indices_levels depth (indices_of (i ∷ is))

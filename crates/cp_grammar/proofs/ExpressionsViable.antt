@@ -1,4 +1,4 @@
--- An expression that was begun can be gone on with.
+-- An expression of which a part was read can be completed.
 use Rattle.std.proofs.Common.{◌≡◌, ℕ, zero, suc, Bool, true, false, cond, List, [], ◌∷◌, ◌++◌, Option, Some, None, Ok, Err, refl, sym, ◌∙◌}
 use Rattle.cp_model.specs.Languages.{Language, symbol, symbol_at, ◌⋅◌, opens}
 use Rattle.cp_model.specs.Syntax as s
@@ -34,7 +34,7 @@ some_factor room = (of_kind (kind.Number 0) ∷ [], s.Number 0 0, λ rest. ((0, 
 module _ (room : ℕ) (operators : Option Kind → Option Operator) (class : Operator → Bool) (L R : s.Expression → Type 0)
     (table : Table operators class L R)
     {operand : Reader s.Expression} (v : Viable operand (Of room R)) where
-  -- an operator of the class, and an operand behind it
+  -- an operator of the class, and an operand after it
   abbrev OperationIs : s.Operation → Language
   OperationIs o ts rest = (class o.operator ≡ true) × (mid : List Token) × symbol_at (operator_symbol o.operator) o.at ts mid
       × expression room o.operand mid rest × R o.operand
@@ -52,7 +52,7 @@ module _ (room : ℕ) (operators : Option Kind → Option Operator) (class : Ope
           take_at OperationIs (kind.Symbol (operator_symbol o)) (λ at. operand >>= λ e. pure (record { operator = o; at = at; operand = e })) ts k.0
           (λ at. finish (λ e. record { operator = o; at = at; operand = e }) v (λ e mid rest h ts t. (k.1, mid, t, h.0, h.1)))
 
-  -- the first operand and the operations behind it
+  -- the first operand and the operations after it
   abbrev Chain : s.Expression → List s.Operation → Language
   Chain e os = Of room L (chain_of e os)
 
@@ -97,7 +97,7 @@ module _ (room : ℕ) {f : Reader s.Expression} (v : ViableFactor room f) where
       (λ ts k e. rw (sym e) (signed_viable ts (sign_of (kind_at ts)) refl)))
       (λ e. chain_viable room sum_operator is_sum IsSimple IsTerm sum_table term_viable e)
 
-  -- behind the first sum
+  -- after the first sum
   abbrev Related : s.Expression → s.Expression → Language
   Related a = Behind (Of room IsSimple) a (expression room)
 
@@ -121,7 +121,7 @@ module _ (room : ℕ) {f : Reader s.Expression} (v : ViableFactor room f) where
   expressions_viable = imply (λ es. expressions room (expressions_of es)) (separated_viable (expression room) symbol.Comma expression_of_viable)
       (λ es ts rest h. separated_expressions room es ts rest h)
 
-  -- an index behind this symbol
+  -- an index after this symbol
   abbrev IndexIs : Symbol → PlacedIndex → Language
   IndexIs x i ts rest = (mid : List Token) × symbol_at x i.at ts mid × expression room i.value mid rest
 
@@ -234,7 +234,7 @@ module _ (room : ℕ) (i : Option (Reader s.Expression)) (ok : ViableInner Viabl
       (each_viable (selector room) begins_selector (selector_of i) (λ ts k. selector_viable.at ts))
       (λ xs mid rest h ts t. (mid, t, each_selector room xs mid rest h)))
 
-  -- behind a designator
+  -- after a designator
   abbrev Part : s.Designator → s.Expression → Language
   Part d = Behind (designator room) d (Of room IsFactor)
 

@@ -42,7 +42,7 @@ listed_separated : (room : ℕ) (es : s.Expressions) (ts rest : List Token) → 
 listed_separated room s.NoExpressions ts rest h = h
 listed_separated room (s.MoreExpressions e es) ts rest h = (h.0, h.1, listed_behind room es h.0 rest h.2)
 
--- no token that would carry the expression on
+-- no token that would continue the expression
 abbrev pub Ends : s.Expression → Option Kind → Type 0
 Ends e k = ends_expression k ≡ true
 

@@ -116,7 +116,7 @@ routine_begins limit r ts rest h = go r.result_type h.1
     go None w = rw (kind_of_symbol symbol.Procedure ts h.0 w) refl
     go (Some t) w = rw (kind_of_symbol symbol.Function ts h.0 w) refl
 
--- routines, and a body behind them
+-- routines, and a body after them
 pub block_begins : (limit : ℕ) (rs : List s.Routine) (b : s.Body) (ts mid rest : List Token) → each (routine limit) rs ts mid → body limit b mid rest
     → begins_block (kind_at ts) ≡ true
 block_begins limit [] b ts mid rest h g = rw (h, body_begins limit b mid rest g) body_is_block

@@ -1,4 +1,4 @@
--- A list of the grammar is read, where each of its items is.
+-- A list of the grammar is read, if each of its items is.
 use Rattle.std.proofs.Common.{◌≡◌, ℕ, zero, suc, ◌<◌, ◌≤◌, Bool, true, false, List, [], ◌∷◌, ◌++◌, length, Option, Some, Ok, refl, sym, ap, ◌∙◌, append_assoc, arith}
 use Rattle.std.proofs.lemmas.List.{append-nil}
 use Rattle.cp_model.specs.Languages.{Language, each, each_behind, separated}
@@ -11,7 +11,7 @@ use Rattle.cp_grammar.specs.Reading.{Reader, and_then, ◌>>=◌, take_token, ki
 use Rattle.cp_grammar.proofs.Tokens.{is_symbol_refl, kind_of_symbol, symbol_shrinks}
 use Rattle.cp_grammar.proofs.Ensures.{some}
 
--- ---- the turns of a list
+-- ---- the steps of reading a list
 
 module _ {A : Type 0} (goes_on : Option Kind → Bool) (item : Reader A) where
   pub repeat_stops : (n : ℕ) (found : List A) (ts : List Token) → goes_on (kind_at ts) ≡ false → repeat goes_on item n found ts ≡ Ok (found, ts)
@@ -24,7 +24,7 @@ module _ {A : Type 0} (goes_on : Option Kind → Bool) (item : Reader A) where
   unfolding repeat
   repeat_goes n found ts rest x go one = rw (go, one) refl
 
--- ---- a list stands for no more tokens than there are
+-- ---- a list consists of no more tokens than there are
 
 module _ {A : Type 0} (f : A → Language) where
   behind_shrinks : (x : Symbol) → ((a : A) (ts rest : List Token) → f a ts rest → length rest ≤ length ts) → (items : List A) (ts rest : List Token)
@@ -57,7 +57,7 @@ pub each_of : {A : Type 0} (P : A → Type 0) → ((a : A) → P a) → (items :
 each_of P h [] = tt
 each_of P h (a ∷ items) = (h a, each_of P h items)
 
--- what may follow an item is told by the kind of the token behind it
+-- what may follow an item depends on the kind of the token after it
 module _ {A : Type 0} (f : A → Language) (item : Reader A) (Follows : A → Option Kind → Type 0) where
   abbrev pub ItemReads : A → Type 0
   ItemReads a = (ts rest : List Token) → f a ts rest → Follows a (kind_at rest) → item ts ≡ Ok (a, rest)

@@ -1,4 +1,4 @@
--- What is read as a name or a constant is in the grammar.
+-- What is read as a name or a constant is allowed by the grammar.
 use Rattle.std.proofs.Common.{◌≡◌, List, Option, Some, refl}
 use Rattle.cp_model.specs.Languages.{identifier, separated}
 use Rattle.cp_model.specs.GrammarExpressions.{constant}

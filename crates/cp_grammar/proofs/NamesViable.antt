@@ -1,4 +1,4 @@
--- A name or a constant that was begun can be gone on with.
+-- A name or a constant of which a part was read can be completed.
 use Rattle.std.proofs.Common.{◌≡◌, ℕ, List, [], ◌∷◌, Option, Some, refl}
 use Rattle.cp_model.specs.Languages.{Language, token, identifier, separated}
 use Rattle.cp_model.specs.GrammarExpressions.{constant}
@@ -33,7 +33,7 @@ names_viable = separated_viable identifier symbol.Comma identifier_viable
 some_constant : Inhabited constant
 some_constant = (of_kind (kind.Number 0) ∷ [], written.Number 0 0, λ rest. (0, refl))
 
--- behind a `-`
+-- after a `-`
 abbrev Negated : ℕ → Constant → Language
 Negated at = Behind (token (kind.Symbol symbol.Minus)) at constant
 

@@ -1,4 +1,4 @@
--- What the operators of a class want and make.
+-- The operands that the operators of a class require, and the expressions that they form.
 use Rattle.std.proofs.Common.{◌≡◌, ℕ, zero, suc, Bool, true, false, cond, List, [], ◌∷◌, ◌++◌, length, Option, Some, None, refl, sym, ap, subst}
 use Rattle.cp_model.specs.Languages.{symbol, symbol_at, ◌⋅◌, opens, each, each_behind, separated}
 use Rattle.cp_model.specs.Syntax as s
@@ -22,7 +22,7 @@ use Rattle.cp_grammar.proofs.Tokens.{head, head_symbol, is_symbol_refl}
 use Rattle.cp_grammar.proofs.NamesSound.{identifier_sound}
 use Rattle.cp_grammar.proofs.Ensures.{Ensures, Sound, ensures_then, ensures_weaker, expect_sound, SoundInner, inside_sound, repeat_sound, separated_sound, each_sound}
 
--- ---- what the operators of a class want and make
+-- ---- what the operators of a class require and form
 
 abbrev pub IsFactor : s.Expression → Type 0
 IsFactor e = is_factor e ≡ true

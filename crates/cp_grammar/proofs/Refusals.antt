@@ -1,4 +1,5 @@
--- Where a text is refused: at the first token that no text has there, or at the token that opens one level too many.
+-- Where a text is refused: at the first token that no text has there, or at the token that opens
+-- one level too many.
 use Rattle.std.proofs.Common.{◌≡◌, ℕ, suc, ◌+◌, ◌-◌, ◌≤◌, take, drop, length-drop, inl, inr, List, [], ◌∷◌, ◌++◌, length, get_or, Ok, Err, refl, sym, ap, ◌∙◌, append_assoc, arith, length-append}
 use Rattle.std.proofs.lemmas.List.{take-append-drop}
 use Rattle.cp_model.specs.Syntax as s
@@ -18,20 +19,20 @@ use Rattle.cp_grammar.proofs.TextSound.{text_is_sound}
 use Rattle.cp_grammar.proofs.TextViable.{front_begins_a_text}
 use Rattle.cp_grammar.proofs.Wider.{text_grammar_wider}
 
--- a cut, where nothing is asked of it
+-- a cut of which nothing is required
 any_cut : Cut
 any_cut = record { token = record { kind = kind.Number 0; span = record { from = 0; to = 0 } }; here = []; there = []; top = 0 }
 
 not_both : {A : Type 0} (o : Outcome A) (x : A × List Token) (e : Stop) → o ≡ Ok x → o ≡ Err e → ⊥
 not_both o x e h g = cc
 
--- the tokens up to the cut and with it, and what follows
+-- the tokens up to and including the cut, and what follows
 joined : (front : List Token) (t : Token) (more : List Token) → (front ++ t ∷ []) ++ more ≡ front ++ t ∷ more
 joined front t more = append_assoc front (t ∷ []) more
 
 module _ (room limit : ℕ) (front : List Token) (t : Token) (more : List Token) (tree : s.Tree)
     (h : text limit tree ((front ++ t ∷ []) ++ more) []) where
-  -- the continuation is read within as many levels and more
+  -- the continuation is read within as many levels or more
   read_wider : (wide : ℕ) → limit ≤ wide → text_at wide (front ++ t ∷ more) ≡ Ok (tree, [])
   read_wider wide le = text_is_complete wide (front ++ t ∷ more) tree
       (text_grammar_wider limit wide le tree (front ++ t ∷ more) [] (rw (joined front t more) at h))
@@ -53,12 +54,12 @@ deep_is_first room front t behind h more tree within =
     not_both (text_at room (front ++ t ∷ more)) (tree, []) (Deep (suc (length more)))
     (read_wider room room front t more tree within room (omega arith)) (fails refl)
 
--- the entry behind some
+-- the entry after some others
 entry_behind : (before behind : List ℕ) (n : ℕ) → get_or (before ++ n ∷ behind) (length before) 0 ≡ n
 entry_behind [] behind n = refl
 entry_behind (x ∷ before) behind n = entry_behind before behind n
 
--- a tree of whole tokens has a level for each
+-- a tree that takes all tokens has a level for each of them
 tame_levels : (ts : List Token) (tree : s.Tree) (o : Outcome s.Tree) → o ≡ Ok (tree, []) → Tame (λ t l. l ≡ text_levels t) o ts
     → length (text_levels tree) ≡ length ts
 tame_levels ts tree o e tame =
@@ -96,13 +97,13 @@ pub stops_inside : StopsInside
 stops_inside room ts n (inl h) = rw h at ((text_steady any_cut room).tame ts tt)
 stops_inside room ts n (inr h) = rw h at ((text_steady any_cut room).tame ts tt)
 
--- Of two parts behind a token the second has so many.
+-- A list can be split so that the second part has n tokens.
 parted : (n : ℕ) (ts : List Token) → n ≤ length ts → (first : List Token) × (second : List Token) × (ts ≡ first ++ second) × (length second ≡ n)
 parted n ts le =
     let k = length ts - n in
     (take k ts, drop k ts, sym (take-append-drop k ts), omega (arith, length-drop k ts))
 
--- One level more, and the token that was too deep is read: what stops reading stands after it.
+-- With one level more, the token that was too deep is read, and reading stops only after it.
 module _ (room : ℕ) (front : List Token) (t : Token) (behind : List Token) where
   abbrev up_to : List Token
   up_to = front ++ t ∷ []

@@ -36,7 +36,7 @@ statement_then_expression (Some (kind.Symbol symbol.Until)) h = refl
 statement_then_expression (Some (kind.Symbol symbol.Else)) h = refl
 statement_then_expression _ h = absurd cc
 
--- what follows a statement carries on nothing inside it
+-- what follows a statement continues nothing inside it
 pub record Stops (k : Option Kind) : Type 0 where
   pub selector : begins_selector k ≡ false
   pub assign : is_symbol symbol.Assign k ≡ false

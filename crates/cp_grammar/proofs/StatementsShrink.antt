@@ -1,4 +1,4 @@
--- A statement stands for no more tokens than there are.
+-- A statement consists of no more tokens than there are.
 use Rattle.std.proofs.Common.{ℕ, zero, suc, ◌≤◌, length, arith, List}
 use Rattle.cp_model.specs.Languages.{separated}
 use Rattle.cp_model.specs.Syntax as s

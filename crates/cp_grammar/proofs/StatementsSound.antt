@@ -1,4 +1,4 @@
--- What is read as a statement is in the grammar.
+-- What is read as a statement is allowed by the grammar.
 use Rattle.std.proofs.Common.{◌≡◌, ℕ, zero, suc, Bool, true, false, List, [], ◌∷◌, Option, Some, refl, sym, ◌∙◌}
 use Rattle.cp_model.specs.Languages.{Language, symbol, ◌⋅◌, each_behind, separated}
 use Rattle.cp_model.specs.Syntax as s
@@ -21,7 +21,7 @@ use Rattle.cp_grammar.proofs.Ensures.{Ensures, Sound, ensures_then, ensures_weak
 use Rattle.cp_grammar.proofs.NamesSound.{identifier_sound, constants_sound}
 use Rattle.cp_grammar.proofs.ExpressionsSound.{SoundFactor, expression_of_sound, designator_sound, optional_arguments_sound, factor_of_sound, inner_sound, expression_sound}
 
--- behind an `else` that follows, the statement is closed
+-- if an `else` follows, the statement is closed
 abbrev pub IsRead : ℕ → s.Statement → List Token → List Token → Type 0
 IsRead room x ts rest = statement room x ts rest × (is_symbol symbol.Else (kind_at rest) ≡ true → ends_open x ≡ false)
 

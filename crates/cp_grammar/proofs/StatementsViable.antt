@@ -1,4 +1,4 @@
--- A statement that was begun can be gone on with.
+-- A statement of which a part was read can be completed.
 use Rattle.std.proofs.Common.{◌≡◌, ℕ, zero, suc, Bool, true, false, List, [], ◌∷◌, Option, Some, Ok, Err, refl}
 use Rattle.cp_model.specs.Languages.{Language, token, symbol, symbol_at}
 use Rattle.cp_model.specs.Syntax as s
@@ -28,7 +28,8 @@ use Rattle.cp_grammar.proofs.ExpressionsViable.{ViableFactor, expression_of_viab
 some_statement : (room : ℕ) → Inhabited (statement room)
 some_statement room = ([], s.Empty, λ rest. refl)
 
--- the readers of one level deeper. Behind an `else` the statement before it is known to be closed, since it was read so.
+-- the readers one level deeper. The statement before an `else` is known to be closed, since it was
+-- read like that.
 abbrev pub ViableDeeper : ℕ → Deeper → Type 0
 ViableDeeper room d = Viable d.expression (expression room) × Viable d.statement (statement room) × SoundStatement room d.statement
 
@@ -68,7 +69,7 @@ direction_viable : Viable direction_of Way
 unfolding direction_of
 direction_viable = kind_viable direction_by some_way direction_by_viable
 
--- behind `if`, a condition and `then`
+-- after `if`, a condition and `then`
 module _ (room : ℕ) (d : Deeper) (v : ViableDeeper room d) (at place : ℕ) (c : s.Expression) where
   abbrev Branches : s.Statement → Language
   Branches = Behind (symbol_at symbol.Then) place (Behind (expression room) c (Behind (token (kind.Symbol symbol.If)) at (statement (suc room))))
@@ -185,7 +186,7 @@ module _ (room : ℕ) (i : Option Deeper) (ok : ViableInner ViableDeeper room i)
 -- ---- what begins with a name, and `init`
 
 module _ (room : ℕ) (i : Option (Reader s.Expression)) (ok : ViableInner ViableFactor room i) where
-  -- behind a designator
+  -- after a designator
   abbrev Designated : s.Designator → s.Statement → Language
   Designated d = Behind (designator room) d (statement room)
 

@@ -1,7 +1,8 @@
--- Two readers on two texts that agree up to a token and with it. Up to that token they answer the same, since no reader looks
--- further; and each answer stands for as many tokens as its tree has levels. The second may have more levels to open: where the
--- first stops at that token, since it lacks a level, the second goes past it and opens there the level that is one too many for
--- the first.
+-- Two readers on two texts that agree up to and including a token. Up to that token they return the
+-- same, since no reader looks further, and each result has as many levels as tokens were taken for
+-- it. The second reader may have more levels to open. If the first stops at that token because it
+-- lacks a level, the second goes past it and opens there the level that is one too many for the
+-- first.
 use Rattle.std.proofs.Common.{◌≡◌, ℕ, suc, ◌+◌, ◌≤◌, ◌⊎◌, inl, inr, Bool, true, false, cond, List, [], ◌∷◌, ◌++◌, length, Option, Some, None, Ok, Err, refl, sym, ap, subst, ◌∙◌, append_assoc, arith, length-append}
 use Rattle.std.proofs.lemmas.List.{append-nil}
 use Rattle.cp_model.specs.Levels.{optional_levels}
@@ -14,19 +15,19 @@ use Rattle.cp_grammar.specs.Kinds.{is_symbol}
 use Rattle.cp_grammar.specs.Reading.{Outcome, Reader, and_then, ◌>>=◌, pure, refuse, too_deep, take_token, by_kind, expect, optional_symbol, if_some, inside}
 use Rattle.cp_grammar.proofs.Tokens.{no_symbol}
 
--- a token, what stands behind it in the one text and in the other, and the level that is one too many
+-- a token, what follows it in the one text and in the other, and the level that is one too many
 pub record Cut : Type 0 where
   pub token : Token
   pub here : List Token
   pub there : List Token
   pub top : ℕ
 
--- as many levels for both readers, or some more for the second
+-- as many levels for both readers, or more for the second
 pub data Mode : Type 0 where
   Equal : Mode
   Wider : Mode
 
--- where a reader is asked: anywhere, or before a token
+-- where a reader is called: anywhere, or before a token
 pub data Start : Type 0 where
   Anywhere : Start
   Before : Start
@@ -40,7 +41,7 @@ abbrev pub start_of : Option Kind → Start
 start_of None = Anywhere
 start_of (Some k) = Before
 
--- ---- an answer stands for the tokens that were taken, and has a level for each
+-- ---- a result takes tokens, and has a level for each
 
 abbrev pub Took : {A : Type 0} → (A → List ℕ → Type 0) → A → List Token → List Token → Type 0
 Took T x ts rest = (front : List Token) × (ts ≡ front ++ rest) × (levels : List ℕ) × T x levels × (length levels ≡ length front)
@@ -97,7 +98,7 @@ cancel t a (x ∷ f) (y ∷ g) e =
     let tails : f ++ t ∷ a ≡ g ++ t ∷ a = cc in
     let same = cancel t a f g tails in cc
 
--- what is left of the text holds the cut, or lies behind it
+-- what is left of the text contains the cut, or comes after it
 split : (t : Token) (a f h mid : List Token) → f ++ t ∷ a ≡ h ++ mid → ((g : List Token) × (mid ≡ g ++ t ∷ a)) ⊎ (length mid ≤ length a)
 split t a f [] mid e = inl (f, sym e)
 split t a [] (y ∷ h) mid e =
@@ -105,7 +106,7 @@ split t a [] (y ∷ h) mid e =
 split t a (x ∷ f) (y ∷ h) mid e = let tails : f ++ t ∷ a ≡ h ++ mid = cc in split t a f h mid tails
 
 module _ (c : Cut) where
-  -- among its levels the tree has the level that is one too many, at the token of the cut
+  -- one of the levels of the tree is the level that is one too many, at the token of the cut
   abbrev pub Opened : {A : Type 0} → (A → List ℕ → Type 0) → A → List Token → Type 0
   Opened T x rest = (levels : List ℕ) × T x levels × (before : List ℕ) × (behind : List ℕ) × (levels ≡ before ++ c.top ∷ behind)
       × (length behind + length rest ≡ length c.there)
@@ -115,7 +116,7 @@ module _ (c : Cut) where
   Passed T (Ok x) = Opened T x.0 x.1
   Passed T (Err s) = TameStop s c.there
 
-  -- what a stop at the token of the cut says of the second reader
+  -- what a stop at the token of the cut means for the second reader
   abbrev pub LikeStop : Mode → {A : Type 0} → (A → List ℕ → Type 0) → Stop → Outcome A → Type 0
   LikeStop m T Memory o = Unit {0}
   LikeStop m T (Wrong n) o = n ≡ suc (length c.here) → o ≡ Err (Wrong (suc (length c.there)))
@@ -151,7 +152,7 @@ module _ (c : Cut) where
   like_imply Equal T U l (Err (Deep n)) o' h g = g
   like_imply Wider T U l (Err (Deep n)) o' h g = λ e. passed_imply T U l o' h (g e)
 
-  -- ---- one reader behind another
+  -- ---- one reader after another
 
   module _ {A B : Type 0} (T : A → List ℕ → Type 0) (U : B → List ℕ → Type 0) where
     passed_then : (o : Outcome A) (k : A → Reader B) → Passed T o
@@ -195,7 +196,7 @@ module _ (c : Cut) where
 
 -- ---- steady readers
 
--- what T says of an answer and its levels
+-- T relates a result and its levels
 pub record Steady (c : Cut) (m : Mode) (w : Start) {A : Type 0} (T : A → List ℕ → Type 0) (p q : Reader A) : Type 0 where
   pub tame : (ts : List Token) → At w ts → Tame T (p ts) ts
   pub tame' : (ts : List Token) → At w ts → Tame T (q ts) ts
@@ -339,7 +340,8 @@ optional_steady x = symbol_steady x (λ b. cond b (take_token >>= λ at. pure (S
 
 -- ---- levels
 
--- the readers of one level deeper, by what relates them. Where the first has none, that level is the one that is too many.
+-- the readers one level deeper, by what relates them. If the first has none, that level is the one
+-- that is too many.
 abbrev pub SteadyInner : Cut → {B : Type 0} → (Mode → ℕ → B → B → Type 0) → Mode → ℕ → Option B → Option B → Type 0
 SteadyInner c R Equal depth None None = Unit {0}
 SteadyInner c R Wider depth None None = ⊥

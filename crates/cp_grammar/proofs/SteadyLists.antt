@@ -1,4 +1,4 @@
--- Lists are read steadily, where each item takes a token.
+-- Lists are read steadily, if each item takes a token.
 use Rattle.std.proofs.Common.{◌≡◌, ℕ, zero, suc, ◌<◌, Bool, true, false, cond, List, [], ◌∷◌, ◌++◌, length, Option, None, refl, sym, ap, subst, ◌∙◌, append_assoc, arith, length-append}
 use Rattle.std.proofs.lemmas.List.{append-nil}
 use Rattle.cp_model.specs.Levels.{each_levels, behind_levels, separated_levels}
@@ -14,7 +14,7 @@ same_kind : (c : Cut) (f : List Token) → kind_at (f ++ c.token ∷ c.here) ≡
 same_kind c [] = refl
 same_kind c (x ∷ f) = refl
 
--- what holds of the items so far and their levels is kept by a further item
+-- a further item preserves what holds for the items so far and their levels
 module _ {A : Type 0} (goes_on : Option Kind → Bool) (none : goes_on None ≡ false) (g : A → List ℕ) (some : (x : A) → 0 < length (g x))
     (Holds : List A → List ℕ → Type 0) (push : (xs : List A) (l : List ℕ) (x : A) → Holds xs l → Holds (xs ++ x ∷ []) (l ++ g x)) where
   before_token : (ts : List Token) → goes_on (kind_at ts) ≡ true → At Before ts

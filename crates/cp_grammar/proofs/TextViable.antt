@@ -26,7 +26,7 @@ module _ (room : ℕ) {p : Reader s.TypeExpression} (v : ViableType (suc room) p
       (λ b. finish (λ _. record { sections = ss; variables = vs; routines = rs; body = b }) (expect_viable symbol.Dot)
       (λ q m3 rest h m2 h3 m1 h2 m0 h1 ts h0. (m0, h0, (m1, h1, (m2, h2, (m3, h3, (q, h))))))))))
 
-  -- behind a whole tree
+  -- after a whole tree
   abbrev Nothing : s.Tree → s.Tree → Language
   Nothing t = Behind (text (suc room)) t (text (suc room))
 
@@ -38,7 +38,7 @@ module _ (room : ℕ) {p : Reader s.TypeExpression} (v : ViableType (suc room) p
   unfolding text_of
   text_of_viable = then tree_viable (λ t. kind_viable (at_end t) ([], t, λ rest ts h. h) (end_viable t))
 
--- fronts with as many tokens behind them are the same
+-- two fronts with equally many tokens after them are the same
 same_front : (f g a b : List Token) → f ++ a ≡ g ++ b → length b ≡ length a → g ≡ f
 same_front [] [] a b e n = refl
 same_front [] (y ∷ g) a b e n = absurd (let m : length a ≡ length ((y ∷ g) ++ b) = ap length e in omega (arith, m, n, length-append (y ∷ g) b))

@@ -1,4 +1,4 @@
--- The token at the head of a list: which it is, and that it is one token.
+-- The token at the head of a list: which one it is, and that it is a single token.
 use Rattle.std.proofs.Common.{◌≡◌, ℕ, ◌<◌, true, false, List, [], ◌∷◌, length, get_or, Option, Some, None, Ok, refl, sym, ap, ◌∙◌, arith}
 use Rattle.std.proofs.lemmas.Bool.{eqb-true}
 use Rattle.cp_model.specs.Languages.{token, symbol, symbol_at}
@@ -10,7 +10,7 @@ use Rattle.cp_model.specs.declared.token.Symbol.TheVariants as symbol
 use Rattle.cp_grammar.specs.Kinds.{code, is_symbol}
 use Rattle.cp_grammar.specs.Reading.{kind_at, place_at, tail, expect}
 
--- ---- a symbol is known by its number
+-- ---- a symbol is identified by its number
 
 symbols : List Symbol
 symbols =
@@ -158,7 +158,7 @@ pub no_symbol : (x : Symbol) → is_symbol x None ≡ false
 unfolding is_symbol
 no_symbol x = refl
 
--- ---- the head and those behind it
+-- ---- the head and those after it
 
 pub head : (ts : List Token) (k : Kind) → kind_at ts ≡ Some k → token k (place_at ts) ts (tail ts)
 head [] k e = absurd cc

@@ -23,7 +23,7 @@ use Rattle.cp_grammar.proofs.Lists.{Each, each_imply, ItemReads, separated_reads
 use Rattle.cp_grammar.proofs.NamesComplete.{identifier_reads, identifier_shrinks, names_reads, names_shrink, constant_reads, constant_shrinks}
 use Rattle.cp_grammar.proofs.TypesSound.{group}
 
--- ---- a type stands for at least one token
+-- ---- a type consists of at least one token
 
 mutual
   pub type_shrinks : (t : s.TypeExpression) (room : ℕ) (ts rest : List Token) → type_expression room t ts rest → length rest < length ts

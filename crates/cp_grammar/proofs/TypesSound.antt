@@ -1,4 +1,4 @@
--- What is read as a type is in the grammar.
+-- What is read as a type is allowed by the grammar.
 use Rattle.std.proofs.Common.{◌≡◌, ℕ, zero, suc, List, [], ◌∷◌, Option, Some, refl}
 use Rattle.cp_model.specs.Languages.{Language, symbol, identifier, ◌⋅◌, each_behind, separated}
 use Rattle.cp_model.specs.Syntax as s

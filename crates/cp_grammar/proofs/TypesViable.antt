@@ -1,4 +1,4 @@
--- A type that was begun can be gone on with.
+-- A type of which a part was read can be completed.
 use Rattle.std.proofs.Common.{◌≡◌, ℕ, zero, suc, List, [], ◌∷◌, Option, Some, refl}
 use Rattle.cp_model.specs.Languages.{Language, identifier}
 use Rattle.cp_model.specs.Syntax as s
@@ -31,7 +31,7 @@ module _ (room : ℕ) where
   subrange_viable low = then (expect_viable symbol.DotDot)
       (λ at. finish (λ high. s.Subrange low high) constant_viable (λ high mid rest h m d ts l. (m, l, (mid, (at, d), h))))
 
-  -- behind a name
+  -- after a name
   abbrev Named : Identifier → s.TypeExpression → Language
   Named x = Behind identifier x (type_expression room)
 

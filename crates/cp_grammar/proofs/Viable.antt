@@ -1,4 +1,4 @@
--- What was read before a reader stopped can be gone on with: there are tokens that make it whole.
+-- What was read before a reader stopped can be completed: there are tokens that make it whole.
 use Rattle.std.proofs.Common.{◌≡◌, ℕ, zero, suc, ◌⊎◌, inl, inr, Bool, true, false, cond, List, [], ◌∷◌, ◌++◌, length, Option, Some, None, Ok, Err, refl, sym, ap, subst, ◌∙◌, append_assoc}
 use Rattle.cp_model.specs.Languages.{Language, token, symbol, symbol_at, ◌⋅◌, optional, each, separated}
 use Rattle.cp_model.specs.declared.token.Token.{Token}
@@ -11,13 +11,13 @@ use Rattle.cp_grammar.specs.Reading.{Outcome, Reader, and_then, ◌>>=◌, pure,
 use Rattle.cp_grammar.proofs.Tokens.{is_symbol_is}
 use Rattle.cp_grammar.proofs.Ensures.{some, separated_push, each_push, some_push}
 
--- ---- what can be gone on with
+-- ---- what can be completed
 
 -- some tokens are in the language
 abbrev pub Inhabited : {A : Type 0} → (A → Language) → Type 0
 Inhabited {A} N = (more : List Token) × (y : A) × ((rest : List Token) → N y (more ++ rest) rest)
 
--- all but the last n of the tokens begin some that are
+-- all but the last n of the tokens begin something in the language
 abbrev pub Completion : {A : Type 0} → (A → Language) → ℕ → List Token → Type 0
 Completion {A} N n ts = (front : List Token) × (behind : List Token) × (ts ≡ front ++ behind) × (length behind ≡ n)
     × (more : List Token) × (y : A) × ((rest : List Token) → N y (front ++ (more ++ rest)) rest)
@@ -32,7 +32,7 @@ pub record Viable {A : Type 0} (p : Reader A) (N : A → Language) : Type 0 wher
   pub some : Inhabited N
   pub at : (ts : List Token) → ViableAt N (p ts) ts
 
--- what stands behind x makes it a y
+-- what follows x makes it a y
 abbrev pub Behind : {A B : Type 0} → (A → Language) → A → (B → Language) → B → Language
 Behind L x N y mid rest = (ts : List Token) → L x ts mid → N y ts rest
 
@@ -130,7 +130,7 @@ taken k [] e = absurd cc
 taken k (t ∷ ts) e = let same : t.kind ≡ k = cc in
     (t ∷ [], refl, λ rest. (t.span.to, ap (λ (x : Kind). record { kind = x; span = t.span } ∷ rest) same))
 
--- a token of this kind at the head, and what is read behind it
+-- a token of this kind at the head, and what is read after it
 pub take_at : {A : Type 0} (N : A → Language) (k : Kind) (h : ℕ → Reader A) (ts : List Token) → kind_at ts ≡ Some k
     → ((at : ℕ) → Viable (h at) (Behind (token k) at N)) → ViableAt N ((take_token >>= h) ts) ts
 take_at N k h ts e next = then_at (token k) N (take_token ts) h ts (taken k ts e) next
@@ -169,7 +169,7 @@ ViableInner P (suc room) (Some f) = P room f
 ViableInner P zero (Some f) = ⊥
 ViableInner P (suc room) None = ⊥
 
--- the reader stops at once for want of a level, or can be gone on with
+-- the reader stops at once because it has no level left, or can be completed
 abbrev pub DeepOr : {A : Type 0} → (A → Language) → Outcome A → List Token → Type 0
 DeepOr N o ts = (o ≡ Err (Deep (length ts))) ⊎ ViableAt N o ts
 
@@ -195,7 +195,7 @@ or_then L N o k ts s (inr v) next = then_at L N o k ts v next
 module _ {A : Type 0} (goes_on : Option Kind → Bool) (item : Reader A) (L : A → Language) (F : List A → Language)
     (push : (xs : List A) (x : A) (ts mid rest : List Token) → F xs ts mid → L x mid rest → F (xs ++ x ∷ []) ts rest)
     (ok : (ts : List Token) → goes_on (kind_at ts) ≡ true → ViableAt L (item ts) ts) where
-  -- what is read behind the items so far
+  -- what is read after the items so far
   abbrev pub Further : List A → List A → Language
   Further xs ys mid rest = (ts : List Token) → F xs ts mid → F ys ts rest
 

@@ -1,4 +1,4 @@
--- What the grammar allows within some levels, it allows within more.
+-- What the grammar allows within some number of levels, it allows within more.
 use Rattle.std.proofs.Common.{ℕ, zero, suc, ◌≤◌, List, [], ◌∷◌, arith}
 use Rattle.cp_model.specs.Languages.{Language, opens, each, each_behind, separated}
 use Rattle.cp_model.specs.Syntax as s

@@ -1,4 +1,4 @@
--- Reading declarations, over a reader of types and the readers of what stands one level deeper in a body.
+-- Reading declarations, given a reader of types and the readers one level deeper for bodies.
 use Rattle.std.specs.Prelude.{ℕ, Bool, true, false, if◌then◌else◌, List, [], Option, Some, None}
 use Rattle.cp_model.specs.Syntax as s
 use Rattle.cp_model.specs.declared.token.Kind.{Kind}
@@ -29,23 +29,23 @@ parameter_group_of = optional_symbol symbol.Var >>= λ v. names_of >>= λ xs. ex
 unfoldable pub some_parameters_of : Reader (List s.Parameters)
 some_parameters_of = take_token >>= λ _. separated_by symbol.Semicolon parameter_group_of >>= λ ps. expect symbol.CloseParenthesis >>= λ _. pure ps
 
--- parameters in parentheses, or none
+-- Parameters in parentheses, or none.
 unfoldable pub parameters_of : Reader (List s.Parameters)
 parameters_of = by_kind (λ k. if is_symbol symbol.OpenParenthesis k then some_parameters_of else pure [])
 
--- of a function, and none of a procedure
+-- The result type of a function. A procedure has none.
 unfoldable pub result_type_of : Bool → Reader (Option Identifier)
 result_type_of true = expect symbol.Colon >>= λ _. identifier_of >>= λ t. pure (Some t)
 result_type_of false = pure None
 
--- a routine up to the `;` before its variables
+-- A routine up to the `;` before its variables.
 pub record Heading : Type 0 where
   pub entry : Option ℕ
   pub name : Identifier
   pub parameters : List s.Parameters
   pub result_type : Option Identifier
 
--- the flag says whether it is a function
+-- The flag says whether the routine is a function.
 unfoldable pub heading_from : Bool → Reader Heading
 heading_from is_function = take_token >>= λ _. optional_symbol symbol.Entry >>= λ e. identifier_of >>= λ x. parameters_of >>= λ ps.
     result_type_of is_function >>= λ t. expect symbol.Semicolon >>= λ _. pure (record { entry = e; name = x; parameters = ps; result_type = t })
@@ -67,7 +67,7 @@ module _ (type_reader : Reader s.TypeExpression) where
   unfoldable pub some_variables_of : Reader (List s.Variables)
   some_variables_of = take_token >>= λ _. one_or_more is_name variable_group_of
 
-  -- variables behind the word `var`, or none
+  -- Variables after the word `var`, or none.
   unfoldable pub variables_of : Reader (List s.Variables)
   variables_of = by_kind (λ k. if is_symbol symbol.Var k then some_variables_of else pure [])
 

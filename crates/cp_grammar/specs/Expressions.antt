@@ -1,5 +1,5 @@
--- Reading expressions. A reader takes the reader of factors that it stands on, so that one definition alone recurses: that of a
--- factor, on the number of levels that may still be opened.
+-- Reading expressions. Each reader takes the reader of factors that it is built on, so that only
+-- one definition is recursive: that of a factor, by the number of levels that may still be opened.
 use Rattle.std.specs.Prelude.{ℕ, zero, suc, Bool, true, false, if◌then◌else◌, List, [], Option, Some, None}
 use Rattle.std.specs.Option.{is_some}
 use Rattle.cp_model.specs.Syntax as s
@@ -51,16 +51,16 @@ module _ (operators : Option Kind → Option Operator) (operand : Reader s.Expre
   abbrev pub goes_on : Option Kind → Bool
   goes_on k = is_some (operators k)
 
-  -- an operator and the operand behind it
+  -- An operator and the operand after it.
   unfoldable pub operation_of : Reader s.Operation
   operation_of = by_kind (λ k. if_some (operators k) refuse
       (λ o. take_token >>= λ at. operand >>= λ e. pure (record { operator = o; at = at; operand = e })))
 
-  -- the operations behind the first operand, grouped to the left
+  -- The operations after the first operand, grouped to the left.
   unfoldable pub chain_from : s.Expression → Reader s.Expression
   chain_from first = repeated goes_on operation_of [] >>= λ os. pure (chain_of first os)
 
--- ---- from terms to lists of expressions, over a reader of factors
+-- ---- from terms to lists of expressions, given a reader of factors
 
 module _ (factor : Reader s.Expression) where
   unfoldable pub term_of : Reader s.Expression
@@ -77,18 +77,19 @@ module _ (factor : Reader s.Expression) where
   expression_of = simple_of >>= λ a. by_kind (λ k. if_some (relation_operator k) (pure a)
       (λ o. take_token >>= λ at. simple_of >>= λ b. pure (s.Binary a o at b)))
 
-  -- one or more, with commas between
+  -- One or more expressions, with commas between them.
   unfoldable pub expressions_from : Reader (List s.Expression)
   expressions_from = separated_by symbol.Comma expression_of
 
-  -- the `[` or the `,`, and the index behind it
+  -- The `[` or the `,`, and the index after it.
   unfoldable pub index_of : Reader PlacedIndex
   index_of = take_token >>= λ at. expression_of >>= λ e. pure (record { at = at; value = e })
 
   unfoldable pub indices_from : Reader (List PlacedIndex)
   indices_from = one_or_more (is_symbol symbol.Comma) index_of
 
--- ---- from selectors to factors, over a reader of factors one level deeper, where there is such a level
+-- ---- from selectors to factors, given a reader of factors one level deeper, if there is such a
+-- level
 
 abbrev pub begins_selector : Option Kind → Bool
 begins_selector (Some (kind.Symbol symbol.Dot)) = true
@@ -116,7 +117,7 @@ module _ (inner : Option (Reader s.Expression)) where
   unfoldable pub arguments_of : Reader (List s.Expression)
   arguments_of = inside inner (λ f. take_token >>= λ _. expressions_from f >>= λ es. expect symbol.CloseParenthesis >>= λ _. pure es)
 
-  -- arguments, or none
+  -- Arguments in parentheses, or none.
   unfoldable pub optional_arguments_of : Reader (List s.Expression)
   optional_arguments_of = by_kind (λ k. if is_symbol symbol.OpenParenthesis k then arguments_of else pure [])
 
@@ -145,9 +146,9 @@ module _ (inner : Option (Reader s.Expression)) where
   unfoldable pub factor_of : Reader s.Expression
   factor_of = by_kind factor_by
 
--- ---- where the number says how many levels may still be opened
+-- ---- by the number of levels that may still be opened
 
--- a reader of factors one level deeper
+-- A reader of factors one level deeper, if `room` isn't 0.
 unfoldable pub inner_at : ℕ → Option (Reader s.Expression)
 inner_at zero = None
 inner_at (suc room) = Some (factor_of (inner_at room))

@@ -1,4 +1,5 @@
--- What may follow an expression, a statement or a type, so that it is read to its end and no further.
+-- What may follow an expression, a statement or a type, so that it is read to its end and no
+-- further.
 use Rattle.std.specs.Prelude.{◌≡◌, Bool, true, false, Option, Some}
 use Rattle.cp_model.specs.Syntax as s
 use Rattle.cp_model.specs.GrammarStatements.{ends_open}
@@ -7,7 +8,7 @@ use Rattle.cp_model.specs.declared.token.Kind.TheVariants as kind
 use Rattle.cp_model.specs.declared.token.Symbol.TheVariants as symbol
 use Rattle.cp_grammar.specs.Kinds.{is_symbol}
 
--- ---- expressions: no token that would carry it on
+-- ---- expressions: no token that would continue it
 
 abbrev pub ends_factor : Option Kind → Bool
 ends_factor (Some (kind.Symbol symbol.Dot)) = false
@@ -46,11 +47,11 @@ ends_statement (Some (kind.Symbol symbol.Until)) = true
 ends_statement (Some (kind.Symbol symbol.Else)) = true
 ends_statement _ = false
 
--- an `else` that follows belongs to no `if` inside
+-- An `else` that follows belongs to no `if` inside the statement.
 abbrev pub MayFollow : s.Statement → Option Kind → Type 0
 MayFollow x k = (ends_statement k ≡ true) × (ends_open x ≡ true → is_symbol symbol.Else k ≡ false)
 
--- ---- types: after a name, `..` would carry it on
+-- ---- types: after a name, `..` would continue it
 
 abbrev pub ends_type : Option Kind → Bool
 ends_type (Some (kind.Symbol symbol.DotDot)) = false

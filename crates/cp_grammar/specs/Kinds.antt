@@ -1,11 +1,11 @@
--- Which kind of token stands next.
+-- The kind of the next token.
 use Rattle.std.specs.Prelude.{ℕ, Bool, true, false, ◌==◌, Option, Some}
 use Rattle.cp_model.specs.declared.token.Kind.{Kind}
 use Rattle.cp_model.specs.declared.token.Kind.TheVariants as kind
 use Rattle.cp_model.specs.declared.token.Symbol.{Symbol}
 use Rattle.cp_model.specs.declared.token.Symbol.TheVariants as symbol
 
--- a number for each symbol, in the order of their type
+-- A number for each symbol, in the order of the type `Symbol`.
 abbrev pub code : Symbol → ℕ
 code symbol.Array = 0
 code symbol.Begin = 1
@@ -64,7 +64,7 @@ code symbol.Assign = 53
 code symbol.Dot = 54
 code symbol.DotDot = 55
 
--- it is this symbol
+-- Whether the kind is this symbol.
 unfoldable pub is_symbol : Symbol → Option Kind → Bool
 is_symbol x (Some (kind.Symbol seen)) = code seen == code x
 is_symbol x _ = false

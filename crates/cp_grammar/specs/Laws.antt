@@ -1,4 +1,4 @@
--- That the reading functions read exactly what the grammar allows.
+-- The reading functions read exactly what the grammar allows.
 use Rattle.std.specs.Prelude.{◌≡◌, ℕ, suc, ◌<◌, ◌≤◌, ◌⊎◌, true, List, [], ◌∷◌, ◌++◌, length, get_or, Ok, Err}
 use Rattle.cp_model.specs.Syntax as s
 use Rattle.cp_model.specs.GrammarExpressions as g
@@ -42,47 +42,48 @@ TextIsSound = (room : ℕ) (ts rest : List Token) (t : s.Tree) → text_at room 
 abbrev pub TextIsComplete : Type 0
 TextIsComplete = (room : ℕ) (ts : List Token) (t : s.Tree) → text room t ts [] → text_at room ts ≡ Ok (t, [])
 
--- the tokens have one tree at most
+-- Tokens have at most one tree.
 abbrev pub TreeIsUnique : Type 0
 TreeIsUnique = (room : ℕ) (ts : List Token) (t u : s.Tree) → text room t ts [] → text room u ts [] → t ≡ u
 
 -- ---- where a text is refused
 
--- as many tokens are left as there are, or fewer
+-- Where reading stops, no more tokens are left than there were.
 abbrev pub StopsInside : Type 0
 StopsInside = (room : ℕ) (ts : List Token) (n : ℕ) → (text_at room ts ≡ Err (Wrong n)) ⊎ (text_at room ts ≡ Err (Deep n)) → n ≤ length ts
 
--- some text within the levels begins with the tokens that were read before reading stopped
+-- Some text within the levels begins with the tokens that were read before reading stopped.
 abbrev pub FrontBeginsAText : Type 0
 FrontBeginsAText = (room : ℕ) (front behind : List Token) → 0 < room
     → (text_at room (front ++ behind) ≡ Err (Wrong (length behind))) ⊎ (text_at room (front ++ behind) ≡ Err (Deep (length behind)))
     → (more : List Token) × (tree : s.Tree) × text room tree (front ++ more) []
 
--- no text of any depth begins with the tokens up to the wrong one and with it
+-- No text of any depth begins with the tokens up to and including the wrong one.
 abbrev pub WrongIsFirst : Type 0
 WrongIsFirst = (room : ℕ) (front : List Token) (t : Token) (behind : List Token)
     → text_at room (front ++ t ∷ behind) ≡ Err (Wrong (suc (length behind)))
     → Begins (front ++ t ∷ []) → ⊥
 
--- no text within the levels begins with the tokens up to the one that is too deep and with it
+-- No text within the levels begins with the tokens up to and including the one that is too deep.
 abbrev pub DeepIsFirst : Type 0
 DeepIsFirst = (room : ℕ) (front : List Token) (t : Token) (behind : List Token)
     → text_at room (front ++ t ∷ behind) ≡ Err (Deep (suc (length behind)))
     → (more : List Token) (tree : s.Tree) → text room tree ((front ++ t ∷ []) ++ more) [] → ⊥
 
--- in each text of any depth that begins with them, that token opens the level that is one too many
+-- In each text of any depth that begins with these tokens, the last of them opens the level that is
+-- one too many.
 abbrev pub DeepOpensTheNext : Type 0
 DeepOpensTheNext = (room : ℕ) (front : List Token) (t : Token) (behind : List Token)
     → text_at room (front ++ t ∷ behind) ≡ Err (Deep (suc (length behind)))
     → (limit : ℕ) (more : List Token) (tree : s.Tree) → text limit tree ((front ++ t ∷ []) ++ more) []
     → get_or (text_levels tree) (length front) 0 ≡ suc room
 
--- with some levels more, a text begins with the tokens up to the one that is too deep and with it
+-- With more levels, some text begins with the tokens up to and including the one that is too deep.
 abbrev pub DeepBeginsADeeperText : Type 0
 DeepBeginsADeeperText = (room : ℕ) (front : List Token) (t : Token) (behind : List Token)
     → text_at room (front ++ t ∷ behind) ≡ Err (Deep (suc (length behind)))
     → Begins (front ++ t ∷ [])
 
--- a tree has a level for each of its tokens
+-- A tree has one level for each of its tokens.
 abbrev pub LevelsAreOfTokens : Type 0
 LevelsAreOfTokens = (room : ℕ) (ts : List Token) (tree : s.Tree) → text room tree ts [] → length (text_levels tree) ≡ length ts

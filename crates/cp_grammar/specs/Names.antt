@@ -15,11 +15,11 @@ identifier_by _ = refuse
 unfoldable pub identifier_of : Reader Identifier
 identifier_of = by_kind identifier_by
 
--- one name or more, with commas between
+-- One or more names, with commas between them.
 unfoldable pub names_of : Reader (List Identifier)
 names_of = separated_by symbol.Comma identifier_of
 
--- the number behind a `-`
+-- The number after a `-`.
 abbrev pub negative_by : ℕ → Option Kind → Reader Constant
 negative_by at (Some (kind.Number value)) = take_token >>= λ _. pure (written.Negative at value)
 negative_by at _ = refuse
@@ -34,6 +34,6 @@ constant_by _ = refuse
 unfoldable pub constant_of : Reader Constant
 constant_of = by_kind constant_by
 
--- one constant or more, with commas between
+-- One or more constants, with commas between them.
 unfoldable pub constants_of : Reader (List Constant)
 constants_of = separated_by symbol.Comma constant_of

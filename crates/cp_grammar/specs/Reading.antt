@@ -1,5 +1,6 @@
--- Reading from a list of tokens: what a reader answers, and the steps that every reader is made of.
--- A reader looks at no token behind the next one.
+-- Reading from a list of tokens: the result of a reader, and the steps that every reader is made
+-- of.
+-- A reader looks at no token beyond the next one.
 use Rattle.std.specs.Prelude.{◌≡◌, ℕ, zero, suc, Bool, if◌then◌else◌, List, [], ◌∷◌, ◌++◌, length, Option, Some, None, Result, Ok, Err}
 use Rattle.std.specs.Borrow.{Bor}
 use Rattle.cp_model.specs.declared.token.Token.{Token}
@@ -11,7 +12,7 @@ use Rattle.cp_grammar.specs.Kinds.{is_symbol}
 
 -- ---- the next token
 
--- none behind the last
+-- The kind of the next token, or `None` after the last one.
 abbrev pub kind_at : List Token → Option Kind
 kind_at [] = None
 kind_at (t ∷ ts) = Some t.kind
@@ -26,7 +27,7 @@ tail (t ∷ ts) = ts
 
 -- ---- readers
 
--- what was read and the tokens behind it, or why reading stopped
+-- What was read and the tokens after it, or why reading stopped.
 abbrev pub Outcome : Type 0 → Type 0
 Outcome A = Result (A × List Token) Stop
 
@@ -44,69 +45,70 @@ p >>= f = λ ts. and_then (p ts) f
 abbrev pub pure : {A : Type 0} → A → Reader A
 pure a = λ ts. Ok (a, ts)
 
--- the next token stands in no text here
+-- Stops, because no text has the next token here.
 abbrev pub refuse : {A : Type 0} → Reader A
 refuse = λ ts. Err (Wrong (length ts))
 
--- the next token opens one level too many
+-- Stops, because the next token opens one level too many.
 abbrev pub too_deep : {A : Type 0} → Reader A
 too_deep = λ ts. Err (Deep (length ts))
 
--- takes the token, and answers its place
+-- Takes the next token and returns its place.
 abbrev pub take_token : Reader ℕ
 take_token = λ ts. Ok (place_at ts, tail ts)
 
--- decides by the next token
+-- Decides by the kind of the next token.
 abbrev pub by_kind : {A : Type 0} → (Option Kind → Reader A) → Reader A
 by_kind f = λ ts. f (kind_at ts) ts
 
--- takes this symbol, and answers its place
+-- Takes this symbol and returns its place.
 unfoldable pub expect : Symbol → Reader ℕ
 expect x = by_kind (λ k. if is_symbol x k then take_token else refuse)
 
--- takes this symbol where it stands next, and answers its place
+-- Takes this symbol if it is the next token, and returns its place.
 unfoldable pub optional_symbol : Symbol → Reader (Option ℕ)
 optional_symbol x = by_kind (λ k. if is_symbol x k then (take_token >>= λ at. pure (Some at)) else pure None)
 
--- one reader where there is an operator, and else another
+-- Reads with `f` if there is an operator, and otherwise with `q`.
 abbrev pub if_some : {A B : Type 0} → Option A → Reader B → (A → Reader B) → Reader B
 if_some None q f = q
 if_some (Some a) q f = f a
 
--- what opens a level, by the readers of one level deeper, where there is such a level
+-- Reads what opens a level with the readers one level deeper, or stops if there is no such level.
 abbrev pub inside : {A B : Type 0} → Option B → (B → Reader A) → Reader A
 inside None f = too_deep
 inside (Some readers) f = f readers
 
 -- ---- lists
 
--- items as long as the next token says so, behind those found. The number bounds the turns.
+-- Items after those in `found`, as long as `goes_on` holds for the next token. The number bounds
+-- how many are read.
 unfoldable pub repeat : {A : Type 0} → (Option Kind → Bool) → Reader A → ℕ → List A → Reader (List A)
 repeat goes_on item zero found = pure found
 repeat goes_on item (suc n) found =
     by_kind (λ k. if goes_on k then (item >>= λ x. repeat goes_on item n (found ++ x ∷ [])) else pure found)
 
--- each item takes a token, so as many turns as there are tokens are enough
+-- Each item takes at least one token, so the number of tokens is a sufficient bound.
 abbrev pub repeated : {A : Type 0} → (Option Kind → Bool) → Reader A → List A → Reader (List A)
 repeated goes_on item found = λ ts. repeat goes_on item (length ts) found ts
 
--- one item, and further ones as long as the next token says so
+-- One item, and more as long as `goes_on` holds for the next token.
 abbrev pub one_or_more : {A : Type 0} → (Option Kind → Bool) → Reader A → Reader (List A)
 one_or_more goes_on item = item >>= λ x. repeated goes_on item (x ∷ [])
 
--- one item or more, with this symbol between them
+-- One or more items, with this symbol between them.
 abbrev pub separated_by : {A : Type 0} → Symbol → Reader A → Reader (List A)
 separated_by x item = item >>= λ a. repeated (is_symbol x) (take_token >>= λ _. item) (a ∷ [])
 
 -- ---- what a function that reads ensures
 
--- for want of memory it may stop anywhere
+-- If memory runs out, reading may stop anywhere.
 abbrev pub Fails : {Y : Type 0} → Stop → Outcome Y → Type 0
 Fails Memory read = Unit {0}
 Fails (Wrong n) read = read ≡ Err (Wrong n)
 Fails (Deep n) read = read ≡ Err (Deep n)
 
--- the view of its result, and the tokens behind it, are what the reader answers
+-- The view of the function's result and the tokens after it are what the reader returns.
 abbrev pub Gives : {X Y : Type 0} → (X → Y) → Result (X × Bor (List Token)) Stop → Outcome Y → Type 0
 Gives view (Ok x) read = read ≡ Ok (view x.0, x.1.now)
 Gives view (Err e) read = Fails e read

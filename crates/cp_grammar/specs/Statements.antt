@@ -1,5 +1,6 @@
--- Reading statements, over the readers of one level deeper, where there is such a level. An `else` belongs to the statement that is
--- read when it comes: the nearest `if` before it that has none.
+-- Reading statements, given the readers one level deeper, if there is such a level. An `else`
+-- belongs to the statement that is being read when it comes: the nearest `if` before it that has
+-- none.
 use Rattle.std.specs.Prelude.{ℕ, zero, suc, Bool, true, false, List, Option, Some, None}
 use Rattle.cp_model.specs.Syntax as s
 use Rattle.cp_model.specs.View.{LabelledStatement, expressions_of, statements_of, arms_of}
@@ -13,7 +14,7 @@ use Rattle.cp_grammar.specs.Reading.{Reader, ◌>>=◌, pure, refuse, take_token
 use Rattle.cp_grammar.specs.Names.{identifier_of, constants_of}
 use Rattle.cp_grammar.specs.Expressions.{expression_of, factor_of, designator_of, optional_arguments_of, inner_at, expression_at}
 
--- the readers of one level deeper
+-- The readers one level deeper.
 pub record Deeper : Type 0 where
   pub expression : Reader s.Expression
   pub statement : Reader s.Statement
@@ -26,20 +27,20 @@ direction_by _ = refuse
 unfoldable pub direction_of : Reader Direction
 direction_of = by_kind direction_by
 
--- one or more, with semicolons between
+-- One or more statements, with semicolons between them.
 unfoldable pub statements_from : Reader s.Statement → Reader (List s.Statement)
 statements_from statement = separated_by symbol.Semicolon statement
 
 unfoldable pub arm_of : Reader s.Statement → Reader LabelledStatement
 arm_of statement = constants_of >>= λ labels. expect symbol.Colon >>= λ _. statement >>= λ x. pure (record { labels = labels; body = x })
 
--- behind the first branch, where the flag says whether an `else` follows
+-- The rest of an `if` after its first branch. The flag says whether an `else` follows.
 unfoldable pub else_part : Reader s.Statement → s.Expression → s.Statement → Bool → Reader s.Statement
 else_part statement c x true = take_token >>= λ _. statement >>= λ y. pure (s.IfElse c x y)
 else_part statement c x false = pure (s.If c x)
 
 module _ (deeper : Option Deeper) where
-  -- from a `begin` to its `end`
+  -- From a `begin` to its `end`.
   unfoldable pub block_of : Reader s.Body
   block_of = inside deeper (λ d. take_token >>= λ at. statements_from d.statement >>= λ l. expect symbol.End >>= λ _.
       pure (record { at = at; list = statements_of l }))
@@ -70,9 +71,9 @@ module _ (deeper : Option Deeper) where
   cycle_of = inside deeper (λ d. take_token >>= λ _. statements_from d.statement >>= λ l. expect symbol.End >>= λ _.
       pure (s.Cycle (statements_of l)))
 
--- `inner` reads a factor one level deeper
+-- `inner` reads a factor one level deeper.
 module _ (inner : Option (Reader s.Expression)) where
-  -- behind a designator
+  -- The rest of a statement that begins with a designator.
   unfoldable pub assign_or_perform : s.Designator → Bool → Reader s.Statement
   assign_or_perform d true = take_token >>= λ at. expression_of (factor_of inner) >>= λ e. pure (s.Assign d at e)
   assign_or_perform d false = optional_arguments_of inner >>= λ es. pure (s.Perform d (expressions_of es))
@@ -102,7 +103,7 @@ module _ (inner : Option (Reader s.Expression)) (deeper : Option Deeper) where
   unfoldable pub statement_of : Reader s.Statement
   statement_of = by_kind statement_by
 
--- the readers of one level deeper, where the number says how many levels may still be opened
+-- The readers one level deeper. The number says how many levels may still be opened.
 unfoldable pub deeper_at : ℕ → Option Deeper
 deeper_at zero = None
 deeper_at (suc room) = Some (record { expression = expression_at room; statement = statement_of (inner_at room) (deeper_at room) })

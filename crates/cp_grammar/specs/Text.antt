@@ -8,13 +8,13 @@ use Rattle.cp_grammar.specs.Types.{type_at}
 use Rattle.cp_grammar.specs.Statements.{Deeper, deeper_at}
 use Rattle.cp_grammar.specs.Declarations.{variables_of, body_of, routines_of, section_of, begins_section}
 
--- nothing may stand behind a tree
+-- Nothing may follow a tree.
 abbrev pub at_end : s.Tree → Option Kind → Reader s.Tree
 at_end t None = pure t
 at_end t (Some k) = refuse
 
 module _ (type_reader : Reader s.TypeExpression) (deeper : Option Deeper) where
-  -- up to the `.`
+  -- A text up to its `.`.
   unfoldable pub tree_of : Reader s.Tree
   tree_of = repeated begins_section (section_of type_reader deeper) [] >>= λ ss. variables_of type_reader >>= λ vs.
       routines_of type_reader deeper >>= λ rs. body_of deeper >>= λ b. expect symbol.Dot >>= λ _.
@@ -23,6 +23,6 @@ module _ (type_reader : Reader s.TypeExpression) (deeper : Option Deeper) where
   unfoldable pub text_of : Reader s.Tree
   text_of = tree_of >>= λ t. by_kind (at_end t)
 
--- where so many levels may be opened
+-- The reader of a text that may have this many levels open at once.
 abbrev pub text_at : ℕ → Reader s.Tree
 text_at room = text_of (type_at room) (deeper_at room)

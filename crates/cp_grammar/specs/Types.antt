@@ -1,5 +1,5 @@
--- Reading written types, over a reader of types one level deeper, where there is such a level.
--- A NAME is a type, or the first bound of a subrange: the token behind it tells.
+-- Reading written types, given a reader of types one level deeper, if there is such a level.
+-- A NAME is a type or the first bound of a subrange, depending on the token after it.
 use Rattle.std.specs.Prelude.{ℕ, zero, suc, Option, Some, None}
 use Rattle.cp_model.specs.Syntax as s
 use Rattle.cp_model.specs.View.{types_of, fields_of}
@@ -12,7 +12,7 @@ use Rattle.cp_model.specs.declared.tree.Constant.TheVariants as written
 use Rattle.cp_grammar.specs.Reading.{Reader, ◌>>=◌, pure, refuse, take_token, by_kind, expect, inside, separated_by}
 use Rattle.cp_grammar.specs.Names.{identifier_of, names_of, constant_of}
 
--- behind its first bound
+-- The rest of a subrange after its first bound.
 unfoldable pub subrange_from : Constant → Reader s.TypeExpression
 subrange_from low = expect symbol.DotDot >>= λ _. constant_of >>= λ high. pure (s.Subrange low high)
 
@@ -20,7 +20,7 @@ unfoldable pub named_or_subrange : Identifier → Option Kind → Reader s.TypeE
 named_or_subrange x (Some (kind.Symbol symbol.DotDot)) = subrange_from (written.Named x)
 named_or_subrange x _ = pure (s.Named x)
 
--- names of one type: fields, or variables
+-- Names of one type: fields or variables.
 unfoldable pub group_of : Reader s.TypeExpression → Reader s.Variables
 group_of type_reader = names_of >>= λ xs. expect symbol.Colon >>= λ _. type_reader >>= λ t. pure (record { names = xs; of = t })
 
@@ -45,7 +45,7 @@ module _ (inner : Option (Reader s.TypeExpression)) where
   unfoldable pub type_of : Reader s.TypeExpression
   type_of = by_kind type_by
 
--- a reader of types one level deeper, where the number says how many levels may still be opened
+-- A reader of types one level deeper. The number says how many levels may still be opened.
 unfoldable pub inner_type_at : ℕ → Option (Reader s.TypeExpression)
 inner_type_at zero = None
 inner_type_at (suc room) = Some (type_of (inner_type_at room))

@@ -1,4 +1,4 @@
--- What is told of a callee beside what is judged whatever is broken inside.
+-- The violations of a callee, together with those that are found whatever is broken inside.
 use Rattle.std.proofs.Common.{Bool, true, false, ◌≡◌, Option, refl, ◌∙◌}
 use Rattle.cp_model.specs.declared.rules.Violation.{Violation}
 use Rattle.cp_model.specs.RulesJudged.{Judged, Violations, also}

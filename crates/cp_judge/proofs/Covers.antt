@@ -1,7 +1,8 @@
--- What the names of a designator stand for covers what the designator stands for: where nothing is broken in it, it is the same.
+-- What the names of a designator stand for covers what the designator stands for: if nothing is
+-- broken in it, the two are the same.
 --
--- A part of what is covered is covered, by its selector: a field is found by its name alone, and of an index only its place in the
--- text and its type count, which are broken or not.
+-- What is selected of something covered is covered too: a field is found by its name alone, and of
+-- an index only its place in the text and its type count, which may be broken.
 use Rattle.std.proofs.Common.{◌≡◌, ℕ, Bool, true, false, Option, Some, [], ◌∷◌, refl, sym, subst}
 use Rattle.std.specs.Bool.{⊤}
 use Rattle.cp_model.specs.Syntax as s
@@ -75,7 +76,7 @@ covers_root env x ss (Broken v vs) = tt
 pub covers : (env : Environment) (d : s.Designator) → Covers (names.designated_entity env d) (designated env d)
 covers env (s.Designate x ss) = covers_parts env (meaning_of (c1_named env x)) (then_judge (c1_named env x) (before_selectors env x ss)) ss (covers_root env x ss (c1_named env x))
 
--- what is covered by no routine needs nothing
+-- what is covered by something that isn't a routine has no need
 no_need : (env : Environment) (known : Option Entity) (j : Judged Entity) → Covers known j → names.is_routine known ≡ false → need_called env j ≡ 0
 no_need env known (Sound e) c h = of e (subst (λ k. names.is_routine k ≡ false) c h)
   where

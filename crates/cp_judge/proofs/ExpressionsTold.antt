@@ -1,4 +1,4 @@
--- What is told of the parts of an expression makes what is told of it.
+-- The violations of an expression are those of its parts.
 use Rattle.std.proofs.Common.{◌≡◌, ◌≤◌, ◌+◌, ℕ, zero, suc, List, [], ◌∷◌, Option, Some, None, refl, ap, sym, map, length, drop, slice_get, arith}
 use Rattle.std.specs.Option.{option_and}
 use Rattle.cp_model.specs.Syntax as s
@@ -36,7 +36,7 @@ judge_binary : (env : Environment) (m : Mode) (e : s.Expression) (o : s.Operatio
 judge_binary env m e o [] = ap (λ k. both (judge env k e) (judge env mode.Value o.operand) (c2_operands env o.operator o.at)) (sym (first_operand_again m))
 judge_binary env m e o (p ∷ os) = judge_binary env m (s.Binary e o.operator o.at o.operand) p os
 
--- a chain of two operands or more is judged as a first operand is
+-- a chain of two or more operands is judged like a first operand
 pub judge_chain : (env : Environment) (m : Mode) (e : s.Expression) (os : List Operation) → 1 ≤ length os
     → judge env m (chain_of e (map operation os)) ≡ judge env (first_operand m) (chain_of e (map operation os))
 judge_chain env m e [] some = absurd (omega (arith, some))
@@ -75,7 +75,7 @@ argument_parts env want.Integer e j = refl
 argument_parts env want.CharVariable e j = refl
 argument_parts env want.QueueVariable e j = refl
 
--- the argument of number k, and those after it
+-- the argument with number k, and those after it
 pub more_step : (env : Environment) (j : Judged ℕ) (ws : List Want) (k m : ℕ) (e : s.Expression) (es : s.Expressions) → k + 1 ≡ m
     → more_arguments env j (drop k ws) (s.MoreExpressions e es) ≡ more_arguments env (both j (argument_for env (slice_get ws k) e) first_type) (drop m ws) es
 more_step env j ws k zero e es next = absurd (omega (arith, next))

@@ -1,4 +1,4 @@
--- What is told of the parts of `init`.
+-- The violations of the parts of `init`.
 use Rattle.std.proofs.Common.{◌≡◌, ◌≤◌, ◌+◌, ◌++◌, ℕ, zero, suc, List, [], ◌∷◌, Option, Some, None, refl, ap, length, drop, slice_get, arith}
 use Rattle.cp_model.specs.Syntax as s
 use Rattle.cp_model.specs.declared.tree.Identifier.{Identifier}
@@ -64,7 +64,7 @@ unwanted_none env (s.Not at e) h = refl
 unwanted_none env (s.Signed sign at e) h = refl
 unwanted_none env (s.Binary a o at b) h = refl
 
--- the argument of number k, and those after it
+-- the argument with number k, and those after it
 pub arguments_step : (env : Environment) (ps : List ParameterRow) (k m : ℕ) (e : s.Expression) (es : s.Expressions) → k + 1 ≡ m
     → st.init_arguments env (drop k ps) (s.MoreExpressions e es) ≡ violations_of (st.init_argument env (parts.type_if (slice_get ps k)) e) ++ st.init_arguments env (drop m ps) es
 arguments_step env ps k zero e es next = absurd (omega (arith, next))
@@ -79,7 +79,7 @@ pub parameters_told : (env : Environment) (y : Option ℕ) (j : Judged ℕ) → 
 parameters_told env y (Sound x) h = ap (parts.parameters_if env) h
 parameters_told env y (Broken v vs) h = ap (parts.parameters_if env) h
 
--- ---- what is no variable
+-- ---- what isn't a variable
 
 abbrev IsNoVariable : Entity → Type 0
 IsNoVariable e = (t : ℕ) (a : Access) → e ≡ entity.Variable t a → ⊥

@@ -1,4 +1,5 @@
--- Labels, in a set and in the definitions: only which labels were seen counts, in whatever order.
+-- Labels, in a set and in the definitions: it only matters which labels were seen, not in which
+-- order.
 use Rattle.std.proofs.Common.{◌≡◌, ◌&&◌, ◌||◌, ◌++◌, ℕ, ℤ, Bool, true, false, cond, if◌then◌else◌, not, pos, negsuc, nat_eq, List, [], ◌∷◌, Option, refl, ap, sym, ◌∙◌, arith}
 use Rattle.std.specs.List.{list_any}
 use Rattle.std.specs.Ordering.{is_eq, nat_cmp, int_cmp, int_eq, ordering_then}
@@ -105,7 +106,7 @@ among_again x c ls there = go (is_same x c) refl
     go true is = or_true (is_among x ls) (ap (λ y. is_among y ls) (label_from x c is) ∙ there)
     go false is = or_false (is_among x ls)
 
--- a label that is added is among the labels, and so are the others
+-- a label that is added is among the labels, and the others stay
 among_with : (x c : Label) (ls : List Label) → is_among x (with_label ls c) ≡ is_among x ls || is_same x c
 among_with x c ls = go (is_among c ls) refl
   where
@@ -156,7 +157,7 @@ arms_told env base as' bs (s.MoreArms cs x a) same =
     let rest = arms_told env base (labels env base as' cs).seen (labels env base bs cs).seen a (labels_same env base as' bs cs same) in
     λ i. first i ++ statement env x ++ rest i
 
--- ---- the base of a selector
+-- ---- the base type of a selector
 
 pub base_told : (env : Environment) (t : Option ℕ) (j : Judged ℕ) → t ≡ meaning_of j → base_if env t ≡ selector_base env j
 base_told env t (Sound x) h = ap (base_if env) h

@@ -22,7 +22,7 @@ slice_get_drop (suc n) [] i j same = refl
 slice_get_drop (suc n) (x ∷ xs) i zero same = absurd (omega arith)
 slice_get_drop (suc n) (x ∷ xs) i (suc j) same = slice_get_drop n xs i j (omega arith)
 
--- what a slice lends of its elements
+-- an element that is copied from a slice
 pub copied_get : {X : Type 0} (xs : List X) (i : ℕ) (r : Option (Bor X)) → MatchOption r (length xs ≤ i) (λ x. (i < length xs) × HoldsAt (λ y. x.now ≡ y) xs i)
     → option_copied r ≡ slice_get xs i
 copied_get xs i None h = sym (slice_get_past xs i h)

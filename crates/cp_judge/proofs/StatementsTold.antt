@@ -1,4 +1,4 @@
--- What is told of the parts of a statement makes what is told of it.
+-- The violations of a statement are those of its parts.
 use Rattle.std.proofs.Common.{◌≡◌, ◌≤◌, ℕ, List, [], ◌∷◌, Option, None, refl, ap, map, length, arith}
 use Rattle.cp_model.specs.declared.tree.Identifier.{Identifier}
 use Rattle.cp_model.specs.declared.tree.Selector.{Selector}
@@ -10,7 +10,7 @@ use Rattle.cp_model.specs.RulesStatements as st
 use Rattle.cp_model.specs.View.{selector, selectors_of}
 use Rattle.cp_judge.specs.StatementParts as parts
 
--- ---- where parts are selected
+-- ---- with selectors
 
 pub own_result_some : (x : Identifier) (ss : List Selector) (r : Returns) → 1 ≤ length ss → st.own_result x (selectors_of (map selector ss)) r ≡ parts.part_of_result x r
 own_result_some x [] r some = absurd (omega (arith, some))

@@ -1,4 +1,4 @@
--- What is told of parts makes what is told of the whole.
+-- The violations of the whole are those of its parts.
 use Rattle.std.proofs.Common.{Bool, ◌&&◌, ◌≡◌, [], ◌∷◌, ◌++◌, Option, Some, None, Result, Ok, Err, OnOk, refl, ap, sym, ◌∙◌, subst}
 use Rattle.cp_model.specs.declared.rules.Violation.{Violation}
 use Rattle.cp_model.specs.RulesJudged.{Judged, Sound, Broken, Violations, violations_of, earlier, least, then_judge, both, also}
@@ -33,7 +33,7 @@ module _ {A B : Type 0} (k : A → Judged B) (t0 t1 : Option Violation) where
   then_none (Sound y) h = absurd (cc)
   then_none (Broken v vs) h = (h.0, refl)
 
-  -- the same, where what is broken first is answered
+  -- the same, if the first violation is returned
   pub then_first : (j : Judged A) (t2 : Option Violation) (x : A) (r : Result B Violation)
       → TellsFirst t0 t1 (Ok x) j → TellsFirst t1 t2 r (k x) → TellsFirst t0 t2 r (then_judge j k)
   then_first (Sound y) t2 x r h g =
@@ -57,7 +57,7 @@ module _ {A B C : Type 0} (k : A → B → Judged C) (t0 t1 t2 : Option Violatio
   both_right (Sound z) jb ra h g = then_none (k z) t0 t2 jb (subst (λ t. Tells t t2 None jb) h.0 g)
   both_right (Broken v vs) jb ra h g = (g.0 ∙ ap (λ t. least t (violations_of jb)) h.0 ∙ sym (least_append (earlier t0 v) vs (violations_of jb)), refl)
 
--- what is judged whatever is broken inside, and then the rest
+-- what is found whatever is broken inside, and then the rest
 pub also_told : {A : Type 0} (t0 t1 t2 : Option Violation) (sound : Bool) (vs : Violations) (m : Option A) (j : Judged A)
     → TellsOf t0 t1 sound vs → Tells t1 t2 m j → Tells t0 t2 (answer_if sound m) (also vs j)
 also_told t0 t1 t2 sound [] m j h g =
@@ -65,13 +65,13 @@ also_told t0 t1 t2 sound [] m j h g =
 also_told t0 t1 t2 sound (v ∷ vs) m j h g =
     (g.0 ∙ ap (λ t. least t (violations_of j)) h.0 ∙ sym (least_append (earlier t0 v) vs (violations_of j)), ap (λ b. answer_if b m) h.1)
 
--- what is judged whatever is broken inside, beside what is broken anyway
+-- what is found whatever is broken inside, together with what is broken anyway
 pub beside_told : {A : Type 0} (t0 t1 t2 : Option Violation) (sound : Bool) (vs : Violations) (r : Option A) (v : Violation) (ws : Violations)
     → TellsOf t0 t1 sound vs → Tells t1 t2 r (Broken v ws) → Tells t0 t2 r (also vs (Broken v ws))
 beside_told t0 t1 t2 sound [] r v ws h g = (g.0 ∙ ap (λ t. least t (v ∷ ws)) h.0, g.1)
 beside_told t0 t1 t2 sound (u ∷ us) r v ws h g = (g.0 ∙ ap (λ t. least t (v ∷ ws)) h.0 ∙ sym (least_append (earlier t0 u) us (v ∷ ws)), g.1)
 
--- one list of violations behind another
+-- one list of violations after another
 pub append_told : (t0 t1 t2 : Option Violation) (a b : Bool) (vs ws : Violations) → TellsOf t0 t1 a vs → TellsOf t1 t2 b ws → TellsOf t0 t2 (a && b) (vs ++ ws)
 append_told t0 t1 t2 a b [] ws h g = (g.0 ∙ ap (λ t. least t ws) h.0, ap (λ x. x && b) h.1 ∙ g.1)
 append_told t0 t1 t2 a b (v ∷ vs) ws h g = (g.0 ∙ ap (λ t. least t ws) h.0 ∙ sym (least_append (earlier t0 v) vs ws), ap (λ x. x && b) h.1)
@@ -80,7 +80,7 @@ append_told t0 t1 t2 a b (v ∷ vs) ws h g = (g.0 ∙ ap (λ t. least t ws) h.0 
 pub more_told : (t0 t1 t2 : Option Violation) (vs ws : Violations) → t1 ≡ least t0 vs → t2 ≡ least t1 ws → t2 ≡ least t0 (vs ++ ws)
 more_told t0 t1 t2 vs ws h g = g ∙ ap (λ t. least t ws) h ∙ sym (least_append t0 vs ws)
 
--- what is told in the end of a part and of the rest
+-- what is reported in the end for a part and for the rest
 pub rest_told : (t0 t1 : Option Violation) (vs ws all : Violations) → t1 ≡ least t0 vs → all ≡ vs ++ ws → least t1 ws ≡ least t0 all
 rest_told t0 t1 vs ws all h e = ap (λ t. least t ws) h ∙ sym (least_append t0 vs ws) ∙ ap (least t0) (sym e)
 
@@ -88,7 +88,7 @@ rest_told t0 t1 vs ws all h e = ap (λ t. least t ws) h ∙ sym (least_append t0
 pub then_told : (t0 t1 t2 : Option Violation) (vs ws all : Violations) → t1 ≡ least t0 vs → t2 ≡ least t1 ws → all ≡ vs ++ ws → t2 ≡ least t0 all
 then_told t0 t1 t2 vs ws all h g e = more_told t0 t1 t2 vs ws h g ∙ ap (least t0) (sym e)
 
--- what holds of each answer that isn't refused
+-- what holds for each result that isn't an error
 pub on_ok : {A E : Type 0} {P Q : Type 0} (r : Result A E) → (Q → P) → OnOk r Q → OnOk r P
 on_ok (Ok x) f h = f h
 on_ok (Err e) f h = h

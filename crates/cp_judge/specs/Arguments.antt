@@ -1,4 +1,5 @@
--- An argument's rules, apart: what is judged whatever is broken in it, and what is judged of its type.
+-- The rules of an argument in two parts: those that apply whatever is broken in it, and those about
+-- its type.
 use Rattle.std.specs.Prelude.{ℕ, Bool, true, [], nat_eq}
 use Rattle.cp_model.specs.Syntax as s
 use Rattle.cp_model.specs.declared.rules.Rule.TheVariants.{C2}

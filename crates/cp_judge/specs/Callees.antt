@@ -1,4 +1,4 @@
--- What is called, in the code and in the definitions.
+-- Called routines, in the code and in the definitions.
 use Rattle.std.specs.Prelude.{◌≡◌, ℕ, List, [], ◌∷◌, map, Option, None, Some, if◌then◌else◌}
 use Rattle.cp_model.specs.declared.rules.Violation.{Violation}
 use Rattle.cp_model.specs.RulesJudged.{Judged, Sound, least, violations_of, meaning_of}
@@ -26,15 +26,15 @@ abbrev pub callee_if : r.Environment → Option Callee → Option n.Callee
 callee_if env None = None
 callee_if env (Some c) = Some (callee env c)
 
--- the answer is what is called, and of what is broken the earliest is kept
+-- The answer is the routine that is called, and the earliest violation is kept.
 abbrev pub TellsCallee : r.Environment → Option Violation → Option Violation → Option Callee → Judged n.Callee → Type 0
 TellsCallee env old new answer j = (new ≡ least old (violations_of j)) × (callee_if env answer ≡ meaning_of j)
 
--- the same in every environment
+-- The same in every environment.
 abbrev pub TellsWherever : Option Violation → Option Violation → Option Callee → (r.Environment → Judged n.Callee) → Type 0
 TellsWherever old new answer k = (env : r.Environment) → TellsCallee env old new answer (k env)
 
--- what the arguments have to meet, where what stands before them is known
+-- What the arguments must satisfy, if it is known what the name before them stands for.
 abbrev pub wants_known : r.Environment → Option Entity → List Want
 wants_known env None = []
 wants_known env (Some e) = n.wants_named env (Sound e)
@@ -43,12 +43,13 @@ abbrev pub wants_if : r.Environment → Option Entity → Option Callee → List
 wants_if env e None = wants_known env e
 wants_if env e (Some c) = wants_of env c.wants
 
--- the type of what a call gives, where what is called and the type of the first argument are known
+-- The type of what a call gives, if what is called and the type of the first argument are known.
 abbrev pub result_if : r.Environment → Option Callee → Option ℕ → Option ℕ
 result_if env (Some c) (Some t) = Some (n.given env t c.gives)
 result_if env c t = None
 
--- what is called after a `.`: a routine that lacks `entry` isn't, and only the number of its arguments is judged
+-- The routine that is called after a `.`. One without `entry` can't be called, and only the number
+-- of its arguments is judged.
 abbrev pub entry_function : r.Environment → Rule → Identifier → ℕ → RoutineRow → Judged n.Callee
 entry_function env rule x count row = if row.entry then n.function_called env rule x count row else n.counted env x count row
 

@@ -1,4 +1,4 @@
--- The designator that an expression is, if it is one.
+-- The designator, if an expression is one.
 use Rattle.std.specs.Prelude.{Option, Some, None}
 use Rattle.std.specs.Borrow.{Bor}
 use Rattle.cp_model.specs.Syntax as s

@@ -1,4 +1,4 @@
--- The parts of the judgement of `init` that functions of the code answer.
+-- The parts of the judgement of `init` that single functions of the code compute.
 use Rattle.std.specs.Prelude.{ℕ, List, [], ◌++◌, Option, Some, None, map}
 use Rattle.std.specs.Borrow.{Bor}
 use Rattle.cp_model.specs.Syntax as s
@@ -33,7 +33,7 @@ simple_agrees env u e t = provided (agree env u t) C12 (first_token e) t
 abbrev pub simple_argument : Environment → ℕ → s.Expression → Judged ℕ
 simple_argument env u e = then_judge (judge env mode.Value e) (simple_agrees env u e)
 
--- ---- a name alone
+-- ---- a bare name
 
 abbrev pub name_if : Option (Bor Identifier) → Option Identifier
 name_if (Some x) = Some x.now

@@ -9,11 +9,11 @@ Labels = List Label
 abbrev pub no_labels : Labels
 no_labels = []
 
--- the same labels, in any order
+-- The same labels, in any order.
 abbrev pub SameLabels : Labels → Labels → Type 0
 SameLabels as' bs = (c : Label) → is_among c as' ≡ is_among c bs
 
--- the base of a selector's type, where that is known
+-- The base type of a selector, if it is known.
 abbrev pub base_if : Environment → Option ℕ → Option ℕ
 base_if env (Some t) = base_of env t
 base_if env None = None

@@ -1,4 +1,4 @@
--- The parts of a need that functions of the code answer.
+-- The parts of a need that single functions of the code compute.
 use Rattle.std.specs.Prelude.{ℕ, max, List, [], ◌∷◌, Option, Some}
 use Rattle.cp_model.specs.Syntax as s
 use Rattle.cp_model.specs.declared.rules.Entity.{Entity}
@@ -6,17 +6,17 @@ use Rattle.cp_model.specs.declared.rules.Entity.TheVariants as entity
 use Rattle.cp_model.specs.RulesEnvironment.{Environment, routine_of, c1_named}
 use Rattle.cp_model.specs.RulesNeeds.{need_expression, need_expressions, need_initialised}
 
--- the right operands of a chain
+-- The need of the right operands of a chain.
 abbrev pub need_operations : Environment → List s.Operation → ℕ
 need_operations env [] = 0
 need_operations env (o ∷ os) = max (need_expression env o.operand) (need_operations env os)
 
--- what a designator stands for, if that is known
+-- The need of what a designator stands for, if that is a routine.
 abbrev pub need_if_called : Environment → Option Entity → ℕ
 need_if_called env (Some (entity.Routine r)) = (routine_of env r).need
 need_if_called env (Some (entity.Entry r)) = (routine_of env r).need
 need_if_called env e = 0
 
--- one component that an `init` names
+-- The need of one component that an `init` names, and of its arguments.
 abbrev pub need_item : Environment → s.InitItem → ℕ
 need_item env i = max (need_initialised env (c1_named env i.component)) (need_expressions env i.arguments)

@@ -1,4 +1,4 @@
--- The parts of a statement's judgement that functions of the code answer.
+-- The parts of the judgement of a statement that single functions of the code compute.
 use Rattle.std.specs.Prelude.{ℕ, Bool, false, [], ◌∷◌, ◌++◌, Option, Some, None}
 use Rattle.cp_model.specs.Syntax as s
 use Rattle.cp_model.specs.declared.tree.Identifier.{Identifier}
@@ -13,7 +13,7 @@ use Rattle.cp_model.specs.RulesNames as n
 use Rattle.cp_model.specs.RulesExpressions.{judge, designated}
 use Rattle.cp_model.specs.RulesStatements as st
 
--- the result of the function that is being defined, on the left, where a part of it is selected
+-- The left side is a part of the result of the function that is being defined.
 abbrev pub part_of_result : Identifier → Returns → Judged ℕ
 part_of_result x returns.Nothing = also (violation C4 x.at ∷ []) (breaks C10 x.at)
 part_of_result x r = breaks C10 x.at
@@ -29,7 +29,7 @@ abbrev pub is_component_if : Environment → Option ℕ → Bool
 is_component_if env (Some t) = is_component env t
 is_component_if env None = false
 
--- the procedure that is called
+-- The procedure that is called.
 abbrev pub procedure_if : Environment → s.Designator → ℕ → Judged Entity → Judged n.Callee
 procedure_if env d count j = then_judge j (n.procedure_of env d count)
 

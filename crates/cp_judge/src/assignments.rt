@@ -19,7 +19,8 @@ use crate::values::{designates_variable, designator_of};
 use cp_model::rules::{Entity, Mode, Returns, Rule, Violation};
 use cp_model::tree::{Designator, Expression, Identifier, Selector};
 
-// The result of the function that is being defined, where its name is the whole left side.
+// The result type of the function that is being defined, if its name is the whole left side. C4 and
+// C10: the name is a procedure's own.
 fn whole_result(told: &mut Option<Violation>, x: &Identifier, returns: Returns) -> Option<usize>
     ensures { Tells told.old told.new result (st.own_result x.now (selectors_of []) returns) }
 {
@@ -42,7 +43,7 @@ fn whole_result(told: &mut Option<Violation>, x: &Identifier, returns: Returns) 
     }
 }
 
-// C10: a part of that result. C4: a procedure's own name.
+// C10: the left side is a part of that result. C4: the name is a procedure's own.
 fn part_of_result(told: &mut Option<Violation>, x: &Identifier, returns: Returns) -> Option<usize>
     ensures { Tells told.old told.new result (parts.part_of_result x.now returns) }
 {
@@ -73,7 +74,7 @@ fn own_result(
     }
 }
 
-// What is judged of the names of a left side that is no function's own name. C10: it is no variable.
+// Judges the names of a left side that isn't a function's own name. C10: it isn't a variable.
 fn names_changeable(env: &Environment, told: &mut Option<Violation>, d: &Designator) -> bool
     ensures { TellsOf told.old told.new result
         (n.c2_c5_c8_named env.now mode.Variable (designator d.now) ++ n.c10_designator env.now
@@ -113,7 +114,7 @@ fn component(env: &Environment, x: &Identifier) -> Option<usize>
     }
 }
 
-// The type of a component whose name is the whole designator.
+// The type of a component, if its name is the whole designator.
 fn component_alone(env: &Environment, x: &Identifier, selectors: &[Selector]) -> Option<usize>
     ensures { result ≡ parts.component_alone env.now x.now
         (selectors_of (map selector selectors.now)) }
@@ -131,7 +132,8 @@ fn lone_component(env: &Environment, e: &Expression) -> Option<usize>
     component_alone(env, &d.root, &d.selectors)
 }
 
-// The type of a right side. A component's name is judged as a value only where the left side is no component.
+// Judges a right side and returns its type. A component's name is judged as a value only if the
+// left side isn't a component.
 fn right(
     env: &Environment,
     told: &mut Option<Violation>,
@@ -185,7 +187,8 @@ fn sides(
     judge_sides(env, told, at, a?, b?)
 }
 
-/// An assignment, whose `:=` stands at the place. C2: its sides don't agree. C10: the left one is no variable.
+/// Judges an assignment, whose `:=` is at `at`. C2: its sides don't agree. C10: the left side isn't
+/// a variable.
 pub fn judge_assignment(
     env: &Environment,
     told: &mut Option<Violation>,

@@ -1,4 +1,4 @@
-//! Routines that are called: which arguments they want, and what they give.
+//! Calls of routines: what a routine wants as arguments, and what it gives.
 
 ghost use Rattle.std.specs.Prelude.{◌≡◌, ◌∷◌, [], map, Option, None, Some, slice_get, length, nat_eq};
 ghost use Rattle.cp_model.specs.RulesEnvironment as r;
@@ -20,30 +20,32 @@ use cp_model::rules::{
 };
 use cp_model::tree::{Designator, Identifier};
 
-/// What the arguments of a call have to meet.
+/// What the arguments of a call must satisfy.
 #[derive(Clone, Copy, Debug)]
 pub enum Wants {
     Nothing,
     One(Want),
-    /// So many parameters from the first one on.
+    /// Parameters: the number of the first one, and how many there are.
     Parameters(usize, usize),
 }
 
-/// What is called.
+/// The routine that is called: what it wants, and what it gives.
 #[derive(Clone, Copy, Debug)]
 pub struct Callee {
     pub wants: Wants,
     pub gives: Gives,
 }
 
-/// A call's name: what its arguments have to meet, also where something is broken in it, and what is called.
+/// A call: what its arguments must satisfy, even if something is broken in its name, and the
+/// routine that is called.
 #[derive(Clone, Copy, Debug)]
 pub struct Called {
     pub wants: Wants,
     pub callee: Option<Callee>,
 }
 
-/// What a routine's call gives as a function: a wrong number of arguments is C2, a procedure of another sort.
+/// What a routine gives if it is called as a function. C2: the number of arguments is wrong.
+/// `rule`: the routine is a procedure.
 fn gives(
     told: &mut Option<Violation>,
     rule: Rule,
@@ -69,7 +71,7 @@ fn gives(
     }
 }
 
-// A routine as a function with so many arguments.
+// Judges a call of a routine as a function with `count` arguments.
 fn judge_function_call(
     told: &mut Option<Violation>,
     rule: Rule,
@@ -96,7 +98,7 @@ fn is_procedure(returns: Returns) -> bool
     }
 }
 
-// A routine as a procedure with so many arguments.
+// Judges a call of a routine as a procedure with `count` arguments.
 fn judge_procedure_call(
     told: &mut Option<Violation>,
     x: &Identifier,
@@ -115,7 +117,8 @@ fn judge_procedure_call(
     tell_violation(told, Rule::C2, x.at)
 }
 
-// A routine without `entry` after a `.`, which is not called. C2: a wrong number of arguments; else C5.
+// A routine without `entry` after a `.` can't be called. C2: the number of arguments is wrong. C5:
+// otherwise.
 fn judge_missing_entry(
     told: &mut Option<Violation>,
     x: &Identifier,
@@ -132,7 +135,7 @@ fn judge_missing_entry(
     tell_violation(told, rule, x.at)
 }
 
-// A routine after a `.` as a function, where it has `entry`.
+// Judges a call of a routine after a `.` as a function. It must have `entry`.
 fn entry_function(
     told: &mut Option<Violation>,
     rule: Rule,
@@ -150,7 +153,7 @@ fn entry_function(
     }
 }
 
-// A routine after a `.` as a procedure, where it has `entry`.
+// Judges a call of a routine after a `.` as a procedure. It must have `entry`.
 fn entry_procedure(
     told: &mut Option<Violation>,
     x: &Identifier,
@@ -174,7 +177,7 @@ fn by_name(told: &mut Option<Violation>, x: &Identifier, row: RoutineRow) -> boo
     unless_holds(told, !row.entry, Rule::C5, x.at)
 }
 
-/// A function that is called with so many arguments.
+/// Judges a call of a function with `count` arguments.
 #[tactic(auto, using(crate::proofs::CalleesTold::also_callee))]
 pub fn function(
     env: &Environment,
@@ -217,7 +220,7 @@ pub fn function(
     }
 }
 
-/// A procedure that is called with so many arguments.
+/// Judges a call of a procedure with `count` arguments.
 #[tactic(auto, using(crate::proofs::CalleesTold::also_callee))]
 pub fn procedure(
     env: &Environment,
@@ -264,7 +267,7 @@ fn parameters(row: RoutineRow) -> Wants
     Wants::Parameters(row.first, row.count)
 }
 
-// What the arguments have to meet of what is called, whatever is broken in the call.
+// What the arguments of a call must satisfy, whatever is broken in the call.
 fn wants_of_entity(env: &Environment, entity: Entity) -> Wants
     ensures { wants_of env.now result ≡ n.wants_named env.now (Sound entity) }
 {
@@ -277,7 +280,7 @@ fn wants_of_entity(env: &Environment, entity: Entity) -> Wants
     }
 }
 
-/// What the arguments have to meet: nothing, where it isn't known what is called.
+/// What the arguments of a call must satisfy: nothing if it isn't known what is called.
 pub fn wants_of_call(env: &Environment, entity: Option<Entity>, callee: Option<Callee>) -> Wants
     ensures { wants_of env.now result ≡ wants_if env.now entity callee }
 {
@@ -288,7 +291,7 @@ pub fn wants_of_call(env: &Environment, entity: Option<Entity>, callee: Option<C
     }
 }
 
-/// The parameter of this number, counted from 0, of so many from the first one on.
+/// The parameter with this number, counted from 0, among the `count` parameters from `first` on.
 pub fn parameter(
     env: &Environment,
     first: usize,
@@ -304,7 +307,7 @@ pub fn parameter(
     }
 }
 
-/// What the argument of this number, counted from 0, has to meet.
+/// What the argument with this number, counted from 0, must satisfy.
 pub fn want(env: &Environment, wants: Wants, number: usize) -> Option<Want>
     ensures { result ≡ slice_get (wants_of env.now wants) number }
 {

@@ -20,7 +20,7 @@ use crate::values::is_variable;
 use cp_model::rules::{Entity, Mode, Rule, Violation};
 use cp_model::tree::{Expression, Identifier};
 
-// C2: another type than is wanted.
+// C2: the type isn't one that is wanted.
 fn require_type(told: &mut Option<Violation>, fits: bool, at: usize, t: usize) -> Option<usize>
     ensures { Tells told.old told.new result (provided fits C2 at t) }
 {
@@ -46,7 +46,7 @@ pub fn selector(env: &Environment, told: &mut Option<Violation>, e: &Expression)
     require_type(told, env.is_simple(t), first_token(e), t)
 }
 
-/// C2: a bound of a `for` doesn't agree with its variable, where the type of that is known.
+/// C2: a bound of a `for` doesn't agree with its variable, if the type of the variable is known.
 pub fn bound(
     env: &Environment,
     told: &mut Option<Violation>,
@@ -63,7 +63,7 @@ pub fn bound(
     }
 }
 
-// What a name alone is, where a variable is wanted. C10: anything else than a variable, a constant's value apart.
+// The type of a bare name where a variable is wanted. C10: it is neither a variable nor a constant.
 fn plain_value(
     env: &Environment,
     told: &mut Option<Violation>,
@@ -123,7 +123,7 @@ fn for_variable(env: &Environment, told: &mut Option<Violation>, v: &Identifier)
     answer_if(changeable, t)
 }
 
-/// The variable and the bounds of a `for`.
+/// Judges the variable and the bounds of a `for`.
 pub fn for_header(
     env: &Environment,
     told: &mut Option<Violation>,

@@ -12,7 +12,7 @@ use crate::telling::{fail_with_violation, unless_holds};
 use cp_model::rules::{Entity, Rule, Violation};
 use cp_model::tree::{Constant, Identifier};
 
-/// Where a constant begins.
+/// The place where a constant begins.
 pub fn constant_at(c: &Constant) -> usize
     ensures { result ≡ types.constant_at c.now }
 {
@@ -24,7 +24,7 @@ pub fn constant_at(c: &Constant) -> usize
     }
 }
 
-/// C4, and C2 beside it: the name of something unfinished, where another sort is wanted.
+/// C4 and C2: the name of something unfinished that is of another sort than is wanted.
 pub fn unfinished_of_other_sort<A>(told: &mut Option<Violation>, at: usize) -> Result<A, Violation>
     ensures { TellsFirst told.old told.new result
         (also (violation rules.C4 at ∷ []) (breaks rules.C2 at)) }
@@ -34,7 +34,8 @@ pub fn unfinished_of_other_sort<A>(told: &mut Option<Violation>, at: usize) -> R
     first
 }
 
-// C2: a constant is wanted, and the name is of another sort. C4: a constant inside its own definition.
+// C2: a constant is wanted, but the name is of another sort. C4: a constant is used inside its own
+// definition.
 fn constant_of_entity(
     told: &mut Option<Violation>,
     x: &Identifier,
@@ -51,7 +52,7 @@ fn constant_of_entity(
     }
 }
 
-/// The base type of a constant and its ordinal, or what is broken first in it.
+/// The base type and the ordinal of a constant, or the first violation in it.
 pub fn constant(
     env: &Environment,
     told: &mut Option<Violation>,

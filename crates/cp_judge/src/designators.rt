@@ -1,4 +1,4 @@
-//! What is judged of a designator's names, whatever is broken in it.
+//! The rules about the names of a designator, whatever else is broken in it.
 
 ghost use Rattle.std.specs.Prelude.{◌≡◌, ◌++◌, [], ◌∷◌, map, Option, None, Some};
 ghost use Rattle.cp_model.specs.RulesEnvironment as r;
@@ -14,7 +14,7 @@ use crate::telling::unless_holds;
 use cp_model::rules::{Entity, Member, Mode, NamedPart, Rule, Structure, Violation};
 use cp_model::tree::{Designator, Identifier, Index, Selector};
 
-// The rule of a first name of another sort: C2, or C10 where that judges the place.
+// The rule that is broken if the first name is of another sort: C2, or C10 where that rule applies.
 fn first_rule(mode: Mode) -> Rule
     ensures { result ≡ n.first_rule mode }
 {
@@ -44,7 +44,7 @@ fn is_indexed_first(selectors: &[Selector]) -> bool
     }
 }
 
-// C2: a type's name before `[`.
+// C2 or C10: the name of a type comes before `[`.
 fn no_indexed_type(
     env: &Environment,
     told: &mut Option<Violation>,
@@ -57,7 +57,7 @@ fn no_indexed_type(
     unless_holds(told, !wrong, first_rule(mode), d.root.at)
 }
 
-// The member of this name that the first name has, if it has one.
+// The member named `y` of what `x` stands for, if there is one.
 fn find_member(env: &Environment, x: &Identifier, y: &Identifier) -> Option<Member>
     ensures { result ≡ n.member_selected env.now y.now.name (r.c1_named env.now x.now) }
 {
@@ -86,7 +86,7 @@ fn has_entry(
     }
 }
 
-// C5 of a routine after the first name.
+// C5: a routine after the first name lacks `entry`.
 fn selected_has_entry(
     env: &Environment,
     told: &mut Option<Violation>,
@@ -102,14 +102,15 @@ fn selected_has_entry(
     }
 }
 
-// C5 of a designator: a routine after a component's `.` lacks `entry`.
+// C5: in a designator, a routine after a component's `.` lacks `entry`.
 fn entry_after_point(env: &Environment, told: &mut Option<Violation>, d: &Designator) -> bool
     ensures { TellsOf told.old told.new result (n.c5_after_point env.now (designator d.now)) }
 {
     selected_has_entry(env, told, &d.root, &d.selectors)
 }
 
-/// C2, C5 and C8 of a designator's names: a type before `[`, a routine without `entry`, a variable with queues out of its place.
+/// C2 or C10, C5 and C8 for the names of a designator: a type before `[`, a routine without
+/// `entry`, a variable with queues in the wrong place.
 pub fn names_fit(
     env: &Environment,
     told: &mut Option<Violation>,
@@ -124,7 +125,7 @@ pub fn names_fit(
     no_type && (entry && no_queue)
 }
 
-// ---- what isn't a routine, where one is wanted
+// ---- what isn't a routine although one is wanted
 
 fn first_part(env: &Environment, x: &Identifier) -> NamedPart
     ensures { result ≡ n.first_part (r.c1_named env.now x.now) }
@@ -200,7 +201,7 @@ fn last_part(env: &Environment, d: &Designator) -> NamedPart
     part
 }
 
-/// C2: a routine is wanted, and what is indexed is a variable, a field, a constant or a component.
+/// C2 or C10: a routine is wanted, but an indexed variable, field, constant or component is named.
 pub fn no_indexed_value(
     env: &Environment,
     told: &mut Option<Violation>,

@@ -1,7 +1,7 @@
-//! What the names of a designator stand for, whatever stands in its indices.
+//! What the names of a designator stand for, whatever its indices are.
 //!
-//! A designator in which nothing is broken stands for the same (`proofs/Covers.antt`), so what needs to know only whether that is
-//! a routine needs not judge the indices.
+//! If nothing is broken in a designator, it stands for the same (`proofs/Covers.antt`). So code
+//! that only needs to know whether that is a routine needn't judge the indices.
 
 ghost use Rattle.std.specs.Prelude.{◌≡◌, map, Option, None, Some};
 ghost use Rattle.cp_model.specs.View.{designator, index, indices_of, selector, selectors_of};
@@ -13,7 +13,7 @@ use crate::names::{array, find_entity};
 use cp_model::rules::Entity;
 use cp_model::tree::{Designator, Index, Selector};
 
-/// Whether it is a routine that can be called from here.
+/// Whether an entity is a routine that can be called.
 pub fn is_routine(entity: Option<Entity>) -> bool
     ensures { result ≡ spec.is_routine entity }
 {
@@ -43,7 +43,7 @@ fn elements(env: &Environment, entity: Option<Entity>, indices: &[Index]) -> Opt
     entity
 }
 
-// A part of what the names before it stand for.
+// What a selector selects of what the names before it stand for.
 fn part(env: &Environment, entity: Option<Entity>, s: &Selector) -> Option<Entity>
     ensures { result ≡ spec.part env.now entity (selector s.now) }
 {

@@ -15,7 +15,7 @@ use cp_names::NameTable;
 use std::alloc::{AllocError, Global};
 use std::marker::Model;
 
-/// The number of the type integer, of boolean, of char and of queue.
+/// The number of the type integer. Those of boolean, char and queue follow.
 pub const INTEGER: usize = 0;
 
 pub const BOOLEAN: usize = 1;
@@ -24,7 +24,7 @@ pub const CHAR: usize = 2;
 
 pub const QUEUE: usize = 3;
 
-// Where the statements of the initial process stand.
+// The region of the statements of the initial process.
 const PROCESS_BODY: Region = Region {
     sort: Sort::Process,
     part: Part::Body,
@@ -66,7 +66,7 @@ impl<'t> Model for Environment<'t> {
     } };
 }
 
-/// Whether it is this base type.
+/// Whether `base` is the base type `wanted`.
 pub fn is_base(wanted: usize, base: Option<usize>) -> bool
     ensures { result ≡ r.is_base wanted base }
 {
@@ -86,7 +86,7 @@ fn is_structured(structure: Structure) -> bool
     }
 }
 
-// What is known of names.
+// What is known about names.
 impl<'t> Environment<'t> {
     /// What a name stands for, if it is visible.
     pub fn find(&self, name: &[u8]) -> Option<Entity>
@@ -95,7 +95,7 @@ impl<'t> Environment<'t> {
         self.names.find(name)
     }
 
-    /// How many names are visible. No two of them are the same.
+    /// The number of visible names. No two of them are the same.
     pub fn name_count(&self) -> usize
         ensures count { result ≡ length self.now.names }
         ensures distinct { AreDistinct self.now.names }
@@ -103,14 +103,14 @@ impl<'t> Environment<'t> {
         self.names.len()
     }
 
-    /// A visible name by its number, and what it stands for.
+    /// The visible name with this number, and what it stands for.
     pub fn name(&self, number: usize) -> Option<(&'t [u8], Entity)>
         ensures { option_map seen result ≡ slice_get self.now.names number }
     {
         self.names.get(number)
     }
 
-    /// A member of a table of members, by its name.
+    /// The member with this name in a table of members.
     pub fn member(&self, table: usize, x: &Identifier) -> Option<Member>
         ensures { result ≡ lookup x.now.name (get_or self.now.members table []) }
     {
@@ -118,7 +118,7 @@ impl<'t> Environment<'t> {
     }
 }
 
-// What is known of types.
+// What is known about types.
 impl<'t> Environment<'t> {
     /// The structure of a type.
     pub fn structure(&self, t: usize) -> Structure
@@ -130,7 +130,7 @@ impl<'t> Environment<'t> {
         }
     }
 
-    /// The words of a variable of the type.
+    /// The number of words of a variable of the type.
     pub fn words(&self, t: usize) -> usize
         ensures { result ≡ (r.row_of self.now t).words }
     {
@@ -140,7 +140,7 @@ impl<'t> Environment<'t> {
         }
     }
 
-    /// Whether a variable of the type has queues in it.
+    /// Whether a variable of the type contains queues.
     pub fn has_queues(&self, t: usize) -> bool
         ensures { result ≡ (r.row_of self.now t).has_queues }
     {
@@ -167,7 +167,7 @@ impl<'t> Environment<'t> {
         self.base(t).is_some()
     }
 
-    /// The system type of a component.
+    /// The number of the system type that a type is, if it is one.
     pub fn system(&self, t: usize) -> Option<usize>
         ensures { result ≡ r.system_of self.now t }
     {
@@ -184,7 +184,8 @@ impl<'t> Environment<'t> {
         self.system(t).is_some()
     }
 
-    /// Whether values of two types agree: simple ones of one base, or of the very same array type or record type.
+    /// Whether values of two types agree: both types are simple with the same base type, or they
+    /// are the very same array or record type.
     pub fn agree(&self, a: usize, b: usize) -> bool
         ensures { result ≡ r.agree self.now a b }
     {
@@ -194,7 +195,7 @@ impl<'t> Environment<'t> {
         }
     }
 
-    /// A system type by its number.
+    /// The system type with this number.
     pub fn system_row(&self, number: usize) -> SystemRow
         ensures { result ≡ r.system_row self.now number }
     {
@@ -212,9 +213,9 @@ impl<'t> Environment<'t> {
     }
 }
 
-// What is known of routines, and of where statements stand.
+// What is known about routines, and about the region of the statements.
 impl<'t> Environment<'t> {
-    /// A routine by its number.
+    /// The routine with this number.
     pub fn routine(&self, number: usize) -> RoutineRow
         ensures { result ≡ r.routine_of self.now number }
     {
@@ -230,7 +231,7 @@ impl<'t> Environment<'t> {
         }
     }
 
-    /// A parameter by its number among those from the first one on.
+    /// The parameter with this number among those from `first` on.
     pub fn parameter(&self, first: usize, number: usize) -> Option<ParameterRow>
         ensures { result ≡ slice_get (drop first self.now.parameters) number }
     {
@@ -239,7 +240,7 @@ impl<'t> Environment<'t> {
         parameters.get(at).copied()
     }
 
-    /// Where the statements stand.
+    /// The region that the statements are in.
     pub fn region(&self) -> Region
         ensures { result ≡ self.now.region }
     {
@@ -247,44 +248,44 @@ impl<'t> Environment<'t> {
     }
 }
 
-// How many there are.
+// How many entries there are.
 impl<'t> Environment<'t> {
-    /// How many types there are.
+    /// The number of types.
     pub fn type_count(&self) -> usize
         ensures { result ≡ length self.now.types }
     {
         self.types.len()
     }
 
-    /// How many tables of members there are.
+    /// The number of tables of members.
     pub fn table_count(&self) -> usize
         ensures { result ≡ length self.now.members }
     {
         self.members.len()
     }
 
-    /// How many system types there are.
+    /// The number of system types.
     pub fn system_count(&self) -> usize
         ensures { result ≡ length self.now.systems }
     {
         self.systems.len()
     }
 
-    /// How many parameters there are.
+    /// The number of parameters.
     pub fn parameter_count(&self) -> usize
         ensures { result ≡ length self.now.parameters }
     {
         self.parameters.len()
     }
 
-    /// How many processes there are so far, with the initial one.
+    /// The number of processes so far, counting the initial one.
     pub fn process_count(&self) -> usize
         ensures { result ≡ self.now.processes }
     {
         self.processes
     }
 
-    /// How many monitors there are so far.
+    /// The number of monitors so far.
     pub fn monitor_count(&self) -> usize
         ensures { result ≡ self.now.monitors }
     {
@@ -292,9 +293,9 @@ impl<'t> Environment<'t> {
     }
 }
 
-// What declarations add. Each fails only for want of memory.
+// What declarations add. Each function fails only if memory runs out.
 impl<'t> Environment<'t> {
-    /// The environment of the initial process, with these names and types.
+    /// Returns the environment of the initial process, with these names and types.
     pub fn new(alloc: Global, names: Scope<'t>, types: Vec<TypeRow>) -> Environment<'t>
         ensures { result ≡ record
             r.standard_environment { names = names.entry; types = types.items } }
@@ -321,7 +322,7 @@ impl<'t> Environment<'t> {
         self.names.add(name, entity)
     }
 
-    /// Forgets the names that were declared since there were so many.
+    /// Removes the names that were declared after the first `mark` ones.
     pub fn leave(&mut self, mark: usize)
         ensures { self.new ≡ r.with_names (take mark self.old.names) self.old }
     {
@@ -352,7 +353,7 @@ impl<'t> Environment<'t> {
         Ok(())
     }
 
-    /// Adds a routine, and answers its number.
+    /// Adds a routine, and returns its number.
     pub fn add_routine(&mut self, row: RoutineRow) -> Result<usize, AllocError>
         ensures number { IfOk result (λ n. n ≡ length self.old.routines) }
         ensures added { OnOk result (self.new ≡ with_routine self.old row) }
@@ -369,21 +370,21 @@ impl<'t> Environment<'t> {
         self.parameters.extend_from_slice(rows)
     }
 
-    /// Says where the statements stand.
+    /// Sets the region that the statements are in.
     pub fn stand_in(&mut self, region: Region)
         ensures { self.new ≡ record self.old { region = region } }
     {
         self.region = region;
     }
 
-    /// Says how many processes there are.
+    /// Sets the number of processes.
     pub fn count_processes(&mut self, count: usize)
         ensures { self.new ≡ record self.old { processes = count } }
     {
         self.processes = count;
     }
 
-    /// Says how many monitors there are.
+    /// Sets the number of monitors.
     pub fn count_monitors(&mut self, count: usize)
         ensures { self.new ≡ record self.old { monitors = count } }
     {

@@ -1,7 +1,8 @@
 //! Expressions: their types, and the rules inside them.
 //!
-//! An expression, its designators and its arguments lead to one another; what doesn't stands in modules of its own.
-//! `specs/ExpressionParts.antt` names the parts of the definition that functions answer.
+//! Expressions, designators and arguments are judged by mutual recursion. What isn't part of it is
+//! in other modules. `specs/ExpressionParts.antt` names the parts of the definition that single
+//! functions compute.
 
 ghost use Rattle.std.specs.Prelude.{◌≡◌, ℕ, ◌+◌, ◌*◌, ◌<◌, ◌++◌, [], ◌∷◌, map, drop, length, Option, None, Some, slice_get};
 ghost use Rattle.cp_model.specs.Syntax as s;
@@ -27,7 +28,7 @@ use crate::values::{result_type, value};
 use cp_model::rules::{ArrayPart, Entity, Mode, Violation, Want};
 use cp_model::tree::{Designator, Expression, Index, Operation, Operator, Selector};
 
-/// The type of an expression.
+/// Judges an expression and returns its type.
 #[cycle(judge)]
 pub fn judge(
     env: &Environment,
@@ -66,7 +67,7 @@ pub fn judge(
     }
 }
 
-// The operators after an operand, and their right operands.
+// Judges the operators after an operand, and their right operands.
 #[cycle(judge)]
 fn chain(
     env: &Environment,
@@ -84,7 +85,7 @@ fn chain(
     left
 }
 
-// An operator, where the types of both operands are known.
+// Judges an operator, if the types of both operands are known.
 fn judge_operation(
     env: &Environment,
     told: &mut Option<Violation>,
@@ -98,7 +99,7 @@ fn judge_operation(
     operands(env, told, operator, at, left?, right?)
 }
 
-// A designator that is used as a value, or as what should be a variable.
+// Judges a designator that is used as a value, or where a variable is wanted.
 #[cycle(judge)]
 fn judge_use(
     env: &Environment,
@@ -113,7 +114,7 @@ fn judge_use(
     answer_if(fits, t)
 }
 
-/// The type of a designator that is used as a value, or as what should be a variable.
+/// The type of a designator that is used as a value, or where a variable is wanted.
 #[cycle(judge)]
 pub fn type_of_designator(
     env: &Environment,
@@ -128,7 +129,7 @@ pub fn type_of_designator(
     value(env, told, mode, d, entity)
 }
 
-/// What a designator stands for.
+/// Judges a designator and returns what it stands for.
 #[cycle(judge)]
 pub fn judge_designator(
     env: &Environment,
@@ -144,7 +145,7 @@ pub fn judge_designator(
     part
 }
 
-// A part of what was designated so far.
+// What a selector selects of what is designated so far.
 #[cycle(judge)]
 fn select(
     env: &Environment,
@@ -183,7 +184,7 @@ fn select_elements(
     part
 }
 
-// The array that is indexed, where it is known what is.
+// The array that is indexed, if it is known what is indexed.
 fn array_if(
     env: &Environment,
     told: &mut Option<Violation>,
@@ -197,7 +198,7 @@ fn array_if(
     array(env, told, at, entity)
 }
 
-// An element of an array, where the array and the type of the index are known.
+// An element of an array, if the array and the type of the index are known.
 fn element_if(
     env: &Environment,
     told: &mut Option<Violation>,
@@ -210,7 +211,7 @@ fn element_if(
     element(env, told, at, of?, t?)
 }
 
-// The type of what a call gives, where what is called and the type of the first argument are known.
+// The type of what a call gives, if what is called and the type of the first argument are known.
 fn result(env: &Environment, callee: Option<Callee>, t: Option<usize>) -> Option<usize>
     ensures { result ≡ result_if env.now callee t }
 {
@@ -220,7 +221,7 @@ fn result(env: &Environment, callee: Option<Callee>, t: Option<usize>) -> Option
     }
 }
 
-// The function that is called, where it is known what stands there.
+// The function that is called, if it is known what its name stands for.
 fn function_if(
     env: &Environment,
     told: &mut Option<Violation>,
@@ -261,7 +262,8 @@ fn judge_callee(
     }
 }
 
-/// The type of the first argument. All are judged, against what they have to meet.
+/// Judges all arguments against what they must satisfy, and returns the type of the first one, or
+/// integer if there are none.
 #[cycle(judge)]
 pub fn arguments(
     env: &Environment,

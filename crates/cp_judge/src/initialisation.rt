@@ -37,7 +37,7 @@ fn own_system(
     }
 }
 
-// C12: `init` of what is no component variable declared by this component.
+// C12: `init` names something that isn't a component variable of this component.
 fn own_component(
     env: &Environment,
     told: &mut Option<Violation>,
@@ -99,7 +99,7 @@ fn component(
     Some(y)
 }
 
-// ---- an argument of which nothing is wanted, or only a component's name
+// ---- an argument without requirements, or one that must be a component's name
 
 fn unused_entity(
     env: &Environment,
@@ -139,7 +139,7 @@ fn unwanted_designator(
     answer_if(fits, t)
 }
 
-// An argument of which nothing is wanted: what a designator stands for isn't judged as a value.
+// Judges an argument without requirements. What a designator stands for isn't judged as a value.
 fn unwanted_argument(
     env: &Environment,
     told: &mut Option<Violation>,
@@ -153,7 +153,7 @@ fn unwanted_argument(
     }
 }
 
-// C12: an argument that isn't of the component type that is wanted.
+// C12: an argument isn't of the component type that is wanted.
 fn passed_entity(
     env: &Environment,
     told: &mut Option<Violation>,
@@ -203,7 +203,7 @@ fn name_argument(
     answer_if(no_queue, t)
 }
 
-// The name, where nothing is selected.
+// The name, if it has no selectors.
 fn whole_name<'t>(x: &'t Identifier, selectors: &[Selector]) -> Option<&'t Identifier>
     ensures { parts.name_if result ≡ parts.whole_name x.now (parts.selectors selectors.now) }
 {
@@ -213,7 +213,7 @@ fn whole_name<'t>(x: &'t Identifier, selectors: &[Selector]) -> Option<&'t Ident
     }
 }
 
-// The name that an expression is, if it is one alone.
+// The name, if the expression is a bare name.
 fn name_alone(e: &Expression) -> Option<&Identifier>
     ensures { parts.name_if result ≡ parts.name_alone (expression e.now) }
 {
@@ -221,7 +221,7 @@ fn name_alone(e: &Expression) -> Option<&Identifier>
     whole_name(&d.root, &d.selectors)
 }
 
-// C12: an argument for a component parameter that is no name.
+// C12: the argument for a component parameter isn't a name.
 fn component_argument(
     env: &Environment,
     told: &mut Option<Violation>,
@@ -263,7 +263,7 @@ fn simple_agrees(
     tell_violation(told, Rule::C12, first_token(e))
 }
 
-// C12: an argument that doesn't agree with a simple parameter.
+// C12: an argument doesn't agree with its simple parameter.
 fn simple_argument(
     env: &Environment,
     told: &mut Option<Violation>,
@@ -297,7 +297,7 @@ fn argument(
     }
 }
 
-// The type of the parameter of this number, where it is known.
+// The type of the parameter with this number, if it is known.
 fn parameter_type(env: &Environment, system: Option<usize>, number: usize) -> Option<usize>
     ensures { result ≡ parts.type_if (slice_get (parts.parameters_if env.now system) number) }
 {
@@ -329,7 +329,7 @@ fn item(env: &Environment, told: &mut Option<Violation>, item: &InitItem)
     arguments(env, told, system, &item.arguments);
 }
 
-/// An `init`, whose word stands at the place. C12: it stands in a routine, or an item is wrong.
+/// Judges an `init`, whose word is at `at`. C12: it is in a routine, or an item is wrong.
 pub fn judge_init(env: &Environment, told: &mut Option<Violation>, at: usize, items: &[InitItem])
     ensures { told.new ≡ least told.old (parts.judge_init env.now at (map init_item items.now)) }
 {

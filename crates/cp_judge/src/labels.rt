@@ -30,7 +30,7 @@ impl Model for Labels {
 }
 
 impl Labels {
-    /// No labels.
+    /// Returns an empty set of labels.
     pub fn new(alloc: Global) -> Labels
         ensures { result ≡ spec.no_labels }
     {
@@ -39,14 +39,14 @@ impl Labels {
         }
     }
 
-    /// Whether this is one of them.
+    /// Whether this label is in the set.
     fn has(&self, label: (usize, i32)) -> bool
         ensures { result ≡ st.is_among label self.now }
     {
         self.seen.contains(&label)
     }
 
-    /// One more, if it is new. It fails only for want of memory.
+    /// Adds a label, if it is new. Fails only if memory runs out.
     fn add(&mut self, label: (usize, i32)) -> Result<(), AllocError>
         ensures { OnOk result (spec.SameLabels self.new (st.with_label self.old label)) }
     {
@@ -64,7 +64,7 @@ fn fits(base: Option<usize>, label: (usize, i32)) -> bool
     }
 }
 
-// C3: a label that stands twice.
+// C3: a label occurs twice.
 fn once(
     told: &mut Option<Violation>,
     seen: &Labels,
@@ -80,7 +80,8 @@ fn once(
     Some(label)
 }
 
-// C2: a label of another base than the selector's, where that is known.
+// C2: the base type of a label isn't that of the selector, if that is known. C3: the label occurs
+// twice.
 fn judge_known_label(
     told: &mut Option<Violation>,
     base: Option<usize>,
@@ -95,7 +96,8 @@ fn judge_known_label(
     answer_if(fits, label)
 }
 
-/// The labels of one statement of a `case`, behind those that were seen. It fails only for want of memory.
+/// Judges the labels of one arm of a `case`, after those that were seen. Fails only if memory runs
+/// out.
 pub fn judge_labels(
     env: &Environment,
     told: &mut Option<Violation>,
@@ -114,7 +116,7 @@ pub fn judge_labels(
     Ok(())
 }
 
-// A label, behind those that were seen.
+// Judges a label, after those that were seen.
 fn judge_label(
     env: &Environment,
     told: &mut Option<Violation>,
@@ -139,7 +141,7 @@ fn judge_label(
     }
 }
 
-/// The base of a selector's type, where that is known.
+/// The base type of a selector, if it is known.
 pub fn selector_base(env: &Environment, selector: Option<usize>) -> Option<usize>
     ensures { result ≡ spec.base_if env.now selector }
 {

@@ -1,8 +1,10 @@
-//! The rules inside expressions and statements: what is judged of each, in an environment that declarations make.
+//! The rules for expressions and statements, which are judged in an environment that declarations
+//! have made.
 //!
-//! The rules are defined in cp_model's `specs/Rules*.antt`. Each function here has one clause, that it tells what the definition
-//! tells: `told` becomes the earliest of what was told before and of the violations, and the answer is the meaning, or none where
-//! something is broken (`specs/Tells.antt`).
+//! cp_model's `specs/Rules*.antt` define the rules. The contract of each function here says that it
+//! agrees with its definition: `told` becomes the earliest of the violation reported before and
+//! those of the definition, and the result is the meaning, or `None` if something is broken
+//! (`specs/Tells.antt`).
 #![tactic(auto)]
 
 mod assignments;

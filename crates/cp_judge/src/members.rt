@@ -1,4 +1,4 @@
-//! Fields of records, and routines of components: what stands after a `.`.
+//! Fields of records and routines of components: the names after a `.`.
 
 ghost use Rattle.std.specs.Prelude.{◌≡◌, ◌∷◌, [], map, Option, None, Some, get_or};
 ghost use Rattle.cp_model.specs.RulesEnvironment as r;
@@ -12,7 +12,8 @@ use crate::telling::tell_violation;
 use cp_model::rules::{Entity, Member, Rule, Structure, Violation};
 use cp_model::tree::Identifier;
 
-/// What a name after a `.` stands for. C2: `.` after what is neither a record nor a component.
+/// What a name after a `.` stands for. C2: the `.` comes after something that is neither a record
+/// nor a component.
 pub fn member(
     env: &Environment,
     told: &mut Option<Violation>,
@@ -35,7 +36,7 @@ pub fn member(
     }
 }
 
-/// The member of this name that a type has, if it has one.
+/// The member of a type with this name, if it has one.
 pub fn member_of_type(env: &Environment, t: usize, x: &Identifier) -> Option<Member>
     ensures { result ≡ n.member_in x.now.name
         (r.members_in env.now (r.row_of env.now t).structure) }

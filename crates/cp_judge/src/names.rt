@@ -1,4 +1,4 @@
-//! What is judged of a name: whether it is visible, and of which sort it is.
+//! The rules about a name: whether it is visible, and of which sort it is.
 
 ghost use Rattle.std.specs.Prelude.{◌≡◌, ◌++◌, [], ◌∷◌, map, length, Option, None, Some};
 ghost use Rattle.cp_model.specs.RulesEnvironment as r;
@@ -15,7 +15,8 @@ use cp_model::rules::{
 };
 use cp_model::tree::{Designator, Identifier, Selector, Sort};
 
-/// What a name stands for, or what is broken. C1: it isn't visible. What is broken in its declaration is told again.
+/// What a name stands for, or the violation. C1: it isn't visible. A violation in its declaration
+/// is reported again.
 pub fn resolve(
     env: &Environment,
     told: &mut Option<Violation>,
@@ -34,14 +35,14 @@ pub fn resolve(
     }
 }
 
-/// What a name stands for, if nothing is broken in it, which is told.
+/// What a name stands for, or `None` if something is broken in it, which is reported.
 pub fn judge_name(env: &Environment, told: &mut Option<Violation>, x: &Identifier) -> Option<Entity>
     ensures { Tells told.old told.new result (r.c1_named env.now x.now) }
 {
     resolve(env, told, x).ok()
 }
 
-/// What a name stands for, if that is known.
+/// What a name stands for, if that is known. This reports nothing.
 pub fn find_entity(env: &Environment, x: &Identifier) -> Option<Entity>
     ensures { result ≡ meaning_of (r.c1_named env.now x.now) }
 {
@@ -115,7 +116,7 @@ fn is_allowed(region: Region, standard: Standard) -> bool
     }
 }
 
-/// C9: a standard name out of its place.
+/// C9: a standard name is used in the wrong place.
 pub fn in_place(
     env: &Environment,
     told: &mut Option<Violation>,
@@ -132,7 +133,7 @@ pub fn in_place(
     }
 }
 
-/// C4 and C9: what is judged of a name wherever it stands.
+/// C4 and C9: the rules that apply to a name everywhere.
 pub fn anywhere(
     env: &Environment,
     told: &mut Option<Violation>,
@@ -146,7 +147,7 @@ pub fn anywhere(
     finished && in_place
 }
 
-/// What a member of a record or a component stands for. C1: there is none of this name.
+/// What a member of a record or a component stands for. C1: there is no member with this name.
 pub fn entity_of_member(
     told: &mut Option<Violation>,
     x: &Identifier,
@@ -163,7 +164,7 @@ pub fn entity_of_member(
     }
 }
 
-/// C2: `[` after what is no array.
+/// C2: a `[` comes after something that isn't an array.
 pub fn array(
     env: &Environment,
     told: &mut Option<Violation>,
@@ -184,7 +185,8 @@ pub fn array(
     tell_violation(told, Rule::C2, at)
 }
 
-/// C2: an index that doesn't agree. The element is a part of the same variable.
+/// C2: an index doesn't agree with the array's index type. The element is a part of the same
+/// variable.
 pub fn element(
     env: &Environment,
     told: &mut Option<Violation>,
@@ -209,7 +211,8 @@ fn is_queue_variable(env: &Environment, x: &Identifier) -> bool
     }
 }
 
-/// C8: a variable with queues named elsewhere than as the argument of `delay`, `continue`, `empty`.
+/// C8: a variable with queues is named other than as the argument of `delay`, `continue` or
+/// `empty`.
 pub fn queue_in_place(
     env: &Environment,
     told: &mut Option<Violation>,
@@ -224,7 +227,7 @@ pub fn queue_in_place(
     }
 }
 
-// The rule of a last name of another sort, where C10 judges the place of the first.
+// The rule that is broken if the last name is of another sort, where C10 applies to the first one.
 fn sort_rule_of_variable(selectors: &[Selector]) -> Rule
     ensures { result ≡ n.sort_rule_of_variable (selectors_of (map selector selectors.now)) }
 {
@@ -235,7 +238,8 @@ fn sort_rule_of_variable(selectors: &[Selector]) -> Rule
     }
 }
 
-/// The rule of a name of another sort than is wanted: C2, or C10 where that judges the place.
+/// The rule that is broken if a name is of another sort than is wanted: C2, or C10 where that rule
+/// applies.
 pub fn sort_rule(mode: Mode, d: &Designator) -> Rule
     ensures { result ≡ n.sort_rule mode (designator d.now) }
 {

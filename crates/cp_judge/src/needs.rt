@@ -1,7 +1,9 @@
-//! Needs: the words of the activations that expressions and statements call for, one inside the other.
+//! Needs: the number of words that the activations of called routines take, one inside another,
+//! while expressions and statements run.
 //!
-//! They are defined in cp_model's `specs/RulesNeeds.antt`. Each is the greatest of the needs of routines and bodies, which the
-//! tables hold, so it is one of them or 0. `specs/Needs.antt` names the parts of the definition that functions answer.
+//! cp_model's `specs/RulesNeeds.antt` defines them. A need is the greatest among the needs of
+//! routines and bodies, which the tables hold, so it is one of these or 0. `specs/Needs.antt` names
+//! the parts of the definition that single functions compute.
 
 ghost use Rattle.std.specs.Prelude.{◌≡◌, map, max, drop};
 ghost use Rattle.cp_model.specs.RulesEnvironment as r;
@@ -100,8 +102,9 @@ fn need_of_indices(env: &Environment, indices: &[Index]) -> usize
     need
 }
 
-// The need of the routine that a designator stands for, if it is one. What is in its indices is judged only where its names stand
-// for a routine: in a text they never do, since no array has components in it.
+// The need of the routine that a designator stands for, if it stands for one. The indices are
+// judged only if the names stand for a routine. With indices they never do, since no array contains
+// components.
 fn need_of_callee(env: &Environment, d: &Designator) -> usize
     ensures { result ≡ n.need_called env.now (x.designated env.now (designator d.now)) }
 {
@@ -112,7 +115,7 @@ fn need_of_callee(env: &Environment, d: &Designator) -> usize
     }
 }
 
-// What a designator stands for, where nothing is broken in it.
+// What a designator stands for, if nothing is broken in it.
 fn designation(env: &Environment, d: &Designator) -> Option<Entity>
     ensures { result ≡ meaning_of (x.designated env.now (designator d.now)) }
 {
@@ -174,7 +177,7 @@ pub fn need_of_statement(env: &Environment, s: &Statement) -> usize
     }
 }
 
-// The need of a statement behind a condition.
+// The need of a condition and the statement after it.
 #[cycle(need_in_statements)]
 fn need_of_branch(env: &Environment, body: &Statement, condition: &Expression) -> usize
     ensures { result ≡ max (n.need_expression env.now (expression condition.now))

@@ -1,4 +1,4 @@
-//! What operators and arguments want of a type.
+//! What operators and arguments require of a type.
 
 ghost use Rattle.std.specs.Prelude.{◌≡◌, [], ◌∷◌, ◌++◌, Option, None, Some};
 ghost use Rattle.cp_model.specs.RulesEnvironment as r;
@@ -52,7 +52,7 @@ fn operator_gives(operator: Operator) -> usize
     }
 }
 
-/// C2: operands that don't fit.
+/// C2: the operands don't fit the operator.
 pub fn operands(
     env: &Environment,
     told: &mut Option<Violation>,
@@ -69,7 +69,7 @@ pub fn operands(
     tell_violation(told, Rule::C2, at)
 }
 
-/// C2: the operand of a sign or of `not`, which wants this base.
+/// C2: the operand of a sign or of `not` isn't of the base type `wanted`.
 pub fn operand(
     env: &Environment,
     told: &mut Option<Violation>,
@@ -103,7 +103,8 @@ pub fn mode(want: Want) -> Mode
     }
 }
 
-/// How the first operand of an argument is judged, or the name of a call that is one: it isn't the argument itself.
+/// How the first operand of an argument is judged, or the name of a call that is an argument.
+/// Neither is the argument itself.
 pub fn first_operand(mode: Mode) -> Mode
     ensures { result ≡ x.first_operand mode }
 {
@@ -114,7 +115,8 @@ pub fn first_operand(mode: Mode) -> Mode
     }
 }
 
-// C2: a value argument that doesn't agree. C10: a `var` argument that isn't of the parameter's very type.
+// C2: a value argument doesn't agree with its parameter. C10: a `var` argument isn't of the
+// parameter's very type.
 fn fits_type(
     env: &Environment,
     told: &mut Option<Violation>,
@@ -140,7 +142,7 @@ fn fits_type(
     tell_violation(told, rule, first_token(e))
 }
 
-/// C10 of an argument that should be a variable, whatever is broken in it.
+/// C10: an argument that must be a variable isn't one, whatever else is broken in it.
 pub fn has_form(env: &Environment, told: &mut Option<Violation>, want: Want, e: &Expression) -> bool
     ensures { TellsOf told.old told.new result (form_rules env.now want (expression e.now)) }
 {
@@ -157,7 +159,7 @@ pub fn has_form(env: &Environment, told: &mut Option<Violation>, want: Want, e: 
     }
 }
 
-// Whether a type is wanted of a standard call's argument.
+// Whether an argument of a standard routine may have this type.
 fn is_wanted(env: &Environment, want: Want, t: usize) -> bool
     ensures { result ≡ is_standard_type env.now want t }
 {
@@ -170,7 +172,7 @@ fn is_wanted(env: &Environment, want: Want, t: usize) -> bool
     }
 }
 
-/// The rule of an argument's type.
+/// The rules about the type of an argument.
 pub fn has_type(
     env: &Environment,
     told: &mut Option<Violation>,

@@ -1,4 +1,4 @@
-//! Where the names and the first tokens of designators and expressions stand.
+//! The first and last names of designators, and the first tokens of expressions.
 
 ghost use Rattle.std.specs.Prelude.{◌≡◌, map, drop};
 ghost use Rattle.cp_model.specs.RulesNames as r;
@@ -26,7 +26,7 @@ pub fn last_name(d: &Designator) -> &Identifier
     last
 }
 
-/// Whether a field is selected.
+/// Whether the selectors include a field.
 pub fn has_field(selectors: &[Selector]) -> bool
     ensures { result ≡ r.has_field (selectors_of (map selector selectors.now)) }
 {

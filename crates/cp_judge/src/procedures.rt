@@ -1,4 +1,4 @@
-//! Procedures that are called as statements.
+//! Calls of procedures as statements.
 
 ghost use Rattle.std.specs.Prelude.{◌≡◌, ◌++◌, [], ◌∷◌, map, length, Option, None, Some};
 ghost use Rattle.cp_model.specs.RulesJudged.{Judged, least};
@@ -18,7 +18,7 @@ use crate::telling::answer_if;
 use cp_model::rules::{Entity, Mode, Violation};
 use cp_model::tree::{Designator, Expression};
 
-// The procedure that is called, where it is known what stands there.
+// The procedure that is called, if it is known what its name stands for.
 fn procedure_if(
     env: &Environment,
     told: &mut Option<Violation>,
@@ -56,7 +56,7 @@ fn judge_callee(
     }
 }
 
-/// A procedure's call. C2: what is called is no procedure, or an argument doesn't fit.
+/// Judges a call of a procedure. C2: what is called isn't a procedure, or an argument doesn't fit.
 pub fn judge_call(
     env: &Environment,
     told: &mut Option<Violation>,

@@ -1,4 +1,4 @@
-//! The first name of a designator, before its parts are selected.
+//! The first name of a designator, before its selectors apply.
 
 ghost use Rattle.std.specs.Prelude.{◌≡◌, ◌++◌, [], ◌∷◌, map, Option, None, Some};
 ghost use Rattle.cp_model.specs.RulesEnvironment as r;
@@ -13,7 +13,7 @@ use crate::telling::answer_if;
 use cp_model::rules::{Entity, Violation};
 use cp_model::tree::{Designator, Identifier, Selector};
 
-// C4 and C9 of a name whose parts are selected. Where no part is selected, its use judges it.
+// C4 and C9 for a name with selectors. A name without selectors is judged by its use.
 fn before_selectors(
     env: &Environment,
     told: &mut Option<Violation>,
@@ -33,7 +33,7 @@ fn before_selectors(
     }
 }
 
-/// What the first name of a designator stands for, before its parts are selected.
+/// What the first name of a designator stands for, before its selectors apply.
 pub fn root(env: &Environment, told: &mut Option<Violation>, d: &Designator) -> Option<Entity>
     ensures { Tells told.old told.new result
         (then_judge (r.c1_named env.now d.now.root)

@@ -1,4 +1,4 @@
-//! Standard functions and procedures that are called.
+//! Calls of standard functions and procedures.
 
 ghost use Rattle.std.specs.Prelude.{◌≡◌, ◌∷◌, [], Option, None, Some, length, nat_eq};
 ghost use Rattle.cp_model.specs.RulesEnvironment as r;
@@ -11,7 +11,7 @@ use crate::telling::tell_violation;
 use cp_model::rules::{Gives, Rule, Standard, Violation, Want};
 use cp_model::tree::Identifier;
 
-/// What the arguments of a standard routine have to meet.
+/// What the arguments of a standard routine must satisfy.
 pub fn standard_wants(standard: Standard) -> Wants
     ensures { (env : r.Environment) → wants_of env result ≡ n.standard_wants standard }
 {
@@ -31,7 +31,7 @@ pub fn standard_wants(standard: Standard) -> Wants
     }
 }
 
-// Whether a standard routine takes so many arguments.
+// Whether a standard routine takes `count` arguments.
 fn standard_fits(standard: Standard, count: usize) -> bool
     ensures { result ≡ n.standard_fits standard count }
 {
@@ -42,7 +42,7 @@ fn standard_fits(standard: Standard, count: usize) -> bool
     }
 }
 
-// What a standard function wants and gives.
+// What a standard function wants and gives, or `None` if the routine isn't a function.
 fn standard_function(standard: Standard) -> Option<Callee>
     ensures { (env : r.Environment) → callee_if env result ≡ n.standard_function standard }
 {
@@ -60,7 +60,7 @@ fn standard_function(standard: Standard) -> Option<Callee>
     Some(Callee { wants, gives })
 }
 
-// What a standard procedure wants.
+// What a standard procedure wants, or `None` if the routine isn't a procedure.
 fn standard_procedure(standard: Standard) -> Option<Callee>
     ensures { (env : r.Environment) → callee_if env result ≡ n.standard_procedure standard }
 {
@@ -81,7 +81,8 @@ fn standard_procedure(standard: Standard) -> Option<Callee>
     }
 }
 
-// A standard routine that is called. C2: a wrong number of arguments.
+// Judges a call of a standard routine. C2: the number of arguments is wrong. `rule`: there is no
+// callee.
 fn judge_standard_call(
     told: &mut Option<Violation>,
     rule: Rule,
@@ -101,7 +102,7 @@ fn judge_standard_call(
     }
 }
 
-/// A standard function that is called with so many arguments.
+/// Judges a call of a standard function with `count` arguments.
 pub fn judge_standard_function_call(
     told: &mut Option<Violation>,
     rule: Rule,
@@ -118,7 +119,7 @@ pub fn judge_standard_function_call(
     judge_standard_call(told, rule, x, fits, callee)
 }
 
-/// A standard procedure that is called with so many arguments.
+/// Judges a call of a standard procedure with `count` arguments.
 pub fn judge_standard_procedure_call(
     told: &mut Option<Violation>,
     x: &Identifier,

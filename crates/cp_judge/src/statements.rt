@@ -17,7 +17,7 @@ use cp_model::rules::Violation;
 use cp_model::tree::{Arm, Expression, Identifier, Statement};
 use std::alloc::{AllocError, Global};
 
-/// A statement. It fails only for want of memory, for the labels of a `case`.
+/// Judges a statement. Fails only if memory runs out for the labels of a `case`.
 #[cycle(statement)]
 pub fn statement(
     env: &Environment,
@@ -58,7 +58,7 @@ pub fn statement(
     Ok(())
 }
 
-// A statement behind a condition.
+// Judges a condition and the statement after it.
 #[cycle(statement)]
 fn judge_branch(
     env: &Environment,
@@ -76,7 +76,7 @@ fn judge_branch(
     statement(env, alloc, told, body)
 }
 
-// A statement behind the variable and the bounds of a `for`.
+// Judges the variable and the bounds of a `for`, and the statement after them.
 #[cycle(statement)]
 fn judge_for(
     env: &Environment,
@@ -96,7 +96,7 @@ fn judge_for(
     statement(env, alloc, told, body)
 }
 
-// A selector, and the statements behind it.
+// Judges a selector and the arms after it.
 #[cycle(statement)]
 fn judge_case(
     env: &Environment,
@@ -114,7 +114,7 @@ fn judge_case(
     judge_arms(env, alloc, told, selector_base(env, t), arms)
 }
 
-// Statements, and the condition behind them.
+// Judges statements and the condition after them.
 #[cycle(statement)]
 fn judge_repeat(
     env: &Environment,
@@ -133,7 +133,7 @@ fn judge_repeat(
     Ok(())
 }
 
-/// Statements, one after another.
+/// Judges statements, one after another.
 #[cycle(statement)]
 pub fn statements(
     env: &Environment,
@@ -151,7 +151,8 @@ pub fn statements(
     Ok(())
 }
 
-// The statements of a `case`, against the base of its selector, where that is known.
+// Judges the arms of a `case`. Their labels must have the base type of its selector, if that is
+// known.
 #[cycle(statement)]
 fn judge_arms(
     env: &Environment,

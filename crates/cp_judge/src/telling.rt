@@ -1,4 +1,5 @@
-//! The earliest violation so far: by its place in the text, and at one place by the number of its rule.
+//! The earliest violation so far, by its place in the text, and among those at one place by the
+//! number of the rule.
 
 ghost use Rattle.std.specs.Prelude.{◌≡◌};
 ghost use Rattle.cp_model.specs.RulesJudged.{earlier, least, unless};
@@ -7,7 +8,7 @@ ghost use Rattle.cp_model.specs.RulesJudged.{breaks, provided};
 
 use cp_model::rules::{Rule, Violation};
 
-/// Tells of a violation; the earliest is kept.
+/// Reports a violation. `told` keeps the earliest one.
 pub fn tell(told: &mut Option<Violation>, violation: Violation)
     ensures { told.new ≡ earlier told.old violation }
 {
@@ -23,7 +24,7 @@ pub fn tell(told: &mut Option<Violation>, violation: Violation)
     }
 }
 
-/// Tells that a rule is broken at a place.
+/// Reports that a rule is broken at a place, and returns `None`.
 pub fn tell_violation<A>(told: &mut Option<Violation>, rule: Rule, at: usize) -> Option<A>
     ensures { Tells told.old told.new result (breaks rule at) }
 {
@@ -31,7 +32,7 @@ pub fn tell_violation<A>(told: &mut Option<Violation>, rule: Rule, at: usize) ->
     None
 }
 
-/// Tells that a rule is broken at a place, and answers that violation.
+/// Reports that a rule is broken at a place, and returns that violation.
 pub fn fail_with_violation<A>(
     told: &mut Option<Violation>,
     rule: Rule,
@@ -44,7 +45,7 @@ pub fn fail_with_violation<A>(
     Err(violation)
 }
 
-/// Tells that a rule is broken at a place unless the test holds, and answers whether it does.
+/// Reports that a rule is broken at a place unless `holds` is true, and returns `holds`.
 pub fn unless_holds(told: &mut Option<Violation>, holds: bool, rule: Rule, at: usize) -> bool
     ensures { TellsOf told.old told.new result (unless holds rule at) }
 {
@@ -54,7 +55,7 @@ pub fn unless_holds(told: &mut Option<Violation>, holds: bool, rule: Rule, at: u
     holds
 }
 
-/// The answer, where nothing beside it is broken.
+/// Returns the answer if nothing else is broken.
 pub fn answer_if<A: Copy>(sound: bool, answer: Option<A>) -> Option<A>
     ensures { result ≡ Rattle.cp_judge.specs.Tells.answer_if sound answer }
 {

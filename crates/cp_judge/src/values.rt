@@ -1,4 +1,4 @@
-//! What a designator is used as: a value, or what should be a variable.
+//! The uses of a designator: as a value, or where a variable is wanted.
 
 ghost use Rattle.std.specs.Prelude.{◌≡◌, ◌++◌, [], ◌∷◌, map, Option, None, Some};
 ghost use Rattle.cp_model.specs.RulesEnvironment as r;
@@ -15,7 +15,7 @@ use crate::telling::{tell_violation, unless_holds};
 use cp_model::rules::{Access, Entity, Gives, Mode, Rule, Violation};
 use cp_model::tree::{Designator, Expression, Identifier, Selector};
 
-/// The type of what a call gives, whose first argument is of a type.
+/// The type of what a call gives, if its first argument is of the type `argument`.
 pub fn result_type(env: &Environment, argument: usize, gives: Gives) -> usize
     ensures { result ≡ n.given env.now argument gives }
 {
@@ -26,7 +26,7 @@ pub fn result_type(env: &Environment, argument: usize, gives: Gives) -> usize
     }
 }
 
-// A routine without arguments: called as a function, but not where C10 judges the place.
+// Judges a routine without arguments as a call of a function. C10: a variable is wanted.
 fn function_alone(
     env: &Environment,
     told: &mut Option<Violation>,
@@ -58,7 +58,8 @@ fn is_no_component(env: &Environment, mode: Mode, t: usize) -> bool
     }
 }
 
-/// The type of a designator that is used as a value. C2: its name is of another sort; a component as a value.
+/// The type of a designator that is used as a value. C2 or C10: its name is of another sort, or a
+/// component is used as a value.
 pub fn value(
     env: &Environment,
     told: &mut Option<Violation>,
@@ -110,7 +111,8 @@ fn selects_field_first(selectors: &[Selector]) -> bool
     }
 }
 
-/// Whether a name with these selectors after it is a variable or a part of one. A name that is unknown is told of elsewhere.
+/// Whether a name with these selectors is a variable or a part of one. An unknown name passes,
+/// since it is reported elsewhere.
 pub fn is_variable(env: &Environment, x: &Identifier, selectors: &[Selector]) -> bool
     ensures { result ≡ n.is_variable env.now (selectors_of (map selector selectors.now))
         (r.c1_named env.now x.now) }
@@ -124,7 +126,7 @@ pub fn is_variable(env: &Environment, x: &Identifier, selectors: &[Selector]) ->
     }
 }
 
-/// C10: not a variable or `var` parameter or a part of one.
+/// C10: a designator isn't a variable, a `var` parameter or a part of one.
 pub fn designates_variable(env: &Environment, told: &mut Option<Violation>, d: &Designator) -> bool
     ensures { TellsOf told.old told.new result (n.c10_designator env.now (designator d.now)) }
 {
@@ -136,7 +138,7 @@ pub fn designates_variable(env: &Environment, told: &mut Option<Violation>, d: &
     )
 }
 
-/// The designator that an expression is, if it is one. A chain of one operand is that operand.
+/// The designator, if the expression is one. A chain of one operand counts as that operand.
 pub fn designator_of(e: &Expression) -> Option<&Designator>
     ensures { designator_if result ≡ designator_in (expression e.now) }
 {
@@ -150,7 +152,7 @@ pub fn designator_of(e: &Expression) -> Option<&Designator>
     }
 }
 
-/// C10: an expression that should be a variable.
+/// C10: an expression that must be a variable isn't one.
 pub fn variable(env: &Environment, told: &mut Option<Violation>, e: &Expression) -> bool
     ensures { TellsOf told.old told.new result (n.c10_variable env.now (expression e.now)) }
 {

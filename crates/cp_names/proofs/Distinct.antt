@@ -1,4 +1,4 @@
--- Names that are distinct: one more, and one less.
+-- Distinct names stay distinct when one is added or removed.
 use Rattle.std.proofs.Common.{◌≡◌, ◌++◌, ◌∷◌, ◌∙◌, ◌⊎◌, [], inl, inr, ⊎_elim, ℕ, zero, suc, true, false, List, Option, Some, None, ap, length, refl, slice_get, sym, arith}
 use Rattle.std.proofs.lemmas.Option.{same_Some, slice_get_within}
 use Rattle.std.specs.Str.{bytes_eq}
@@ -6,7 +6,7 @@ use Rattle.cp_model.specs.RulesEnvironment.{Text}
 use Rattle.cp_names.specs.Tables.{AreDistinct, number_of}
 use Rattle.cp_names.proofs.Numbers.{apart_from_each, number_finds}
 
--- what stands at a number, where one entry was added
+-- the entry with a number, after one entry was added
 before_or_last : {A : Type 0} (es : List (Text × A)) (d : Text × A) (i : ℕ) (e : Text × A) → slice_get (es ++ d ∷ []) i ≡ Some e
     → (slice_get es i ≡ Some e) ⊎ ((i ≡ length es) × (d ≡ e))
 before_or_last [] d zero e h = inr (refl, same_Some d e h)

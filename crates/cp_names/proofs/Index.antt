@@ -1,4 +1,4 @@
--- A map stays the index of a table, whose last name is added or forgotten.
+-- A map stays the index of a table when the last name is added or removed.
 use Rattle.std.proofs.Common.{◌≡◌, ◌++◌, ◌∷◌, ◌∙◌, [], ℕ, Bool, true, false, List, Option, Some, None, ap, cond, length, refl, sym, Bor}
 use Rattle.std.proofs.lemmas.Slice.Eq.{bytes_eq-Decides}
 use Rattle.std.specs.BTreeMap.{BTreeMap, get_by}
@@ -13,7 +13,7 @@ use Rattle.cp_names.proofs.Distinct.{last_has_no_other}
 abbrev at_name : BTreeMap (Bor Text) ℕ → Text → Option ℕ
 at_name m x = get_by (λ k. slice_cmp nat_cmp x k.now) m
 
--- n has w at the name, and else what m has
+-- n has w at the name x, and what m has everywhere else
 abbrev pub ChangesAt : BTreeMap (Bor Text) ℕ → BTreeMap (Bor Text) ℕ → Text → Option ℕ → Type 0
 ChangesAt m n x w = (y : Text) → at_name n y ≡ cond (bytes_eq x y) w (at_name m y)
 

@@ -1,4 +1,5 @@
--- The number of a name: it finds what the name stands for, and it stays as names are added behind it.
+-- The number of a name: it leads to what the name stands for, and doesn't change when names are
+-- added after it.
 use Rattle.std.proofs.Common.{◌≡◌, ◌++◌, ◌∷◌, ◌∙◌, [], ℕ, zero, suc, Bool, true, false, List, Option, Some, None, ap, length, option_map, refl, slice_get, sym, if◌then◌else◌}
 use Rattle.std.proofs.lemmas.Option.{same_Some}
 use Rattle.std.specs.Str.{bytes_eq}
@@ -19,9 +20,9 @@ lookup_by_number {A} x (e ∷ es) = go (bytes_eq x e.0) (lookup_by_number x es �
     go true rest = refl
     go false rest = rest
 
--- ---- a name behind the others
+-- ---- a name after the others
 
--- the number of a name, where another stands behind n names
+-- the number of a name if one more entry follows n entries; the flag says whether it has the name
 abbrev pub number_behind : Option ℕ → Bool → ℕ → Option ℕ
 number_behind (Some i) b n = Some i
 number_behind None true n = Some n
@@ -48,7 +49,7 @@ number_of_more x (d ∷ es) e = go (bytes_eq x d.0) (ap (option_map suc) (number
     go true rest = refl
     go false rest = rest
 
--- ---- names that aren't there, and names that are
+-- ---- names that are missing, and names that are present
 
 some_next : (i : Option ℕ) → option_map suc i ≡ None → i ≡ None
 some_next None h = refl
@@ -62,7 +63,7 @@ no_number {A} x (e ∷ es) h = go (bytes_eq x e.0) (no_number x es) h
     go true rest g = absurd (cc)
     go false rest g = ap (option_map suc) (rest g)
 
--- no entry has a name without a number
+-- no entry has a name that has no number
 pub apart_from_each : {A : Type 0} (x : Text) (es : List (Text × A)) (i : ℕ) (e : Text × A) → number_of x es ≡ None → slice_get es i ≡ Some e → bytes_eq x e.0 ≡ false
 apart_from_each x [] i e h at = absurd (cc)
 apart_from_each {A} x (d ∷ es) zero e h at = go (bytes_eq x d.0) refl h
@@ -76,7 +77,7 @@ apart_from_each {A} x (d ∷ es) (suc i) e h at = apart_from_each x es i e (rest
     rest true g = absurd (cc)
     rest false g = some_next (number_of x es) g
 
--- the entry of a number has the name
+-- the entry with a name's number has the name
 pub number_finds : {A : Type 0} (x : Text) (es : List (Text × A)) (i : ℕ) → number_of x es ≡ Some i → (e : Text × A) × (slice_get es i ≡ Some e) × (bytes_eq x e.0 ≡ true)
 number_finds x [] i h = absurd (cc)
 number_finds {A} x (d ∷ es) i h = go (bytes_eq x d.0) refl h (later (number_of x es) (number_finds x es))

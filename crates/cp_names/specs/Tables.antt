@@ -1,4 +1,4 @@
--- Tables of names: what contracts see of one, and how a name is found.
+-- Tables of names: what contracts see of a table, and how a name is found.
 use Rattle.std.specs.Prelude.{◌≡◌, ◌<◌, ℕ, suc, false, List, [], ◌∷◌, Option, Some, None, if◌then◌else◌, option_map, slice_get}
 use Rattle.std.specs.Borrow.{Bor}
 use Rattle.std.specs.BTreeMap.{BTreeMap, get_by}
@@ -7,25 +7,25 @@ use Rattle.std.specs.Ordering.{nat_cmp}
 use Rattle.std.specs.Str.{bytes_eq}
 use Rattle.cp_model.specs.RulesEnvironment.{Text}
 
--- an entry: the name's letters, and what it stands for
+-- An entry: the letters of the name, and what it stands for.
 abbrev pub seen : {A : Type 0} → Bor Text × A → Text × A
 seen p = (p.0.now, p.1)
 
--- no name stands twice
+-- No name occurs twice.
 abbrev pub AreDistinct : {A : Type 0} → List (Text × A) → Type 0
 AreDistinct {A} names =
     (i j : ℕ) (e f : Text × A) → i < j → slice_get names i ≡ Some e → slice_get names j ≡ Some f → bytes_eq f.0 e.0 ≡ false
 
--- the number of the first entry of the name
+-- The number of the first entry with this name.
 abbrev pub number_of : {A : Type 0} → Text → List (Text × A) → Option ℕ
 number_of x [] = None
 number_of x (e ∷ es) = if bytes_eq x e.0 then Some 0 else option_map suc (number_of x es)
 
--- what the name of a number stands for
+-- What the name with a number stands for.
 abbrev pub value_at : {A : Type 0} → List (Text × A) → Option ℕ → Option A
 value_at es None = None
 value_at es (Some i) = option_map (λ e. e.1) (slice_get es i)
 
--- the map has the number of each name
+-- The map has the number of each name.
 abbrev pub IsIndex : {A : Type 0} → BTreeMap (Bor Text) ℕ → List (Text × A) → Type 0
 IsIndex m names = (x : Text) → get_by (λ k. slice_cmp nat_cmp x k.now) m ≡ number_of x names

@@ -1,7 +1,7 @@
 //! Tables of names: what the names of a text stand for, in the order of their declarations.
 //!
-//! A name is found by comparison, in a time that grows as the logarithm of the number of names. A table of hashes would be faster, but
-//! a text could be written whose names all collide.
+//! A name is found by comparison, in time that grows with the logarithm of the number of names. A
+//! hash table would be faster, but a text could be written whose names all collide.
 #![tactic(auto)]
 
 mod table;

@@ -9,7 +9,8 @@ use std::alloc::{AllocError, Global};
 use std::collections::BTreeMap;
 use std::marker::Model;
 
-/// Names and what they stand for. Contracts see the list of them, in the order in which they were added. No name stands twice.
+/// Names and what they stand for. Contracts see the list of them, in the order in which they were
+/// added. No name occurs twice.
 #[derive(Drop)]
 pub struct NameTable<'t, A: Copy> {
     entries: Vec<(&'t [u8], A)>,
@@ -26,7 +27,7 @@ impl<'t, A: Copy> Model for NameTable<'t, A> {
 }
 
 impl<'t, A: Copy> NameTable<'t, A> {
-    /// No names.
+    /// Returns a table without names.
     pub fn new(alloc: Global) -> NameTable<'t, A>
         ensures { result ≡ [] }
     {
@@ -36,7 +37,7 @@ impl<'t, A: Copy> NameTable<'t, A> {
         }
     }
 
-    /// How many names there are.
+    /// The number of names.
     pub fn len(&self) -> usize
         ensures count { result ≡ length self.now }
         ensures distinct { AreDistinct self.now }
@@ -44,7 +45,7 @@ impl<'t, A: Copy> NameTable<'t, A> {
         self.entries.len()
     }
 
-    // What the name of a number stands for, if there is one.
+    // What the name with a number stands for, if there is one.
     fn value_at(&self, number: Option<usize>) -> Option<A>
         ensures { result ≡ value_at self.now number }
     {
@@ -59,14 +60,14 @@ impl<'t, A: Copy> NameTable<'t, A> {
         self.value_at(self.numbers.get(name).copied())
     }
 
-    /// A name by its number, and what it stands for.
+    /// The name with a number, and what it stands for.
     pub fn get(&self, number: usize) -> Option<(&'t [u8], A)>
         ensures { option_map seen result ≡ slice_get self.now number }
     {
         self.entries.get(number).copied()
     }
 
-    /// Adds a name that isn't in the table. It fails only for want of memory.
+    /// Adds a name that isn't in the table. Fails only if memory runs out.
     pub fn add(&mut self, name: &'t [u8], value: A) -> Result<(), AllocError>
         requires { lookup name.now self.old ≡ None }
         ensures { OnOk result (self.new ≡ self.old ++ (name.now, value) ∷ []) }
@@ -82,7 +83,7 @@ impl<'t, A: Copy> NameTable<'t, A> {
         }
     }
 
-    /// Forgets the names from this number on.
+    /// Removes the names from number `len` on.
     pub fn truncate(&mut self, len: usize)
         ensures { self.new ≡ take len self.old }
     {
@@ -91,7 +92,7 @@ impl<'t, A: Copy> NameTable<'t, A> {
         }
     }
 
-    // Forgets the last name, if there is one.
+    // Removes the last name, if there is one.
     fn remove_last(&mut self)
         ensures { self.new ≡ take (length self.old - 1) self.old }
     {

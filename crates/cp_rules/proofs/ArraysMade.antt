@@ -28,7 +28,7 @@ row_made old s1 s2 j row answer judged known =
 
 -- ---- arrays
 
--- what the definitions make, told in the words of the code
+-- what the definitions make, in terms of the code
 pub record Told (m : ty.Made (Judged ℕ)) (vs : Violations) (k : Known) : Type 0 where
   pub env : k.env ≡ m.env
   pub of : k.of ≡ first_of m.of

@@ -1,4 +1,4 @@
--- Words that are counted to one above the limit.
+-- Words that are counted up to one above the limit.
 use Rattle.std.proofs.Common.{◌≡◌, ◌≤◌, ◌+◌, ℕ, arith}
 use Rattle.cp_model.specs.RulesTypes.{capped}
 

@@ -1,4 +1,5 @@
--- Definitions: a name is judged where it is being defined; then it is left, and declared as what it was judged to be.
+-- Definitions: a name is judged while it is being defined. Then it is removed, and declared as what
+-- it was judged to be.
 use Rattle.std.proofs.Common.{◌≡◌, ◌∷◌, ◌++◌, ◌-◌, ℕ, ℤ, pos, List, [], Result, length, take, subst, refl, ap, ◌∙◌}
 use Rattle.cp_model.specs.Syntax as s
 use Rattle.cp_model.specs.declared.tree.Constant.{Constant}

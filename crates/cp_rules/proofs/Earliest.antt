@@ -1,4 +1,4 @@
--- The earliest violation of a part, told of the whole.
+-- The earliest violation of a part, within the whole.
 use Rattle.std.proofs.Common.{◌≡◌, ℕ, nat_eq, Bool, true, false, [], ◌∷◌, Option, Some, None, if◌then◌else◌, refl, ap, sym, ◌∙◌, arith}
 use Rattle.std.proofs.lemmas.Bool.Decides.{nat_tests}
 use Rattle.cp_model.specs.declared.rules.Rule.{Rule}
@@ -14,7 +14,7 @@ before_trans a b c h g = grind (arith, nat_tests, h, g)
 not_before_trans : (a b c : Violation) → is_before a b ≡ false → is_before b c ≡ false → is_before a c ≡ false
 not_before_trans a b c h g = grind (arith, nat_tests, h, g)
 
--- ---- two violations, one after the other
+-- ---- two violations, one after another
 
 if_true : (b : Bool) (v w : Violation) → b ≡ true → (if b then Some v else Some w) ≡ Some v
 if_true b v w h = ap (λ (x : Bool). if x then Some v else Some w) h
@@ -57,7 +57,7 @@ pub part_told : (t : Option Violation) (vs : Violations) (x : Violation) → lea
 part_told t [] x h = absurd (cc)
 part_told t (v ∷ vs) x h = sym (told_behind t v vs x h)
 
--- ---- nothing told
+-- ---- nothing reported
 
 some_told : (v : Violation) (vs : Violations) → least (Some v) vs ≡ None → ⊥
 some_told v [] h = absurd (cc)

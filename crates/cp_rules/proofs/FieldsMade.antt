@@ -118,7 +118,7 @@ field_members_append : (fs gs : ty.FieldList) → ty.field_members (fs ++ gs) �
 field_members_append [] gs = refl
 field_members_append (f ∷ fs) gs = ap (λ ms. (f.0, member.Field f.1) ∷ ms) (field_members_append fs gs)
 
--- what the definitions judge of the groups, told in the words of the code
+-- how the definitions judge the groups, in terms of the code
 pub record GroupsTold (d : ty.Made (Judged ty.FieldList)) (ms : Members) (g : records.Grouped) : Type 0 where
   pub env : g.env ≡ d.env
   pub violations : g.violations ≡ violations_of d.of

@@ -1,4 +1,5 @@
--- A group of variables: its type is judged where its names are being defined; then they are left, and declared with that type.
+-- A group of variables: its type is judged while its names are being defined. Then they are
+-- removed, and declared with that type.
 use Rattle.std.proofs.Common.{◌≡◌, ◌*◌, ◌+◌, ◌∷◌, ◌++◌, ℕ, List, Result, length, take, subst, refl, ap, sym, ◌∙◌}
 use Rattle.cp_model.specs.Syntax as s
 use Rattle.cp_model.specs.declared.tree.Identifier.{Identifier}
@@ -65,7 +66,7 @@ module _ (old : State) (p : Position) (g : s.Variables) where
   abbrev told : Violations
   told = defined.violations ++ violations_of made.of
 
-  -- the state, where the names are declared as this
+  -- the state if the names are declared as this entity
   abbrev visible : Entity → State
   visible e = record { env = (d.declare_all base e g.names).env; told = least old.told told }
 

@@ -1,5 +1,5 @@
--- A group of parameters: its type is judged where its names are being defined; then they are left, and hidden. What is collected of a
--- heading group by group.
+-- A group of parameters: its type is judged while its names are being defined. Then they are
+-- removed, and hidden. Also, what is collected of a heading group by group.
 use Rattle.std.proofs.Common.{◌≡◌, ◌≤◌, ◌+◌, ◌*◌, ◌∷◌, ◌++◌, [], Bool, true, false, ℕ, List, Option, Result, length, replicate, take, subst, refl, ap, sym, ◌∙◌, append_assoc, append-nil, arith}
 use Rattle.cp_model.specs.Syntax as s
 use Rattle.cp_model.specs.declared.tree.Sort.{Sort}
@@ -36,7 +36,7 @@ module _ (old : State) (of : Option Sort) (is_function : Bool) (g : s.Parameters
   more : (e : Environment) (vs ws : Violations) → telling (told_after e vs) ws ≡ told_after e (vs ++ ws)
   more e vs ws = ap (λ t. let st : State = record { env = e; told = t } in st) (sym (least_append old.told vs ws))
 
-  -- the type is judged the same where the names are being defined
+  -- the type is judged the same while the names are being defined
   same_judged : then_judge (named_type defined.env g.of) (d.c7_c8_parameter defined.env of g.of.at) ≡ judged
   same_judged =
       ap (λ (e : Environment). then_judge (named_type defined.env g.of) (d.c7_c8_parameter e of g.of.at))

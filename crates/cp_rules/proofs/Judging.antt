@@ -1,4 +1,4 @@
--- What is judged of parts makes what is judged of the whole.
+-- The judgement of the whole follows from the judgements of its parts.
 use Rattle.std.proofs.Common.{◌≡◌, ◌∷◌, ◌++◌, ◌||◌, ℕ, Bool, true, false, List, [], Option, Result, Err, not, refl, ap, subst, sym, ◌∙◌, append_assoc, append-nil}
 use Rattle.cp_model.specs.Syntax as s
 use Rattle.cp_model.specs.declared.rules.Position.{Position}
@@ -46,7 +46,7 @@ module _ {A B C : Type 0} (k : A → B → Judged C) where
 
 -- ---- around one part
 
--- these are broken where the part is
+-- these violations are reported if the part is broken
 abbrev pub where_broken : {A : Type 0} → Violations → Judged A → Violations
 where_broken ws (Sound x) = []
 where_broken ws (Broken v vs) = ws
@@ -145,7 +145,7 @@ arrays_last env at (h ∷ hs) i e =
     let k : Known = record { env = w.env; violations = inner.violations ++ w.violations; of = w.of } in k) (arrays_last env at hs i e)
     ∙ ap (λ vs. let k : Known = record { env = whole.env; violations = vs; of = whole.of } in k) (append_assoc one.violations rest.violations whole.violations)
 
--- what is there and told in the end, and the type
+-- the state in the end, and the type
 abbrev pub ends : State → ℕ → List (Result ℕ Violation) → Result ℕ Violation → State × Result ℕ Violation
 ends old at is e = let k = o.arrays old.env at is e in (record { env = k.env; told = least old.told k.violations }, k.of)
 

@@ -1,4 +1,5 @@
--- What declarations leave of an environment: names that were there stay in front, and types add no names and no routines.
+-- What declarations keep of an environment: earlier names stay at the front, and types add no names
+-- and no routines.
 use Rattle.std.proofs.Common.{◌≡◌, ◌∷◌, ◌++◌, Bool, ℕ, List, [], Option, None, Some, length, map, take, refl, ap, sym, ◌∙◌, append_assoc, append-nil}
 use Rattle.cp_model.specs.Syntax as s
 use Rattle.cp_model.specs.declared.tree.Identifier.{Identifier}
@@ -18,7 +19,7 @@ use Rattle.cp_model.specs.Names.{lookup}
 use Rattle.cp_model.specs.RulesTypes as ty
 use Rattle.cp_model.specs.RulesDeclarations as d
 
--- ---- names that were there stay in front
+-- ---- earlier names stay at the front
 
 abbrev pub Begins : Names → Names → Type 0
 Begins xs ys = (zs : Names) × (ys ≡ xs ++ zs)
@@ -36,7 +37,7 @@ take_front : (xs ys : Names) → take (length xs) (xs ++ ys) ≡ xs
 take_front [] ys = refl
 take_front (x ∷ xs) ys = ap (λ (zs : Names). x ∷ zs) (take_front xs ys)
 
--- leaving to a mark
+-- removing the names after a mark
 pub left_names : (xs ys : Names) → Begins xs ys → take (length xs) ys ≡ xs
 left_names xs ys b = ap (λ (zs : Names). take (length xs) zs) b.1 ∙ take_front xs b.0
 
@@ -68,7 +69,7 @@ pub declare_all_is : (env : Environment) (e : Entity) (xs : List Identifier)
     → (d.declare_all env e xs).env ≡ with_names (d.declare_all env e xs).env.names env
 declare_all_is env e xs = declare_each_is env (map (λ x. (x, e)) xs)
 
--- names that were declared and left again
+-- names that were declared and removed again
 pub left : (env : Environment) (e : Entity) (xs : List Identifier)
     → with_names (take (length env.names) (d.declare_all env e xs).env.names) (d.declare_all env e xs).env ≡ env
 left env e xs =
@@ -155,7 +156,7 @@ heading_begins env of is_function (g ∷ gs) =
     begins_trans env.names one.names (d.heading one of is_function gs).env.names
     (declare_all_begins env entity.Hidden g.names) (heading_begins one of is_function gs)
 
--- headings that are left
+-- headings whose names are removed again
 pub heading_left : (env : Environment) (of : Option Sort) (is_function : Bool) (gs : List s.Parameters)
     → let head : Environment = (d.heading env of is_function gs).env in with_names (take (length env.names) head.names) head ≡ env
 heading_left env of is_function gs =

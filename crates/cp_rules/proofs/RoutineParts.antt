@@ -1,4 +1,5 @@
--- A routine: its heading is judged and left; then its variables and its body are judged inside, and left.
+-- A routine: its heading is judged and left. Then its variables and its body are judged inside, and
+-- left.
 use Rattle.std.proofs.Common.{◌≡◌, ◌+◌, ◌∷◌, ◌++◌, ℕ, List, [], Option, None, Some, Result, is_some, length, take, subst, refl, ap, sym, ◌∙◌, append_assoc, arith}
 use Rattle.cp_model.specs.Syntax as s
 use Rattle.cp_model.specs.declared.tree.Sort.{Sort}

@@ -1,4 +1,4 @@
--- What is told of one part after another.
+-- What is reported for one part after another.
 use Rattle.std.proofs.Common.{◌≡◌, ◌++◌, Option, ap, sym}
 use Rattle.cp_model.specs.declared.rules.Violation.{Violation}
 use Rattle.cp_model.specs.RulesEnvironment.{Environment}

@@ -23,7 +23,7 @@ use Rattle.cp_rules.proofs.Judging.{index_first, index_of, index_told, placed_fi
 abbrev state_of : Environment → Option Violation → State
 state_of e t = record { env = e; told = t }
 
--- ---- a type where it stands
+-- ---- a type at its position
 
 pub type_put : (s0 s1 s2 : State) (p : Position) (t : s.TypeExpression) (one two : Result ℕ Violation)
     → Makes s0 s1 one (ty.type_of s0.env t) → TellsOuter s1 s2 two (o.placed s1.env p t one) → Makes s0 s2 two (ty.type_placed s0.env p t)
@@ -77,7 +77,7 @@ broken_is (Some w) (Sound t) = refl
 broken_is None (Broken v vs) = refl
 broken_is (Some w) (Broken v vs) = refl
 
--- fields of one type were judged, where these were the fields and this was broken first
+-- fields of one type were judged, after these fields and this first violation
 pub record Added (s0 s3 : State) (g : s.Variables) (ms ns : Members) (f h : Option Violation) : Type 0 where
   pub made : s3 ≡ with_groups s0 (records.group s0.env ms g)
   pub members : ns ≡ (records.group s0.env ms g).members

@@ -1,4 +1,4 @@
--- What is told of the body of the initial process, and of a whole text.
+-- What is reported for the body of the initial process, and for a whole text.
 use Rattle.std.proofs.Common.{◌≡◌, ℕ, ◌+◌, Bool, [], ◌∷◌, ◌++◌, Option, Some, None, subst, ap, sym, ◌∙◌, arith, append_assoc, append-nil}
 use Rattle.std.proofs.lemmas.Bool.Decides.{nat_tests}
 use Rattle.cp_model.specs.Syntax as s

@@ -14,7 +14,7 @@ use Rattle.cp_model.specs.RulesTypes.{Made, capped, type_placed}
 use Rattle.cp_model.specs.RulesDeclarations.{Declared, Variables, c13_owner, declare_all, owners_in, unfinished_variable, with_owner, words_in}
 use Rattle.cp_rules.specs.Checking.{State, first_of}
 
--- an owner, and what is broken in it
+-- An owner was counted, with the violations in it.
 abbrev pub counted_owner : Environment → SystemRow → Identifier → Declared
 counted_owner env y x = record { env = with_owner env y.sort; violations = c13_owner env x y y.sort }
 
@@ -32,21 +32,21 @@ words_of_type env (Err v) = 0
 
 -- ---- variables
 
--- variables were declared, and their words are counted to one above the limit
+-- The state after variables were declared, whose words are counted up to one above the limit.
 abbrev pub with_variables : State → Variables → State
 with_variables s v = record { env = v.env; told = least s.told v.violations }
 
 abbrev pub Declares : State → State → ℕ → Variables → Type 0
 Declares old new n v = (new ≡ with_variables old v) × (n ≡ capped v.words)
 
--- the type of a group, judged where its names are being defined
+-- The type of a group, judged while its names are being defined.
 abbrev pub group_made : Environment → Position → s.Variables → Made (Judged ℕ)
 group_made env p g = type_placed (declare_all env unfinished_variable g.names).env p g.of
 
 abbrev pub group_type : Environment → Position → s.Variables → Result ℕ Violation
 group_type env p g = first_of (group_made env p g).of
 
--- what is there and told when the type of a group is known, and its names are left
+-- The state when the type of a group is known and the names of the group are removed again.
 abbrev pub left_group : State → Position → s.Variables → State
 left_group s p g = record {
   env = record (group_made s.env p g).env { names = s.env.names };

@@ -21,7 +21,7 @@ Bound = List (Identifier × Entity)
 abbrev pub lent : Bor Identifier × Entity → Identifier × Entity
 lent b = (b.0.now, b.1)
 
--- what was collected of a heading: the words are counted to one above the limit
+-- What was collected of a heading. The words are counted up to one above the limit.
 pub record Collected : Type 0 where
   pub bound : Bound
   pub rows : List ParameterRow
@@ -36,11 +36,11 @@ nothing = record { bound = []; rows = []; words = 0 }
 abbrev pub bound_as : Entity → List Identifier → Bound
 bound_as e xs = map (λ x. (x, e)) xs
 
--- with these names
+-- With these names added.
 abbrev pub with_names : Collected → Entity → ParameterRow → List Identifier → Collected
 with_names k e r xs = record { bound = k.bound ++ bound_as e xs; rows = k.rows ++ replicate (length xs) r; words = k.words }
 
--- with this heading, or a part of one
+-- With a heading or a part of one added.
 abbrev pub with_part : Collected → d.Heading → Collected
 with_part k h = record { bound = k.bound ++ h.bound; rows = k.rows ++ h.rows; words = capped (k.words + h.words) }
 
@@ -54,7 +54,7 @@ words_of_parameter env false of = words_of_type env of
 
 -- ---- a group
 
--- the type of a group, judged where its names are being defined
+-- The type of a group, judged while its names are being defined.
 abbrev pub parameter_judged : Environment → Option Sort → s.Parameters → Judged ℕ
 parameter_judged env of g =
     then_judge (named_type (d.declare_all env d.unfinished_variable g.names).env g.of) (d.c7_c8_parameter env of g.of.at)
@@ -62,7 +62,7 @@ parameter_judged env of g =
 abbrev pub is_by_reference : Option Sort → s.Parameters → Bool
 is_by_reference of g = is_some g.by_reference && not (is_some of)
 
--- what is there and told when the type of a group is known, and its names are hidden
+-- The state when the type of a group is known and the names of the group are hidden.
 abbrev pub hidden_group : State → Option Sort → Bool → s.Parameters → State
 hidden_group old of is_function g =
     let one = d.parameter_group old.env of is_function g in

@@ -1,4 +1,5 @@
--- What is judged beside and around parts that were judged before: what is told more, and the meaning of the whole or what is broken first.
+-- Judging what surrounds parts that were judged before: the further violations, and the meaning of
+-- the whole or the first violation.
 use Rattle.std.specs.Prelude.{◌≡◌, Bool, true, false, ◌++◌, ◌∷◌, ◌||◌, [], ℕ, List, Result, Ok, Err, length, not}
 use Rattle.cp_model.specs.Syntax as s
 use Rattle.cp_model.specs.declared.rules.Position.{Position}
@@ -20,19 +21,19 @@ TellsOuter old new answer o = (new ≡ telling old o.violations) × (answer ≡ 
 abbrev pub outer_of : {A : Type 0} → Judged A → Outer A
 outer_of j = record { violations = violations_of j; of = first_of j }
 
--- nothing is judged around what is broken
+-- Nothing more is judged around what is broken.
 abbrev pub broken_before : {A : Type 0} → Violation → Outer A
 broken_before v = record { violations = []; of = Err v }
 
 -- ---- around a part
 
--- these are told where the part is broken; else it is judged so
+-- If the part is broken, these violations are reported. Otherwise it is judged with `k`.
 abbrev pub around : {A B : Type 0} → Violations → (A → Judged B) → Result A Violation → Outer B
 around vs k (Ok x) = outer_of (k x)
 around [] k (Err v) = broken_before v
 around (w ∷ ws) k (Err v) = record { violations = w ∷ ws; of = Err w }
 
--- around two parts
+-- The same around two parts, without further violations.
 abbrev pub around_both : {A B C : Type 0} → Result A Violation → Result B Violation → (A → B → Judged C) → Outer C
 around_both (Ok x) (Ok y) k = outer_of (k x y)
 around_both (Ok x) (Err w) k = broken_before w
@@ -49,14 +50,14 @@ abbrev pub misplaces_queues : Environment → Position → s.TypeExpression → 
 misplaces_queues env p (s.Array at is e) = not (ty.allows_queues p || not (ty.holds_queues env e))
 misplaces_queues env p t = false
 
--- C2: an array or a record where an index type is wanted
+-- C2: an array or a record where an index type is wanted.
 abbrev pub written_index : s.TypeExpression → Violations
 written_index t = unless (not (is_written_structure t)) C2 (ty.type_at t)
 
 abbrev pub index_type : Environment → s.TypeExpression → Result ℕ Violation → Outer ℕ
 index_type env t of = around (written_index t) (λ n. provided (is_simple env n) C2 (ty.type_at t) n) of
 
--- C8: an array with queues where none may stand
+-- C8: an array with queues where none is allowed.
 abbrev pub written_queues : Environment → Position → s.TypeExpression → Violations
 written_queues env p t = unless (not (misplaces_queues env p t)) C8 (ty.type_at t)
 
@@ -65,7 +66,7 @@ placed env p t of = around (written_queues env p t) (ty.c6_c8_placed env p (ty.t
 
 -- ---- rows
 
--- what was made of a row: the environment with it, what was told, and the number of the type
+-- What was made of a row: the environment with it, the violations, and the number of the type.
 pub record Known : Type 0 where
   pub env : Environment
   pub violations : Violations
@@ -78,13 +79,13 @@ made env vs (Err v) = record { env = env; violations = vs; of = Err v }
 abbrev pub Knows : State → State → Result ℕ Violation → Known → Type 0
 Knows old new answer k = (new ≡ record { env = k.env; told = least old.told k.violations }) × (answer ≡ k.of)
 
--- an array type of these index and element types
+-- An array type of these index and element types.
 abbrev pub array : Environment → ℕ → Result ℕ Violation → Result ℕ Violation → Known
 array env at i e =
     let o = around_both i e (λ a b. ty.c13_type at (ty.array_row env a b)) in
     made env o.violations o.of
 
--- an array of arrays, one for each index type
+-- An array of arrays, one for each index type.
 abbrev pub arrays : Environment → ℕ → List (Result ℕ Violation) → Result ℕ Violation → Known
 arrays env at [] e = record { env = env; violations = []; of = e }
 arrays env at (i ∷ is) e =

@@ -1,4 +1,4 @@
--- Records: their fields, one group after another from the left, and what is made of them.
+-- Records: their fields, collected group by group from the left, and what is made of them.
 use Rattle.std.specs.Prelude.{◌+◌, ◌++◌, ◌∷◌, [], ℕ, Bool, true, false, not, List, Option, None, Some, Result, Ok, Err, is_some, length}
 use Rattle.cp_model.specs.Names.{lookup}
 use Rattle.cp_model.specs.Syntax as s
@@ -21,14 +21,14 @@ abbrev pub with_field_if : Members → Identifier → ℕ → Option Member → 
 with_field_if ms x t None = ms ++ (x.name, member.Field t) ∷ []
 with_field_if ms x t (Some m) = ms
 
--- the first field of a name stands
+-- The first field with a name counts.
 abbrev pub with_field : Members → Identifier → ℕ → Members
 with_field ms x t = with_field_if ms x t (lookup x.name ms)
 
 abbrev pub is_new : Members → Identifier → Bool
 is_new ms x = not (is_some (lookup x.name ms))
 
--- fields, and what is broken in their names
+-- Fields, and the violations in their names.
 pub record Fields : Type 0 where
   pub members : Members
   pub violations : Violations
@@ -39,7 +39,7 @@ with_fields ms t (x ∷ xs) =
     let rest = with_fields (with_field ms x t) t xs in
     record { members = rest.members; violations = unless (is_new ms x) C1 x.at ++ rest.violations }
 
--- ---- what is broken first
+-- ---- the first violation
 
 abbrev pub first_in : Violations → Option Violation
 first_in [] = None
@@ -55,13 +55,13 @@ broken_in (Err v) = v ∷ []
 
 -- ---- groups
 
--- the environment with the types of fields, the fields, and what is broken in them
+-- The environment with the types of fields, the fields, and the violations in them.
 pub record Grouped : Type 0 where
   pub env : Environment
   pub members : Members
   pub violations : Violations
 
--- a type that is broken counts as any: the record isn't made
+-- A broken type counts as any type, since the record isn't made.
 abbrev pub type_or_any : Judged ℕ → ℕ
 type_or_any (Sound t) = t
 type_or_any (Broken v vs) = 0
@@ -114,7 +114,7 @@ record_if env at ms true = record {
 }
 record_if env at ms false = record { env = env; violations = violation C13 at ∷ []; of = Err (violation C13 at) }
 
--- the record of these fields, unless something is broken in them. C13: it has too many words
+-- The record with these fields, unless something is broken in them. C13: it has too many words.
 abbrev pub record_of : Environment → ℕ → Members → Option Violation → Known
 record_of env at ms None = record_if env at ms (ty.is_within (row env ms).words)
 record_of env at ms (Some v) = record { env = env; violations = []; of = Err v }

@@ -54,25 +54,25 @@ abbrev pub heading_violations : Environment → Sort → s.Routine → Violation
 heading_violations env y r =
     c1_declared env r.name ++ d.c5_entry y r.entry ++ (heading_of env r).violations ++ d.result_violations (answer_of env r)
 
--- the heading was judged and collected, and its names are left
+-- The heading was judged and collected, and its names are removed again.
 abbrev pub HeadsRoutine : State → State → Heading → Option (Result ℕ Violation) → Sort → s.Routine → Type 0
 HeadsRoutine old new h answer y r =
     (new ≡ telling old (heading_violations old.env y r)) × (collected h ≡ with_part nothing (heading_of old.env r)) × (answer ≡ first_if (answer_of old.env r))
 
--- the row of a routine, before its need is known
+-- The row of a routine, before its need is known.
 abbrev pub row_as : ℕ → ℕ → Option ℕ → Option (Result ℕ Violation) → RoutineRow
 row_as first count entry answer = record { entry = is_some entry; first = first; count = count; returns = returns_of_result answer; need = 0 }
 
--- ---- what stands inside a heading
+-- ---- the inside of a routine or a system type
 
--- these parameters more, where statements stand in this region
+-- The environment with these parameters added, and the statements in this region.
 abbrev pub entered : Environment → List ParameterRow → Region → Environment
 entered env rows region = record env { parameters = env.parameters ++ rows; region = region }
 
 abbrev pub region_of : Sort → s.Routine → Region
 region_of y r = record { sort = y; part = d.part_of r.entry }
 
--- where the variables of a routine are declared
+-- The environment in which the variables of a routine are declared.
 abbrev pub inside : Environment → Sort → s.Routine → RoutineRow → Collected → Environment
 inside env y r row k =
     (d.declare_each (declare r.name (entity.UnfinishedRoutine row) (entered env k.rows (region_of y r))) k.bound).env
@@ -80,13 +80,13 @@ inside env y r row k =
 abbrev pub locals : Environment → s.Routine → d.Variables
 locals env r = d.variables env position.RoutineVariable r.variables
 
--- variables and a body were judged, and their words are counted to one above the limit
+-- Variables and a body were judged, and their words are counted up to one above the limit.
 abbrev pub JudgesBody : State → State → ℕ → d.Variables → s.Body → Type 0
 JudgesBody old new n v b =
     (new ≡ record { env = v.env; told = least old.told (v.violations ++ statements v.env b.list) })
     × (n ≡ capped (v.words + need_statements v.env b.list))
 
--- a routine was left, and its row and its name were added
+-- The state after a routine was left and its row and its name were added.
 abbrev pub left_routine : State → ℕ → Region → Identifier → RoutineRow → State
 left_routine s outside region x row =
     record s {

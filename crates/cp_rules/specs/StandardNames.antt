@@ -10,7 +10,7 @@ abbrev pub with_name_if : Text → Entity → Names → Option Entity → Names
 with_name_if x e names None = names ++ (x, e) ∷ []
 with_name_if x e names (Some old) = names
 
--- the first declaration stands
+-- The first declaration counts.
 abbrev pub with_name : Text → Entity → Names → Names
 with_name x e names = with_name_if x e names (lookup x names)
 

@@ -24,7 +24,7 @@ use Rattle.cp_rules.specs.declared.headings.Heading.{Heading}
 abbrev pub heading_of : Environment → s.System → d.Heading
 heading_of env y = d.heading env (Some y.sort) false y.parameters
 
--- the heading was judged and collected, and its names are left
+-- The heading was judged and collected, and its names are removed again.
 abbrev pub HeadsSystem : State → State → Heading → s.System → Type 0
 HeadsSystem old new h y =
     (new ≡ telling old (heading_of old.env y).violations) × (collected h ≡ with_part nothing (heading_of old.env y))
@@ -32,11 +32,11 @@ HeadsSystem old new h y =
 abbrev pub region_of : s.System → Region
 region_of y = record { sort = y.sort; part = part.Body }
 
--- where the variables of a system type are declared
+-- The environment in which the variables of a system type are declared.
 abbrev pub inside : Environment → s.System → Collected → Environment
 inside env y k = (d.declare_each (entered env k.rows (region_of y)) k.bound).env
 
--- its variables, and then its routines and its body
+-- Its variables, and then its routines and its body.
 abbrev pub parts : Environment → s.System → Collected → d.Variables
 parts env y k =
     let own = d.variables (inside env y k) (variable_position y.sort) y.variables in
@@ -50,7 +50,7 @@ abbrev pub words_of : Sort → ℕ → ℕ → ℕ → ℕ
 words_of sort.Process count words need = capped (capped (capped (1 + count) + words) + need)
 words_of y count words need = capped (capped (1 + count) + words)
 
--- with one system type more
+-- The environment with one more system type.
 abbrev pub added_system : Environment → SystemRow → Members → Environment
 added_system env row ms = record env {
   types = env.types ++ record { structure = structure.System (length env.systems); words = row.words; has_queues = false } ∷ [];
@@ -58,7 +58,7 @@ added_system env row ms = record env {
   systems = env.systems ++ row ∷ [];
 }
 
--- a system type was left, and its row and its name were added
+-- The state after a system type was left and its row and its name were added.
 abbrev pub left_system : State → ℕ → Region → Identifier → SystemRow → Members → State
 left_system s outside region x row ms =
     record s {
@@ -68,7 +68,7 @@ left_system s outside region x row ms =
       });
     }
 
--- the row of a system type whose parts were judged
+-- The row of a system type whose parts were judged.
 abbrev pub row_as : Environment → s.System → ℕ → ℕ → ℕ → SystemRow
 row_as env y first count words = record {
   sort = y.sort;

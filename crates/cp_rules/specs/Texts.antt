@@ -1,4 +1,4 @@
--- Whole texts: what is told of one, and what is answered.
+-- Whole texts: their violations, and the result of judging them.
 use Rattle.std.specs.Prelude.{◌≡◌, ◌+◌, ◌++◌, ℕ, Some, Result, Ok, Err}
 use Rattle.cp_model.specs.Syntax as s
 use Rattle.cp_model.specs.declared.tree.Sort.TheVariants as sort
@@ -15,13 +15,13 @@ use Rattle.cp_rules.specs.Definitions.{define_sections}
 use Rattle.cp_rules.specs.declared.text.Refusal.{Refusal}
 use Rattle.cp_rules.specs.declared.text.Refusal.TheVariants as refused
 
--- the body of the initial process, where the variables have so many words
+-- The violations in the body of the initial process, whose variables take `words` words.
 abbrev pub body_violations : Environment → ℕ → s.Body → Violations
 body_violations env words b =
     let body = statements env b.list in
     body ++ c13_initial b.at (1 + words + need_statements env b.list) body
 
--- what is known at the end of a text
+-- The environment at the end of a text.
 abbrev pub environment_of : s.Tree → Environment
 environment_of t =
     let defined = define_sections standard_environment t.sections in
@@ -31,7 +31,8 @@ environment_of t =
 abbrev pub judged_text : s.Tree → State
 judged_text t = record { env = environment_of t; told = told t }
 
--- an accepted text, and what is known at its end; or what is told of it
+-- The text is accepted, and this is the environment at its end. Or else this is the violation that
+-- is reported for it.
 abbrev pub Judges : s.Tree → Result code.Environment Refusal → Type 0
 Judges t (Ok env) = Accepted t × (env ≡ environment_of t)
 Judges t (Err (refused.Broken v)) = told t ≡ Some v

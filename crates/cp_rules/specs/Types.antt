@@ -10,15 +10,15 @@ abbrev pub all_violations : List (Judged ℕ) → Violations
 all_violations [] = []
 all_violations (j ∷ js) = violations_of j ++ all_violations js
 
--- index types were judged, one after another
+-- Index types were judged, one after another.
 abbrev pub JudgesIndices : State → State → List (Result ℕ Violation) → ty.Made (List (Judged ℕ)) → Type 0
 JudgesIndices old new answers m =
     (new ≡ record { env = m.env; told = least old.told (all_violations m.of) }) × (answers ≡ map first_of m.of)
 
--- what is there and told after more index types
+-- The state after more index types.
 abbrev pub with_indices : State → ty.Made (List (Judged ℕ)) → State
 with_indices old m = record { env = m.env; told = least old.told (all_violations m.of) }
 
--- fields were judged, one group after another
+-- The state after fields were judged, one group after another.
 abbrev pub with_groups : State → records.Grouped → State
 with_groups old g = record { env = g.env; told = least old.told g.violations }

@@ -16,7 +16,7 @@ use cp_model::rules::{Rule, Structure, TypeRow};
 use cp_model::tree::Constant;
 use std::alloc::AllocError;
 
-// How many integers there are from one to another.
+// The number of integers from `low` to `high`.
 fn count_between(low: i32, high: i32) -> usize
     ensures { result ≡ count_between low high }
 {
@@ -27,7 +27,7 @@ fn count_between(low: i32, high: i32) -> usize
     }
 }
 
-// How many values a simple type has.
+// The number of values of a simple type.
 fn values_in(structure: Structure) -> usize
     ensures { result ≡ types.values_in structure }
 {
@@ -84,7 +84,7 @@ impl<'t> Checker<'t> {
         self.bounds(at, low?, high?)
     }
 
-    /// The row of a subrange.
+    /// Judges a subrange and returns its row.
     pub fn subrange(&mut self, low: &Constant, high: &Constant) -> Judged<TypeRow>
         ensures { Judges self.old self.new result
             (both (types.constant self.old.env low.now) (types.constant self.old.env high.now)
@@ -95,7 +95,7 @@ impl<'t> Checker<'t> {
         self.judge_bounds(constant_at(high), first, last)
     }
 
-    /// Adds a type, and answers its number. It fails only when memory runs out.
+    /// Adds a type and returns its number. Fails only if memory runs out.
     pub fn add_type(&mut self, row: TypeRow) -> Result<usize, AllocError>
         ensures { IfOk result
             (λ t. (t ≡ length self.old.env.types)
@@ -106,7 +106,7 @@ impl<'t> Checker<'t> {
         Ok(t)
     }
 
-    /// Makes a type of a row, where that is known. It fails only when memory runs out.
+    /// Makes a type of a row, if the row is known. Fails only if memory runs out.
     pub fn make_type(&mut self, row: Judged<TypeRow>) -> Result<Judged<usize>, AllocError>
         ensures { IfOk result
             (λ answer. Knows self.old self.new answer (made self.old.env [] row)) }
@@ -117,7 +117,7 @@ impl<'t> Checker<'t> {
         }
     }
 
-    // C13: an array of too many words.
+    // C13: an array has too many words.
     fn judge_array(
         &mut self,
         at: usize,
@@ -136,7 +136,7 @@ impl<'t> Checker<'t> {
         }
     }
 
-    // An array type of these index and element types.
+    // Makes an array type of these index and element types.
     fn array(
         &mut self,
         at: usize,
@@ -150,7 +150,7 @@ impl<'t> Checker<'t> {
         self.make_type(row)
     }
 
-    /// An array of arrays, one for each index type. It fails only when memory runs out.
+    /// Makes an array of arrays, one for each index type. Fails only if memory runs out.
     pub fn arrays(
         &mut self,
         at: usize,

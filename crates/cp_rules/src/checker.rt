@@ -1,4 +1,4 @@
-//! Where a text is judged: the environment so far, and the earliest violation.
+//! The checker of a text: the environment so far, and the earliest violation.
 
 ghost use Rattle.std.specs.Prelude.{◌≡◌, [], None, IfOk, OnOk, length, take};
 ghost use Rattle.cp_model.specs.RulesEnvironment as r;
@@ -13,11 +13,11 @@ use cp_model::tree::Identifier;
 use std::alloc::{AllocError, Global};
 use std::marker::Model;
 
-/// What is judged of a part of a text: its meaning, or what is broken first in it.
+/// The judgement of a part of a text: its meaning, or the first violation in it.
 pub type Judged<A> = Result<A, Violation>;
 
-/// Judges a text: it has the environment of the part that is judged, and keeps the earliest violation, and at its place the lowest
-/// rule. Contracts see both.
+/// Judges a text. It holds the environment of the part that is being judged, and the earliest
+/// violation, with the lowest rule of those at its place. Contracts see both.
 #[derive(Drop)]
 pub struct Checker<'t> {
     pub(crate) environment: Environment<'t>,
@@ -32,7 +32,7 @@ impl<'t> Model for Checker<'t> {
 }
 
 impl<'t> Checker<'t> {
-    /// Judges a text from its beginning. It fails only when memory runs out.
+    /// Returns a checker at the beginning of a text. Fails only if memory runs out.
     pub fn new(alloc: Global) -> Result<Checker<'t>, AllocError>
         ensures { IfOk result (λ c. c ≡ record { env = r.standard_environment; told = None }) }
     {
@@ -43,21 +43,22 @@ impl<'t> Checker<'t> {
         })
     }
 
-    /// Tells that a rule is broken at a place.
+    /// Reports that a rule is broken at a place, and returns the violation.
     pub fn breaks<A>(&mut self, rule: Rule, at: usize) -> Judged<A>
         ensures { Judges self.old self.new result (j.breaks rule at) }
     {
         fail_with_violation(&mut self.earliest, rule, at)
     }
 
-    /// Tells that a rule is broken at a place unless the test holds.
+    /// Reports that a rule is broken at a place, unless `holds` is true.
     pub fn unless(&mut self, holds: bool, rule: Rule, at: usize)
         ensures { self.new ≡ telling self.old (j.unless holds rule at) }
     {
         unless_holds(&mut self.earliest, holds, rule, at);
     }
 
-    /// Declares a name, unless it is visible: the first declaration stands. It fails only when memory runs out.
+    /// Declares a name, unless it is already visible: the first declaration counts. Fails only if
+    /// memory runs out.
     pub fn add(&mut self, x: &'t Identifier, entity: Entity) -> Result<(), AllocError>
         ensures { OnOk result
             (self.new ≡ record self.old { env = r.declare x.now entity self.old.env }) }
@@ -69,7 +70,7 @@ impl<'t> Checker<'t> {
         Ok(())
     }
 
-    /// Declares a name. C1: it is visible. It fails only when memory runs out.
+    /// Declares a name. C1: it is already visible. Fails only if memory runs out.
     pub fn declare(&mut self, x: &'t Identifier, entity: Entity) -> Result<(), AllocError>
         ensures { OnOk result
             (self.new ≡ after self.old (declared_name self.old.env x.now entity)) }
@@ -79,14 +80,14 @@ impl<'t> Checker<'t> {
         self.add(x, entity)
     }
 
-    /// How many names are visible: a mark to leave to.
+    /// The number of visible names, as a mark for `leave`.
     pub fn mark(&self) -> usize
         ensures { result ≡ length self.now.env.names }
     {
         self.environment.name_count()
     }
 
-    /// Forgets the names that were declared since there were so many.
+    /// Removes the names that were declared after the first `mark` ones.
     pub fn leave(&mut self, mark: usize)
         ensures { self.new ≡ record
             self.old { env = r.with_names (take mark self.old.env.names) self.old.env } }

@@ -10,7 +10,8 @@ use cp_model::tree::Identifier;
 use std::alloc::AllocError;
 
 impl<'t> Checker<'t> {
-    /// Declares each of these names, in their order. C1: one is visible. It fails only when memory runs out.
+    /// Declares each of these names, in order. C1: one is already visible. Fails only if memory
+    /// runs out.
     pub fn declare_all(&mut self, names: &'t [Identifier], entity: Entity) -> Result<(), AllocError>
         ensures { OnOk result
             (self.new ≡ after self.old (d.declare_all self.old.env entity names.now)) }
@@ -21,7 +22,7 @@ impl<'t> Checker<'t> {
         Ok(())
     }
 
-    /// Declares each of these names, unless it is visible. It fails only when memory runs out.
+    /// Declares each of these names, unless it is already visible. Fails only if memory runs out.
     pub fn add_all(&mut self, names: &'t [Identifier], entity: Entity) -> Result<(), AllocError>
         ensures { OnOk result
             (self.new ≡ record

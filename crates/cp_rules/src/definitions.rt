@@ -33,7 +33,8 @@ fn type_entity(of: Judged<usize>) -> Entity
     }
 }
 
-// A number of values as an ordinal. More values than ordinals need more memory than there is.
+// Converts a number of values to an ordinal. More values than there are ordinals would need more
+// memory than there is.
 fn ordinal(n: usize) -> Result<i32, AllocError>
     ensures { IfOk result (λ i. i ≡ pos n) }
 {
@@ -43,7 +44,7 @@ fn ordinal(n: usize) -> Result<i32, AllocError>
     Ok(n as i32)
 }
 
-// The row of an enumeration of so many values.
+// The row of an enumeration of `count` values.
 fn enumeration(t: usize, count: usize) -> Result<TypeRow, AllocError>
     ensures { IfOk result (λ row. row ≡ r.simple_row t (pos 0) (pos (count - 1))) }
 {
@@ -82,7 +83,7 @@ impl<'t> Checker<'t> {
         self.add(&d.name, constant_entity(value))
     }
 
-    // Defines an enumeration. C1: one of its values is visible, or stands twice.
+    // Defines an enumeration. C1: one of its values is already visible, or occurs twice.
     fn define_enumeration(
         &mut self,
         x: &'t Identifier,
@@ -158,7 +159,7 @@ impl<'t> Checker<'t> {
         }
     }
 
-    /// Judges the definitions of a text in their order. It fails only when memory runs out.
+    /// Judges the definitions of a text, in order. Fails only if memory runs out.
     pub fn define_sections(&mut self, sections: &'t [Section]) -> Result<(), AllocError>
         ensures { OnOk result
             (self.new ≡ after self.old

@@ -1,4 +1,5 @@
-//! What stands inside a heading: its parameters are visible there, and statements stand in a region of their own.
+//! The inside of a routine or a system type: its parameters are visible there, and its statements
+//! are in a region of their own.
 
 ghost use Rattle.std.specs.Prelude.{◌≡◌, OnOk, map};
 ghost use Rattle.cp_model.specs.RulesDeclarations as d;
@@ -17,7 +18,7 @@ use cp_model::tree::{Identifier, Statement};
 use std::alloc::AllocError;
 
 impl<'t> Checker<'t> {
-    /// Enters a routine or a system type with these parameters. It fails only when memory runs out.
+    /// Enters a routine or a system type with these parameters. Fails only if memory runs out.
     pub fn enter(&mut self, rows: &[ParameterRow], region: Region) -> Result<(), AllocError>
         ensures { OnOk result
             (self.new ≡ record self.old { env = entered self.old.env rows.now region }) }
@@ -27,7 +28,8 @@ impl<'t> Checker<'t> {
         Ok(())
     }
 
-    /// Declares each of these names as what stands beside it, unless it is visible. It fails only when memory runs out.
+    /// Declares each of these names as the entity beside it, unless it is already visible. Fails
+    /// only if memory runs out.
     pub fn add_each(&mut self, names: &[(&'t Identifier, Entity)]) -> Result<(), AllocError>
         ensures { OnOk result
             (self.new ≡ record
@@ -39,7 +41,8 @@ impl<'t> Checker<'t> {
         Ok(())
     }
 
-    /// Declares each of these names as what stands beside it. C1: one is visible. It fails only when memory runs out.
+    /// Declares each of these names as the entity beside it. C1: one is already visible. Fails only
+    /// if memory runs out.
     pub fn declare_each(&mut self, names: &[(&'t Identifier, Entity)]) -> Result<(), AllocError>
         ensures { OnOk result
             (self.new ≡ after self.old (d.declare_each self.old.env (map lent names.now))) }
@@ -50,7 +53,7 @@ impl<'t> Checker<'t> {
         Ok(())
     }
 
-    /// Judges statements, one after another. It fails only when memory runs out.
+    /// Judges statements, one after another. Fails only if memory runs out.
     pub fn statements(&mut self, list: &[Statement]) -> Result<(), AllocError>
         ensures { OnOk result
             (self.new ≡ telling self.old

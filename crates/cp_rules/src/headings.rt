@@ -1,6 +1,7 @@
 //! Headings: the parameters of a routine or of a system type.
 //!
-//! Inside its own group a parameter's name is that of a variable, and up to the end of the heading it is hidden. Then all are visible.
+//! Within its own group, a parameter's name is the name of a variable. After its group, it is
+//! hidden up to the end of the heading. After the heading, all names are visible.
 
 ghost use Rattle.std.specs.Prelude.{◌≡◌, ◌+◌, ◌*◌, ◌++◌, [], IfOk, OnOk, OnErr, map, replicate, length};
 ghost use Rattle.cp_model.specs.RulesDeclarations as d;
@@ -19,8 +20,8 @@ use cp_model::rules::{Access, Entity, ParameterRow, Rule, Structure};
 use cp_model::tree::{Identifier, Parameters, Sort};
 use std::alloc::{AllocError, Global};
 
-/// The parameters of a heading: what each name stands for after it, their rows, and the words that they take in an activation,
-/// counted to one above the limit.
+/// The parameters of a heading: what each name stands for after it, their rows, and the words that
+/// they take in an activation, counted up to one above the limit.
 #[derive(Drop)]
 pub struct Heading<'t> {
     pub bound: Vec<(&'t Identifier, Entity)>,
@@ -28,7 +29,8 @@ pub struct Heading<'t> {
     pub words: usize,
 }
 
-// A component type that a parameter of a system type may have: a monitor type, and for a class a class type too.
+// Whether a parameter of a system type may be a component of this sort: a monitor, or for a class
+// also a class.
 fn allows_component(of: Sort, sort: Sort) -> bool
     ensures { result ≡ d.allows_component of sort }
 {
@@ -51,7 +53,8 @@ fn allows_parameter(env: &Environment, of: Option<Sort>, structure: Structure) -
     }
 }
 
-// The rule of the word `var`. C7: before a parameter of a system type. C11: before one of a function.
+// The rule about the word `var`. C7: before a parameter of a system type. C11: before one of a
+// function.
 fn var_rule(of: Option<Sort>, is_function: bool) -> Option<Rule>
     ensures { result ≡ d.var_rule of is_function }
 {
@@ -97,7 +100,7 @@ fn is_by_reference(of: Option<Sort>, group: &Parameters) -> bool
     group.by_reference.is_some() && of.is_none()
 }
 
-// The words of one parameter in an activation.
+// The number of words of one parameter in an activation.
 fn parameter_words(env: &Environment, by_reference: bool, of: Judged<usize>) -> usize
     ensures { result ≡ words_of_parameter env.now by_reference of }
 {
@@ -105,7 +108,7 @@ fn parameter_words(env: &Environment, by_reference: bool, of: Judged<usize>) -> 
 }
 
 impl<'t> Heading<'t> {
-    /// No parameters.
+    /// Returns a heading without parameters.
     pub fn new(alloc: Global) -> Heading<'t>
         ensures { collected result ≡ nothing }
     {
@@ -135,7 +138,7 @@ impl<'t> Heading<'t> {
 }
 
 impl<'t> Checker<'t> {
-    // C7, C8: the type of a parameter.
+    // C7 and C8: a parameter may not have this type.
     fn parameter(&mut self, of: Option<Sort>, at: usize, t: usize) -> Judged<usize>
         ensures { Judges self.old self.new result (d.c7_c8_parameter self.old.env of at t) }
     {
@@ -159,7 +162,7 @@ impl<'t> Checker<'t> {
         self.parameter(of, x.at, t)
     }
 
-    // C7, C11: the word `var`.
+    // C7 and C11: the word `var` isn't allowed.
     fn judge_var(&mut self, rule: Option<Rule>, at: Option<usize>)
         ensures { self.new ≡ telling self.old (d.c7_c11_var rule at) }
     {
@@ -210,8 +213,8 @@ impl<'t> Checker<'t> {
         Ok(())
     }
 
-    /// Judges a heading, of a system type of this sort or of a routine. C7, C8: the type of a parameter. C7, C11: the word `var`.
-    /// It fails only when memory runs out.
+    /// Judges the heading of a system type of this sort, or of a routine. C7 and C8: the type of a
+    /// parameter. C7 and C11: the word `var`. Fails only if memory runs out.
     pub fn heading(
         &mut self,
         of: Option<Sort>,

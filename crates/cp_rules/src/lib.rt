@@ -1,10 +1,12 @@
 //! The rules of a whole text, for any tree.
 //!
-//! The rules are defined in cp_model's `specs/Rules*.antt`. `text::judge` is what other crates call. It judges a text in its order by a
-//! `Checker`, which has the environment so far and the earliest violation: the standard names (`standard`), the definitions
-//! (`definitions`, `types`, `arrays`, `records`, `systems`), then the variables, the routines and the body of the initial process
-//! (`variables`, `owners`, `headings`, `routines`, `text`). Expressions and statements are judged by cp_judge. What a contract says of the
-//! checker's state and of an answer is in `specs/Checking.antt`.
+//! cp_model's `specs/Rules*.antt` define the rules. `text::judge` is what other crates call. It
+//! judges a text in order with a `Checker`, which holds the environment so far and the earliest
+//! violation: first the standard names (`standard`), then the definitions (`definitions`, `types`,
+//! `arrays`, `records`, `systems`), and then the variables, the routines and the body of the
+//! initial process (`variables`, `owners`, `headings`, `routines`, `text`). cp_judge judges
+//! expressions and statements. `specs/Checking.antt` defines what contracts say about the checker's
+//! state and about a result.
 #![tactic(auto)]
 
 mod arrays;

@@ -9,7 +9,7 @@ use cp_judge::environment::Members;
 use cp_model::rules::{Entity, Member};
 use std::alloc::AllocError;
 
-// Adds what a name stands for, where that is a routine.
+// Adds what a name stands for, if that is a routine.
 fn add_member<'t>(
     members: &mut Members<'t>,
     name: &'t [u8],
@@ -25,7 +25,8 @@ fn add_member<'t>(
 }
 
 impl<'t> Checker<'t> {
-    /// The routines among the names that were declared since there were so many. It fails only when memory runs out.
+    /// The routines among the names that were declared after the first `mark` ones. Fails only if
+    /// memory runs out.
     pub fn routine_members(&self, mark: usize) -> Result<Members<'t>, AllocError>
         ensures { IfOk result
             (λ members. members ≡ routine_members (drop mark self.now.env.names)) }

@@ -1,4 +1,5 @@
-//! Constants and types that are named: in definitions, subranges, headings and declarations of variables.
+//! Constants and types that are used by name in definitions, subranges, headings and declarations
+//! of variables.
 
 ghost use Rattle.std.specs.Prelude.{◌≡◌, [], ◌∷◌};
 ghost use Rattle.cp_model.specs.RulesEnvironment as r;
@@ -12,21 +13,23 @@ use cp_model::rules::{Entity, Rule};
 use cp_model::tree::{Constant, Identifier};
 
 impl<'t> Checker<'t> {
-    /// What a name stands for. C1: it isn't visible; what is broken in its declaration was told there.
+    /// What a name stands for. C1: it isn't visible. A violation in its declaration is reported
+    /// again.
     pub fn judge_name(&mut self, x: &Identifier) -> Judged<Entity>
         ensures { Judges self.old self.new result (r.c1_named self.old.env x.now) }
     {
         resolve(&self.environment, &mut self.earliest, x)
     }
 
-    /// The base type of a constant and its ordinal.
+    /// The base type and the ordinal of a constant.
     pub fn constant(&mut self, c: &Constant) -> Judged<(usize, i32)>
         ensures { Judges self.old self.new result (types.constant self.old.env c.now) }
     {
         constant(&self.environment, &mut self.earliest, c)
     }
 
-    // C2: a type is wanted, and the name is of another sort. C4: a type inside its own definition.
+    // C2: a type is wanted, but the name is of another sort. C4: a type is used inside its own
+    // definition.
     fn type_of_entity(&mut self, x: &Identifier, entity: Entity) -> Judged<usize>
         ensures { Judges self.old self.new result (types.c2_type x.now entity) }
     {

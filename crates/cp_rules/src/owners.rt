@@ -11,7 +11,7 @@ use crate::words::is_within;
 use cp_model::rules::{Position, Rule, Structure, SystemRow};
 use cp_model::tree::{Identifier, Sort};
 
-// The most processes, with the initial one, and the most monitors.
+// The largest number of processes, counting the initial one, and of monitors.
 const MOST: usize = 255;
 
 // Whether one more is one too many.
@@ -21,7 +21,7 @@ fn is_full(count: usize) -> bool
     count == MOST
 }
 
-// One more, counted to one too many.
+// One more, counted up to one too many.
 fn one_more(count: usize) -> usize
     ensures { result ≡ d.one_more count }
 {
@@ -56,8 +56,8 @@ impl<'t> Checker<'t> {
         }
     }
 
-    /// Counts the processes or monitors that these variables of a type are, where the initial process declares them. C13: one is too
-    /// many, or has too many words.
+    /// Counts the processes or monitors that variables of this type are, if the initial process
+    /// declares them. C13: one is too many, or has too many words.
     pub fn owners(&mut self, position: Position, of: Judged<usize>, names: &[Identifier])
         ensures { self.new ≡ after self.old (owners_of_type self.old.env position of names.now) }
     {

@@ -1,4 +1,4 @@
-//! Where a type may stand.
+//! The positions where a type may be used.
 
 ghost use Rattle.std.specs.Prelude.{◌≡◌, ◌||◌, not};
 ghost use Rattle.cp_model.specs.RulesEnvironment.{is_simple};
@@ -56,7 +56,7 @@ fn allows_queues(position: Position) -> bool
     }
 }
 
-/// The first token of a written type.
+/// The place of the first token of a written type.
 pub fn type_at(t: &TypeExpression) -> usize
     ensures { result ≡ types.type_at (view.type_expression t.now) }
 {
@@ -68,7 +68,7 @@ pub fn type_at(t: &TypeExpression) -> usize
     }
 }
 
-// Whether an array or a record is written there.
+// Whether a type is written as an array or a record.
 fn is_written_structure(t: &TypeExpression) -> bool
     ensures { result ≡ is_written_structure (view.type_expression t.now) }
 {
@@ -78,7 +78,7 @@ fn is_written_structure(t: &TypeExpression) -> bool
     )
 }
 
-// What a name of a type stands for, if that is known.
+// The type that a name stands for, if that is known.
 fn known_type(env: &Environment, x: &Identifier) -> Option<usize>
     ensures { result ≡ meaning_of (types.named_type env.now x.now) }
 {
@@ -97,7 +97,7 @@ fn names_queues(env: &Environment, x: &Identifier) -> bool
     }
 }
 
-// Whether a written type has queues, as far as that is known where something is broken inside it.
+// Whether a written type has queues, as far as that is known if something is broken inside it.
 fn holds_queues(env: &Environment, t: &TypeExpression) -> bool
     ensures { result ≡ types.holds_queues env.now (view.type_expression t.now) }
 {
@@ -108,7 +108,7 @@ fn holds_queues(env: &Environment, t: &TypeExpression) -> bool
     }
 }
 
-// Whether an array with queues is written where none may stand.
+// Whether an array with queues is written where none is allowed.
 fn misplaces_queues(env: &Environment, position: Position, t: &TypeExpression) -> bool
     ensures { result ≡ misplaces_queues env.now position (view.type_expression t.now) }
 {
@@ -121,7 +121,7 @@ fn misplaces_queues(env: &Environment, position: Position, t: &TypeExpression) -
 }
 
 impl<'t> Checker<'t> {
-    // C6: a system type where none may stand. C8: a type with queues where none may stand.
+    // C6: a system type where none is allowed. C8: a type with queues where none is allowed.
     fn judge_position_at(&mut self, position: Position, at: usize, t: usize) -> Judged<usize>
         ensures { Judges self.old self.new result (types.c6_c8_placed self.old.env position at t) }
     {
@@ -140,8 +140,9 @@ impl<'t> Checker<'t> {
         }
     }
 
-    /// Judges where a written type stands, which was judged in itself. C6: a system type where none may stand. C8: a type with queues
-    /// where none may stand, also where something is broken inside it.
+    /// Judges the position of a written type, after the type itself. C6: a system type where none
+    /// is allowed. C8: a type with queues where none is allowed, even if something is broken inside
+    /// it.
     pub fn judge_position(
         &mut self,
         position: Position,
@@ -174,7 +175,8 @@ impl<'t> Checker<'t> {
         }
     }
 
-    /// Judges a written index type, which was judged in itself. C2: it isn't simple, also where something is broken inside it.
+    /// Judges a written index type, after the type itself. C2: it isn't simple, even if something
+    /// is broken inside it.
     pub fn index_type(&mut self, t: &TypeExpression, of: Judged<usize>) -> Judged<usize>
         ensures { TellsOuter self.old self.new result
             (index_type self.old.env (view.type_expression t.now) of) }

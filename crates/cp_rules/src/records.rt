@@ -16,14 +16,14 @@ use cp_model::rules::{Member, Rule, Structure, TypeRow, Violation};
 use cp_model::tree::Identifier;
 use std::alloc::{AllocError, Global};
 
-/// The fields of a record so far, and what is broken first in them.
+/// The fields of a record so far, and the first violation in them.
 #[derive(Drop)]
 pub struct FieldList<'t> {
     pub members: Members<'t>,
     pub first: Option<Violation>,
 }
 
-// Adds a field, and answers whether its name is new. It fails only when memory runs out.
+// Adds a field, and returns whether its name is new. Fails only if memory runs out.
 fn add_field<'t>(members: &mut Members<'t>, x: &'t Identifier, t: usize) -> Result<bool, AllocError>
     ensures new { IfOk result (λ n. n ≡ is_new members.old x.now) }
     ensures members { OnOk result (members.new ≡ with_field members.old x.now t) }
@@ -37,7 +37,7 @@ fn add_field<'t>(members: &mut Members<'t>, x: &'t Identifier, t: usize) -> Resu
 }
 
 impl<'t> FieldList<'t> {
-    /// No fields.
+    /// Returns an empty list of fields.
     pub fn new(alloc: Global) -> FieldList<'t>
         ensures members { result.members ≡ [] }
         ensures first { result.first ≡ None }
@@ -48,7 +48,7 @@ impl<'t> FieldList<'t> {
         }
     }
 
-    /// Notes what is broken first in a part, unless something is broken before it.
+    /// Notes the violation in a part, unless one was noted before.
     pub fn note(&mut self, of: Judged<usize>)
         ensures { self.new ≡ record self.old { first = or_first self.old.first (broken_in of) } }
     {
@@ -58,7 +58,7 @@ impl<'t> FieldList<'t> {
     }
 }
 
-// The words of a field.
+// The number of words of a field.
 fn words_of_member(env: &Environment, member: Member) -> usize
     ensures { result ≡ words_of_member env.now member }
 {
@@ -77,7 +77,7 @@ fn words_at(env: &Environment, members: &Members, number: usize) -> usize
     }
 }
 
-// The words of fields, counted to one above the limit.
+// The number of words of fields, counted up to one above the limit.
 fn words_of_members(env: &Environment, members: &Members) -> usize
     ensures { result ≡ capped (words_of_members env.now members.now) }
 {
@@ -89,7 +89,7 @@ fn words_of_members(env: &Environment, members: &Members) -> usize
 }
 
 impl<'t> Checker<'t> {
-    // Adds a field. C1: its name stands twice.
+    // Adds a field. C1: its name occurs twice.
     fn add_field(
         &mut self,
         fields: &mut FieldList<'t>,
@@ -110,7 +110,8 @@ impl<'t> Checker<'t> {
         Ok(())
     }
 
-    /// Adds fields of one type. C1: a name stands twice in the record. It fails only when memory runs out.
+    /// Adds fields of one type. C1: a name occurs twice in the record. Fails only if memory runs
+    /// out.
     pub fn add_fields(
         &mut self,
         fields: &mut FieldList<'t>,
@@ -131,8 +132,8 @@ impl<'t> Checker<'t> {
         Ok(())
     }
 
-    /// Makes a record type of these fields, unless something is broken in them. C13: it has too many words. It fails only when memory
-    /// runs out.
+    /// Makes a record type of these fields, unless something is broken in them. C13: it has too
+    /// many words. Fails only if memory runs out.
     pub fn make_record(
         &mut self,
         at: usize,

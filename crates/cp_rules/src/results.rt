@@ -19,7 +19,7 @@ fn is_process(sort: Sort) -> bool
     }
 }
 
-/// The part that the body of a routine is.
+/// Which part the body of a routine is, depending on the word `entry`.
 pub fn part(entry: Option<usize>) -> Part
     ensures { result ≡ d.part_of entry }
 {
@@ -29,7 +29,7 @@ pub fn part(entry: Option<usize>) -> Part
     }
 }
 
-/// What a routine answers, whose result type is judged so.
+/// What a routine returns, given the judgement of its result type.
 pub fn returns(answer: Option<Judged<usize>>) -> Returns
     ensures { result ≡ returns_of_result answer }
 {
@@ -40,7 +40,7 @@ pub fn returns(answer: Option<Judged<usize>>) -> Returns
     }
 }
 
-/// The words that a result takes in an activation.
+/// The number of words that a result takes in an activation.
 pub fn words(answer: Option<Judged<usize>>) -> usize
     ensures { result ≡ result_words answer }
 {
@@ -51,7 +51,7 @@ pub fn words(answer: Option<Judged<usize>>) -> usize
 }
 
 impl<'t> Checker<'t> {
-    /// C5: the word `entry` in a process type or the initial process.
+    /// C5: the word `entry` is used in a process type or in the initial process.
     pub fn judge_entry(&mut self, sort: Sort, entry: Option<usize>)
         ensures { self.new ≡ telling self.old (d.c5_entry sort entry) }
     {
@@ -60,7 +60,7 @@ impl<'t> Checker<'t> {
         }
     }
 
-    // C8: a result with queues. C11: a result that isn't simple.
+    // C8: a result has queues. C11: a result isn't simple.
     fn result(&mut self, at: usize, t: usize) -> Judged<usize>
         ensures { Judges self.old self.new result (d.c8_c11_result self.old.env at t) }
     {
@@ -85,7 +85,7 @@ impl<'t> Checker<'t> {
         self.result(x.at, t)
     }
 
-    /// The result type of a function.
+    /// Judges the result type of a function.
     pub fn result_type(&mut self, name: &Option<Identifier>) -> Option<Judged<usize>>
         ensures { JudgesResult self.old self.new result (d.result_type self.old.env name.now) }
     {

@@ -17,7 +17,7 @@ use cp_model::rules::{Entity, Position, Region, Returns, RoutineRow};
 use cp_model::tree::{Identifier, Routine, Sort};
 use std::alloc::AllocError;
 
-// What a routine's name stands for in its heading.
+// What a routine's name stands for in its own heading.
 const NO_ROUTINE: RoutineRow = RoutineRow {
     entry: false,
     first: 0,
@@ -26,7 +26,7 @@ const NO_ROUTINE: RoutineRow = RoutineRow {
     need: 0,
 };
 
-// The row of a routine whose parameters are the next of the table, before its need is known.
+// The row of a routine before its need is known. Its parameters are the next ones in the table.
 fn row(
     first: usize,
     count: usize,
@@ -45,7 +45,7 @@ fn row(
 }
 
 impl<'t> Checker<'t> {
-    // The heading of a routine, and the type of its result.
+    // Judges the heading of a routine and the type of its result.
     fn routine_heading(
         &mut self,
         sort: Sort,
@@ -64,7 +64,7 @@ impl<'t> Checker<'t> {
         Ok((heading, answer))
     }
 
-    // The variables and the body of a routine, and the words that they take.
+    // Judges the variables and the body of a routine, and returns the words that they take.
     fn routine_body(
         &mut self,
         sort: Sort,
@@ -105,7 +105,8 @@ impl<'t> Checker<'t> {
         self.add(name, Entity::Routine(number))
     }
 
-    /// Declares a routine of a component of this sort, and judges it. It fails only when memory runs out.
+    /// Declares a routine of a component of this sort, and judges it. Fails only if memory runs
+    /// out.
     pub fn routine(&mut self, sort: Sort, routine: &'t Routine) -> Result<(), AllocError>
         ensures { OnOk result
             (self.new ≡ after self.old (d.routine self.old.env sort (view.routine routine.now))) }
@@ -120,7 +121,8 @@ impl<'t> Checker<'t> {
         self.leave_routine(outside, region, &routine.name, row)
     }
 
-    /// Declares routines of a component of this sort, one after another. It fails only when memory runs out.
+    /// Declares routines of a component of this sort, one after another. Fails only if memory runs
+    /// out.
     pub fn routines(&mut self, sort: Sort, list: &'t [Routine]) -> Result<(), AllocError>
         ensures { OnOk result
             (self.new ≡ after self.old (d.routines self.old.env sort (map view.routine list.now))) }

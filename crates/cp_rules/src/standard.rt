@@ -8,7 +8,8 @@ use cp_judge::environment::{BOOLEAN, CHAR, Environment, INTEGER, QUEUE, Scope};
 use cp_model::rules::{Entity, Standard, Structure, TypeRow};
 use std::alloc::{AllocError, Global};
 
-// Declares a standard name, unless it is declared already: `add` wants a name that isn't visible.
+// Declares a standard name, unless it is already declared, since `add` requires a name that isn't
+// visible.
 fn add<'t>(names: &mut Scope<'t>, name: &'t [u8], entity: Entity) -> Result<(), AllocError>
     ensures { OnOk result (names.new ≡ standard_names.with_name name.now entity names.old) }
 {
@@ -116,7 +117,7 @@ fn types(alloc: Global) -> Result<Vec<TypeRow>, AllocError>
     Ok(types)
 }
 
-/// The environment of a text before its first definition. It fails only when memory runs out.
+/// The environment of a text before its first definition. Fails only if memory runs out.
 pub fn standard_environment<'t>(alloc: Global) -> Result<Environment<'t>, AllocError>
     ensures { IfOk result (λ env. env ≡ r.standard_environment) }
 {

@@ -25,7 +25,8 @@ fn variable_position(sort: Sort) -> Position
     }
 }
 
-// The words of a component: one, its parameters, its variables, and what its body needs where it is a process.
+// The number of words of a component: one, its parameters, its variables, and what its body needs
+// if it is a process.
 fn words_of(sort: Sort, count: usize, words: usize, need: usize) -> usize
     ensures { result ≡ words_of sort count words need }
 {
@@ -37,7 +38,7 @@ fn words_of(sort: Sort, count: usize, words: usize, need: usize) -> usize
 }
 
 impl<'t> Checker<'t> {
-    // The heading of a system type, whose name is declared.
+    // Judges the heading of a system type, whose name is already declared.
     fn system_heading(&mut self, y: &'t System) -> Result<Heading<'t>, AllocError>
         ensures { IfOk result (λ h. HeadsSystem self.old self.new h (view.system y.now)) }
     {
@@ -47,7 +48,8 @@ impl<'t> Checker<'t> {
         Ok(heading)
     }
 
-    // The variables, the routines and the body of a system type, and the words of its variables.
+    // Judges the variables, the routines and the body of a system type, and returns the words of
+    // its variables.
     fn system_parts(&mut self, y: &'t System, heading: &Heading<'t>) -> Result<usize, AllocError>
         ensures { IfOk result
             (λ n. JudgesParts self.old self.new n
@@ -65,7 +67,7 @@ impl<'t> Checker<'t> {
         Ok(words)
     }
 
-    // Adds a system type, and answers the number of the type.
+    // Adds a system type, and returns the number of the type.
     fn add_system(&mut self, row: SystemRow, members: Members<'t>) -> Result<usize, AllocError>
         ensures { IfOk result
             (λ t. (t ≡ length self.old.env.types)
@@ -116,7 +118,7 @@ impl<'t> Checker<'t> {
         }
     }
 
-    /// Defines a system type, and judges its parts. It fails only when memory runs out.
+    /// Defines a system type, and judges its parts. Fails only if memory runs out.
     pub fn define_system(&mut self, x: &'t Identifier, y: &'t System) -> Result<(), AllocError>
         ensures { OnOk result
             (self.new ≡ after self.old

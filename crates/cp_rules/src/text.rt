@@ -20,14 +20,14 @@ use std::alloc::{AllocError, Global};
 /// Why a text isn't accepted.
 #[derive(Clone, Copy, Debug, PartialEq, Eq)]
 pub enum Refusal {
-    /// A rule is broken: the earliest violation, and at its place the lowest rule.
+    /// A rule is broken: the earliest violation, and of several at the same place the lowest rule.
     Broken(Violation),
     /// Memory ran out.
     Memory,
 }
 
 impl<'t> Checker<'t> {
-    // The earliest violation in statements alone.
+    // The earliest violation within these statements alone.
     fn violation_in(&self, list: &[Statement]) -> Result<Option<Violation>, AllocError>
         ensures { IfOk result
             (λ v. v ≡ least None
@@ -38,8 +38,8 @@ impl<'t> Checker<'t> {
         Ok(inside)
     }
 
-    // The body of the initial process, whose variables have so many words. C13, that it has too many words, is judged only where
-    // nothing is broken in the body.
+    // Judges the body of the initial process, whose variables take `words` words. C13: the process
+    // has too many words, which is judged only if nothing is broken in the body.
     fn initial_body(&mut self, words: usize, body: &Body) -> Result<(), AllocError>
         ensures { (n : ℕ) → words ≡ ty.capped n
             → OnOk result
@@ -68,9 +68,12 @@ impl<'t> Checker<'t> {
     }
 }
 
-/// Judges a text by all rules. Of an accepted one it answers what its names and tables are at its end.
+/// Judges a text by all rules, and returns its environment at the end, with its names and tables,
+/// if it is accepted.
 ///
-/// It fails with `Broken` where a rule is broken, or when memory runs out.
+/// # Errors
+///
+/// `Broken` if the text breaks a rule, `Memory` if memory runs out.
 pub fn judge<'t>(alloc: Global, tree: &'t Tree) -> Result<Environment<'t>, Refusal>
     ensures { Judges (view.tree tree.now) result }
 {

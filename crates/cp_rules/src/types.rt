@@ -1,4 +1,4 @@
-//! Types where they are written: what they stand for, and the rules inside them.
+//! Written types: what they stand for, and the rules inside them.
 
 ghost use Rattle.std.specs.Prelude.{◌≡◌, IfOk, OnOk, map};
 ghost use Rattle.cp_model.specs.Syntax as s;
@@ -15,7 +15,7 @@ use cp_model::rules::Position;
 use cp_model::tree::{Fields, TypeExpression};
 use std::alloc::AllocError;
 
-// The number of a type that is known. A broken one counts as any: what it is a part of isn't made.
+// The number of a type, or any number if the type is broken: what it is a part of isn't made then.
 fn number_or_any(of: Judged<usize>) -> usize
     ensures { result ≡ number_or_any of }
 {
@@ -26,7 +26,7 @@ fn number_or_any(of: Judged<usize>) -> usize
 }
 
 impl<'t> Checker<'t> {
-    // A type in itself.
+    // Judges a type by itself, without its position.
     #[cycle(types)]
     fn type_of(&mut self, t: &'t TypeExpression) -> Result<Judged<usize>, AllocError>
         ensures { IfOk result
@@ -81,7 +81,7 @@ impl<'t> Checker<'t> {
         self.make_record(at, fields)
     }
 
-    // Fields of one type.
+    // Judges fields of one type.
     #[cycle(types)]
     fn field_group(
         &mut self,
@@ -105,7 +105,7 @@ impl<'t> Checker<'t> {
         Ok(())
     }
 
-    /// Judges a type where it is written. It fails only when memory runs out.
+    /// Judges a written type at its position. Fails only if memory runs out.
     pub fn judge_type(
         &mut self,
         position: Position,

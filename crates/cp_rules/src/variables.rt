@@ -1,4 +1,4 @@
-//! Variables: groups of names of one type, and the words that they take of their owner.
+//! Variables: groups of names of one type, and the words that they take from their owner.
 
 ghost use Rattle.std.specs.Prelude.{◌≡◌, IfOk, OnOk, map};
 ghost use Rattle.cp_model.specs.RulesEnvironment as r;
@@ -16,7 +16,7 @@ use cp_model::rules::{Access, Entity, Position, Structure};
 use cp_model::tree::{Fields, Sort};
 use std::alloc::AllocError;
 
-/// A name whose type isn't known yet: a variable is no type.
+/// What a name stands for while its type isn't known: a variable, which can't be used as a type.
 pub const UNFINISHED: Entity = Entity::Variable(INTEGER, Access::Own);
 
 // What a variable of a type stands for.
@@ -29,7 +29,7 @@ fn entity(of: Judged<usize>) -> Entity
     }
 }
 
-// A process or a monitor is an owner itself: it takes no words of another.
+// A process or a monitor is an owner itself, so it takes no words from another owner.
 fn is_owner(sort: Sort) -> bool
     ensures { result ≡ d.is_owner sort }
 {
@@ -52,7 +52,7 @@ fn words_in(env: &Environment, words: usize, structure: Structure) -> usize
     }
 }
 
-/// The words that one variable of a type takes of its owner.
+/// The number of words that one variable of a type takes from its owner.
 pub fn words(env: &Environment, of: Judged<usize>) -> usize
     ensures { result ≡ words_of_type env.now of }
 {
@@ -63,7 +63,7 @@ pub fn words(env: &Environment, of: Judged<usize>) -> usize
 }
 
 impl<'t> Checker<'t> {
-    // The type of a group. Inside its definition its names are names of something, but of no type.
+    // Judges the type of a group. Meanwhile the names of the group are visible, but not as types.
     fn group_type(
         &mut self,
         position: Position,
@@ -80,7 +80,7 @@ impl<'t> Checker<'t> {
         Ok(of)
     }
 
-    // Variables of one type, and their words.
+    // Declares variables of one type, and returns the words that they take.
     fn variable_group(&mut self, position: Position, group: &'t Fields) -> Result<usize, AllocError>
         ensures { IfOk result
             (λ n. Declares self.old self.new n
@@ -93,8 +93,8 @@ impl<'t> Checker<'t> {
         Ok(product(group.names.len(), each))
     }
 
-    /// Declares variables, and answers the words that they take of their owner, counted to one above the limit. It fails only when memory
-    /// runs out.
+    /// Declares variables, and returns the words that they take from their owner, counted up to one
+    /// above the limit. Fails only if memory runs out.
     pub fn variables(
         &mut self,
         position: Position,

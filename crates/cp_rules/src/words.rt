@@ -1,33 +1,33 @@
-//! Words, counted to one above the limit: more are told alike.
+//! Numbers of words, counted up to one above the limit, since larger ones make no difference.
 
 ghost use Rattle.std.specs.Prelude.{◌≡◌, ◌+◌, ◌*◌};
 ghost use Rattle.cp_model.specs.RulesTypes.{capped, is_within};
 
-// The most words of an owner or a type.
+// The largest number of words that an owner or a type may have.
 const LIMIT: usize = 65_536;
 
-/// Whether there are no more words than an owner may have.
+/// Whether this number of words is within the limit.
 pub fn is_within(words: usize) -> bool
     ensures { result ≡ is_within words }
 {
     words <= LIMIT
 }
 
-/// So many words, or one above the limit where there are more.
+/// This number of words, or one above the limit if it is larger.
 pub fn cap(words: usize) -> usize
     ensures { result ≡ capped words }
 {
     words.min(LIMIT + 1)
 }
 
-/// The words of both.
+/// The sum of two numbers of words.
 pub fn sum(a: usize, b: usize) -> usize
     ensures { result ≡ capped (a + b) }
 {
     cap(cap(a) + cap(b))
 }
 
-/// The words of so many of these.
+/// The number of words of `count` items that take `words` words each.
 pub fn product(count: usize, words: usize) -> usize
     ensures { result ≡ capped (count * words) }
 {

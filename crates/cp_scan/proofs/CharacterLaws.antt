@@ -1,4 +1,5 @@
--- A character constant is read as it is spelled; and what is read behind an apostrophe is one, or there is none.
+-- A character constant is read as it is spelled. What is read after an apostrophe is one, or there
+-- is none.
 use Rattle.std.proofs.Common.{◌≡◌, ℕ, suc, ◌+◌, ◌≤◌, Bool, true, false, cond, not, ◌&&◌, nat_le, List, [], ◌∷◌, ◌++◌, length, take, drop, Some, Ok, Err, refl, sym, ap, subst, ◌∙◌, inl, inr, append_assoc, length-append, arith}
 use Rattle.std.specs.Prelude.{◌==◌}
 use Rattle.std.proofs.Math.Seq.{take-append_seam}
@@ -22,7 +23,7 @@ shown_again : (n : ℕ) (rest : List ℕ) → is_printable n ≡ true → is_apo
 unfolding character
 shown_again n rest printable other = rw (printable, other) refl
 
--- what `coded` asks of the digits, and of what is behind them
+-- what `coded` requires of the digits and of what follows them
 abbrev pub is_small : ℕ → ℕ → Bool
 is_small n value = nat_le 1 n && nat_le n 3 && nat_le value 127
 
@@ -30,7 +31,7 @@ abbrev pub is_closed : ℕ → ℕ → List ℕ → Bool
 is_closed n value behind =
     is_small n value && head_or_zero behind == 58 && head_or_zero (drop 1 behind) == 41 && head_or_zero (drop 2 behind) == 39
 
--- the constant of so many digits
+-- the constant with `n` digits
 abbrev pub constant_of : ℕ → List ℕ → Piece
 constant_of n digits = Ok (Some (kind.Character (decimal_value digits)), n + 6)
 
@@ -72,7 +73,7 @@ character_again n bytes rest (inr h) =
 
 -- ---- the other way
 
--- a byte that is seen and isn't 0 stands in front
+-- if the first byte is `suc c`, the text begins with it
 head_is : (c : ℕ) (text : List ℕ) → (head_or_zero text == suc c) ≡ true → (rest : List ℕ) × (text ≡ suc c ∷ rest)
 head_is c [] e = absurd (let z = eqb-true 0 (suc c) e in omega arith)
 head_is c (b ∷ rest) e = (rest, ap (λ (v : ℕ). v ∷ rest) (eqb-true b (suc c) e))
@@ -92,7 +93,7 @@ holds_shown : (b n : ℕ) (rest : List ℕ) → is_apostrophe b ≡ true → is_
 holds_shown b n rest h printable other =
     (b ∷ n ∷ 39 ∷ [], rest, refl, refl, inl (printable, other, ap (λ (v : ℕ). v ∷ n ∷ 39 ∷ []) (eqb-true b 39 h)))
 
--- the three bytes behind the digits of an ordinal
+-- the three bytes after the digits of an ordinal
 end_is : (text : List ℕ) → (head_or_zero text == 58) ≡ true → (head_or_zero (drop 1 text) == 41) ≡ true
     → (head_or_zero (drop 2 text) == 39) ≡ true → (rest : List ℕ) × (text ≡ 58 ∷ 41 ∷ 39 ∷ rest)
 end_is text x y z =
@@ -104,7 +105,7 @@ end_is text x y z =
     let c = head_is 38 b.0 (subst behind b.1 (subst third a.1 z)) in
     (c.0, a.1 ∙ ap (λ (w : List ℕ). 58 ∷ w) b.1 ∙ ap (λ (w : List ℕ). 58 ∷ 41 ∷ w) c.1)
 
--- what the tests of `is_closed` tell; they group to the left
+-- what the tests of `is_closed` mean; they group to the left
 small_parts : (n value : ℕ) → is_small n value ≡ true → (1 ≤ n) × (n ≤ 3) × (value ≤ 127)
 small_parts n value h =
     let c = and_parts (nat_le 1 n && nat_le n 3) (nat_le value 127) h in

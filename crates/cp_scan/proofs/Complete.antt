@@ -1,4 +1,4 @@
--- The row of pieces that spells a text is the one that is found.
+-- The list of pieces that spells a text is the one that is found.
 use Rattle.std.proofs.Common.{◌≡◌, ℕ, zero, suc, ◌+◌, ◌≤◌, List, [], ◌∷◌, ◌++◌, length, Option, Ok, Err, refl, sym, ap, subst, ◌∙◌, length-append, arith}
 use Rattle.std.proofs.lemmas.List.{append-nil, drop_at}
 use Rattle.cp_model.specs.Spelling.{IsPiece, Row, Spells, SpelledUpTo}
@@ -24,7 +24,7 @@ piece_found n at k (b ∷ bs) rest found o is_piece others =
     (drop_at (b ∷ bs) rest (length (b ∷ bs)) refl)
     ∙ others
 
--- what comes of a row of pieces is what comes of the rest behind it
+-- a list of pieces has the same outcome as the rest of the text after it
 row_leads : (n at : ℕ) (ps : List (Option Kind × List ℕ)) (text : List ℕ) (tokens : List Token) (last : List ℕ) (found : List Token)
     (o : Outcome) → length text ≤ n → Row at ps text tokens last
     → ((m place : ℕ) → length last ≤ m → place + length last ≡ at + length text → pieces m place last (found ++ tokens) ≡ o)
@@ -68,7 +68,7 @@ cause_found zero at c (b ∷ rest) found le h = absurd (omega arith)
 cause_found (suc n) at c (b ∷ rest) found le h =
     turn n at b rest found ∙ ap (λ (r : Piece). goes_on r at (after n at (b ∷ rest) found)) (cause_again c (b ∷ rest) h)
 
--- a text that is spelled up to a cause is refused for it there
+-- a text that is spelled up to a cause is refused for that cause there
 pub refusal_found : (text : List ℕ) (c : Cause) (at : ℕ) (rest : List ℕ) → SpelledUpTo text at rest → StandsIn c rest → tokens_of text ≡ Err (c, at)
 refusal_found text c at rest h stands =
     row_leads (length text) 0 h.0 text h.1 rest [] (Err (c, at)) (omega arith) h.2

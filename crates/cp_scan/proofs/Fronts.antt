@@ -1,4 +1,5 @@
--- What the piece at the front of a text tells, and what it is for a text that begins with a piece.
+-- What the piece at the front of a text says about the text, and what it is if the text begins with
+-- a piece.
 use Rattle.std.proofs.Common.{◌≡◌, ℕ, Bool, true, false, cond, List, [], ◌∷◌, ◌++◌, length, Option, Some, None, Ok, Err, inl, inr}
 use Rattle.std.proofs.lemmas.Bool.{cond_both}
 use Rattle.cp_model.specs.Spelling.{IsPiece, IsWritten}
@@ -19,7 +20,7 @@ front (b ∷ rest) = piece b rest
 abbrev pub Begins : List ℕ → Option Kind → ℕ → Type 0
 Begins text k n = (bytes : List ℕ) × (rest : List ℕ) × (text ≡ bytes ++ rest) × (length bytes ≡ n) × IsPiece k bytes rest
 
--- what is answered is true of the text
+-- the result is true of the text
 abbrev pub Holds : List ℕ → Piece → Type 0
 Holds text (Ok x) = Begins text x.0 x.1
 Holds text (Err c) = StandsIn c text
@@ -27,7 +28,7 @@ Holds text (Err c) = StandsIn c text
 pub by_test : (text : List ℕ) (test : Bool) (x y : Piece) → (test ≡ true → Holds text x) → (test ≡ false → Holds text y) → Holds text (cond test x y)
 by_test text test x y passes fails = cond_both test x y (λ r. Holds text r) passes fails
 
--- a mark has a byte
+-- a mark has at least one byte
 written_some : (x : Symbol) → IsWritten x [] → ⊥
 written_some symbol.Plus e = cc
 written_some symbol.Minus e = cc
@@ -51,7 +52,7 @@ written_some symbol.OpenBracket e = elim e [ inl p ↦ cc | inr q ↦ cc ]
 written_some symbol.CloseBracket e = elim e [ inl p ↦ cc | inr q ↦ cc ]
 written_some _ e = e
 
--- a piece has a byte
+-- a piece has at least one byte
 pub no_empty : (k : Option Kind) (rest : List ℕ) → IsPiece k [] rest → ⊥
 no_empty None rest h = h
 no_empty (Some (kind.Number n)) rest h = h

@@ -1,4 +1,4 @@
--- Any number of turns that is no less than the count of bytes gives the same pieces.
+-- Any bound that is at least the number of bytes gives the same pieces.
 use Rattle.std.proofs.Common.{◌≡◌, ℕ, zero, suc, ◌+◌, ◌≤◌, List, [], ◌∷◌, ◌++◌, length, drop, Option, Ok, Err, refl, sym, ap, ◌∙◌, length-append, arith}
 use Rattle.std.proofs.lemmas.List.{drop_at}
 use Rattle.cp_model.specs.Spelling.{IsPiece}

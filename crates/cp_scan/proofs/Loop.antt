@@ -1,4 +1,4 @@
--- The turns of the scanner's loop, and its end.
+-- The iterations of the scanner's loop, and its end.
 use Rattle.std.proofs.Common.{◌≡◌, ℕ, suc, ◌+◌, ◌-◌, ◌<◌, ◌≤◌, List, [], ◌∷◌, length, drop, Option, Ok, Err, refl, sym, ap, subst, ◌∙◌, length-drop, length-append, arith}
 use Rattle.std.proofs.lemmas.List.{drop_all, drop-drop}
 use Rattle.cp_model.specs.declared.token.Kind.{Kind}
@@ -10,7 +10,7 @@ use Rattle.cp_scan.proofs.Fuel.{same_fuel}
 use Rattle.cp_scan.proofs.PieceLaws.{piece_holds}
 use Rattle.cp_scan.proofs.Turns.{after, turn, at_end, has_bytes}
 
--- what is left of a text begins with its first byte
+-- the rest of a text begins with its first byte
 left_at : (text : List ℕ) → 0 < length text → text ≡ head_or_zero text ∷ drop 1 text
 left_at [] some = absurd (omega arith)
 left_at (b ∷ rest) some = refl
@@ -18,12 +18,12 @@ left_at (b ∷ rest) some = refl
 pub left : (text : List ℕ) (at : ℕ) → at < length text → drop at text ≡ head_or_zero (drop at text) ∷ drop 1 (drop at text)
 left text at inside = left_at (drop at text) (let l = length-drop at text in omega arith)
 
--- the piece that was read is the one in front of what is left
+-- the piece that was read is the one at the front of the rest
 pub read_at : (rest left : List ℕ) (r o : Piece) → rest ≡ left → r ≡ piece (head_or_zero rest) (drop 1 rest) → r ≡ o
     → piece (head_or_zero left) (drop 1 left) ≡ o
 read_at rest left r o same is_front e = ap (λ (w : List ℕ). piece (head_or_zero w) (drop 1 w)) (sym same) ∙ sym is_front ∙ e
 
--- a piece has a byte, and no more than there are
+-- a piece has at least one byte, and no more than there are
 piece_length : (b : ℕ) (rest : List ℕ) (k : Option Kind) (n : ℕ) → piece b rest ≡ Ok (k, n) → (0 < n) × (n ≤ length (b ∷ rest))
 piece_length b rest k n e =
     let h : Holds (b ∷ rest) (Ok (k, n)) = subst (λ (r : Piece). Holds (b ∷ rest) r) e (piece_holds b rest) in

@@ -1,4 +1,5 @@
--- A mark is read as it is written, where no longer one fits; and what is read is a mark, or a byte that begins none.
+-- A mark is read as it is written, unless a longer one fits. What is read is a mark, or a byte that
+-- begins none.
 use Rattle.std.proofs.Common.{◌≡◌, ℕ, suc, true, false, cond, ◌||◌, List, [], ◌∷◌, ◌++◌, length, Some, Ok, Err, refl, sym, subst, ◌∙◌, inl, inr}
 use Rattle.std.specs.Prelude.{◌==◌}
 use Rattle.std.proofs.lemmas.Bool.{eqb-true, or_parts, or_from}
@@ -74,19 +75,19 @@ mark_again _ bytes rest e s = absurd e
 
 -- ---- the other way
 
--- the bytes of a mark, one by one, in place of those that it is written with
+-- the bytes of a mark, each replaced by an equal one
 same_byte : (x : Symbol) (b own : ℕ) (bytes : List ℕ) → (b == own) ≡ true → IsWritten x (own ∷ bytes) → IsWritten x (b ∷ bytes)
 same_byte x b own bytes e w = subst (λ (v : ℕ). IsWritten x (v ∷ bytes)) (sym (eqb-true b own e)) w
 
 same_second : (x : Symbol) (own c next : ℕ) → (c == next) ≡ true → IsWritten x (own ∷ next ∷ []) → IsWritten x (own ∷ c ∷ [])
 same_second x own c next e w = subst (λ (v : ℕ). IsWritten x (own ∷ v ∷ [])) (sym (eqb-true c next e)) w
 
--- no byte goes on a mark that is no beginning of a longer one
+-- no byte continues a mark that doesn't start like a longer one
 quiet : (x : Symbol) (rest : List ℕ) → ((c : ℕ) → grows x c ≡ false) → Stops (grows x) rest
 quiet x [] never = tt
 quiet x (c ∷ rest) never = never c
 
--- the byte behind isn't the one that goes on the mark, or none of two
+-- the next byte isn't the one, or one of the two, that continue the mark
 stops_one : (x : Symbol) (n : ℕ) (rest : List ℕ) → ((c : ℕ) → grows x c ≡ (c == n)) → (head_or_zero rest == n) ≡ false
     → Stops (grows x) rest
 stops_one x n [] by_byte f = tt
@@ -126,7 +127,7 @@ module _ (b : ℕ) (rest : List ℕ) (no_blank : is_blank b ≡ false) (no_quote
         cc,
   )
 
-  -- whether the byte behind is this one
+  -- whether the next byte is this one
   by_next : (n : ℕ) (x y : Piece) → ((head_or_zero rest == n) ≡ true → Holds (b ∷ rest) x) → ((head_or_zero rest == n) ≡ false → Holds (b ∷ rest) y)
       → Holds (b ∷ rest) (cond (head_or_zero rest == n) x y)
   by_next n x y at_next at_other = by_test (b ∷ rest) (head_or_zero rest == n) x y at_next at_other
@@ -170,7 +171,7 @@ module _ (b : ℕ) (rest : List ℕ) (no_blank : is_blank b ≡ false) (no_quote
       by_test (b ∷ rest) (b == 40) _ _ parenthesis_holds (λ f5.
       bad_byte (λ c. goes c ∙ rw (f1, f2, f3, f4, f5) refl))))))
 
-  -- a mark of one byte, whatever is behind it
+  -- a mark of one byte, whatever follows it
   only : (x : Symbol) (own : ℕ) → IsWritten x (own ∷ []) → ((c : ℕ) → grows x c ≡ false) → (b == own) ≡ true → Holds (b ∷ rest) (one x)
   only x own w never e = one_holds x own b rest w (quiet x rest never) e
 

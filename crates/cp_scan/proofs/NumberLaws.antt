@@ -1,4 +1,5 @@
--- A number is read as it is spelled, as far as its digits go; and what is read is a number, or one above the limit.
+-- A number is read as it is spelled, to its last digit. What is read is a number, or one above the
+-- limit.
 use Rattle.std.proofs.Common.{◌≡◌, ℕ, suc, ◌≤◌, true, false, cond, nat_lt, List, [], ◌∷◌, ◌++◌, length, take, drop, Some, Ok, Err, refl, sym, ap, ◌∙◌, arith}
 use Rattle.std.proofs.Math.Seq.{take-append_seam}
 use Rattle.std.proofs.lemmas.Bool.{le-ltb, ltb-true, ltb-false}
@@ -34,7 +35,7 @@ number_again n (b ∷ bs) rest h =
     ∙ ap (λ (v : ℕ). Ok (Some (kind.Number v), length (b ∷ bs))) (sym h.3)
 
 module _ (b : ℕ) (rest : List ℕ) (digit : is_digit b ≡ true) where
-  -- the digits behind the first one
+  -- the digits after the first one
   more : ℕ
   more = run is_digit rest
 

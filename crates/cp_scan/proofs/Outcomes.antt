@@ -1,4 +1,5 @@
--- What an answer of the code tells of a text, where it is the outcome of the functions of `Pieces`.
+-- What a result of the code says about a text, given that it is the outcome of the functions of
+-- `Pieces`.
 use Rattle.std.proofs.Common.{◌≡◌, ℕ, ◌≤◌, List, length, Result, Ok, Err, IfOk, IfErr, MatchResult, Global, refl, sym, ap, ◌∙◌, inl, inr, arith}
 use Rattle.std.specs.declared.vec.Vec.{Vec}
 use Rattle.cp_model.specs.Spelling.{Spells, SpelledUpTo}
@@ -46,7 +47,7 @@ first_found text cause.Number at le h = refusal_found text cause.Number at h.1.0
 first_found text cause.Word at le h = refusal_found text cause.Word at h.1.0 h.1.1 h.1.2
 first_found text cause.Size at le h = absurd (let over = h.0 in omega arith)
 
--- the error that an outcome is told as
+-- the error that an outcome is reported as
 abbrev of_outcome : Outcome → ScanError
 of_outcome (Ok tokens) = error.Memory
 of_outcome (Err e) = error.Refused e.0 e.1

@@ -1,4 +1,5 @@
--- The piece at the front of a text is the one that the definition has there, and where there is none, its cause stands there.
+-- The piece at the front of a text is the one that the definition has there. If there is none, its
+-- cause holds there.
 use Rattle.std.proofs.Common.{◌≡◌, ℕ, List, ◌∷◌, ◌++◌, length, Option, Some, None, Ok, inl, inr}
 use Rattle.cp_model.specs.Characters.{is_blank, is_digit, is_letter, is_quote, is_apostrophe}
 use Rattle.cp_model.specs.Spelling.{IsPiece}

@@ -1,4 +1,4 @@
--- The longest run of bytes of a sort at the front of a text.
+-- The longest run at the front of a text of bytes that satisfy a predicate.
 use Rattle.std.proofs.Common.{◌≡◌, ℕ, suc, ◌≤◌, Bool, true, false, cond, List, [], ◌∷◌, ◌++◌, length, take, drop, refl, sym, ap, arith}
 use Rattle.std.proofs.lemmas.List.{take-append-drop, length-take-le}
 use Rattle.cp_model.specs.Spelling.{Each, Stops}
@@ -34,7 +34,7 @@ run_stops p (b ∷ rest) = stops_at p b rest (run p rest) (p b) refl (run_stops 
 pub length_run : (p : ℕ → Bool) (text : List ℕ) → length (take (run p text) text) ≡ run p text
 length_run p text = length-take-le (run p text) text (run_within p text)
 
--- the run and what is behind it
+-- the run and what follows it
 pub run_splits : (p : ℕ → Bool) (text : List ℕ) → text ≡ take (run p text) text ++ drop (run p text) text
 run_splits p text = sym (take-append-drop (run p text) text)
 

@@ -1,4 +1,5 @@
--- A separator is read as it is written; and what is read behind a `"` is a comment, or one without an end.
+-- A separator is read as it is written. What is read after a `"` is a comment, or one without an
+-- end.
 use Rattle.std.proofs.Common.{◌≡◌, ℕ, suc, ◌+◌, ◌-◌, ◌<◌, Bool, true, false, cond, not, nat_lt, List, [], ◌∷◌, ◌++◌, length, take, drop, None, Ok, Err, refl, sym, ap, subst, ◌∙◌, inl, inr, append_assoc, length-append, arith}
 use Rattle.std.proofs.lemmas.Bool.{eqb-true, not-false, lt-ltb, ltb-true, ltb-false}
 use Rattle.std.proofs.lemmas.List.{take_all, length-drop}
@@ -53,7 +54,7 @@ separator_again (b ∷ bs) rest (inr quoted) = comment_again b bs rest quoted.1.
 pub blank_holds : (b : ℕ) (rest : List ℕ) → is_blank b ≡ true → Holds (b ∷ rest) (Ok (None, 1))
 blank_holds b rest blank = (b ∷ [], rest, refl, refl, inl (blank, refl))
 
--- what is behind the bytes inside a comment, where anything is, begins with a quote
+-- if anything follows the bytes inside a comment, it begins with a quote
 quote_behind : (rest : List ℕ) → Stops is_inside rest → 0 < length rest → (more : List ℕ) × (rest ≡ 34 ∷ more)
 quote_behind [] stops some = absurd (omega arith)
 quote_behind (c ∷ more) stops some = (more, let e = eqb-true c 34 (not-false (is_quote c) stops) in ap (λ (v : ℕ). v ∷ more) e)

@@ -1,4 +1,5 @@
--- The tokens that are found spell the text; where none are, the text is spelled up to the first cause.
+-- The tokens that are found spell the text. If there are none, the text is spelled up to the first
+-- cause.
 use Rattle.std.proofs.Common.{◌≡◌, ℕ, zero, suc, ◌+◌, ◌≤◌, List, [], ◌∷◌, ◌++◌, length, drop, Option, Ok, Err, refl, sym, ap, subst, ◌∙◌, length-append, arith}
 use Rattle.std.proofs.lemmas.List.{append-nil, drop_at}
 use Rattle.cp_model.specs.Spelling.{IsPiece, Row, Spells, SpelledUpTo}
@@ -12,7 +13,7 @@ use Rattle.cp_scan.proofs.Fronts.{Holds}
 use Rattle.cp_scan.proofs.PieceLaws.{piece_holds}
 use Rattle.cp_scan.proofs.Turns.{after, turn, at_end, has_bytes, put_in_front}
 
--- what an outcome from a place on tells of the text from there on, where these tokens were found before
+-- what an outcome says about the text from `at` on, if the tokens `found` come before
 Tells : ℕ → List ℕ → List Token → Outcome → Type 0
 Tells at text found (Ok tokens) = (ps : List (Option Kind × List ℕ)) × (others : List Token) × Row at ps text others [] × (tokens ≡ found ++ others)
 Tells at text found (Err e) = (ps : List (Option Kind × List ℕ)) × (others : List Token) × (rest : List ℕ) × Row at ps text others rest
@@ -36,7 +37,7 @@ with_piece at k bytes rest found (Err e) is_piece h = (
   h.5,
 )
 
--- one turn, whatever the piece in front
+-- one iteration, whatever the piece at the front
 told_by : (at : ℕ) (text : List ℕ) (found : List Token) (r : Piece) (next : Option Kind → ℕ → Outcome) → Holds text r
     → ((k : Option Kind) (bytes rest : List ℕ) → text ≡ bytes ++ rest → IsPiece k bytes rest
     → Tells (at + length bytes) rest (with_token k at (at + length bytes) found) (next k (length bytes)))

@@ -1,4 +1,4 @@
--- The spans of the tokens that spell a text rise and lie apart.
+-- The spans of the tokens that spell a text rise and don't overlap.
 use Rattle.std.proofs.Common.{◌≡◌, ℕ, ◌+◌, ◌≤◌, List, [], ◌∷◌, ◌++◌, length, Option, Some, None, subst, ap, length-append, zero-add, arith}
 use Rattle.cp_model.specs.Spelling.{IsPiece, Row, Spells}
 use Rattle.cp_model.specs.Spelling as spelling

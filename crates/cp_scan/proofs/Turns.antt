@@ -1,4 +1,4 @@
--- The turns of `pieces`: the piece in front, and what follows it.
+-- The iterations of `pieces`: the piece at the front, and what follows it.
 use Rattle.std.proofs.Common.{◌≡◌, ℕ, zero, suc, ◌+◌, ◌<◌, List, [], ◌∷◌, ◌++◌, length, drop, Option, Some, None, Ok, refl, append_assoc, arith}
 use Rattle.cp_model.specs.Spelling.{IsPiece}
 use Rattle.cp_model.specs.Spelling as spelling
@@ -25,7 +25,7 @@ pub has_bytes : (k : Option Kind) (bytes rest : List ℕ) → IsPiece k bytes re
 has_bytes k [] rest is_piece = absurd (no_empty k rest is_piece)
 has_bytes k (b ∷ bs) rest is_piece = omega arith
 
--- tokens found before come before the others
+-- tokens that were found before come before the others
 pub put_in_front : (k : Option Kind) (from to : ℕ) (found others : List Token)
     → with_token k from to found ++ others ≡ found ++ spelling.with_token k from to others
 put_in_front None from to found others = refl

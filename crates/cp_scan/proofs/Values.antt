@@ -1,10 +1,10 @@
--- A value that stops growing at 32768 is the value of the digits, cut there.
+-- A value that stops growing at 32768 is the value of the digits, capped at 32768.
 use Rattle.std.proofs.Common.{◌≡◌, ℕ, ◌+◌, ◌-◌, ◌*◌, ◌≤◌, min, List, [], ◌∷◌, drop, length, refl, sym, ◌∙◌, ap, arith}
 use Rattle.std.proofs.lemmas.List.{at_drop_all}
 use Rattle.std.specs.List.{fold}
 use Rattle.cp_model.specs.Characters.{decimal_value}
 
--- the value so far, and what the rest of the digits makes of it
+-- the value so far, continued with the rest of the digits
 abbrev pub capped_from : ℕ → List ℕ → ℕ
 capped_from = fold (λ n b. min (10 * n + (b - 48)) 32768)
 

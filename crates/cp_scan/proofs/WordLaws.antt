@@ -1,4 +1,4 @@
--- A word is read as it is spelled, as far as it goes; and what is read is a word, or one that is too long.
+-- A word is read as it is spelled, to its end. What is read is a word, or one that is too long.
 use Rattle.std.proofs.Common.{◌≡◌, ℕ, suc, true, false, cond, nat_lt, List, [], ◌∷◌, ◌++◌, length, take, drop, map, Some, Ok, Err, refl, sym, ap, ◌∙◌, inl, arith}
 use Rattle.std.proofs.Math.Seq.{take-append_seam}
 use Rattle.std.proofs.lemmas.Bool.{le-ltb, ltb-true, ltb-false, cond_both}
@@ -55,7 +55,7 @@ as_piece (kind.Number n) bytes rest is_kind h = absurd is_kind
 as_piece (kind.Character n) bytes rest is_kind h = absurd is_kind
 
 module _ (b : ℕ) (rest : List ℕ) (letter : is_letter b ≡ true) where
-  -- the letters, digits and underscores behind the first letter
+  -- the letters, digits and underscores after the first letter
   more : ℕ
   more = run is_in_word rest
 

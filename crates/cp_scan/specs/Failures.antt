@@ -1,4 +1,4 @@
--- How an error of the code stands to the functions of `Pieces`, which know no want of memory.
+-- How an error of the code relates to the functions of `Pieces`, which never run out of memory.
 use Rattle.std.specs.Prelude.{◌≡◌, Err}
 use Rattle.cp_scan.specs.Pieces.{Outcome}
 use Rattle.cp_scan.specs.declared.refusal.ScanError.{ScanError}

@@ -1,4 +1,4 @@
--- What a scan tells of a text, in the words of `Spelling`.
+-- What a scan says about a text, in terms of `Spelling`.
 use Rattle.std.specs.Prelude.{◌≡◌, ℕ, ◌≤◌, ◌<◌, List, [], ◌∷◌, length, ◌⊎◌}
 use Rattle.cp_model.specs.Spelling.{Spells, SpelledUpTo, IsBadByte, IsOpenComment, IsBadCharacter, IsLargeNumber, IsLongWord}
 use Rattle.cp_model.specs.declared.token.Token.{Token}
@@ -7,11 +7,11 @@ use Rattle.cp_scan.specs.declared.refusal.Cause.TheVariants as cause
 use Rattle.cp_scan.specs.declared.refusal.ScanError.{ScanError}
 use Rattle.cp_scan.specs.declared.refusal.ScanError.TheVariants as error
 
--- the most bytes of a text
+-- The largest number of bytes that a text may have.
 abbrev pub longest_text : ℕ
 longest_text = 1048576
 
--- the cause stands at the front of what is left of a text
+-- The cause holds at the front of the rest of a text.
 abbrev pub StandsIn : Cause → List ℕ → Type 0
 StandsIn cause.Byte rest = IsBadByte rest
 StandsIn cause.Comment rest = IsOpenComment rest
@@ -20,26 +20,27 @@ StandsIn cause.Number rest = IsLargeNumber rest
 StandsIn cause.Word rest = IsLongWord rest
 StandsIn cause.Size rest = ⊥
 
--- the text is too long, or it is spelled up to this place, and there the cause stands
+-- The text is too long, or it is spelled up to this place and the cause holds there.
 abbrev pub IsFirstCause : Cause → ℕ → List ℕ → Type 0
 IsFirstCause cause.Size at text = (longest_text < length text) × (at ≡ longest_text)
 IsFirstCause c at text = (length text ≤ longest_text) × ((rest : List ℕ) × SpelledUpTo text at rest × StandsIn c rest)
 
--- what an error tells of a text. Want of memory tells nothing of it
+-- What an error says about a text. Running out of memory says nothing about it.
 abbrev pub TellsFirstCause : List ℕ → ScanError → Type 0
 TellsFirstCause text (error.Refused c at) = IsFirstCause c at text
 TellsFirstCause text error.Memory = Unit {0}
 
--- the error tells this cause at this place, or want of memory
+-- The error is a refusal with this cause at this place, or it is that memory ran out.
 abbrev pub IsRefusalOrMemory : Cause → ℕ → ScanError → Type 0
 IsRefusalOrMemory c at e = (e ≡ error.Refused c at) ⊎ (e ≡ error.Memory)
 
--- a text that is refused, and isn't too long, has no tokens at all
+-- A text that is refused although it isn't too long has no tokens at all.
 abbrev pub RulesOutTokens : List ℕ → ScanError → Type 0
 RulesOutTokens text (error.Refused c at) = length text ≤ longest_text → (tokens : List Token) → Spells text tokens → ⊥
 RulesOutTokens text error.Memory = Unit {0}
 
--- the spans of the tokens have bytes, rise and lie apart, from a place on and up to an end
+-- The spans of the tokens are not empty, rise and don't overlap. They start at `at` or later and
+-- end by `end`.
 abbrev pub RisesFrom : ℕ → List Token → ℕ → Type 0
 RisesFrom at [] end = at ≤ end
 RisesFrom at (t ∷ ts) end = (at ≤ t.span.from) × (t.span.from < t.span.to) × RisesFrom t.span.to ts end

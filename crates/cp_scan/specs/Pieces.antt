@@ -1,5 +1,7 @@
--- The piece at the front of a text, and all pieces of a text from left to right, as total functions on lists of bytes.
--- The code computes these functions; that they agree with the relation of `Spelling` is proved apart from it.
+-- The piece at the front of a text, and all pieces of a text from left to right, as total functions
+-- on lists of bytes.
+-- The code computes these functions. That they agree with the relation of `Spelling` is proved
+-- separately.
 use Rattle.std.specs.Prelude.{ℕ, zero, suc, ◌+◌, Bool, ◌&&◌, not, nat_lt, nat_le, ◌==◌, if◌then◌else◌, List, [], ◌∷◌, ◌++◌, length, take, drop, map, Option, Some, None, Result, Ok, Err}
 use Rattle.cp_model.specs.Characters.{is_blank, is_digit, is_letter, is_in_word, is_quote, is_apostrophe, is_printable, lower, decimal_value}
 use Rattle.cp_model.specs.Spelling.{kind_of_word}
@@ -11,11 +13,12 @@ use Rattle.cp_model.specs.declared.token.Token.{Token}
 use Rattle.cp_scan.specs.declared.refusal.Cause.{Cause}
 use Rattle.cp_scan.specs.declared.refusal.Cause.TheVariants as cause
 
--- a token's kind, or none for a separator, and the length; or why no piece begins here
+-- The kind of a token, or `None` for a separator, and the length. Or else the cause why no piece
+-- begins here.
 abbrev pub Piece : Type 0
 Piece = Result (Option Kind × ℕ) Cause
 
--- how many bytes at the front are such bytes
+-- The number of bytes at the front that satisfy p.
 abbrev pub run : (ℕ → Bool) → List ℕ → ℕ
 run p [] = 0
 run p (b ∷ bs) = if p b then suc (run p bs) else 0
@@ -24,7 +27,7 @@ abbrev pub head_or_zero : List ℕ → ℕ
 head_or_zero [] = 0
 head_or_zero (b ∷ bs) = b
 
--- ---- words and numbers, with the whole text before them
+-- ---- words and numbers, from their first byte
 
 unfoldable pub word : List ℕ → Piece
 word text =
@@ -37,14 +40,14 @@ number text =
     let value = decimal_value (take n text) in
     if nat_lt 32767 value then Err cause.Number else Ok (Some (kind.Number value), n)
 
--- ---- comments and character constants, behind their first byte
+-- ---- comments and character constants, after their first byte
 
 unfoldable pub comment : List ℕ → Piece
 comment rest =
     let n = run (λ b. not (is_quote b)) rest in
     if nat_lt n (length rest) then Ok (None, n + 2) else Err cause.Comment
 
--- behind `'(:`
+-- The rest of a character constant after `'(:`.
 unfoldable pub coded : List ℕ → Piece
 coded rest =
     let n = run is_digit rest in
@@ -61,7 +64,7 @@ character rest =
     if c == 39 && is_printable b && not (is_apostrophe b) then Ok (Some (kind.Character b), 3)
     else (if b == 40 && c == 58 then coded (drop 2 rest) else Err cause.Character)
 
--- ---- marks, by their first byte and the one behind it
+-- ---- marks, by their first byte and the one after it
 
 abbrev pub one : Symbol → Piece
 one x = Ok (Some (kind.Symbol x), 1)
@@ -69,7 +72,7 @@ one x = Ok (Some (kind.Symbol x), 1)
 abbrev pub two : Symbol → Piece
 two x = Ok (Some (kind.Symbol x), 2)
 
--- the marks that are a beginning of a longer one
+-- The marks that start like a longer one.
 unfoldable pub longer_mark : ℕ → ℕ → Piece
 longer_mark b c =
     if b == 60 then (if c == 61 then two symbol.AtMost else (if c == 62 then two symbol.Unequal else one symbol.Less))
@@ -93,7 +96,7 @@ mark b c =
     else (if b == 59 then one symbol.Semicolon
     else longer_mark b c)))))))))
 
--- ---- any piece, by its first byte and what is behind it
+-- ---- any piece, by its first byte and what follows it
 
 unfoldable pub piece : ℕ → List ℕ → Piece
 piece b rest =
@@ -106,7 +109,7 @@ piece b rest =
 
 -- ---- all pieces of a text
 
--- the tokens, or the first cause and its place
+-- The tokens, or the first cause and its place.
 abbrev pub Outcome : Type 0
 Outcome = Result (List Token) (Cause × ℕ)
 
@@ -118,7 +121,8 @@ abbrev pub goes_on : Piece → ℕ → (Option Kind → ℕ → Outcome) → Out
 goes_on (Ok x) at f = f x.0 x.1
 goes_on (Err c) at f = Err (c, at)
 
--- the number bounds the turns: each piece has a byte, so the count of bytes is enough
+-- `n` bounds the number of pieces. Each piece has at least one byte, so the number of bytes is
+-- enough.
 unfoldable pub pieces : ℕ → ℕ → List ℕ → List Token → Outcome
 pieces n at [] found = Ok found
 pieces zero at (b ∷ rest) found = Ok found

@@ -1,4 +1,4 @@
--- What a word is, by what a look-up among reserved words found.
+-- The kind of a word, from the result of looking it up among the reserved words.
 use Rattle.std.specs.Prelude.{ℕ, List, Option, Some, None}
 use Rattle.cp_model.specs.declared.token.Kind.{Kind}
 use Rattle.cp_model.specs.declared.token.Kind.TheVariants as kind

@@ -1,4 +1,5 @@
-//! The bytes of a text: which begin or go on a word, a number, a comment. `Characters` of cp_model defines the sorts.
+//! The bytes of a text: which of them begin or continue a word, a number or a comment. `Characters`
+//! of cp_model defines the sorts.
 
 ghost use Rattle.std.specs.Prelude.{◌≡◌, ◌≤◌, ◌<◌, drop, length, not};
 ghost use Rattle.cp_model.specs.Characters as character;
@@ -27,28 +28,28 @@ pub fn is_letter(b: u8) -> bool
     b.is_ascii_alphabetic()
 }
 
-/// A letter, a digit or an underscore: what goes on a word.
+/// A letter, a digit or an underscore: a byte that continues a word.
 pub fn is_in_word(b: u8) -> bool
     ensures { result ≡ character.is_in_word b }
 {
     is_letter(b) || is_digit(b) || b == b'_'
 }
 
-/// What a character constant shows as itself, the apostrophe aside.
+/// A byte that can stand for itself in a character constant, or the apostrophe.
 pub fn is_printable(b: u8) -> bool
     ensures { result ≡ character.is_printable b }
 {
     matches!(b, b' '..=b'~')
 }
 
-/// A letter in lower case.
+/// Converts a letter to lower case.
 pub fn lower(b: u8) -> u8
     ensures { result ≡ character.lower b }
 {
     b.to_ascii_lowercase()
 }
 
-/// The byte at an index, or 0 behind the end.
+/// The byte at an index, or 0 after the end.
 pub fn byte_at(text: &[u8], i: usize) -> u8
     ensures value { result ≡ head_or_zero (drop i text.now) }
     ensures within { 0 < result → i < length text.now }
@@ -56,7 +57,7 @@ pub fn byte_at(text: &[u8], i: usize) -> u8
     if i < text.len() { text[i] } else { 0 }
 }
 
-/// How many bytes at the front go on a word.
+/// The number of bytes at the front that continue a word.
 pub fn word_length(text: &[u8]) -> usize
     ensures run { result ≡ run character.is_in_word text.now }
     ensures within { result ≤ length text.now }
@@ -68,7 +69,7 @@ pub fn word_length(text: &[u8]) -> usize
     n
 }
 
-/// How many bytes at the front are digits.
+/// The number of bytes at the front that are digits.
 pub fn digit_count(text: &[u8]) -> usize
     ensures run { result ≡ run character.is_digit text.now }
     ensures within { result ≤ length text.now }
@@ -80,7 +81,7 @@ pub fn digit_count(text: &[u8]) -> usize
     n
 }
 
-/// How many bytes stand before the first `"`.
+/// The number of bytes before the first `"`.
 pub fn length_before_quote(text: &[u8]) -> usize
     ensures run { result ≡ run (λ b. not (character.is_quote b)) text.now }
     ensures within { result ≤ length text.now }

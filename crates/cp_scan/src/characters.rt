@@ -1,5 +1,5 @@
-//! Character constants: a character between apostrophes, or its ordinal between `'(:` and `:)'`. `character` and `coded` of
-//! `specs/Pieces.antt` define what is read.
+//! Character constants: a character between apostrophes, or its ordinal between `'(:` and `:)'`.
+//! `character` and `coded` of `specs/Pieces.antt` define what is read.
 
 ghost use Rattle.std.specs.Prelude.{◌≡◌};
 ghost use Rattle.cp_scan.specs.Pieces as spec;
@@ -10,7 +10,8 @@ use crate::piece::Front;
 use crate::refusal::Cause;
 use cp_model::token::Kind;
 
-// The character constant by its ordinal, whose `'(:` stands before this rest of the text.
+// Reads the rest of a character constant that gives an ordinal. The text before `rest` ends with
+// its `'(:`.
 #[tactic(auto, unfolding(crate::specs::Pieces::coded))]
 fn character_by_ordinal(rest: &[u8]) -> Front
     ensures { result ≡ spec.coded rest.now }
@@ -28,7 +29,7 @@ fn character_by_ordinal(rest: &[u8]) -> Front
     }
 }
 
-/// The character constant whose opening apostrophe stands before this rest of the text.
+/// Reads the rest of a character constant. The text before `rest` ends with its opening apostrophe.
 #[tactic(auto, unfolding(crate::specs::Pieces::character))]
 pub fn character(rest: &[u8]) -> Front
     ensures { result ≡ spec.character rest.now }

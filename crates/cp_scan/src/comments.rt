@@ -1,4 +1,5 @@
-//! Comments: any bytes but `"` between two of these. `comment` of `specs/Pieces.antt` defines what is read.
+//! Comments: any bytes but `"` between two `"`. `comment` of `specs/Pieces.antt` defines what is
+//! read.
 
 ghost use Rattle.std.specs.Prelude.{◌≡◌};
 ghost use Rattle.cp_scan.specs.Pieces as spec;
@@ -7,7 +8,7 @@ use crate::bytes::length_before_quote;
 use crate::piece::Front;
 use crate::refusal::Cause;
 
-/// The comment whose opening `"` stands before this rest of the text.
+/// Reads the rest of a comment. The text before `rest` ends with its opening `"`.
 #[tactic(auto, unfolding(crate::specs::Pieces::comment))]
 pub fn comment(rest: &[u8]) -> Front
     ensures { result ≡ spec.comment rest.now }

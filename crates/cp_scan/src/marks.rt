@@ -1,5 +1,6 @@
-//! Marks, the longest that fits. Their spellings stand in `Spelling` of cp_model; `mark` and `longer_mark` of `specs/Pieces.antt`
-//! find them by the first byte and the one behind it.
+//! Marks, where the longest that fits is read. `Spelling` of cp_model defines their spellings.
+//! `mark` and `longer_mark` of `specs/Pieces.antt` find them by the first byte and the one after
+//! it.
 
 ghost use Rattle.std.specs.Prelude.{◌≡◌};
 ghost use Rattle.cp_scan.specs.Pieces as spec;
@@ -20,7 +21,7 @@ fn two(symbol: Symbol) -> Front
     Ok((Some(Kind::Symbol(symbol)), 2))
 }
 
-// The marks that are a beginning of a longer one.
+// Reads a mark that starts like a longer one.
 #[tactic(auto, unfolding(crate::specs::Pieces::longer_mark))]
 fn longer_mark(b: u8, c: u8) -> Front
     ensures { result ≡ spec.longer_mark b c }
@@ -42,7 +43,7 @@ fn longer_mark(b: u8, c: u8) -> Front
     }
 }
 
-/// The mark that begins with `b`, where `c` is the byte behind it, or 0 at the end of the text.
+/// The mark that begins with `b`. The byte after `b` is `c`, or `c` is 0 at the end of the text.
 #[tactic(auto, unfolding(crate::specs::Pieces::mark))]
 pub fn mark(b: u8, c: u8) -> Front
     ensures { result ≡ spec.mark b c }

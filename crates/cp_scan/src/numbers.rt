@@ -1,5 +1,5 @@
-//! Numbers up to 32767, in decimal digits. A value stops growing above that, so any count of digits is read. `number` of
-//! `specs/Pieces.antt` defines what is read.
+//! Numbers up to 32767, in decimal digits. Above that the computed value stops growing, so any
+//! number of digits can be read. `number` of `specs/Pieces.antt` defines what is read.
 
 ghost use Rattle.std.specs.Prelude.{◌≡◌, ◌≤◌, min};
 ghost use Rattle.cp_model.specs.Characters.{decimal_value};
@@ -10,10 +10,10 @@ use crate::piece::Front;
 use crate::refusal::Cause;
 use cp_model::token::Kind;
 
-// The greatest number that a text may hold.
+// The largest number that a text may contain.
 const GREATEST_NUMBER: u32 = 32767;
 
-/// The value of decimal digits, or 32768 where it is more.
+/// The value of decimal digits, or 32768 if it is larger.
 pub fn capped_value(digits: &[u8]) -> u32
     ensures { result ≡ min (decimal_value digits.now) 32768 }
 {
@@ -25,7 +25,7 @@ pub fn capped_value(digits: &[u8]) -> u32
     value
 }
 
-/// The number at the front of a text.
+/// Reads the number at the front of a text.
 #[tactic(auto, unfolding(crate::specs::Pieces::number))]
 pub fn number(text: &[u8]) -> Front
     ensures { result ≡ spec.number text.now }

@@ -1,4 +1,5 @@
-//! The piece at the front of a text, a token or a separator, by its first byte. `piece` of `specs/Pieces.antt` defines what is read.
+//! The piece at the front of a text, a token or a separator, by its first byte. `piece` of
+//! `specs/Pieces.antt` defines what is read.
 
 ghost use Rattle.std.specs.Prelude.{◌≡◌, ◌<◌, IfOk, length, drop};
 ghost use Rattle.cp_scan.specs.Pieces as spec;
@@ -14,11 +15,11 @@ use crate::words::word;
 use cp_model::token::Kind;
 use std::alloc::{AllocError, Global};
 
-/// What stands at the front of a text: a token's kind, or none for a separator, and how many bytes it has; or why no piece
-/// begins there.
+/// The piece at the front of a text: the kind of a token, or `None` for a separator, and the number
+/// of its bytes. Or else the cause why no piece begins there.
 pub type Front = Result<(Option<Kind>, usize), Cause>;
 
-/// The piece at the front of a text. It fails only for want of memory.
+/// Reads the piece at the front of a text. Fails only if memory runs out.
 #[tactic(auto, unfolding(crate::specs::Pieces::piece))]
 pub fn piece(alloc: Global, text: &[u8]) -> Result<Front, AllocError>
     requires { 0 < length text.now }

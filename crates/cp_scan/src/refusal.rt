@@ -1,11 +1,12 @@
-//! Why a text has no tokens, or none were found. What each cause says of a text stands in `specs/Laws.antt`.
+//! Why a text has no tokens, or none were found. `specs/Laws.antt` defines what each cause says
+//! about a text.
 
 ghost use Rattle.std.specs.Prelude.{◌≡◌};
 ghost use Rattle.cp_scan.specs.declared.refusal.ScanError.TheVariants.{Memory};
 
 use std::alloc::{AllocError, AllocFailed};
 
-/// What a text holds where no token and no separator begins, by its number in refusals.
+/// Why no token and no separator begins at a place of a text, with its number in refusals.
 #[derive(Clone, Copy, Debug, PartialEq, Eq)]
 pub enum Cause {
     /// S1: a byte that begins no token.
@@ -22,12 +23,13 @@ pub enum Cause {
     Size,
 }
 
-/// Why `scan` gives no tokens.
+/// Why `scan` returns no tokens.
 #[derive(Clone, Copy, Debug, PartialEq, Eq)]
 pub enum ScanError {
-    /// No list of tokens spells the text, or it is too long: the first cause, and the byte at which it stands, from 0.
+    /// No list of tokens spells the text, or the text is too long: the first cause, and the offset
+    /// of its byte, from 0.
     Refused { cause: Cause, at: usize },
-    /// M: memory was refused. It tells nothing of the text.
+    /// M: memory was refused. This says nothing about the text.
     Memory,
 }
 

@@ -1,5 +1,5 @@
-//! All pieces of a text from left to right, and the tokens among them. What the contract of `scan` says of them stands in
-//! `specs/Laws.antt`, over `Spelling` of cp_model.
+//! All pieces of a text from left to right, and the tokens among them. `specs/Laws.antt` defines
+//! what the contract of `scan` says about them, in terms of `Spelling` of cp_model.
 
 ghost use Rattle.std.specs.Prelude.{◌≡◌, ◌≤◌, ℕ, List, drop, length, Ok, IfOk, IfErr, OnOk, MatchResult};
 ghost use Rattle.cp_model.specs.Spelling.{Spells};
@@ -15,27 +15,30 @@ use crate::refusal::{Cause, ScanError};
 use cp_model::token::{Kind, Span, Token};
 use std::alloc::{AllocError, Global};
 
-/// The most bytes of a text that is scanned.
+/// The largest number of bytes of a text that is scanned.
 pub const LONGEST_TEXT: usize = 1_048_576;
 
-/// The tokens that spell the text, in its order: words in lower case, and neither blanks nor comments. Each span is the bytes of
-/// its token, so the spans rise and lie apart. No other list of tokens spells the text.
+/// Returns the tokens that spell the text, in its order: words in lower case, and no blanks or
+/// comments. Each span covers the bytes of its token, so the spans rise and don't overlap. No other
+/// list of tokens spells the text.
 ///
 /// # Errors
 ///
-/// `Refused` tells why no tokens spell the text: [`Cause::Size`] at [`LONGEST_TEXT`] where the text is longer than that, whatever it
-/// holds, and else the first place from left to right at which neither a token nor a separator begins, and what stands there.
-/// `Memory` only says that memory was refused.
+/// `Refused` says why no tokens spell the text. If the text is too long, that is [`Cause::Size`] at
+/// [`LONGEST_TEXT`], whatever the text contains. Otherwise it is the first place from left to right
+/// at which neither a token nor a separator begins, with the cause. `Memory` only says that memory
+/// was refused.
 pub fn scan(alloc: Global, text: &[u8]) -> Result<Vec<Token>, ScanError>
     ensures spelled { IfOk result (λ tokens. Spells text.now tokens.items) }
     ensures spans { IfOk result (λ tokens. RisesFrom 0 tokens.items (length text.now)) }
     ensures within { OnOk result (length text.now ≤ longest_text) }
 
-    // A text has no other tokens, and is refused none that it has.
+    // If tokens spell a text within the limit, these are the ones that are found, unless memory
+    // runs out.
     ensures only { (tokens : List Token) → Spells text.now tokens → length text.now ≤ longest_text
         → MatchResult result (λ found. found.items ≡ tokens) (λ error. error ≡ Memory) }
 
-    // An error but want of memory is the first cause of the text, and only that one.
+    // An error other than `Memory` is the first cause of the text, and no other.
     ensures first { IfErr result (TellsFirstCause text.now) }
     ensures refused { (cause : Cause) (at : ℕ) → IsFirstCause cause at text.now
         → MatchResult result (λ _. ⊥) (IsRefusalOrMemory cause at) }
@@ -77,7 +80,7 @@ fn rest_from(text: &[u8], at: usize) -> &[u8]
     &text[at..]
 }
 
-// A separator gives no token.
+// Appends a token. A separator gives none.
 fn push_token(tokens: &mut Vec<Token>, kind: Option<Kind>, span: Span) -> Result<(), AllocError>
     ensures { OnOk result
         (tokens.new.items ≡ spec.with_token kind span.from span.to tokens.old.items) }

@@ -1,5 +1,5 @@
-//! Words in lower case: reserved ones, by the table of `Spelling` of cp_model, and names. `word` of `specs/Pieces.antt` defines
-//! what is read.
+//! Words in lower case: reserved words, according to the table in `Spelling` of cp_model, and
+//! names. `word` of `specs/Pieces.antt` defines what is read.
 
 ghost use Rattle.std.specs.Prelude.{◌≡◌, ◌<◌, map, IfOk, take};
 ghost use Rattle.cp_model.specs.Characters as character;
@@ -13,7 +13,7 @@ use crate::refusal::Cause;
 use cp_model::token::{Kind, Name, Symbol};
 use std::alloc::{AllocError, Global};
 
-// The most letters, digits and underscores of a word.
+// The largest number of letters, digits and underscores in a word.
 const LONGEST_WORD: usize = 64;
 
 // The reserved words, in lower case.
@@ -56,7 +56,7 @@ const RESERVED_WORDS: [(&[u8], Symbol); 36] = [
     (b"with", Symbol::With),
 ];
 
-// The symbol of the word in the table that is written so.
+// The symbol of the word in the table that is spelled like this.
 fn look_up(table: &[(&[u8], Symbol)], letters: &[u8]) -> Option<Symbol>
     ensures { kind_or_name result letters.now ≡ spelling.word_among
         (map (λ w. (w.0.now, w.1)) table.now) letters.now }
@@ -85,7 +85,7 @@ fn lower_letters(alloc: Global, text: &[u8]) -> Result<Vec<u8>, AllocError>
     text.iter().map(|b| lower(*b)).collect(alloc)
 }
 
-/// The word at the front of a text. It fails only for want of memory.
+/// Reads the word at the front of a text. Fails only if memory runs out.
 #[tactic(auto, unfolding(crate::specs::Pieces::word))]
 pub fn word(alloc: Global, text: &[u8]) -> Result<Front, AllocError>
     ensures { IfOk result (λ front. front ≡ spec.word text.now) }

@@ -1,4 +1,4 @@
--- Where reading stopped, and that the tokens then have no tree.
+-- Where reading stopped, and why the tokens then have no tree.
 use Rattle.std.proofs.Common.{◌≡◌, ℕ, suc, ◌-◌, ◌<◌, ◌≤◌, ◌⊎◌, inl, inr, List, [], ◌∷◌, ◌++◌, length, get_or, take, drop, Ok, Err, refl, sym, ap, ◌∙◌, drop-cons, length-drop, arith}
 use Rattle.std.proofs.lemmas.List.{take-append-drop, append-nil}
 use Rattle.cp_model.specs.Grammar.{nesting_limit, BeginsWithin}
@@ -26,7 +26,7 @@ token_at ts left index t fits e within is =
       begins = refl;
     }
 
--- for whichever reason, reading stops where so many tokens are left
+-- for either reason, reading stops with `left` tokens left
 abbrev StopsAt : List Token → ℕ → Type 0
 StopsAt ts left = (text_at nesting_limit ts ≡ Err (Wrong left)) ⊎ (text_at nesting_limit ts ≡ Err (Deep left))
 

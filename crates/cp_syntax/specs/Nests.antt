@@ -1,4 +1,4 @@
--- What a rule asks of the reader of one level deeper that it is given.
+-- What a rule requires of the reader one level deeper that it is given.
 use Rattle.std.specs.Prelude.{ℕ, ◌-◌, ◌<◌, List, Result}
 use Rattle.std.specs.Borrow.{Bor}
 use Rattle.std.specs.declared.alloc.Global.{Global}
@@ -13,7 +13,8 @@ use Rattle.cp_grammar.specs.Expressions.{factor_at}
 use Rattle.cp_grammar.specs.Types.{type_at}
 use Rattle.cp_grammar.specs.Statements.{statement_at}
 
--- it may be called where so many levels may be opened, and then gives what the reader of so many levels answers
+-- The reader may be called with `room`, and then its result is that of the specified reader for as
+-- many levels.
 pub record Nests {X Y : Type 0} (view : X → Y) (reader : ℕ → Reader Y) (room : ℕ) (pre : Global → ℕ → Bor (List Token) → Type 0)
     (post : Global → ℕ → Bor (List Token) → Result (X × Bor (List Token)) Stop → Type 0) : Type 0 where
   pub callable : (alloc : Global) (ts : Bor (List Token)) → pre alloc room ts
@@ -26,7 +27,7 @@ abbrev pub FactorsAt : (room : ℕ) (pre : Global → ℕ → Bor (List Token) �
     (post : Global → ℕ → Bor (List Token) → Result (Expression × Bor (List Token)) Stop → Type 0) → Type 0
 FactorsAt = Nests view.expression factor_at
 
--- one level deeper, where there is such a level
+-- One level deeper, if there is such a level.
 abbrev pub FactorsBelow : (room : ℕ) (pre : Global → ℕ → Bor (List Token) → Type 0)
     (post : Global → ℕ → Bor (List Token) → Result (Expression × Bor (List Token)) Stop → Type 0) → Type 0
 FactorsBelow room pre post = 0 < room → FactorsAt (room - 1) pre post

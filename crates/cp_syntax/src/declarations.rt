@@ -1,4 +1,4 @@
-//! Definitions of constants and types, and the whole text, where so many levels may be opened.
+//! Definitions of constants and types, and the whole text, if `room` levels may be opened.
 
 ghost use Rattle.std.specs.Prelude.{◌≡◌, map, Option};
 ghost use Rattle.cp_model.specs.Syntax as s;
@@ -35,7 +35,7 @@ fn constant_definition(alloc: Global, tokens: &[Token]) -> Read<'_, ConstantDefi
     Ok((ConstantDefinition { name, value }, rest))
 }
 
-/// A system type, behind the word that says its sort.
+/// Reads a system type after the word that says its sort.
 #[tactic(auto, unfolding(cp_grammar::specs::Declarations::system_from))]
 fn system(alloc: Global, room: usize, sort: Sort, tokens: &[Token]) -> Read<'_, System>
     ensures { Gives view.system result
@@ -86,7 +86,7 @@ fn written_type(alloc: Global, room: usize, tokens: &[Token]) -> Read<'_, Define
     Ok((Defined::Written(of), rest))
 }
 
-/// What a type definition gives its name to.
+/// Reads what a type definition gives a name to.
 #[tactic(auto, unfolding(cp_grammar::specs::Declarations::defined_of, cp_grammar::specs::Declarations::defined_by))]
 fn defined_type(alloc: Global, room: usize, tokens: &[Token]) -> Read<'_, Defined>
     ensures { Gives view.defined_type result
@@ -141,7 +141,7 @@ fn types(alloc: Global, room: usize, tokens: &[Token]) -> Read<'_, Vec<TypeDefin
     )
 }
 
-/// The definitions behind one word `const` or `type`.
+/// Reads the definitions after one word `const` or `type`.
 #[tactic(auto, unfolding(cp_grammar::specs::Declarations::section_of, cp_grammar::specs::Declarations::section_by))]
 fn section(alloc: Global, room: usize, tokens: &[Token]) -> Read<'_, Section>
     ensures { Gives view.section_of result
@@ -169,7 +169,7 @@ fn begins_section(tokens: &[Token]) -> bool
     )
 }
 
-/// A text up to its `.`.
+/// Reads a text up to its `.`.
 #[tactic(auto, unfolding(cp_grammar::specs::Text::tree_of))]
 fn tree(alloc: Global, room: usize, tokens: &[Token]) -> Read<'_, Tree>
     ensures { Gives view.tree result (text.tree_of (type_at room) (deeper_at room) tokens.now) }
@@ -195,7 +195,7 @@ fn tree(alloc: Global, room: usize, tokens: &[Token]) -> Read<'_, Tree>
     ))
 }
 
-/// A whole text: nothing stands behind its tree.
+/// Reads a whole text. No token may follow its tree.
 #[tactic(auto, unfolding(cp_grammar::specs::Text::text_of))]
 pub fn text(alloc: Global, room: usize, tokens: &[Token]) -> Read<'_, Tree>
     ensures { Gives view.tree result (text.text_at room tokens.now) }

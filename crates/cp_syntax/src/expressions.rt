@@ -1,4 +1,4 @@
-//! From terms to lists of expressions, over a reader of factors.
+//! From terms to lists of expressions, given a reader of factors.
 
 ghost use Rattle.std.specs.Prelude.{◌≡◌, map, IfOk, IfErr};
 ghost use Rattle.cp_model.specs.Syntax.{chain_of};
@@ -16,7 +16,8 @@ use cp_model::token::{Symbol, Token};
 use cp_model::tree::{Expression, Index, Operation, Operator, Sign};
 use std::alloc::{AllocError, Global};
 
-/// The rules of expressions, where so many levels may still be opened, over a reader of factors there.
+/// The rules of expressions if `room` levels may still be opened, given a reader of factors for as
+/// many levels.
 #[derive(Clone, Copy)]
 pub struct Expressions<F> {
     pub alloc: Global,
@@ -25,7 +26,7 @@ pub struct Expressions<F> {
 }
 
 impl<F: Fn(Global, usize, &[Token]) -> Read<'_, Expression>> Expressions<F> {
-    /// A factor, by the reader that was given.
+    /// Reads a factor, with the reader that was given.
     pub fn factor<'a>(&self, tokens: &'a [Token]) -> Read<'a, Expression>
         requires { FactorsAt self.now.room (F.pre self.now.factor) (F.post self.now.factor) }
         ensures { Gives view.expression result (spec.factor_at self.now.room tokens.now) }
@@ -33,7 +34,7 @@ impl<F: Fn(Global, usize, &[Token]) -> Read<'_, Expression>> Expressions<F> {
         (self.factor)(self.alloc, self.room, tokens)
     }
 
-    /// An operator between factors, and the factor behind it.
+    /// Reads an operator between factors, and the factor after it.
     #[tactic(auto, unfolding(cp_grammar::specs::Expressions::operation_of))]
     fn product<'a>(&self, tokens: &'a [Token]) -> Read<'a, Operation>
         requires { FactorsAt self.now.room (F.pre self.now.factor) (F.post self.now.factor) }
@@ -47,7 +48,7 @@ impl<F: Fn(Global, usize, &[Token]) -> Read<'_, Expression>> Expressions<F> {
         Ok((operation(operator, place(tokens), operand), rest))
     }
 
-    /// Factors with operators between them.
+    /// Reads factors with operators between them.
     #[tactic(auto, unfolding(cp_grammar::specs::Expressions::term_of, cp_grammar::specs::Expressions::chain_from))]
     fn term<'a>(&self, tokens: &'a [Token]) -> Read<'a, Expression>
         requires { FactorsAt self.now.room (F.pre self.now.factor) (F.post self.now.factor) }
@@ -64,7 +65,7 @@ impl<F: Fn(Global, usize, &[Token]) -> Read<'_, Expression>> Expressions<F> {
         Ok((chain(self.alloc, first, products)?, rest))
     }
 
-    /// A term, with a sign before it or without.
+    /// Reads a term, with or without a sign before it.
     #[tactic(auto, unfolding(cp_grammar::specs::Expressions::signed_term))]
     fn signed_term<'a>(&self, tokens: &'a [Token]) -> Read<'a, Expression>
         requires { FactorsAt self.now.room (F.pre self.now.factor) (F.post self.now.factor) }
@@ -82,7 +83,7 @@ impl<F: Fn(Global, usize, &[Token]) -> Read<'_, Expression>> Expressions<F> {
         ))
     }
 
-    /// An operator between terms, and the term behind it.
+    /// Reads an operator between terms, and the term after it.
     #[tactic(auto, unfolding(cp_grammar::specs::Expressions::operation_of))]
     fn addition<'a>(&self, tokens: &'a [Token]) -> Read<'a, Operation>
         requires { FactorsAt self.now.room (F.pre self.now.factor) (F.post self.now.factor) }
@@ -97,7 +98,7 @@ impl<F: Fn(Global, usize, &[Token]) -> Read<'_, Expression>> Expressions<F> {
         Ok((operation(operator, place(tokens), operand), rest))
     }
 
-    /// Terms with operators between them, and a sign before the first or none.
+    /// Reads terms with operators between them, and with or without a sign before the first.
     #[tactic(auto, unfolding(cp_grammar::specs::Expressions::simple_of, cp_grammar::specs::Expressions::chain_from))]
     fn simple<'a>(&self, tokens: &'a [Token]) -> Read<'a, Expression>
         requires { FactorsAt self.now.room (F.pre self.now.factor) (F.post self.now.factor) }
@@ -114,7 +115,7 @@ impl<F: Fn(Global, usize, &[Token]) -> Read<'_, Expression>> Expressions<F> {
         Ok((chain(self.alloc, first, additions)?, rest))
     }
 
-    /// Simple expressions with one relation between them, or one alone.
+    /// Reads two simple expressions with a relation between them, or one alone.
     #[tactic(auto, unfolding(cp_grammar::specs::Expressions::expression_of))]
     pub fn expression<'a>(&self, tokens: &'a [Token]) -> Read<'a, Expression>
         requires { FactorsAt self.now.room (F.pre self.now.factor) (F.post self.now.factor) }
@@ -133,7 +134,7 @@ impl<F: Fn(Global, usize, &[Token]) -> Read<'_, Expression>> Expressions<F> {
         ))
     }
 
-    /// One expression or more, with commas between.
+    /// Reads one or more expressions, with commas between them.
     #[tactic(auto, unfolding(cp_grammar::specs::Expressions::expressions_from))]
     pub fn expressions<'a>(&self, tokens: &'a [Token]) -> Read<'a, Vec<Expression>>
         requires { FactorsAt self.now.room (F.pre self.now.factor) (F.post self.now.factor) }
@@ -148,7 +149,7 @@ impl<F: Fn(Global, usize, &[Token]) -> Read<'_, Expression>> Expressions<F> {
         )
     }
 
-    /// The `[` or the `,`, and the index behind it.
+    /// Reads the `[` or the `,`, and the index after it.
     #[tactic(auto, unfolding(cp_grammar::specs::Expressions::index_of))]
     fn index<'a>(&self, tokens: &'a [Token]) -> Read<'a, Index>
         requires { FactorsAt self.now.room (F.pre self.now.factor) (F.post self.now.factor) }
@@ -159,7 +160,7 @@ impl<F: Fn(Global, usize, &[Token]) -> Read<'_, Expression>> Expressions<F> {
         Ok((index(place(tokens), value), rest))
     }
 
-    /// One index or more, each behind a `[` or a `,`.
+    /// Reads one or more indices, each after a `[` or a `,`.
     #[tactic(auto, unfolding(cp_grammar::specs::Expressions::indices_from))]
     pub fn indices<'a>(&self, tokens: &'a [Token]) -> Read<'a, Vec<Index>>
         requires { FactorsAt self.now.room (F.pre self.now.factor) (F.post self.now.factor) }
@@ -192,7 +193,7 @@ fn index(at: usize, value: Expression) -> Index
     Index { at, value }
 }
 
-/// Operands with operators between them, where there is an operator.
+/// Joins operands with the operators between them, if there are any.
 fn chain(alloc: Global, first: Expression, rest: Vec<Operation>) -> Result<Expression, AllocError>
     ensures { IfOk result
         (λ e. view.expression e ≡ chain_of (view.expression first)

@@ -1,4 +1,4 @@
-//! From selectors to factors, over a reader of factors one level deeper.
+//! From selectors to factors, given a reader of factors one level deeper.
 
 ghost use Rattle.std.specs.Prelude.{◌≡◌, ◌-◌, ◌<◌, map, length, IfOk, IfErr, Some, None};
 ghost use Rattle.cp_model.specs.Syntax as s;
@@ -18,7 +18,8 @@ use cp_model::token::{Kind, Symbol, Token};
 use cp_model::tree::{Designator, Expression, Identifier, Index, Selector};
 use std::alloc::{AllocError, Global};
 
-/// The rules of factors, where so many levels may still be opened, over a reader of factors one level deeper.
+/// The rules of factors if `room` levels may still be opened, given a reader of factors one level
+/// deeper.
 #[derive(Clone, Copy)]
 pub struct Factors<F> {
     pub alloc: Global,
@@ -27,7 +28,8 @@ pub struct Factors<F> {
 }
 
 impl<F: Fn(Global, usize, &[Token]) -> Read<'_, Expression> + Copy> Factors<F> {
-    /// The rules of expressions one level deeper, where the next token may open a level.
+    /// Returns the rules of expressions one level deeper, or stops if the next token may not open a
+    /// level.
     #[tactic(auto, using(crate::proofs::Rooms::no_factor, crate::proofs::Rooms::some_factor))]
     fn inner(&self, tokens: &[Token]) -> Result<Expressions<F>, Stop>
         requires { FactorsBelow self.now.room (F.pre self.now.factor) (F.post self.now.factor) }
@@ -47,7 +49,7 @@ impl<F: Fn(Global, usize, &[Token]) -> Read<'_, Expression> + Copy> Factors<F> {
         })
     }
 
-    /// A `.` and the name of a field.
+    /// Reads a `.` and the name of a field.
     #[tactic(auto, unfolding(cp_grammar::specs::Expressions::field_of))]
     fn field<'a>(&self, tokens: &'a [Token]) -> Read<'a, Selector>
         ensures { Gives view.selector result
@@ -57,7 +59,7 @@ impl<F: Fn(Global, usize, &[Token]) -> Read<'_, Expression> + Copy> Factors<F> {
         Ok((field(place(tokens), name), rest))
     }
 
-    /// Indices in brackets.
+    /// Reads indices in brackets.
     #[tactic(auto, unfolding(cp_grammar::specs::Expressions::indexed_of))]
     fn index_selector<'a>(&self, tokens: &'a [Token]) -> Read<'a, Selector>
         requires { FactorsBelow self.now.room (F.pre self.now.factor) (F.post self.now.factor) }
@@ -69,7 +71,7 @@ impl<F: Fn(Global, usize, &[Token]) -> Read<'_, Expression> + Copy> Factors<F> {
         Ok((index_selector(indices), rest))
     }
 
-    /// A field or indices, by the mark that stands next.
+    /// Reads a field or indices, depending on the next mark.
     #[tactic(auto, unfolding(cp_grammar::specs::Expressions::selector_of, cp_grammar::specs::Expressions::selector_by))]
     fn selector<'a>(&self, tokens: &'a [Token]) -> Read<'a, Selector>
         requires { FactorsBelow self.now.room (F.pre self.now.factor) (F.post self.now.factor) }
@@ -83,7 +85,7 @@ impl<F: Fn(Global, usize, &[Token]) -> Read<'_, Expression> + Copy> Factors<F> {
         }
     }
 
-    /// A name, and the parts that are selected of what it names.
+    /// Reads a name and the selectors after it.
     #[tactic(auto, unfolding(cp_grammar::specs::Expressions::designator_of))]
     pub fn designator<'a>(&self, tokens: &'a [Token]) -> Read<'a, Designator>
         requires { FactorsBelow self.now.room (F.pre self.now.factor) (F.post self.now.factor) }
@@ -100,7 +102,7 @@ impl<F: Fn(Global, usize, &[Token]) -> Read<'_, Expression> + Copy> Factors<F> {
         Ok((designator_from(root, selectors), rest))
     }
 
-    /// Arguments in parentheses.
+    /// Reads arguments in parentheses.
     #[tactic(auto, unfolding(cp_grammar::specs::Expressions::arguments_of))]
     fn arguments<'a>(&self, tokens: &'a [Token]) -> Read<'a, Vec<Expression>>
         requires { FactorsBelow self.now.room (F.pre self.now.factor) (F.post self.now.factor) }
@@ -112,7 +114,7 @@ impl<F: Fn(Global, usize, &[Token]) -> Read<'_, Expression> + Copy> Factors<F> {
         Ok((arguments, rest))
     }
 
-    /// Arguments in parentheses, or none.
+    /// Reads arguments in parentheses, or none.
     #[tactic(auto, unfolding(cp_grammar::specs::Expressions::optional_arguments_of))]
     pub fn optional_arguments<'a>(&self, tokens: &'a [Token]) -> Read<'a, Vec<Expression>>
         requires { FactorsBelow self.now.room (F.pre self.now.factor) (F.post self.now.factor) }
@@ -125,7 +127,7 @@ impl<F: Fn(Global, usize, &[Token]) -> Read<'_, Expression> + Copy> Factors<F> {
         self.arguments(tokens)
     }
 
-    /// A designator, or a function called with arguments.
+    /// Reads a designator, or a call of a function with arguments.
     #[tactic(auto, unfolding(cp_grammar::specs::Expressions::named_of, cp_grammar::specs::Expressions::call_or_part))]
     fn designator_or_call<'a>(&self, tokens: &'a [Token]) -> Read<'a, Expression>
         requires { FactorsBelow self.now.room (F.pre self.now.factor) (F.post self.now.factor) }
@@ -140,7 +142,7 @@ impl<F: Fn(Global, usize, &[Token]) -> Read<'_, Expression> + Copy> Factors<F> {
         Ok((call(d, arguments), rest))
     }
 
-    /// An expression in parentheses.
+    /// Reads an expression in parentheses.
     #[tactic(auto, unfolding(cp_grammar::specs::Expressions::parenthesized_of))]
     fn parentheses<'a>(&self, tokens: &'a [Token]) -> Read<'a, Expression>
         requires { FactorsBelow self.now.room (F.pre self.now.factor) (F.post self.now.factor) }
@@ -152,7 +154,7 @@ impl<F: Fn(Global, usize, &[Token]) -> Read<'_, Expression> + Copy> Factors<F> {
         Ok((parentheses(self.alloc, place(tokens), inner)?, rest))
     }
 
-    /// A factor behind a `not`.
+    /// Reads a `not` and the factor after it.
     #[tactic(auto, unfolding(cp_grammar::specs::Expressions::not_of))]
     fn negation<'a>(&self, tokens: &'a [Token]) -> Read<'a, Expression>
         requires { FactorsBelow self.now.room (F.pre self.now.factor) (F.post self.now.factor) }
@@ -163,7 +165,7 @@ impl<F: Fn(Global, usize, &[Token]) -> Read<'_, Expression> + Copy> Factors<F> {
         Ok((negation(self.alloc, place(tokens), operand)?, rest))
     }
 
-    /// A factor, by the token that stands next.
+    /// Reads a factor, depending on the next token.
     #[tactic(auto, unfolding(cp_grammar::specs::Expressions::factor_of, cp_grammar::specs::Expressions::factor_by))]
     fn factor<'a>(&self, tokens: &'a [Token]) -> Read<'a, Expression>
         requires { FactorsBelow self.now.room (F.pre self.now.factor) (F.post self.now.factor) }
@@ -253,7 +255,8 @@ fn negation(alloc: Global, at: usize, operand: Expression) -> Result<Expression,
     })
 }
 
-/// A factor, where so many levels may be opened. It hands itself to the rules, which call it one level deeper alone.
+/// Reads a factor, if `room` levels may be opened. It passes itself to the rules, which call it
+/// only one level deeper.
 pub fn factor(alloc: Global, room: usize, tokens: &[Token]) -> Read<'_, Expression>
     ensures { Gives view.expression result (spec.factor_at room tokens.now) }
 {
@@ -265,7 +268,7 @@ pub fn factor(alloc: Global, room: usize, tokens: &[Token]) -> Read<'_, Expressi
     .factor(tokens)
 }
 
-/// An expression, where so many levels may be opened.
+/// Reads an expression, if `room` levels may be opened.
 pub fn expression(alloc: Global, room: usize, tokens: &[Token]) -> Read<'_, Expression>
     ensures { Gives view.expression result (spec.expression_at room tokens.now) }
 {
@@ -277,7 +280,7 @@ pub fn expression(alloc: Global, room: usize, tokens: &[Token]) -> Read<'_, Expr
     .expression(tokens)
 }
 
-/// A designator, where so many levels may be opened.
+/// Reads a designator, if `room` levels may be opened.
 pub fn designator(alloc: Global, room: usize, tokens: &[Token]) -> Read<'_, Designator>
     ensures { Gives view.designator result (spec.designator_at room tokens.now) }
 {
@@ -289,7 +292,7 @@ pub fn designator(alloc: Global, room: usize, tokens: &[Token]) -> Read<'_, Desi
     .designator(tokens)
 }
 
-/// Arguments in parentheses or none, where so many levels may be opened.
+/// Reads arguments in parentheses or none, if `room` levels may be opened.
 pub fn optional_arguments(alloc: Global, room: usize, tokens: &[Token]) -> Read<'_, Vec<Expression>>
     ensures { Gives (λ v. map view.expression v.items) result
         (spec.optional_arguments_at room tokens.now) }

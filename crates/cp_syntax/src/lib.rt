@@ -1,4 +1,5 @@
-//! The parser: the one syntax tree of a list of tokens, or the first token that no text has there.
+//! The parser: finds the one syntax tree of a list of tokens, or the first token that no text has
+//! there.
 #![tactic(auto)]
 
 mod declarations;

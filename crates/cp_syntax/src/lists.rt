@@ -1,4 +1,4 @@
-//! Items one behind another, and with symbols between them.
+//! Items one after another, with or without symbols between them.
 
 ghost use Rattle.std.specs.Prelude.{◌≡◌, map, Bool, Option};
 ghost use Rattle.cp_model.specs.declared.token.Kind.{Kind};
@@ -11,7 +11,7 @@ use crate::tokens::{Read, after, sees};
 use cp_model::token::{Symbol, Token};
 use std::alloc::Global;
 
-/// Items behind those found, as long as the next token says so.
+/// Reads items after those in `found`, as long as `goes_on` holds for the next token.
 pub fn read_while<X: Node + Drop, G: Fn(&[Token]) -> bool, F: Fn(&[Token]) -> Read<'_, X>>(
     found: Vec<X>,
     goes_on: G,
@@ -38,7 +38,7 @@ pub fn read_while<X: Node + Drop, G: Fn(&[Token]) -> bool, F: Fn(&[Token]) -> Re
     Ok((found, rest))
 }
 
-/// One item, and further ones as long as the next token says so.
+/// Reads one item, and more as long as `goes_on` holds for the next token.
 #[tactic(auto, unfolding(cp_grammar::specs::Reading::repeat))]
 pub fn one_or_more<X: Node + Drop, G: Fn(&[Token]) -> bool, F: Fn(&[Token]) -> Read<'_, X>>(
     alloc: Global,
@@ -58,7 +58,7 @@ pub fn one_or_more<X: Node + Drop, G: Fn(&[Token]) -> bool, F: Fn(&[Token]) -> R
     read_while(found, goes_on, item, rest)
 }
 
-/// One item or more, with this symbol between them.
+/// Reads one or more items, with this symbol between them.
 pub fn read_separated<X: Node + Drop, F: Fn(&[Token]) -> Read<'_, X>>(
     alloc: Global,
     symbol: Symbol,

@@ -11,7 +11,7 @@ use cp_model::token::{Kind, Symbol, Token};
 use cp_model::tree::{Constant, Identifier};
 use std::alloc::Global;
 
-/// A name at its place.
+/// Reads a name, with its place.
 #[tactic(auto, unfolding(cp_grammar::specs::Names::identifier_of))]
 pub fn identifier(alloc: Global, tokens: &[Token]) -> Read<'_, Identifier>
     ensures { Gives (λ x. x) result (spec.identifier_of tokens.now) }
@@ -31,7 +31,7 @@ pub fn identifier(alloc: Global, tokens: &[Token]) -> Read<'_, Identifier>
     }
 }
 
-/// One name or more, with commas between.
+/// Reads one or more names, with commas between them.
 #[tactic(auto, unfolding(cp_grammar::specs::Names::names_of))]
 pub fn names(alloc: Global, tokens: &[Token]) -> Read<'_, Vec<Identifier>>
     ensures { Gives (λ v. v.items) result (spec.names_of tokens.now) }
@@ -39,7 +39,7 @@ pub fn names(alloc: Global, tokens: &[Token]) -> Read<'_, Vec<Identifier>>
     read_separated(alloc, Symbol::Comma, |rest| identifier(alloc, rest), tokens)
 }
 
-/// A constant.
+/// Reads a constant.
 #[tactic(auto, unfolding(cp_grammar::specs::Names::constant_of))]
 pub fn constant(alloc: Global, tokens: &[Token]) -> Read<'_, Constant>
     ensures { Gives (λ c. c) result (spec.constant_of tokens.now) }
@@ -61,7 +61,7 @@ pub fn constant(alloc: Global, tokens: &[Token]) -> Read<'_, Constant>
     }
 }
 
-/// The number behind a `-` at this place.
+/// Reads the number after a `-` at the place `at`.
 fn negative(at: usize, tokens: &[Token]) -> Read<'_, Constant>
     ensures { Gives (λ c. c) result (spec.negative_by at (kind_at tokens.now) tokens.now) }
 {
@@ -71,7 +71,7 @@ fn negative(at: usize, tokens: &[Token]) -> Read<'_, Constant>
     }
 }
 
-/// One constant or more, with commas between.
+/// Reads one or more constants, with commas between them.
 #[tactic(auto, unfolding(cp_grammar::specs::Names::constants_of))]
 pub fn constants(alloc: Global, tokens: &[Token]) -> Read<'_, Vec<Constant>>
     ensures { Gives (λ v. v.items) result (spec.constants_of tokens.now) }

@@ -1,11 +1,11 @@
-//! The parts of the syntax tree that stand in lists.
+//! The parts of the syntax tree that occur in lists.
 
 use cp_model::tree::{
     Arm, Constant, ConstantDefinition, Expression, Fields, Identifier, Index, InitItem, Operation,
     Parameters, Routine, Section, Selector, Statement, TypeDefinition, TypeExpression,
 };
 
-/// A part of the syntax tree, and the plain data that the grammar speaks of in its place.
+/// A part of the syntax tree, and the plain data that stands for it in the grammar.
 pub trait Node {
     ghost Plain: { Type 0 };
 

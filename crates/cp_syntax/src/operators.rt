@@ -8,7 +8,7 @@ use crate::tokens::peek;
 use cp_model::token::{Kind, Symbol, Token};
 use cp_model::tree::{Operator, Sign};
 
-/// The operator between two factors that stands next.
+/// The operator between two factors that is the next token, if it is one.
 pub fn product_operator(tokens: &[Token]) -> Option<Operator>
     ensures { result ≡ spec.product_operator (kind_at tokens.now) }
 {
@@ -24,7 +24,7 @@ pub fn product_operator(tokens: &[Token]) -> Option<Operator>
     }
 }
 
-/// The operator between two terms that stands next.
+/// The operator between two terms that is the next token, if it is one.
 pub fn sum_operator(tokens: &[Token]) -> Option<Operator>
     ensures { result ≡ spec.sum_operator (kind_at tokens.now) }
 {
@@ -39,7 +39,7 @@ pub fn sum_operator(tokens: &[Token]) -> Option<Operator>
     }
 }
 
-/// The relation that stands next.
+/// The relation that is the next token, if it is one.
 pub fn relation_operator(tokens: &[Token]) -> Option<Operator>
     ensures { result ≡ spec.relation_operator (kind_at tokens.now) }
 {
@@ -57,7 +57,7 @@ pub fn relation_operator(tokens: &[Token]) -> Option<Operator>
     }
 }
 
-/// The sign that stands next.
+/// The sign that is the next token, if it is one.
 pub fn sign(tokens: &[Token]) -> Option<Sign>
     ensures { result ≡ spec.sign_of (kind_at tokens.now) }
 {

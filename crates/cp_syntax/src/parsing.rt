@@ -1,4 +1,4 @@
-//! The tree of a list of tokens.
+//! Parsing a list of tokens into its tree.
 
 ghost use Rattle.std.specs.Prelude.{◌≡◌, IfOk, IfErr, IfSome, IsNone};
 ghost use Rattle.cp_model.specs.Grammar.{Reads};
@@ -13,13 +13,14 @@ use cp_model::token::Token;
 use cp_model::tree::Tree;
 use std::alloc::Global;
 
-/// How many levels a text may have open at once.
+/// The largest number of levels that a text may have open at once.
 const LEVELS: usize = 200;
 
-/// The tree of the tokens of a text of `len` bytes. There is one at most.
+/// Parses the tokens of a text of `len` bytes into their tree. They have at most one.
 ///
-/// It reads each token once, from the first to the last, and looks at no token behind the next one. So of the reasons why tokens
-/// have no tree, it tells the one that comes first in their order.
+/// This reads each token once, from the first to the last, and looks at no token beyond the next
+/// one. So if there are several reasons why the tokens have no tree, it reports the one that comes
+/// first in their order.
 pub fn parse(alloc: Global, tokens: &[Token], len: usize) -> Result<Tree, SyntaxError>
     ensures tree { IfOk result (λ t. Reads tokens.now (view.tree t)) }
     ensures unique { IfOk result (λ t. (u : s.Tree) → Reads tokens.now u → u ≡ view.tree t) }
@@ -33,7 +34,7 @@ pub fn parse(alloc: Global, tokens: &[Token], len: usize) -> Result<Tree, Syntax
     }
 }
 
-/// What it means that reading stopped.
+/// The error of a text for the reason why reading stopped.
 fn refusal(tokens: &[Token], len: usize, stop: Stop) -> SyntaxError
     ensures { Tells tokens.now len stop result }
 {
@@ -50,7 +51,7 @@ fn refusal(tokens: &[Token], len: usize, stop: Stop) -> SyntaxError
     }
 }
 
-/// The place of the token from which on so many tokens are left.
+/// The place of the first of the last `left` tokens, if there is one.
 fn place_of(tokens: &[Token], left: usize) -> Option<usize>
     ensures some { IfSome result (λ at. TokenAt tokens.now left at) }
     ensures none { IsNone result → NoTokenAt tokens.now left }

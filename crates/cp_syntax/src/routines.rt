@@ -1,4 +1,4 @@
-//! Variables, parameters, routines and bodies, where so many levels may be opened.
+//! Variables, parameters, routines and bodies, if `room` levels may be opened.
 
 ghost use Rattle.std.specs.Prelude.{◌≡◌, map};
 ghost use Rattle.cp_model.specs.View as view;
@@ -37,7 +37,7 @@ fn parameter_group(alloc: Global, tokens: &[Token]) -> Read<'_, Parameters>
     ))
 }
 
-/// Parameters in parentheses, or none.
+/// Reads parameters in parentheses, or none.
 #[tactic(auto, unfolding(cp_grammar::specs::Declarations::parameters_of, cp_grammar::specs::Declarations::some_parameters_of))]
 pub fn parameters(alloc: Global, tokens: &[Token]) -> Read<'_, Vec<Parameters>>
     ensures { Gives (λ v. map view.parameters v.items) result (spec.parameters_of tokens.now) }
@@ -64,7 +64,7 @@ pub struct Heading {
     result_type: Option<Identifier>,
 }
 
-/// The type of a function's result, and nothing of a procedure.
+/// Reads the result type of a function, and nothing for a procedure.
 #[tactic(auto, unfolding(cp_grammar::specs::Declarations::result_type_of))]
 fn result_type(alloc: Global, is_function: bool, tokens: &[Token]) -> Read<'_, Option<Identifier>>
     ensures { Gives (λ t. t) result (spec.result_type_of is_function tokens.now) }
@@ -112,7 +112,7 @@ fn variable_group(alloc: Global, room: usize, tokens: &[Token]) -> Read<'_, Fiel
     Ok((group, rest))
 }
 
-/// Variables behind the word `var`, or none.
+/// Reads variables after the word `var`, or none.
 #[tactic(auto, unfolding(cp_grammar::specs::Declarations::variables_of, cp_grammar::specs::Declarations::some_variables_of))]
 pub fn variables(alloc: Global, room: usize, tokens: &[Token]) -> Read<'_, Vec<Fields>>
     ensures { Gives (λ v. map view.variables v.items) result
@@ -129,7 +129,7 @@ pub fn variables(alloc: Global, room: usize, tokens: &[Token]) -> Read<'_, Vec<F
     )
 }
 
-/// The statements of a system type, a routine or the initial process.
+/// Reads the statements of a system type, a routine or the initial process.
 #[tactic(auto, unfolding(cp_grammar::specs::Declarations::body_of))]
 pub fn body(alloc: Global, room: usize, tokens: &[Token]) -> Read<'_, Body>
     ensures { Gives view.body result (spec.body_of (deeper_at room) tokens.now) }
@@ -184,7 +184,7 @@ fn begins_routine(tokens: &[Token]) -> bool
     )
 }
 
-/// Procedures and functions, as long as there are some.
+/// Reads procedures and functions, as long as there are any.
 #[tactic(auto, unfolding(cp_grammar::specs::Declarations::routines_of))]
 pub fn routines(alloc: Global, room: usize, tokens: &[Token]) -> Read<'_, Vec<Routine>>
     ensures { Gives (λ v. map view.routine v.items) result

@@ -1,4 +1,4 @@
-//! Statements without statements inside, where so many levels may be opened.
+//! Statements that contain no statements, if `room` levels may be opened.
 
 ghost use Rattle.std.specs.Prelude.{◌≡◌, map};
 ghost use Rattle.cp_model.specs.Syntax as s;
@@ -16,7 +16,7 @@ use cp_model::token::{Symbol, Token};
 use cp_model::tree::{Designator, Expression, Identifier, InitItem, Statement};
 use std::alloc::Global;
 
-/// An assignment, or a procedure called.
+/// Reads an assignment or a call of a procedure.
 #[tactic(auto, unfolding(cp_grammar::specs::Statements::designated_of, cp_grammar::specs::Statements::assign_or_perform))]
 pub fn assignment_or_call(alloc: Global, room: usize, tokens: &[Token]) -> Read<'_, Statement>
     ensures { Gives view.statement result (spec.designated_of (inner_at room) tokens.now) }
@@ -30,7 +30,7 @@ pub fn assignment_or_call(alloc: Global, room: usize, tokens: &[Token]) -> Read<
     Ok((call(d, arguments), rest))
 }
 
-/// The word `init`, and the components behind it.
+/// Reads the word `init` and the components after it.
 #[tactic(auto, unfolding(cp_grammar::specs::Statements::init_of))]
 pub fn init(alloc: Global, room: usize, tokens: &[Token]) -> Read<'_, Statement>
     ensures { Gives view.statement result (spec.init_of (inner_at room) tokens.now) }

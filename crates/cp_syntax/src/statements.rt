@@ -1,4 +1,4 @@
-//! Statements, over a reader of statements one level deeper.
+//! Statements, given a reader of statements one level deeper.
 
 ghost use Rattle.std.specs.Prelude.{◌≡◌, ◌-◌, ◌<◌, map, length, IfOk, IfErr, Some, None};
 ghost use Rattle.cp_model.specs.Syntax as s;
@@ -20,7 +20,7 @@ use cp_model::token::{Kind, Symbol, Token};
 use cp_model::tree::{Arm, Body, Constant, Direction, Expression, Identifier, Statement};
 use std::alloc::{AllocError, Global};
 
-/// A reader of statements, where so many levels may still be opened.
+/// A reader of statements if `room` levels may still be opened.
 #[derive(Clone, Copy)]
 pub struct Statements<F> {
     pub alloc: Global,
@@ -42,7 +42,7 @@ impl<F: Fn(Global, usize, &[Token]) -> Read<'_, Statement>> Statements<F> {
         expression(self.alloc, self.room, tokens)
     }
 
-    /// One statement or more, with semicolons between.
+    /// Reads one or more statements, with semicolons between them.
     #[tactic(auto, unfolding(cp_grammar::specs::Statements::statements_from))]
     fn statements<'a>(&self, tokens: &'a [Token]) -> Read<'a, Vec<Statement>>
         requires { StatementsAt self.now.room (F.pre self.now.read) (F.post self.now.read) }
@@ -69,7 +69,8 @@ impl<F: Fn(Global, usize, &[Token]) -> Read<'_, Statement>> Statements<F> {
     }
 }
 
-/// The rules of statements, where so many levels may still be opened, over a reader of statements one level deeper.
+/// The rules of statements if `room` levels may still be opened, given a reader of statements one
+/// level deeper.
 #[derive(Clone, Copy)]
 pub struct StatementRules<F> {
     alloc: Global,
@@ -78,7 +79,8 @@ pub struct StatementRules<F> {
 }
 
 impl<F: Fn(Global, usize, &[Token]) -> Read<'_, Statement> + Copy> StatementRules<F> {
-    /// The reader of statements one level deeper, where the next token may open a level.
+    /// Returns the reader of statements one level deeper, or stops if the next token may not open a
+    /// level.
     #[tactic(auto, using(crate::proofs::Rooms::no_statement, crate::proofs::Rooms::some_statement))]
     fn inner(&self, tokens: &[Token]) -> Result<Statements<F>, Stop>
         requires { StatementsBelow self.now.room (F.pre self.now.read) (F.post self.now.read) }
@@ -99,7 +101,7 @@ impl<F: Fn(Global, usize, &[Token]) -> Read<'_, Statement> + Copy> StatementRule
         })
     }
 
-    /// From a `begin` to its `end`.
+    /// Reads from a `begin` to its `end`.
     #[tactic(auto, unfolding(cp_grammar::specs::Statements::block_of))]
     fn block<'a>(&self, tokens: &'a [Token]) -> Read<'a, Body>
         requires { StatementsBelow self.now.room (F.pre self.now.read) (F.post self.now.read) }
@@ -120,7 +122,8 @@ impl<F: Fn(Global, usize, &[Token]) -> Read<'_, Statement> + Copy> StatementRule
         Ok((compound(block), rest))
     }
 
-    /// An `else` belongs to the statement that is read when it comes: the nearest `if` before it that has none.
+    /// Reads an `if`. An `else` belongs to the statement that is being read when it comes: the
+    /// nearest `if` before it that has none.
     #[tactic(auto, unfolding(cp_grammar::specs::Statements::if_of, cp_grammar::specs::Statements::else_part))]
     fn conditional<'a>(&self, tokens: &'a [Token]) -> Read<'a, Statement>
         requires { StatementsBelow self.now.room (F.pre self.now.read) (F.post self.now.read) }
@@ -214,7 +217,7 @@ impl<F: Fn(Global, usize, &[Token]) -> Read<'_, Statement> + Copy> StatementRule
         Ok((cycle(body), rest))
     }
 
-    /// A statement, by the token that stands next: nothing is one, too.
+    /// Reads a statement, depending on the next token. It may be empty.
     #[tactic(auto, unfolding(cp_grammar::specs::Statements::statement_of, cp_grammar::specs::Statements::statement_by))]
     fn statement<'a>(&self, tokens: &'a [Token]) -> Read<'a, Statement>
         requires { StatementsBelow self.now.room (F.pre self.now.read) (F.post self.now.read) }
@@ -354,7 +357,8 @@ fn cycle(body: Vec<Statement>) -> Statement
     Statement::Cycle(body)
 }
 
-/// A statement, where so many levels may be opened. It hands itself to the rules, which call it one level deeper alone.
+/// Reads a statement, if `room` levels may be opened. It passes itself to the rules, which call it
+/// only one level deeper.
 pub fn statement(alloc: Global, room: usize, tokens: &[Token]) -> Read<'_, Statement>
     ensures { Gives view.statement result (spec.statement_at room tokens.now) }
 {
@@ -366,7 +370,7 @@ pub fn statement(alloc: Global, room: usize, tokens: &[Token]) -> Read<'_, State
     .statement(tokens)
 }
 
-/// From a `begin` to its `end`, where so many levels may be opened.
+/// Reads from a `begin` to its `end`, if `room` levels may be opened.
 pub fn block(alloc: Global, room: usize, tokens: &[Token]) -> Read<'_, Body>
     ensures { Gives view.body result (spec.block_of (spec.deeper_at room) tokens.now) }
 {

@@ -1,4 +1,4 @@
-//! The next token of those that are left.
+//! The next of the tokens that are left.
 
 ghost use Rattle.std.specs.Prelude.{◌≡◌, ◌==◌, Some, None, IfSome, IsNone};
 ghost use Rattle.cp_grammar.specs.Kinds.{code, is_symbol, is_name};
@@ -8,7 +8,7 @@ ghost use Rattle.cp_grammar.specs.Reading as reading;
 use cp_grammar::Stop;
 use cp_model::token::{Kind, Symbol, Token};
 
-/// What was read and the tokens behind it, or why reading stopped.
+/// What was read and the tokens after it, or why reading stopped.
 pub type Read<'a, X> = Result<(X, &'a [Token]), Stop>;
 
 /// The place of the next token.
@@ -21,7 +21,7 @@ pub fn place(tokens: &[Token]) -> usize
     }
 }
 
-/// The tokens behind the next one.
+/// The tokens after the next one.
 pub fn after(tokens: &[Token]) -> &[Token]
     ensures { result.now ≡ tail tokens.now }
 {
@@ -31,7 +31,7 @@ pub fn after(tokens: &[Token]) -> &[Token]
     }
 }
 
-/// What the next token is: nothing behind the last.
+/// The kind of the next token, or `None` after the last one.
 pub fn peek(tokens: &[Token]) -> Option<&Kind>
     ensures some { IfSome result (λ kind. kind_at tokens.now ≡ Some kind.now) }
     ensures none { IsNone result → kind_at tokens.now ≡ None }
@@ -40,7 +40,7 @@ pub fn peek(tokens: &[Token]) -> Option<&Kind>
     Some(&first.kind)
 }
 
-/// Whether this symbol stands next.
+/// Whether the next token is this symbol.
 #[tactic(auto, unfolding(cp_grammar::specs::Kinds::is_symbol))]
 pub fn sees(tokens: &[Token], symbol: Symbol) -> bool
     ensures { result ≡ is_symbol symbol (kind_at tokens.now) }
@@ -51,21 +51,21 @@ pub fn sees(tokens: &[Token], symbol: Symbol) -> bool
     }
 }
 
-/// Whether two symbols are one. Contracts compare their numbers.
+/// Whether two symbols are the same. Contracts compare their numbers.
 fn same(seen: Symbol, symbol: Symbol) -> bool
     ensures { result ≡ (code seen == code symbol) }
 {
     seen == symbol
 }
 
-/// Whether a name stands next.
+/// Whether the next token is a name.
 pub fn sees_name(tokens: &[Token]) -> bool
     ensures { result ≡ is_name (kind_at tokens.now) }
 {
     matches!(peek(tokens), Some(Kind::Name(_)))
 }
 
-/// Takes this symbol, and answers its place.
+/// Takes this symbol and returns its place.
 #[tactic(auto, unfolding(cp_grammar::specs::Reading::expect))]
 pub fn expect(tokens: &[Token], symbol: Symbol) -> Read<'_, usize>
     ensures { Gives (λ at. at) result (reading.expect symbol tokens.now) }
@@ -76,7 +76,7 @@ pub fn expect(tokens: &[Token], symbol: Symbol) -> Read<'_, usize>
     Ok((place(tokens), after(tokens)))
 }
 
-/// Takes this symbol where it stands next, and answers its place.
+/// Takes this symbol if it is the next token, and returns its place.
 #[tactic(auto, unfolding(cp_grammar::specs::Reading::optional_symbol))]
 pub fn optional_symbol(tokens: &[Token], symbol: Symbol) -> Read<'_, Option<usize>>
     ensures { Gives (λ at. at) result (reading.optional_symbol symbol tokens.now) }

@@ -1,4 +1,4 @@
-//! Written types, over a reader of types one level deeper.
+//! Written types, given a reader of types one level deeper.
 
 ghost use Rattle.std.specs.Prelude.{◌≡◌, ◌-◌, ◌<◌, map, length, IfOk, IfErr, Some, None};
 ghost use Rattle.cp_model.specs.Syntax as s;
@@ -18,7 +18,7 @@ use cp_model::token::{Kind, Symbol, Token};
 use cp_model::tree::{Constant, Fields, Identifier, TypeExpression};
 use std::alloc::{AllocError, Global};
 
-/// A reader of types, where so many levels may still be opened.
+/// A reader of types if `room` levels may still be opened.
 #[derive(Clone, Copy)]
 pub struct Types<F> {
     pub alloc: Global,
@@ -34,7 +34,7 @@ impl<F: Fn(Global, usize, &[Token]) -> Read<'_, TypeExpression>> Types<F> {
         (self.read)(self.alloc, self.room, tokens)
     }
 
-    /// Names of one type: fields, or variables.
+    /// Reads names of one type: fields or variables.
     #[tactic(auto, unfolding(cp_grammar::specs::Types::group_of))]
     pub fn group<'a>(&self, tokens: &'a [Token]) -> Read<'a, Fields>
         requires { TypesAt self.now.room (F.pre self.now.read) (F.post self.now.read) }
@@ -48,7 +48,8 @@ impl<F: Fn(Global, usize, &[Token]) -> Read<'_, TypeExpression>> Types<F> {
     }
 }
 
-/// The rules of types, where so many levels may still be opened, over a reader of types one level deeper.
+/// The rules of types if `room` levels may still be opened, given a reader of types one level
+/// deeper.
 #[derive(Clone, Copy)]
 pub struct TypeRules<F> {
     alloc: Global,
@@ -57,7 +58,8 @@ pub struct TypeRules<F> {
 }
 
 impl<F: Fn(Global, usize, &[Token]) -> Read<'_, TypeExpression> + Copy> TypeRules<F> {
-    /// The reader of types one level deeper, where the next token may open a level.
+    /// Returns the reader of types one level deeper, or stops if the next token may not open a
+    /// level.
     #[tactic(auto, using(crate::proofs::Rooms::no_type, crate::proofs::Rooms::some_type))]
     fn inner(&self, tokens: &[Token]) -> Result<Types<F>, Stop>
         requires { TypesBelow self.now.room (F.pre self.now.read) (F.post self.now.read) }
@@ -114,7 +116,8 @@ impl<F: Fn(Global, usize, &[Token]) -> Read<'_, TypeExpression> + Copy> TypeRule
         Ok((record(place(tokens), groups), rest))
     }
 
-    /// A type. A name is a type, or the first bound of a subrange: the token behind it tells.
+    /// Reads a type. A name is a type or the first bound of a subrange, depending on the token
+    /// after it.
     #[tactic(auto, unfolding(cp_grammar::specs::Types::type_of, cp_grammar::specs::Types::type_by))]
     fn type_expression<'a>(&self, tokens: &'a [Token]) -> Read<'a, TypeExpression>
         requires { TypesBelow self.now.room (F.pre self.now.read) (F.post self.now.read) }
@@ -141,7 +144,7 @@ fn subrange(alloc: Global, tokens: &[Token]) -> Read<'_, TypeExpression>
     subrange_from(alloc, low, rest)
 }
 
-/// A subrange, behind its first bound.
+/// Reads the rest of a subrange after its first bound.
 #[tactic(auto, unfolding(cp_grammar::specs::Types::subrange_from))]
 fn subrange_from(alloc: Global, low: Constant, tokens: &[Token]) -> Read<'_, TypeExpression>
     ensures { Gives view.type_expression result (spec.subrange_from low tokens.now) }
@@ -205,7 +208,8 @@ fn record(at: usize, groups: Vec<Fields>) -> TypeExpression
     TypeExpression::Record { at, groups }
 }
 
-/// A type, where so many levels may be opened. It hands itself to the rules, which call it one level deeper alone.
+/// Reads a type, if `room` levels may be opened. It passes itself to the rules, which call it only
+/// one level deeper.
 pub fn type_expression(alloc: Global, room: usize, tokens: &[Token]) -> Read<'_, TypeExpression>
     ensures { Gives view.type_expression result (spec.type_at room tokens.now) }
 {

@@ -1,4 +1,5 @@
-//! cpm checks, explains and runs texts of Concurrent Pascal: it parses its arguments, opens the files that they name, and prints what was asked for.
+//! cpm checks, explains and runs texts of Concurrent Pascal. It parses its arguments, opens the
+//! files that they name, and prints what was asked for.
 #![tactic(auto)]
 
 use cp_command::command::{CommandError, read_command};
@@ -7,16 +8,16 @@ use cp_execute::refusal::Refusal;
 use std::process::ExitCode;
 use std::{env, io};
 
-/// The exit status where the arguments are wrong or ask for help.
+/// The exit status if the arguments are wrong or ask for help.
 const USAGE: u8 = 2;
 
-// The arguments of the program, its own name first.
+// The arguments of the program, starting with its own name.
 fn arguments(rt: &HostRuntime) -> io::Result<Vec<String>> {
     let arguments: Vec<String> = env::args(rt)?.collect(rt.alloc())?;
     Ok(arguments)
 }
 
-// Where standard error can't be written, the exit status alone says what happened.
+// If standard error can't be written, the exit status alone says what happened.
 fn report_failure(rt: &HostRuntime, failure: &Failure) -> ExitCode {
     let _ = eprintln!(rt; "{failure}");
     ExitCode::from(failure.exit())

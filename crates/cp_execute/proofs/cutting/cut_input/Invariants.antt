@@ -3,7 +3,7 @@ use Rattle.cp_model.specs.Input.{cut}
 use Rattle.cp_execute.specs.Cutting.{AreParts}
 use Rattle.cp_execute.proofs.cutting.cut_input.Given as goal
 
--- the parts so far, and what is left has the later ones
+-- the parts so far, and what is left holds the later ones
 abbrev pub invariant-loop-p : goal.invariant-loop-p
 invariant-loop-p l = record {
   parts : AreParts l.input l._p l.all.items;

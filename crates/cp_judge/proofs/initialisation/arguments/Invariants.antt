@@ -5,7 +5,7 @@ use Rattle.cp_model.specs.View.{expression, expressions_of}
 use Rattle.cp_judge.specs.InitParts.{parameters_if}
 use Rattle.cp_judge.proofs.initialisation.arguments.Given as goal
 
--- what is told in the end, from the argument of this number on
+-- what is reported in the end, from the argument with this number on
 abbrev pub invariant-loop-number : goal.invariant-loop-number
 invariant-loop-number l =
     let env = l.env in

@@ -5,7 +5,7 @@ use Rattle.cp_model.specs.View.{init_item}
 use Rattle.cp_judge.specs.InitParts.{judge_init}
 use Rattle.cp_judge.proofs.initialisation.judge_init.Given as goal
 
--- what is told in the end, from this item on
+-- what is reported in the end, from this item on
 abbrev pub invariant-loop-i : goal.invariant-loop-i
 invariant-loop-i l =
     let env = l.env in

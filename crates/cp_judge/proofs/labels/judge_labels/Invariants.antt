@@ -4,7 +4,7 @@ use Rattle.cp_model.specs.RulesStatements as st
 use Rattle.cp_judge.specs.Labels.{SameLabels}
 use Rattle.cp_judge.proofs.labels.judge_labels.Given as goal
 
--- what is told and seen in the end, from this label on
+-- what is reported and seen in the end, from this label on
 abbrev pub invariant-loop-c : goal.invariant-loop-c
 invariant-loop-c l =
     let rest = st.labels l.env l.base l.seen (drop l.c-index l.list) in

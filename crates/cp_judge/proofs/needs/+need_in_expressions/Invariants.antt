@@ -4,7 +4,7 @@ use Rattle.cp_model.specs.View.{expression, selector, index, operation, indices_
 use Rattle.cp_judge.specs.Needs as parts
 use Rattle.cp_judge.proofs.needs.+need_in_expressions.Given as goal
 
--- the greatest need so far and that of what is left are the need of all
+-- the greatest need so far and that of the rest are together the need of all
 abbrev pub invariant-need_of_expressions-loop-e : goal.invariant-need_of_expressions-loop-e
 invariant-need_of_expressions-loop-e l =
     max l.need (n.need_expressions l.env (expressions_of (map expression (drop l.e-index l.list))))

@@ -3,7 +3,7 @@ use Rattle.cp_model.specs.RulesNeeds as n
 use Rattle.cp_model.specs.View.{statement, arm, statements_of, arms_of}
 use Rattle.cp_judge.proofs.needs.+need_in_statements.Given as goal
 
--- the greatest need so far and that of what is left are the need of all
+-- the greatest need so far and that of the rest are together the need of all
 abbrev pub invariant-need_of_statements-loop-s : goal.invariant-need_of_statements-loop-s
 invariant-need_of_statements-loop-s l =
     max l.need (n.need_statements l.env (statements_of (map statement (drop l.s-index l.list))))

@@ -5,6 +5,6 @@ use Rattle.cp_grammar.specs.Reading as reading
 use Rattle.cp_syntax.specs.Readers.{Reads}
 use Rattle.cp_syntax.proofs.lists.read_separated.Given as goal
 
--- what is still to be read gives the whole
+-- what is still to be read completes the whole
 abbrev pub invariant-loop-turn : goal.invariant-loop-turn
 invariant-loop-turn g l = (reader : Reader g.X.Node.Plain) → Reads g.X.Node.view (goal.F-post g l.item) reader → repeat (is_symbol l.symbol) (take_token >>= λ _. reader) (l._turn-end - l._turn) (map g.X.Node.view l.found.items) l.rest ≡ reading.separated_by l.symbol reader l.tokens

@@ -7,7 +7,7 @@ use Rattle.cp_rules.specs.Records.{or_first}
 use Rattle.cp_rules.specs.Types.{with_groups, with_indices}
 use Rattle.cp_rules.proofs.checker.Checker.+types.Given as goal
 
--- what the rest makes and tells, is what all do
+-- the rest of the index types leads to the same end as all of them
 abbrev pub invariant-index_types-loop-t : goal.invariant-index_types-loop-t
 invariant-index_types-loop-t l =
     let now = l.self in
@@ -19,7 +19,7 @@ invariant-index_types-loop-t l =
       answers : l.answers.items ++ map first_of rest.of ≡ map first_of all.of;
     }
 
--- what the rest of the groups makes and tells, is what all do
+-- the rest of the groups leads to the same end as all of them
 abbrev pub invariant-record_type-loop-group : goal.invariant-record_type-loop-group
 invariant-record_type-loop-group l =
     let now = l.self in

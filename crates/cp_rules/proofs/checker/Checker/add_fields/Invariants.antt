@@ -3,7 +3,7 @@ use Rattle.cp_rules.specs.Checking.{telling}
 use Rattle.cp_rules.specs.Records.{or_first, with_fields}
 use Rattle.cp_rules.proofs.checker.Checker.add_fields.Given as goal
 
--- what the rest adds and tells, is what all do
+-- the rest of the names leads to the same end as all of them
 abbrev pub invariant-loop-x : goal.invariant-loop-x
 invariant-loop-x l =
     let rest = with_fields l.fields.members l.t (drop l.x-index l.names) in

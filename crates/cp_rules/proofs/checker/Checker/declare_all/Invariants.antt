@@ -3,7 +3,7 @@ use Rattle.cp_model.specs.RulesDeclarations as d
 use Rattle.cp_rules.specs.Checking.{after}
 use Rattle.cp_rules.proofs.checker.Checker.declare_all.Given as goal
 
--- what the rest declares and tells, is what all do
+-- the rest of the names leads to the same end as all of them
 abbrev pub invariant-loop-x : goal.invariant-loop-x
 invariant-loop-x l =
     let now = l.self in

@@ -4,7 +4,7 @@ use Rattle.cp_rules.specs.Checking.{after}
 use Rattle.cp_rules.specs.Headings.{lent}
 use Rattle.cp_rules.proofs.checker.Checker.declare_each.Given as goal
 
--- what the rest declares and tells, is what all do
+-- the rest of the names leads to the same end as all of them
 abbrev pub invariant-loop-x : goal.invariant-loop-x
 invariant-loop-x l =
     let now = l.self in

@@ -4,7 +4,7 @@ use Rattle.cp_rules.specs.Checking.{after}
 use Rattle.cp_rules.specs.Definitions.{define_sections}
 use Rattle.cp_rules.proofs.checker.Checker.define_sections.Given as goal
 
--- what the rest defines and tells, is what all do
+-- the rest of the sections leads to the same end as all of them
 abbrev pub invariant-loop-section : goal.invariant-loop-section
 invariant-loop-section l =
     let now = l.self in

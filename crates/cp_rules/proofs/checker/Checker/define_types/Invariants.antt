@@ -4,7 +4,7 @@ use Rattle.cp_rules.specs.Checking.{after}
 use Rattle.cp_rules.specs.Definitions.{define_types}
 use Rattle.cp_rules.proofs.checker.Checker.define_types.Given as goal
 
--- what the rest defines and tells, is what all do
+-- the rest of the definitions leads to the same end as all of them
 abbrev pub invariant-loop-d : goal.invariant-loop-d
 invariant-loop-d l =
     let now = l.self in

@@ -4,7 +4,7 @@ use Rattle.cp_model.specs.View as view
 use Rattle.cp_rules.specs.Headings.{collected, nothing, with_heading, with_part}
 use Rattle.cp_rules.proofs.checker.Checker.heading.Given as goal
 
--- with the rest of the groups it is what it is with all
+-- the rest of the groups leads to the same end as all of them
 abbrev pub invariant-loop-group : goal.invariant-loop-group
 invariant-loop-group l =
     let now = l.self in

@@ -5,7 +5,7 @@ use Rattle.cp_model.specs.RulesEnvironment.{Text}
 use Rattle.cp_model.specs.declared.rules.Entity.{Entity}
 use Rattle.cp_rules.proofs.checker.Checker.routine_members.Given as goal
 
--- with the routines among the rest they are all; and none of the rest is among them
+-- with the routines among the rest, the members are complete; none of the rest is among them
 abbrev pub invariant-loop-number : goal.invariant-loop-number
 invariant-loop-number l =
     let names = l.fn.self.env.names in

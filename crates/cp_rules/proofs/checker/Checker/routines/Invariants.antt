@@ -4,7 +4,7 @@ use Rattle.cp_model.specs.View as view
 use Rattle.cp_rules.specs.Checking.{after}
 use Rattle.cp_rules.proofs.checker.Checker.routines.Given as goal
 
--- what the rest declares and tells, is what all do
+-- the rest of the routines leads to the same end as all of them
 abbrev pub invariant-loop-routine : goal.invariant-loop-routine
 invariant-loop-routine l =
     let now = l.self in

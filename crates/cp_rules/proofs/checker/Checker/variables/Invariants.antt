@@ -5,7 +5,7 @@ use Rattle.cp_model.specs.View as view
 use Rattle.cp_rules.specs.Declaring.{with_variables}
 use Rattle.cp_rules.proofs.checker.Checker.variables.Given as goal
 
--- what the rest declares, tells and counts, is what all do
+-- the rest of the groups leads to the same end as all of them
 abbrev pub invariant-loop-group : goal.invariant-loop-group
 invariant-loop-group l =
     let now = l.self in
