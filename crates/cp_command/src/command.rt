@@ -106,21 +106,21 @@ fn file<'a>(alloc: Global) -> Arg<'a> {
 
 fn check_words<'a>(alloc: Global) -> Result<clap::Command<'a>, AllocError> {
     clap::Command::new(alloc, "check")
-        .about("Judges a text by the rules of the language")
+        .about("Checks a text against the rules of the language")
         .arg(file(alloc))
 }
 
 fn explain_words<'a>(alloc: Global) -> Result<clap::Command<'a>, AllocError> {
     let what = Arg::new(alloc, "FILE")
         .required(true)
-        .help("the text, - for standard input, or a rule, as C4");
+        .help("the text, - for standard input, or a rule such as C4");
     let dot = Arg::new(alloc, "dot")
         .long("dot")
         .action(ArgAction::SetTrue)
         .help("writes the access graph of an accepted text for Graphviz");
     clap::Command::new(alloc, "explain")
         .about(
-            "Explains what is wrong with a text, who has which right in an accepted one, or a rule",
+            "Explains what is wrong with a text, who has which right in an accepted text, or a rule",
         )
         .arg(what)?
         .arg(dot)

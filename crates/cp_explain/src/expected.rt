@@ -101,7 +101,11 @@ fn push_token(
     spelled: &str,
     called: Option<&str>,
 ) -> Result<(), AllocError> {
-    page.text(if is_first { "  Here can stand " } else { ", " })?;
+    page.text(if is_first {
+        "  Expected one of: "
+    } else {
+        ", "
+    })?;
     if let Some(called) = called {
         return page.text(called);
     }

@@ -11,18 +11,18 @@ pub struct Message {
 // ---- S: tokens
 
 pub const BYTE: Message = Message {
-    head: "this character stands in no text",
-    advice: "Outside comments and character constants a text has letters, digits, blanks and the marks of the language.",
+    head: "this character can't appear here",
+    advice: "Outside comments and character constants a text consists of letters, digits, blanks and the marks of the language.",
 };
 
 pub const COMMENT: Message = Message {
-    head: "this comment has no end",
-    advice: "A comment goes from one `\"` to the next. Add the second one.",
+    head: "this comment is never closed",
+    advice: "A comment runs from one `\"` to the next. Add the closing one.",
 };
 
 pub const CHARACTER: Message = Message {
-    head: "this is no character constant",
-    advice: "A character constant is one printable character between apostrophes, as 'a', or its ordinal from 0 to 127, as '(:10:)'.",
+    head: "this is not a character constant",
+    advice: "A character constant is one printable character between apostrophes, such as 'a', or its ordinal from 0 to 127, such as '(:10:)'.",
 };
 
 pub const NUMBER: Message = Message {
@@ -43,92 +43,92 @@ pub const SIZE: Message = Message {
 // ---- Y: syntax
 
 pub const UNEXPECTED: Message = Message {
-    head: "this can't stand here",
-    advice: "No text goes on like this after what stands before. A missing `;`, `end` or `)` is often the reason.",
+    head: "unexpected token",
+    advice: "No text can continue with this after what comes before it. Often a `;`, `end` or `)` is missing.",
 };
 
 pub const UNFINISHED: Message = Message {
-    head: "the text ends too early",
-    advice: "Something is still open: each `begin`, `cycle` and `case` has its `end`, and the whole text ends with `end.`.",
+    head: "the text ends too soon",
+    advice: "Something is still open: each `begin`, `cycle` and `case` needs its `end`, and the whole text ends with `end.`.",
 };
 
 pub const DEEP: Message = Message {
-    head: "the text is nested too deep",
-    advice: "At most 200 statements, expressions or types stand inside one another. Give the inner ones names of their own.",
+    head: "the text is nested too deeply",
+    advice: "At most 200 statements, expressions or types can be nested. Move inner statements into routines, and give inner types names.",
 };
 
 // ---- C1
 
 pub const UNKNOWN: Message = Message {
     head: "`$` is not declared",
-    advice: "A name is declared before it is used. Spell it as it is declared, or declare it.",
+    advice: "A name must be declared before it is used. Check its spelling, or declare it.",
 };
 
 pub const UNKNOWN_MEMBER: Message = Message {
-    head: "what stands before the `.` has no `$`",
-    advice: "After a record's `.` stands a field of its type, after a component's `.` an entry routine of its type.",
+    head: "there is no `$` in what comes before the `.`",
+    advice: "A record's `.` is followed by a field of its type, a component's `.` by an entry routine of its type.",
 };
 
 pub const TWICE: Message = Message {
-    head: "`$` is declared a second time",
-    advice: "No name hides another, and each is declared once. Rename one of the two.",
+    head: "`$` is already declared",
+    advice: "Each name is declared once, and no name hides another. Rename one of the two.",
 };
 
 // ---- C2
 
 pub const NO_CONSTANT: Message = Message {
-    head: "`$` is no constant",
-    advice: "A constant is wanted here: a number, a character constant, the name of one, or a value of an enumeration.",
+    head: "`$` is not a constant",
+    advice: "A constant is expected here: a number, a character constant, the name of a constant, or a value of an enumeration.",
 };
 
 pub const NO_TYPE: Message = Message {
-    head: "`$` is no type",
-    advice: "The name of a type is wanted here.",
+    head: "`$` is not a type",
+    advice: "The name of a type is expected here.",
 };
 
 pub const NO_VALUE: Message = Message {
-    head: "`$` is no value",
-    advice: "A value is wanted here: a constant, a variable or what a function answers. A component and a procedure have none.",
+    head: "`$` is not a value",
+    advice: "A value is expected here: a constant, a variable or the result of a function. Components and procedures have no value.",
 };
 
 pub const NO_FUNCTION: Message = Message {
-    head: "`$` is no function",
-    advice: "What is called in an expression is a function.",
+    head: "`$` is not a function",
+    advice: "Only functions can be called in an expression.",
 };
 
 pub const NO_PROCEDURE: Message = Message {
-    head: "`$` is no procedure",
-    advice: "A statement that is a name calls a procedure. To use what a function answers, write it in an expression.",
+    head: "`$` is not a procedure",
+    advice: "A statement that begins with a name calls a procedure or assigns to a variable. To use the result of a function, call it in an expression.",
 };
 
 pub const ARGUMENTS: Message = Message {
-    head: "`$` is called with a wrong number of arguments",
-    advice: "Each parameter has one argument. Count the parameters.",
+    head: "`$` is called with the wrong number of arguments",
+    advice: "Each parameter takes one argument. Count the parameters.",
 };
 
 pub const BASES: Message = Message {
-    head: "the bounds of this subrange are of two types",
-    advice: "Both bounds are integers, or both characters, or both values of one enumeration.",
+    head: "the bounds of this subrange have different types",
+    advice: "Both bounds must be integers, or both characters, or both values of one enumeration.",
 };
 
 pub const OPERANDS: Message = Message {
     head: "the operands don't fit this operator",
-    advice: "`+ - * div mod` and signs take integers, `& or not` Booleans, and relations two simple values of one type. Convert by `ord` and `chr`.",
+    advice: "`+ - * div mod` and signs take integers, `& or not` take Booleans, and relations take two simple values of one type. Convert with `ord` and `chr`.",
 };
 
 pub const NO_PARTS: Message = Message {
-    head: "what stands before this `.` has no parts",
-    advice: "A `.` follows a record or a component.",
+    head: "what comes before this `.` has no parts",
+    advice: "A `.` can only follow a record or a component.",
 };
 
 pub const NO_ELEMENTS: Message = Message {
-    head: "what stands before this index has no elements",
-    advice: "An index follows an array, one for each of its dimensions.",
+    head: "what comes before this index has no elements",
+    advice: "Only an array can be indexed, with at most one index for each of its dimensions.",
 };
 
 pub const INDEX: Message = Message {
-    head: "this index isn't of the array's index type",
-    advice: "An index has the base type of the array's index type.",
+    head: "this index doesn't have the array's index type",
+    advice: "An index must have the base type of the array's index type.",
 };
 
 pub const CONDITION: Message = Message {
@@ -137,194 +137,194 @@ pub const CONDITION: Message = Message {
 };
 
 pub const SELECTOR: Message = Message {
-    head: "`case` can't choose by this value",
-    advice: "`case` chooses by a simple value: an integer, a character, a Boolean or a value of an enumeration.",
+    head: "`case` can't select by this value",
+    advice: "`case` selects by a simple value: an integer, a character, a Boolean or a value of an enumeration.",
 };
 
 pub const LABEL: Message = Message {
-    head: "this label isn't of the selector's type",
-    advice: "Each label of a `case` has the base type of the value after `case`.",
+    head: "this label doesn't have the selector's type",
+    advice: "Each label of a `case` must have the base type of the value after `case`.",
 };
 
 pub const COUNTER: Message = Message {
-    head: "`for` can't count by `$`",
-    advice: "The variable of a `for` is simple: an integer, a character, a Boolean or a value of an enumeration.",
+    head: "`for` can't count with `$`",
+    advice: "The variable of a `for` must be simple: an integer, a character, a Boolean or a value of an enumeration.",
 };
 
 pub const BOUND: Message = Message {
-    head: "this bound isn't of the variable's type",
-    advice: "Both bounds of a `for` have the base type of its variable.",
+    head: "this bound doesn't have the variable's type",
+    advice: "Both bounds of a `for` must have the base type of its variable.",
 };
 
 pub const INDEX_TYPE: Message = Message {
-    head: "this is no index type",
-    advice: "An index type is simple: a subrange, an enumeration, `char` or `boolean`.",
+    head: "this is not an index type",
+    advice: "An index type must be simple: a subrange, an enumeration, `char` or `boolean`.",
 };
 
 pub const ARGUMENT: Message = Message {
     head: "this argument doesn't agree with the parameter",
-    advice: "A simple argument has the base type of its parameter, and an array or a record its very type.",
+    advice: "A simple argument must have the base type of its parameter; an array or a record must have exactly its type.",
 };
 
 pub const SIDES: Message = Message {
     head: "the two sides of this assignment don't agree",
-    advice: "Simple values agree where their base types are the same, arrays and records where they are of one type. Convert by `ord` and `chr`.",
+    advice: "Simple values agree if they have the same base type, arrays and records only if they have the same type. Convert with `ord` and `chr`.",
 };
 
 // ---- C3 to C5
 
 pub const BOUNDS: Message = Message {
     head: "this subrange is empty",
-    advice: "The lower bound comes first, and is at most the upper one.",
+    advice: "The lower bound comes first and can't be above the upper bound.",
 };
 
 pub const LABELS: Message = Message {
-    head: "this label stands twice",
-    advice: "Each value has at most one arm of a `case`. Join the two arms.",
+    head: "this label is used twice",
+    advice: "Each value can have only one arm of a `case`. Merge the two arms.",
 };
 
 pub const OWN_DEFINITION: Message = Message {
     head: "`$` is used inside its own definition",
-    advice: "There is no recursion: a routine doesn't call itself, and a type doesn't contain itself. In its own body a function's name stands alone on the left of `:=`.",
+    advice: "There is no recursion: a routine can't call itself, and a type can't contain itself. In its own body a function's name can only stand on the left of `:=`.",
 };
 
 pub const NO_ENTRY: Message = Message {
-    head: "`$` is no entry routine",
-    advice: "Other components call entry routines alone. Declare it with `entry`.",
+    head: "`$` is not an entry routine",
+    advice: "Other components can call only entry routines. Declare it with `entry`.",
 };
 
 pub const ENTRY_BY_NAME: Message = Message {
     head: "`$` is an entry routine of this component",
-    advice: "A component doesn't call its own entry routines. Put what both need into a routine without `entry`.",
+    advice: "A component can't call its own entry routines. Put what both need into a routine without `entry`.",
 };
 
 pub const ENTRY_OF_PROCESS: Message = Message {
-    head: "a process has no entry routines",
-    advice: "Nobody calls a process. Let processes share a monitor.",
+    head: "a process can't have entry routines",
+    advice: "Nothing can call a process. Let processes share a monitor.",
 };
 
 // ---- C6 to C8
 
 pub const COMPONENT_INSIDE: Message = Message {
-    head: "a component can't stand here",
-    advice: "Each component has a variable of its own, so that the text shows which there are. Declare them one by one.",
+    head: "a component can't be declared here",
+    advice: "Each component needs a variable of its own, so that the text shows which components exist. Declare them one by one.",
 };
 
 pub const OWNER_INSIDE: Message = Message {
-    head: "only the initial process declares processes and monitors",
-    advice: "Declare it at the end of the text, and hand over the right to a monitor by `init`.",
+    head: "only the initial process can declare processes and monitors",
+    advice: "Declare it at the end of the text, and pass the right to a monitor with `init`.",
 };
 
 pub const VAR_RIGHT: Message = Message {
-    head: "parameters of a system type have no `var`",
-    advice: "They are values and rights that are handed over once. Leave `var` out.",
+    head: "a parameter of a system type can't have `var`",
+    advice: "Such parameters are values and rights that are passed once. Leave out `var`.",
 };
 
 pub const SYSTEM_PARAMETER: Message = Message {
-    head: "this can't be handed over by `init`",
-    advice: "Processes and monitors are handed simple values and monitors, and classes also classes. Two processes can't share a class.",
+    head: "this can't be passed by `init`",
+    advice: "Processes and monitors can be given simple values and monitors; classes can be given classes too. Two processes can't share a class.",
 };
 
 pub const ROUTINE_PARAMETER: Message = Message {
-    head: "a routine's parameter is no component",
-    advice: "Parameters of routines are data. Rights are parameters of system types, and handed over by `init`.",
+    head: "a routine's parameter can't be a component",
+    advice: "Parameters of routines are data. Rights are parameters of system types and are passed by `init`.",
 };
 
 pub const QUEUE_PLACE: Message = Message {
     head: "a queue can't be declared here",
-    advice: "Queues are variables of monitors, or elements of arrays that are.",
+    advice: "A queue is a variable of a monitor, or an element of an array that is one.",
 };
 
 pub const QUEUE_NAME: Message = Message {
-    head: "`$` is a queue, and can't be used here",
-    advice: "A queue is named as the argument of `delay`, `continue` and `empty` alone.",
+    head: "`$` is a queue and can't be used here",
+    advice: "A queue can only be the argument of `delay`, `continue` or `empty`.",
 };
 
 // ---- C9 to C11
 
 pub const DELAY: Message = Message {
-    head: "`$` can't stand here",
-    advice: "`delay` and `empty` stand in the routines of monitors. While a monitor is initialised nobody could continue.",
+    head: "`$` can't be used here",
+    advice: "`delay` and `empty` can only be used in routines of monitors: while a monitor is being initialised, no process could continue the queue.",
 };
 
 pub const CONTINUE: Message = Message {
-    head: "`continue` can't stand here",
-    advice: "`continue` returns from a monitor's entry routine, so it stands in the body of one.",
+    head: "`continue` can't be used here",
+    advice: "`continue` returns from a monitor's entry routine, so it can only be used in the body of one.",
 };
 
 pub const WAIT: Message = Message {
-    head: "`wait` can't stand here",
-    advice: "`wait` stands in processes: in their bodies and their routines.",
+    head: "`wait` can't be used here",
+    advice: "`wait` can only be used in the bodies and routines of processes.",
 };
 
 pub const UNCHANGEABLE: Message = Message {
-    head: "`$` may not be changed here",
-    advice: "A value parameter and a constant can't be changed; neither can what a function answers. Copy it to a variable, or declare the parameter with `var`.",
+    head: "`$` can't be changed here",
+    advice: "Value parameters, constants and function results can't be changed. Copy the value to a variable, or declare the parameter with `var`.",
 };
 
 pub const NO_VARIABLE: Message = Message {
-    head: "a variable is wanted here",
-    advice: "What is changed is a variable, a `var` parameter or a part of one. The result of an expression can't be changed.",
+    head: "a variable is expected here",
+    advice: "Only a variable, a `var` parameter or a part of one can be changed. The result of an expression can't be.",
 };
 
 pub const ANOTHER_TYPE: Message = Message {
-    head: "`$` isn't of the `var` parameter's type",
-    advice: "The argument of a `var` parameter is a variable of the very same type. Declare both with the name of one type.",
+    head: "`$` doesn't have the `var` parameter's type",
+    advice: "The argument of a `var` parameter must be a variable of exactly the same type. Declare both with the same type name.",
 };
 
 pub const VAR_OF_FUNCTION: Message = Message {
-    head: "a function has no `var` parameters",
-    advice: "A function stands in expressions, where a change would depend on the order of evaluation. Make it a procedure.",
+    head: "a function can't have `var` parameters",
+    advice: "Functions are called in expressions, where the effect of a change would depend on the order of evaluation. Make it a procedure.",
 };
 
 pub const RESULT: Message = Message {
-    head: "`$` can't be the type of a result",
-    advice: "A function answers a simple value. Return an array or a record by a procedure with a `var` parameter.",
+    head: "`$` can't be a result type",
+    advice: "A function returns a simple value. To return an array or a record, use a procedure with a `var` parameter.",
 };
 
 // ---- C12 and C13
 
 pub const INIT_IN_ROUTINE: Message = Message {
-    head: "`init` can't stand in a routine",
+    head: "`init` can't be used in a routine",
     advice: "Components are connected once, in the body of the component that declares them.",
 };
 
 pub const NO_COMPONENT: Message = Message {
-    head: "`$` is no component of this component",
-    advice: "`init` names a component that is declared as a variable here: a process, a monitor or a class.",
+    head: "`$` is not a component declared here",
+    advice: "`init` takes a component that this component declares as a variable: a process, a monitor or a class.",
 };
 
 pub const INIT_ARGUMENTS: Message = Message {
-    head: "`$` is initialised with a wrong number of arguments",
-    advice: "Each parameter of its type has one argument.",
+    head: "`$` is initialised with the wrong number of arguments",
+    advice: "Each parameter of its type takes one argument.",
 };
 
 pub const INIT_ARGUMENT: Message = Message {
     head: "this argument of `init` doesn't agree with the parameter",
-    advice: "A simple argument has the base type of its parameter; for a component its name stands, and it is of the parameter's type.",
+    advice: "A simple argument must have the base type of its parameter. A component is passed by its name, and must have the parameter's type.",
 };
 
 pub const PROCESSES: Message = Message {
     head: "`$` is one process too many",
-    advice: "There are at most 255 processes, with the initial one.",
+    advice: "There can be at most 255 processes, including the initial one.",
 };
 
 pub const MONITORS: Message = Message {
     head: "`$` is one monitor too many",
-    advice: "There are at most 255 monitors.",
+    advice: "There can be at most 255 monitors.",
 };
 
 pub const OWNER_SIZE: Message = Message {
     head: "`$` needs too many words",
-    advice: "A process or a monitor has at most 65,536 words, with all that its routines need.",
+    advice: "A process or a monitor can have at most 65,536 words, including what its routines need.",
 };
 
 pub const TYPE_SIZE: Message = Message {
     head: "this type has too many words",
-    advice: "A type has at most 65,536 words. Use a smaller array.",
+    advice: "A type can have at most 65,536 words. Use a smaller array.",
 };
 
 pub const INITIAL_SIZE: Message = Message {
     head: "the initial process needs too many words",
-    advice: "It has at most 65,536 words, with all that its routines need.",
+    advice: "It can have at most 65,536 words, including what its routines need.",
 };

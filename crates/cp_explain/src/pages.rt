@@ -11,23 +11,23 @@ pub struct RulePage {
 pub const PAGES: [RulePage; 27] = [
     RulePage {
         rule: "C1",
-        text: "C1: a name is declared before it is used, and once\n\nWhy: an undeclared name is a slip, and a name that hides another misleads the\nreader; so names are declared first, and none hides another.\nMend: spell the name as it is declared, or declare it. Where it was declared\ntwice, rename one of the two.\n\nThis text is refused C1 at 89: the cycle assigns `totl`, which nobody\ndeclared.\n\n  \"A counter that misspells its variable.\"\n  var total: integer;\n  begin\n    total := 0;\n    cycle totl := total + 1 end\n  end.\n\nMended:\n\n  \"A counter.\"\n  var total: integer;\n  begin\n    total := 0;\n    cycle total := total + 1 end\n  end.\n",
+        text: "C1: a name is declared before it is used, and once\n\nWhy: an undeclared name is a slip, and a name that hides another misleads the\nreader; so names are declared first, and none hides another.\nMend: spell the name as it is declared, or declare it. If it is declared\ntwice, rename one of the two.\n\nThis text is refused C1 at 89: the cycle assigns `totl`, which nobody\ndeclared.\n\n  \"A counter that misspells its variable.\"\n  var total: integer;\n  begin\n    total := 0;\n    cycle totl := total + 1 end\n  end.\n\nMended:\n\n  \"A counter.\"\n  var total: integer;\n  begin\n    total := 0;\n    cycle total := total + 1 end\n  end.\n",
     },
     RulePage {
         rule: "C2",
-        text: "C2: types and sorts of names agree\n\nWhy: a character, a Boolean, an integer and a value of an enumeration are\ndifferent things even where they are stored alike.\nMend: convert explicitly, here by `count := ord('5') - ord('0')`. Where a name\nof the wrong sort stands, as a type for a value, use a name of the right one;\nwhere a call has too few or too many arguments, count the parameters.\n\nThis text is refused C2 at 87: `count := '5'` assigns a character to an\ninteger.\n\n  \"A digit is a character, and a count is an integer.\"\n  var count: integer;\n  begin\n    count := '5'\n  end.\n\nMended:\n\n  \"A digit and its count.\"\n  var count: integer;\n  begin\n    count := ord('5') - ord('0')\n  end.\n",
+        text: "C2: types and sorts of names agree\n\nWhy: a character, a Boolean, an integer and a value of an enumeration are\ndifferent things even if they are stored alike.\nMend: convert explicitly, here by `count := ord('5') - ord('0')`. If a name\nhas the wrong sort, such as a type in place of a value, use one of the right\nsort; if a call has too few or too many arguments, count the parameters.\n\nThis text is refused C2 at 87: `count := '5'` assigns a character to an\ninteger.\n\n  \"A digit is a character, and a count is an integer.\"\n  var count: integer;\n  begin\n    count := '5'\n  end.\n\nMended:\n\n  \"A digit and its count.\"\n  var count: integer;\n  begin\n    count := ord('5') - ord('0')\n  end.\n",
     },
     RulePage {
         rule: "C3",
-        text: "C3: bounds rise, and labels differ\n\nWhy: a variable of an empty type could hold nothing, and of two equal labels\nthe second could never be chosen.\nMend: write `0..9`; join the arms of a label that stands twice.\n\nThis text is refused C3 at 66: the subrange `9..0` is empty.\n\n  \"The digits, written from the last to the first.\"\n  type digit = 9..0;\n  var d: digit;\n  begin\n    d := 3\n  end.\n\nMended:\n\n  \"The digits.\"\n  type digit = 0..9;\n  var d: digit;\n  begin\n    d := 3\n  end.\n",
+        text: "C3: bounds rise, and labels differ\n\nWhy: a variable of an empty type could hold nothing, and of two equal labels\nthe second could never be chosen.\nMend: write `0..9`; merge the arms of a label that is used twice.\n\nThis text is refused C3 at 66: the subrange `9..0` is empty.\n\n  \"The digits, written from the last to the first.\"\n  type digit = 9..0;\n  var d: digit;\n  begin\n    d := 3\n  end.\n\nMended:\n\n  \"The digits.\"\n  type digit = 0..9;\n  var d: digit;\n  begin\n    d := 3\n  end.\n",
     },
     RulePage {
         rule: "C4",
-        text: "C4: nothing is used inside its own definition\n\nWhy: without recursion the compiler knows the depth of every chain of calls,\nand with it the memory that a process needs. A type that contains itself would\nhave no size.\nMend: write a loop: `result := 1; for i := 2 to n do result := result * i`. In\nits own body a function's name may only stand alone on the left of `:=`.\n\nThis text is refused C4 at 136: `factorial` calls itself.\n\n  \"A function that calls itself.\"\n  function factorial(n: integer): integer;\n  begin\n    if n = 0\n    then factorial := 1\n    else factorial := n * factorial(n - 1)\n  end;\n  begin\n    display(factorial(5))\n  end.\n\nMended:\n\n  \"A function that multiplies in a loop.\"\n  function factorial(n: integer): integer;\n    var result, i: integer;\n  begin\n    result := 1;\n    for i := 2 to n do result := result * i;\n    factorial := result\n  end;\n  begin\n    display(factorial(5))\n  end.\n",
+        text: "C4: nothing is used inside its own definition\n\nWhy: without recursion the compiler knows the depth of every chain of calls,\nand with it the memory that a process needs. A type that contains itself would\nhave no size.\nMend: write a loop: `result := 1; for i := 2 to n do result := result * i`. In\nits own body a function's name can only stand on the left of `:=`.\n\nThis text is refused C4 at 136: `factorial` calls itself.\n\n  \"A function that calls itself.\"\n  function factorial(n: integer): integer;\n  begin\n    if n = 0\n    then factorial := 1\n    else factorial := n * factorial(n - 1)\n  end;\n  begin\n    display(factorial(5))\n  end.\n\nMended:\n\n  \"A function that multiplies in a loop.\"\n  function factorial(n: integer): integer;\n    var result, i: integer;\n  begin\n    result := 1;\n    for i := 2 to n do result := result * i;\n    factorial := result\n  end;\n  begin\n    display(factorial(5))\n  end.\n",
     },
     RulePage {
         rule: "C5",
-        text: "C5: other components call entry routines, and only those\n\nWhy: entry routines are a component's door. The others are its own, and may be\ncalled while its variables are being changed.\nMend: declare `procedure entry add`. An entry routine in turn is not called\nfrom inside its own component: put what both need into a routine without\n`entry`.\n\nThis text is refused C5 at 204: the worker calls `add`, which has no `entry`.\n\n  \"A process calls a routine that the monitor keeps for itself.\"\n  type counter = monitor;\n    var n: integer;\n    procedure add; begin n := n + 1 end;\n    begin n := 0 end;\n  worker = process(c: counter);\n    begin c.add end;\n  var c: counter; w: worker;\n  begin\n    init c, w(c)\n  end.\n\nMended:\n\n  \"A process calls an entry routine of a monitor.\"\n  type counter = monitor;\n    var n: integer;\n    procedure entry add; begin n := n + 1 end;\n    begin n := 0 end;\n  worker = process(c: counter);\n    begin c.add end;\n  var c: counter; w: worker;\n  begin\n    init c, w(c)\n  end.\n",
+        text: "C5: other components call entry routines, and only those\n\nWhy: entry routines are a component's door. The others are its own, and can be\ncalled while its variables are being changed.\nMend: declare `procedure entry add`. An entry routine in turn is not called\nfrom inside its own component: put what both need into a routine without\n`entry`.\n\nThis text is refused C5 at 204: the worker calls `add`, which has no `entry`.\n\n  \"A process calls a routine that the monitor keeps for itself.\"\n  type counter = monitor;\n    var n: integer;\n    procedure add; begin n := n + 1 end;\n    begin n := 0 end;\n  worker = process(c: counter);\n    begin c.add end;\n  var c: counter; w: worker;\n  begin\n    init c, w(c)\n  end.\n\nMended:\n\n  \"A process calls an entry routine of a monitor.\"\n  type counter = monitor;\n    var n: integer;\n    procedure entry add; begin n := n + 1 end;\n    begin n := 0 end;\n  worker = process(c: counter);\n    begin c.add end;\n  var c: counter; w: worker;\n  begin\n    init c, w(c)\n  end.\n",
     },
     RulePage {
         rule: "C6",
@@ -43,7 +43,7 @@ pub const PAGES: [RulePage; 27] = [
     },
     RulePage {
         rule: "C9",
-        text: "C9: waiting and continuing stand where they have a meaning\n\nWhy: while a monitor is being initialised nobody else can enter it, so nobody\ncould ever continue. `continue` returns from its entry routine at once, so it\nstands in the body of one.\nMend: initialise variables in the body, and delay in entry routines. `wait`\nstands in processes alone.\n\nThis text is refused C9 at 158: a monitor delays the process that is\ninitialising it.\n\n  \"A monitor that waits while it is being initialised.\"\n  type gate = monitor;\n    var arrived: queue;\n    procedure entry open; begin continue(arrived) end;\n    begin delay(arrived) end;\n  var g: gate;\n  begin\n    init g\n  end.\n\nMended:\n\n  \"A monitor in whose entry routine a process waits.\"\n  type gate = monitor;\n    var arrived: queue;\n    procedure entry arrive; begin delay(arrived) end;\n    procedure entry open; begin continue(arrived) end;\n    begin end;\n  var g: gate;\n  begin\n    init g\n  end.\n",
+        text: "C9: waiting and continuing stand where they have a meaning\n\nWhy: while a monitor is being initialised nobody else can enter it, so nobody\ncould ever continue. `continue` returns from its entry routine at once, so it\nstands in the body of one.\nMend: initialise variables in the body, and delay in entry routines. `wait`\ncan only be used in processes.\n\nThis text is refused C9 at 158: a monitor delays the process that is\ninitialising it.\n\n  \"A monitor that waits while it is being initialised.\"\n  type gate = monitor;\n    var arrived: queue;\n    procedure entry open; begin continue(arrived) end;\n    begin delay(arrived) end;\n  var g: gate;\n  begin\n    init g\n  end.\n\nMended:\n\n  \"A monitor in whose entry routine a process waits.\"\n  type gate = monitor;\n    var arrived: queue;\n    procedure entry arrive; begin delay(arrived) end;\n    procedure entry open; begin continue(arrived) end;\n    begin end;\n  var g: gate;\n  begin\n    init g\n  end.\n",
     },
     RulePage {
         rule: "C10",
@@ -63,7 +63,7 @@ pub const PAGES: [RulePage; 27] = [
     },
     RulePage {
         rule: "S1",
-        text: "S1: a text is spelled with letters, digits, blanks and marks\n\nWhy: each character has one meaning, and what has none is a slip.\nMend: put remarks between `\"` and `\"`, and other characters into character\nconstants.\n\nThis text is refused S1 at 54: `#` stands in no text.\n\n  \"A remark as in another language.\"\n  begin\n    display(1) # one\n  end.\n\nMended:\n\n  \"A remark is a comment.\"\n  begin\n    display(1) \"one\"\n  end.\n",
+        text: "S1: a text is spelled with letters, digits, blanks and marks\n\nWhy: each character has one meaning, and what has none is a slip.\nMend: put remarks between `\"` and `\"`, and other characters into character\nconstants.\n\nThis text is refused S1 at 54: `#` can't appear there.\n\n  \"A remark as in another language.\"\n  begin\n    display(1) # one\n  end.\n\nMended:\n\n  \"A remark is a comment.\"\n  begin\n    display(1) \"one\"\n  end.\n",
     },
     RulePage {
         rule: "S2",
@@ -87,7 +87,7 @@ pub const PAGES: [RulePage; 27] = [
     },
     RulePage {
         rule: "Y1",
-        text: "Y1: each token can follow the ones before it\n\nWhy: the place is the first token with which no text goes on, so the slip is\nthere or just before.\nMend: look at what stands before it: a `;` between two statements, an `end`\nfor each `begin`, `cycle` and `case`, a `)` or `]`.\n\nThis text is refused Y1 at 77: after `n := 1` a `;` is missing.\n\n  \"Two statements with nothing between them.\"\n  var n: integer;\n  begin\n    n := 1\n    display(n)\n  end.\n\nMended:\n\n  \"Two statements with a semicolon between them.\"\n  var n: integer;\n  begin\n    n := 1;\n    display(n)\n  end.\n",
+        text: "Y1: each token can follow the ones before it\n\nWhy: the place is the first token that can't follow the ones before it, so the\nslip is there or just before.\nMend: look at what stands before it: a `;` between two statements, an `end`\nfor each `begin`, `cycle` and `case`, a `)` or `]`.\n\nThis text is refused Y1 at 77: after `n := 1` a `;` is missing.\n\n  \"Two statements with nothing between them.\"\n  var n: integer;\n  begin\n    n := 1\n    display(n)\n  end.\n\nMended:\n\n  \"Two statements with a semicolon between them.\"\n  var n: integer;\n  begin\n    n := 1;\n    display(n)\n  end.\n",
     },
     RulePage {
         rule: "Y2",
@@ -99,11 +99,11 @@ pub const PAGES: [RulePage; 27] = [
     },
     RulePage {
         rule: "I1",
-        text: "I1: a file can be opened and read\n\nWhy: without its text or its input there is no answer.\nMend: look at the name and the permissions; `cpm explain` tells what the\nsystem says.\n",
+        text: "I1: a file can be opened and read\n\nWhy: without its text or its input there is no answer.\nMend: look at the name and the permissions; `cpm explain` prints what the\nsystem says.\n",
     },
     RulePage {
         rule: "I2",
-        text: "I2: the answer can be written\n\nWhy: an answer of which a part is missing is none.\nMend: make room on the disk, or don't close the pipe.\n",
+        text: "I2: the answer can be written\n\nWhy: an incomplete answer is no answer.\nMend: make room on the disk, or don't close the pipe.\n",
     },
     RulePage {
         rule: "I3",
@@ -115,6 +115,6 @@ pub const PAGES: [RulePage; 27] = [
     },
     RulePage {
         rule: "M",
-        text: "M: there is memory for it\n\nWhy: memory that is refused is told, and nothing is lost.\nMend: free some, or raise the limit (`ulimit -v`).\n",
+        text: "M: there is memory for it\n\nWhy: running out of memory is reported, and nothing is lost.\nMend: free some, or raise the limit (`ulimit -v`).\n",
     },
 ];

@@ -100,7 +100,7 @@ fn push_hidden(page: &mut Page, text: &[u8], declared: Declaration<'_>) -> Resul
     page.text(" is declared by the initial process at ")?;
     page.position(Position::of(text, declared.name.at))?;
     page.text(
-        ", and can't be seen here. Processes share monitors alone: hand over the right to one by `init`.\n",
+        " and isn't visible here. Processes share only monitors: pass the right to one with `init`.\n",
     )
 }
 
@@ -109,7 +109,7 @@ fn push_hint(page: &mut Page, letter: &str, number: u8) -> Result<(), AllocError
     page.text("  `cpm explain ")?;
     page.text(letter)?;
     page.number(usize::from(number))?;
-    page.text("` tells more.\n")
+    page.text("` says more.\n")
 }
 
 /// Explains why a text has no tree, after the heading. Fails only if memory runs out.

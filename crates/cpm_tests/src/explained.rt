@@ -96,12 +96,12 @@ fn an_explanation_shows_the_line_and_the_declaration(rt: HostRuntime) {
     );
     assert!(rt;
         out.as_slice()
-            == b"t.cp:4:12: C10: `count` may not be changed here
+            == b"t.cp:4:12: C10: `count` can't be changed here
   4 |     accept(count)
     |            ^
-  A value parameter and a constant can't be changed; neither can what a function answers. Copy it to a variable, or declare the parameter with `var`.
+  Value parameters, constants and function results can't be changed. Copy the value to a variable, or declare the parameter with `var`.
   `count` is declared as a value parameter at 2:24.
-  `cpm explain C10` tells more.
+  `cpm explain C10` says more.
 "
                 .as_slice()
     );
@@ -116,9 +116,9 @@ fn a_name_that_is_declared_later_is_told(rt: HostRuntime) {
             == b"t.cp:2:7: C1: `q` is not declared
   2 | begin q end;
     |       ^
-  A name is declared before it is used. Spell it as it is declared, or declare it.
+  A name must be declared before it is used. Check its spelling, or declare it.
   `q` is declared as a procedure only at 3:11, after this place.
-  `cpm explain C1` tells more.
+  `cpm explain C1` says more.
 "
                 .as_slice()
     );
@@ -133,9 +133,9 @@ fn a_name_of_the_initial_process_is_told(rt: HostRuntime) {
             == b"t.cp:2:7: C1: `n` is not declared
   2 | begin n := 1 end;
     |       ^
-  A name is declared before it is used. Spell it as it is declared, or declare it.
-  `n` is declared by the initial process at 3:5, and can't be seen here. Processes share monitors alone: hand over the right to one by `init`.
-  `cpm explain C1` tells more.
+  A name must be declared before it is used. Check its spelling, or declare it.
+  `n` is declared by the initial process at 3:5 and isn't visible here. Processes share only monitors: pass the right to one with `init`.
+  `cpm explain C1` says more.
 "
                 .as_slice()
     );
@@ -146,7 +146,8 @@ fn excerpts_show_any_line(rt: HostRuntime) -> Result<(), Fail> {
     // The end of a text, on the line after the last line feed.
     let (_, out) = explain(rt.alloc(), b"begin\n", Form::Lines);
     assert!(rt;
-        out.as_slice().starts_with(b"t.cp:2:1: Y2: the text ends too early\n  2 | \n    | ^\n")
+        out.as_slice()
+            .starts_with(b"t.cp:2:1: Y2: the text ends too soon\n  2 | \n    | ^\n")
     );
     // A tab is one column, and shown as its byte.
     let (_, out) = explain(rt.alloc(), b"\tbegin\tx := 1 end.", Form::Lines);
@@ -183,7 +184,7 @@ fn long_and_deep_texts_are_told(rt: HostRuntime) -> Result<(), Fail> {
     let (_, out) = explain(rt.alloc(), &text, Form::Lines);
     assert!(rt;
         out.as_slice()
-            .starts_with(b"t.cp:1:1201: Y3: the text is nested too deep\n")
+            .starts_with(b"t.cp:1:1201: Y3: the text is nested too deeply\n")
     );
     Ok(())
 }

@@ -12,17 +12,17 @@ pub const ROWS: [Row; 61] = [
     Row {
         text: "begin display(1) @# end.",
         rule: "S1",
-        message: "this character stands in no text",
+        message: "this character can't appear here",
     },
     Row {
         text: "begin display(1) @\"one end.",
         rule: "S2",
-        message: "this comment has no end",
+        message: "this comment is never closed",
     },
     Row {
         text: "var c: char; begin c := @'ok' end.",
         rule: "S3",
-        message: "this is no character constant",
+        message: "this is not a character constant",
     },
     Row {
         text: "begin display(@40000) end.",
@@ -37,12 +37,12 @@ pub const ROWS: [Row; 61] = [
     Row {
         text: "begin display(1) @display(2) end.",
         rule: "Y1",
-        message: "this can't stand here",
+        message: "unexpected token",
     },
     Row {
         text: "begin display(1)@",
         rule: "Y2",
-        message: "the text ends too early",
+        message: "the text ends too soon",
     },
     Row {
         text: "begin display(@x) end.",
@@ -52,57 +52,57 @@ pub const ROWS: [Row; 61] = [
     Row {
         text: "type r = record a: integer end; var v: r; begin v.@b := 1 end.",
         rule: "C1",
-        message: "what stands before the `.` has no `b`",
+        message: "there is no `b` in what comes before the `.`",
     },
     Row {
         text: "var x: integer; @x: char; begin end.",
         rule: "C1",
-        message: "`x` is declared a second time",
+        message: "`x` is already declared",
     },
     Row {
         text: "const c = @integer; begin end.",
         rule: "C2",
-        message: "`integer` is no constant",
+        message: "`integer` is not a constant",
     },
     Row {
         text: "var n: integer; v: @n; begin end.",
         rule: "C2",
-        message: "`n` is no type",
+        message: "`n` is not a type",
     },
     Row {
         text: "type t = 1..2; begin display(@t) end.",
         rule: "C2",
-        message: "`t` is no value",
+        message: "`t` is not a value",
     },
     Row {
         text: "var n: integer; begin n := @n(1) end.",
         rule: "C2",
-        message: "`n` is no function",
+        message: "`n` is not a function",
     },
     Row {
         text: "function f: integer; begin f := 1 end; begin @f end.",
         rule: "C2",
-        message: "`f` is no procedure",
+        message: "`f` is not a procedure",
     },
     Row {
         text: "procedure p(n: integer); begin end; begin @p end.",
         rule: "C2",
-        message: "`p` is called with a wrong number of arguments",
+        message: "`p` is called with the wrong number of arguments",
     },
     Row {
         text: "function f(n: integer): integer; begin f := n end; begin display(@f(1, 2)) end.",
         rule: "C2",
-        message: "`f` is called with a wrong number of arguments",
+        message: "`f` is called with the wrong number of arguments",
     },
     Row {
         text: "begin display(@abs) end.",
         rule: "C2",
-        message: "`abs` is called with a wrong number of arguments",
+        message: "`abs` is called with the wrong number of arguments",
     },
     Row {
         text: "type t = 1..@'a'; begin end.",
         rule: "C2",
-        message: "the bounds of this subrange are of two types",
+        message: "the bounds of this subrange have different types",
     },
     Row {
         text: "begin display(1 @+ 'a') end.",
@@ -117,17 +117,17 @@ pub const ROWS: [Row; 61] = [
     Row {
         text: "var n: integer; begin n@.a := 1 end.",
         rule: "C2",
-        message: "what stands before this `.` has no parts",
+        message: "what comes before this `.` has no parts",
     },
     Row {
         text: "var n: integer; begin n@[1] := 1 end.",
         rule: "C2",
-        message: "what stands before this index has no elements",
+        message: "what comes before this index has no elements",
     },
     Row {
         text: "var v: array [1..2] of integer; begin v[@'a'] := 1 end.",
         rule: "C2",
-        message: "this index isn't of the array's index type",
+        message: "this index doesn't have the array's index type",
     },
     Row {
         text: "begin if @1 then display(1) end.",
@@ -142,27 +142,27 @@ pub const ROWS: [Row; 61] = [
     Row {
         text: "var v: array [1..2] of integer; begin case @v of 1: display(1) end end.",
         rule: "C2",
-        message: "`case` can't choose by this value",
+        message: "`case` can't select by this value",
     },
     Row {
         text: "begin case 1 of @'a': display(1) end end.",
         rule: "C2",
-        message: "this label isn't of the selector's type",
+        message: "this label doesn't have the selector's type",
     },
     Row {
         text: "var v: array [1..2] of integer; begin for @v := 1 to 2 do display(1) end.",
         rule: "C2",
-        message: "`for` can't count by `v`",
+        message: "`for` can't count with `v`",
     },
     Row {
         text: "var n: integer; begin for n := 1 to @'a' do display(1) end.",
         rule: "C2",
-        message: "this bound isn't of the variable's type",
+        message: "this bound doesn't have the variable's type",
     },
     Row {
         text: "type r = record a: integer end; v = array [@r] of integer; begin end.",
         rule: "C2",
-        message: "this is no index type",
+        message: "this is not an index type",
     },
     Row {
         text: "procedure p(n: integer); begin end; begin p(@'a') end.",
@@ -182,7 +182,7 @@ pub const ROWS: [Row; 61] = [
     Row {
         text: "begin case 1 of 1: display(1); @1: display(2) end end.",
         rule: "C3",
-        message: "this label stands twice",
+        message: "this label is used twice",
     },
     Row {
         text: "function f(n: integer): integer; begin f := @f(n) end; begin end.",
@@ -192,7 +192,7 @@ pub const ROWS: [Row; 61] = [
     Row {
         text: "type m = monitor; procedure p; begin end; begin end; var a: m; begin init a; a.@p end.",
         rule: "C5",
-        message: "`p` is no entry routine",
+        message: "`p` is not an entry routine",
     },
     Row {
         text: "type m = monitor; procedure entry p; begin end; procedure entry q; begin @p end; begin end; begin end.",
@@ -202,32 +202,32 @@ pub const ROWS: [Row; 61] = [
     Row {
         text: "type p = process; procedure @entry e; begin end; begin end; begin end.",
         rule: "C5",
-        message: "a process has no entry routines",
+        message: "a process can't have entry routines",
     },
     Row {
         text: "type p = process; begin end; var v: array [1..3] of @p; begin end.",
         rule: "C6",
-        message: "a component can't stand here",
+        message: "a component can't be declared here",
     },
     Row {
         text: "type m = monitor; begin end; p = process; var v: @m; begin end; begin end.",
         rule: "C6",
-        message: "only the initial process declares processes and monitors",
+        message: "only the initial process can declare processes and monitors",
     },
     Row {
         text: "type m = monitor; begin end; p = process(@var a: m); begin end; begin end.",
         rule: "C7",
-        message: "parameters of a system type have no `var`",
+        message: "a parameter of a system type can't have `var`",
     },
     Row {
         text: "type c = class; begin end; p = process(a: @c); begin end; begin end.",
         rule: "C7",
-        message: "this can't be handed over by `init`",
+        message: "this can't be passed by `init`",
     },
     Row {
         text: "type m = monitor; begin end; procedure q(a: @m); begin end; begin end.",
         rule: "C7",
-        message: "a routine's parameter is no component",
+        message: "a routine's parameter can't be a component",
     },
     Row {
         text: "var q: @queue; begin end.",
@@ -237,62 +237,62 @@ pub const ROWS: [Row; 61] = [
     Row {
         text: "type m = monitor; var q: queue; procedure entry e; begin display(@q) end; begin end; begin end.",
         rule: "C8",
-        message: "`q` is a queue, and can't be used here",
+        message: "`q` is a queue and can't be used here",
     },
     Row {
         text: "type m = monitor; var q: queue; begin @delay(q) end; begin end.",
         rule: "C9",
-        message: "`delay` can't stand here",
+        message: "`delay` can't be used here",
     },
     Row {
         text: "type m = monitor; var q: queue; procedure e; begin @continue(q) end; begin end; begin end.",
         rule: "C9",
-        message: "`continue` can't stand here",
+        message: "`continue` can't be used here",
     },
     Row {
         text: "type m = monitor; begin @wait end; begin end.",
         rule: "C9",
-        message: "`wait` can't stand here",
+        message: "`wait` can't be used here",
     },
     Row {
         text: "procedure p(n: integer); begin @n := 1 end; begin end.",
         rule: "C10",
-        message: "`n` may not be changed here",
+        message: "`n` can't be changed here",
     },
     Row {
         text: "procedure p(var n: integer); begin end; begin p(@1) end.",
         rule: "C10",
-        message: "a variable is wanted here",
+        message: "a variable is expected here",
     },
     Row {
         text: "type t = 1..9; var n: integer; procedure p(var m: t); begin end; begin p(@n) end.",
         rule: "C10",
-        message: "`n` isn't of the `var` parameter's type",
+        message: "`n` doesn't have the `var` parameter's type",
     },
     Row {
         text: "function f(@var n: integer): integer; begin f := n end; begin end.",
         rule: "C11",
-        message: "a function has no `var` parameters",
+        message: "a function can't have `var` parameters",
     },
     Row {
         text: "type v = array [1..2] of integer; function f: @v; begin end; begin end.",
         rule: "C11",
-        message: "`v` can't be the type of a result",
+        message: "`v` can't be a result type",
     },
     Row {
         text: "type c = class; begin end; var a: c; procedure p; begin @init a end; begin end.",
         rule: "C12",
-        message: "`init` can't stand in a routine",
+        message: "`init` can't be used in a routine",
     },
     Row {
         text: "var n: integer; begin init @n end.",
         rule: "C12",
-        message: "`n` is no component of this component",
+        message: "`n` is not a component declared here",
     },
     Row {
         text: "type c = class(n: integer); begin end; var a: c; begin init @a end.",
         rule: "C12",
-        message: "`a` is initialised with a wrong number of arguments",
+        message: "`a` is initialised with the wrong number of arguments",
     },
     Row {
         text: "type c = class(n: integer); begin end; var a: c; begin init a(@'a') end.",
