@@ -1,5 +1,6 @@
-//! Compiles the text on standard input as often as the first argument says, once by default, and prints what its program has.
-//! `bench/compile.py` measures the compiler by it. The text isn't judged.
+//! Compiles the text on standard input as many times as the first argument says, once by default,
+//! and prints the sizes of its program. `bench/compile.py` measures the compiler with it. The text
+//! isn't judged.
 #![tactic(auto)]
 
 use cp_compile::compile;
@@ -9,7 +10,7 @@ use cp_syntax::parse;
 use std::env;
 use std::io::{self, Read};
 
-// How often the text is to be compiled.
+// How many times to compile the text.
 fn turns(rt: &HostRuntime) -> io::Result<u32> {
     let words: Vec<String> = env::args(rt)?.collect(rt.alloc())?;
     Ok(

@@ -1,12 +1,12 @@
-//! Scans the text on standard input as often as the first argument says, once by default, and prints how many tokens it has.
-//! `bench/scan.py` measures the scanner by it.
+//! Scans the text on standard input as many times as the first argument says, once by default, and
+//! prints how many tokens it has. `bench/scan.py` measures the scanner with it.
 #![tactic(auto)]
 
 use cp_scan::scan;
 use std::env;
 use std::io::{self, Read};
 
-// How often the text is to be scanned.
+// How many times to scan the text.
 fn turns(rt: &HostRuntime) -> io::Result<u32> {
     let words: Vec<String> = env::args(rt)?.collect(rt.alloc())?;
     Ok(

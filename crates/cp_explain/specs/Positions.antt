@@ -1,4 +1,5 @@
--- Positions: the line and the column of a place, both counted from 1. A line ends with a line feed, and each byte is a column.
+-- The line and the column of a place, both counted from 1. A line ends with a line feed, and each
+-- byte takes one column.
 use Rattle.std.specs.Prelude.{◌≡◌, ◌⊎◌, ℕ, suc, List, [], ◌∷◌, ◌++◌, if◌then◌else◌, length, nat_eq, take}
 
 abbrev pub line_feeds : List ℕ → ℕ

@@ -57,7 +57,8 @@ pub struct Component<'t> {
     pub number: usize,
 }
 
-/// The components that a text or a system type declares or has rights to, in the order of their declarations.
+/// The components that a text or a system type declares or has rights to, in the order of their
+/// declarations.
 #[derive(Drop)]
 pub struct Components<'t> {
     names: NameTable<'t, Component<'t>>,

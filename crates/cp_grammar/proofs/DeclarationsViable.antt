@@ -1,4 +1,4 @@
--- A declaration of which a part was read can be completed.
+-- A partly read declaration can be completed.
 use Rattle.std.proofs.Common.{◌≡◌, ℕ, suc, Bool, true, false, cond, List, [], ◌∷◌, ◌++◌, Option, Some, None, refl}
 use Rattle.cp_model.specs.Languages.{Language, token, symbol_at, each}
 use Rattle.cp_model.specs.Syntax as s

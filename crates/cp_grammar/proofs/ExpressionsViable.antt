@@ -1,4 +1,4 @@
--- An expression of which a part was read can be completed.
+-- A partly read expression can be completed.
 use Rattle.std.proofs.Common.{◌≡◌, ℕ, zero, suc, Bool, true, false, cond, List, [], ◌∷◌, ◌++◌, Option, Some, None, Ok, Err, refl, sym, ◌∙◌}
 use Rattle.cp_model.specs.Languages.{Language, symbol, symbol_at, ◌⋅◌, opens}
 use Rattle.cp_model.specs.Syntax as s

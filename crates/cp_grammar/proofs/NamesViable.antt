@@ -1,4 +1,4 @@
--- A name or a constant of which a part was read can be completed.
+-- A partly read name or constant can be completed.
 use Rattle.std.proofs.Common.{◌≡◌, ℕ, List, [], ◌∷◌, Option, Some, refl}
 use Rattle.cp_model.specs.Languages.{Language, token, identifier, separated}
 use Rattle.cp_model.specs.GrammarExpressions.{constant}

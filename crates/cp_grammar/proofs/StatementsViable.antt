@@ -1,4 +1,4 @@
--- A statement of which a part was read can be completed.
+-- A partly read statement can be completed.
 use Rattle.std.proofs.Common.{◌≡◌, ℕ, zero, suc, Bool, true, false, List, [], ◌∷◌, Option, Some, Ok, Err, refl}
 use Rattle.cp_model.specs.Languages.{Language, token, symbol, symbol_at}
 use Rattle.cp_model.specs.Syntax as s

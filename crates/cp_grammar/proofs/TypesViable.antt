@@ -1,4 +1,4 @@
--- A type of which a part was read can be completed.
+-- A partly read type can be completed.
 use Rattle.std.proofs.Common.{◌≡◌, ℕ, zero, suc, List, [], ◌∷◌, Option, Some, refl}
 use Rattle.cp_model.specs.Languages.{Language, identifier}
 use Rattle.cp_model.specs.Syntax as s

@@ -1,8 +1,9 @@
 //! The grammar as reading functions on lists of tokens, and their laws.
 //!
-//! The functions stand in `specs/`, family by family: names and constants, expressions, types, statements, declarations, and the
-//! whole text. The crate above is proved to do what they say. That they read exactly what the grammar allows, and stop at the first
-//! token that no text has there, is proved here.
+//! The functions are in `specs/`, one family after another: names and constants, expressions,
+//! types, statements, declarations, and the whole text. cp_syntax is proved to compute them. The
+//! proofs here show that they read exactly what the grammar allows, and stop at the first token
+//! that no text has there.
 #![tactic(auto)]
 
 mod laws;

@@ -5,12 +5,13 @@ ghost use Rattle.cp_grammar.specs.declared.stop.Stop.TheVariants.{Memory};
 
 use std::alloc::{AllocError, AllocFailed};
 
-/// Why reading stopped, with the count of the tokens that were left, the one at which it stopped among them.
+/// Why reading stopped, with the number of tokens that were left, including the one at which it
+/// stopped.
 #[derive(Clone, Copy, Debug, PartialEq, Eq)]
 pub enum Stop {
-    /// There was no memory left for the tree.
+    /// Memory ran out for the tree.
     Memory,
-    /// No text has this token here. Of none left: no text ends here.
+    /// No text has this token here. If no token is left, no text ends here.
     Wrong(usize),
     /// The token opens one level more than may be opened.
     Deep(usize),

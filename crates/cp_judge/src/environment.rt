@@ -1,4 +1,5 @@
-//! The environment in which a part of a text is judged: the visible names, and the tables of types and routines.
+//! The environment in which a part of a text is judged: the visible names, and the tables of types
+//! and routines.
 
 ghost use Rattle.std.specs.Prelude.{◌≡◌, ◌++◌, ◌∷◌, [], ℕ, IfOk, OnOk, Option, None, Some, List, drop, get_or, length, option_map, slice_get, take};
 ghost use Rattle.cp_model.specs.Names.{lookup};

@@ -17,7 +17,8 @@ use std::alloc::{AllocError, Global};
 use std::collections::BTreeSet;
 use std::marker::Model;
 
-/// The labels of one `case` so far: the base type and the ordinal of each. Contracts see them in any order.
+/// The labels of one `case` so far: the base type and the ordinal of each. Contracts see them in
+/// any order.
 #[derive(Drop)]
 pub struct Labels {
     seen: BTreeSet<(usize, i32)>,

@@ -22,7 +22,8 @@ use cp_model::tree::{
     Arm, Designator, Expression, Identifier, Index, InitItem, Operation, Selector, Sort, Statement,
 };
 
-/// The need of an expression, in words: the greatest need among the routines that are called in it, or 0.
+/// The need of an expression, in words: the greatest need among the routines that are called in it,
+/// or 0.
 #[cycle(need_in_expressions)]
 pub fn need_of_expression(env: &Environment, e: &Expression) -> usize
     ensures { result ≡ n.need_expression env.now (expression e.now) }
@@ -134,8 +135,8 @@ fn need_if_called(env: &Environment, entity: Option<Entity>) -> usize
     }
 }
 
-/// The need of a statement, in words: the greatest need among the routines that are called in it and the bodies of the classes
-/// and monitors that it initialises, or 0.
+/// The need of a statement, in words: the greatest need among the routines that are called in it
+/// and the bodies of the classes and monitors that it initialises, or 0.
 #[cycle(need_in_statements)]
 pub fn need_of_statement(env: &Environment, s: &Statement) -> usize
     ensures { result ≡ n.need_statement env.now (statement s.now) }

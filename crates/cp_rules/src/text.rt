@@ -1,4 +1,5 @@
-//! The rules of a whole text: its definitions, then the variables, the routines and the body of the initial process.
+//! The rules of a whole text: its definitions, then the variables, the routines and the body of the
+//! initial process.
 
 ghost use Rattle.std.specs.Prelude.{◌≡◌, ℕ, None, IfOk, OnOk, map};
 ghost use Rattle.cp_model.specs.RulesJudged.{least};

@@ -1,4 +1,4 @@
-//! Texts with their tokens or their refusals, worked by hand.
+//! Texts with their tokens or their refusals, which were worked out by hand.
 
 use cp_model::token::{Kind, Token};
 use cp_scan::{LONGEST_TEXT, ScanError, scan};
@@ -180,7 +180,7 @@ fn bytes_that_begin_nothing(rt: HostRuntime) -> Result<(), Fail> {
     Ok(())
 }
 
-// A text of a front, so many equal bytes, and an end.
+// The text of `front`, `n` bytes `b`, and `end`.
 fn pad(alloc: Global, front: &str, b: u8, n: usize, end: &str) -> Result<Vec<u8>, AllocError> {
     let mut text = Vec::from_slice(alloc, front.as_bytes())?;
     for _ in 0..n {

@@ -1,11 +1,12 @@
-//! Long texts, which are read without deep recursion and in time that grows with their length alone.
+//! Long texts, which are read without deep recursion and in time that grows linearly with their
+//! length.
 
 use crate::words::tokens;
 use cp_syntax::parse;
 use std::alloc::{AllocError, Global};
 use std::test::Fail;
 
-/// What stands before, what is repeated, what stands after, and how often.
+/// The text before, the repeated part, the text after, and the number of repetitions.
 const LONG: &[(&str, &str, &str, usize)] = &[
     ("begin a := b", " + c", " end .", 260_000),
     ("begin a := b", " * c", " end .", 260_000),

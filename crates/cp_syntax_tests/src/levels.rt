@@ -5,14 +5,15 @@ use cp_syntax::{SyntaxError, parse};
 use std::alloc::{AllocError, Global};
 use std::test::Fail;
 
-/// What opens a level and may stand in itself, with what stands before the first, in the last and behind each, and before the end.
+/// A construct that opens a level and may contain itself: `opens` begins it, `closes` ends it,
+/// `inner` is inside the innermost one, and `before` and `after` surround all of them.
 struct Nest {
     before: &'static str,
     opens: &'static str,
     inner: &'static str,
     closes: &'static str,
     after: &'static str,
-    /// How many levels are open before the first.
+    /// How many levels are open before the first one.
     open: usize,
 }
 
@@ -147,7 +148,7 @@ const NESTS: &[Nest] = &[
     },
 ];
 
-/// A text with so many of them, one in the other.
+/// A text with `count` of these constructs, one inside another.
 fn nest_text(alloc: Global, nest: &Nest, count: usize) -> Result<String, AllocError> {
     let mut text = String::new(alloc);
     text.push_str(nest.before)?;
@@ -190,7 +191,7 @@ fn the_token_that_opens_one_more_is_told(rt: HostRuntime) -> Result<(), Fail> {
     Ok(())
 }
 
-/// What a text may have besides at 200 levels: none of it opens one.
+/// Other things that a text may have at level 200, since they open no level.
 const LEVEL_FREE: &[&str] = &["a := - 1 + 2 * 3", "a . b := c . d", "init a , b", ""];
 
 #[test]

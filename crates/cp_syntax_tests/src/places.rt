@@ -1,4 +1,4 @@
-//! The token at which a text stops being one.
+//! The first token that no text has at its place.
 
 use crate::words::tokens;
 use cp_model::token::{Kind, Symbol, Token};
@@ -6,7 +6,7 @@ use cp_syntax::{SyntaxError, parse};
 use std::alloc::{AllocError, Global};
 use std::test::Fail;
 
-/// What is wrong with a text. Nothing, if it has a tree.
+/// The error in a text, or `None` if it has a tree.
 fn error(alloc: Global, text: &str) -> Result<Option<SyntaxError>, AllocError> {
     let tokens = tokens(alloc, text)?;
     Ok(parse(alloc, tokens.as_slice(), text.len()).err())
@@ -18,11 +18,11 @@ const UNEXPECTED: &[&str] = &[
     "begin end . ^x",
     // A `;` ends the statement, and with it the `if`.
     "begin if a then b ; ^else c end .",
-    // One relation in an expression, and a sign before its first term alone.
+    // An expression has at most one relation, and a sign only before its first term.
     "begin a := 1 < 2 ^< 3 end .",
     "begin a := 1 + ^- 1 end .",
     "begin a := 1 mod ^- 1 end .",
-    // Arguments, and nothing but arguments, after the name of a routine.
+    // After the name of a routine: at least one argument in parentheses, and nothing else.
     "begin a := f ( ^) end .",
     "begin f ( ^) end .",
     "begin a := f ( 1 ) ^. x end .",
@@ -30,21 +30,21 @@ const UNEXPECTED: &[&str] = &[
     "begin f ( 1 ) ^:= 2 end .",
     "begin init a ^. b end .",
     "begin init a ^[ 1 ] end .",
-    // The sign of a constant stands before a number.
+    // The sign of a constant comes before a number.
     "const a = - ^'a' ; begin end .",
     "const a = - ^b ; begin end .",
     "var a : - ^'a' .. 'b' ; begin end .",
     "begin case 1 of - ^a : end end .",
-    // After the first bound of a subrange that is no name.
+    // After the first bound of a subrange that isn't a name.
     "var a : 1 ^; begin end .",
     "var a : - 1 ^; begin end .",
     "var a : 'a' ^; begin end .",
-    // An enumeration stands in a type definition alone.
+    // An enumeration may only be written in a type definition.
     "var a : ^( x , y ) ; begin end .",
     "type t = array [ ^( x , y ) ] of integer ; begin end .",
     "type t = record x : ^( a , b ) end ; begin end .",
     "type t = ( ^) ; begin end .",
-    // A last `;`.
+    // A `;` after the last item.
     "type t = record x : integer ; ^end ; begin end .",
     "begin case 1 of 1 : ; ^end end .",
     "var a : integer ; begin end ^; .",
@@ -56,7 +56,7 @@ const UNEXPECTED: &[&str] = &[
     "const ^begin end .",
     "var ^begin end .",
     "type ^begin end .",
-    // What routines and system types want.
+    // What routines and system types require.
     "function f ^; begin end ; begin end .",
     "procedure p ^: integer ; begin end ; begin end .",
     "procedure p ( ^) ; begin end ; begin end .",
@@ -70,7 +70,7 @@ const UNEXPECTED: &[&str] = &[
     "type t = ^set of integer ; begin end .",
     "procedure p ( ^univ a : integer ) ; begin end ; begin end .",
     "begin ^with a do b end .",
-    // What is open is closed by its own mark.
+    // An opening mark needs its own closing mark.
     "begin a [ 1 ^) := 2 end .",
     "begin a [ ^] := 2 end .",
     "begin a := ( 1 ^] end .",
@@ -158,7 +158,7 @@ const MONITORS: &str = "type m = monitor ; var q : queue ; \
     var g : m ; b : ps ; c : pw ; d : pt ; \
     begin init g , b ( g ) , c ( g ) , d ( g ) end .";
 
-/// Each beginning of a text is one of a text, and with a word that no text has it is one of none.
+/// Each prefix of a text begins some text. With a word after it that no text has, it begins none.
 #[test]
 fn each_beginning_of_a_text_is_told_from_none(rt: HostRuntime) -> Result<(), Fail> {
     let whole = tokens(rt.alloc(), MONITORS)?;

@@ -1,12 +1,12 @@
 //! The trees of texts that use every alternative of the grammar, node by node.
 //!
-//! What is wanted was worked out from the grammar apart from the parser.
+//! The expected trees were worked out from the grammar, independently of the parser.
 
 use crate::words::tokens;
 use cp_syntax::parse;
 use std::test::Fail;
 
-/// Lists of statements, and what they are.
+/// Lists of statements, and their trees.
 const STATEMENTS: &[(&str, &str)] = &[
     ("", "[Empty]"),
     (
@@ -218,7 +218,7 @@ fn each_statement_has_its_tree(rt: HostRuntime) -> Result<(), Fail> {
     Ok(())
 }
 
-/// Whole texts, and what they are.
+/// Whole texts, and their trees.
 const TEXTS: &[(&str, &str)] = &[
     (
         "const a = 1 ; b = - 2 ; c = 'x' ; d = a ; begin end .",

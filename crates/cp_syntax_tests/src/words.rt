@@ -1,4 +1,4 @@
-//! The tokens of a text, by the scanner.
+//! The tokens of a text, read with the scanner.
 
 use cp_model::token::Token;
 use cp_scan::scan;

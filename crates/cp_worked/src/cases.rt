@@ -3,7 +3,8 @@
 use serde::Deserialize;
 use std::alloc::{AllocError, Global};
 
-/// A text with what is done with it and the answer due. Bytes are characters up to 255.
+/// A text with the command for it and the answer that is due. Each character is a byte, so none is
+/// above 255.
 #[derive(Drop, Deserialize)]
 pub struct Case {
     pub name: String,
@@ -17,7 +18,7 @@ pub struct Case {
     pub chains: bool,
 }
 
-/// The bytes of which each character is one.
+/// The bytes of a text whose characters are one byte each.
 pub fn bytes_of(alloc: Global, text: &str) -> Result<Vec<u8>, AllocError> {
     let mut bytes = Vec::with_capacity(alloc, text.len())?;
     for c in text.chars() {

@@ -1,6 +1,7 @@
-//! Runs the worked texts of the folder `worked` through `execute`, each by several plans, and prints each answer that differs.
+//! Runs the worked texts of the folder `worked` through `execute`, each with several plans, and
+//! prints each answer that differs.
 //!
-//! Standard input has them as `worked/make_rows.py --list` prints them.
+//! Reads them from standard input in the form that `worked/make_rows.py --list` prints.
 #![tactic(auto)]
 
 mod cases;
@@ -10,7 +11,7 @@ use crate::cases::Case;
 use crate::trying::{Outcome, try_case};
 use std::io;
 
-// How many answers came out how.
+// How many answers were right, wrong or left out.
 #[derive(Drop)]
 struct Counts {
     right: u32,

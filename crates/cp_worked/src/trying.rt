@@ -1,4 +1,4 @@
-//! What `execute` answers for a worked text.
+//! What `execute` returns for a worked text.
 
 use crate::cases::{Case, bytes_of};
 use cp_execute::execute::{Job, execute};
@@ -10,7 +10,7 @@ use std::alloc::{AllocError, Global};
 use std::sync::Wait;
 use std::thread::Threads;
 
-/// How an answer came out.
+/// The outcome for an answer.
 #[derive(Clone, Copy, Debug, PartialEq, Eq)]
 pub enum Outcome {
     Right,
@@ -19,7 +19,7 @@ pub enum Outcome {
     LeftOut,
 }
 
-// Workers, chunk and wave of the plans by which each text runs.
+// Workers, chunk and wave of the plans that each text runs with.
 const PLANS: [(u32, u32, u32); 3] = [(1, 1, 255), (2, 1, 255), (4, 3, 2)];
 
 fn answer_of<H: Threads + Wait + Sync>(
@@ -71,7 +71,7 @@ fn run_by<H: Threads + Wait + Sync>(
     }
 }
 
-/// How a worked text comes out: right where its answer is due by every plan.
+/// The outcome for a worked text: right if its answer is due with every plan.
 pub fn try_case<H: Threads + Wait + Sync>(
     rt: &H,
     alloc: Global,

@@ -1,4 +1,5 @@
-//! Explanations: one text for each message, positions, excerpts, declarations, access graphs, and streams that fail.
+//! Explanations: one text for each message, positions, excerpts, declarations, access graphs, and
+//! streams that fail.
 
 use super::jobs::{nest, repeat};
 use super::messages::{ROWS, Row};
@@ -12,10 +13,10 @@ use cp_model::rules::Rule;
 use std::alloc::{AllocError, Global};
 use std::test::Fail;
 
-// No read or write fails at this place.
+// A place that no read or write reaches.
 const NOWHERE: usize = 1_000_000;
 
-// What is answered and written for a text.
+// What `explain_text` returns and writes for a text.
 fn explain(alloc: Global, text: &[u8], form: Form) -> (Result<Option<Refusal>, Refusal>, Vec<u8>) {
     let mut text = text;
     let mut out = Vec::new(alloc);
@@ -50,7 +51,8 @@ fn each_way_to_break_a_rule_has_its_message(rt: HostRuntime) -> Result<(), Fail>
     Ok(())
 }
 
-// The text `var a0, a1, ..: TYPE; begin end.` with so many names, of which the last stands at the place that is answered.
+// The text `var a0, a1, ..: t; begin end.` after `front`, with `count` names, and the place of the
+// last one.
 fn declare_names(alloc: Global, front: &str, count: usize) -> Result<(Vec<u8>, usize), AllocError> {
     let mut text = repeat(alloc, front.as_bytes(), b"", 0, b"")?;
     let mut at = 0;
@@ -149,14 +151,14 @@ fn excerpts_show_any_line(rt: HostRuntime) -> Result<(), Fail> {
         out.as_slice()
             .starts_with(b"t.cp:2:1: Y2: the text ends too soon\n  2 | \n    | ^\n")
     );
-    // A tab is one column, and shown as its byte.
+    // A tab takes one column, and is shown as its byte.
     let (_, out) = explain(rt.alloc(), b"\tbegin\tx := 1 end.", Form::Lines);
     assert!(rt;
         out.as_slice().starts_with(
             b"t.cp:1:8: C1: `x` is not declared\n  1 | \\09begin\\09x := 1 end.\n    |            ^\n"
         )
     );
-    // Of a longer line 100 bytes are shown, 60 of them before the place.
+    // Of a longer line only 100 bytes are shown, 60 of them before the place.
     let text = repeat(rt.alloc(), b"begin", b" ", 200, b"x := 1 end.")?;
     let (_, out) = explain(rt.alloc(), &text, Form::Lines);
     let shown = repeat(

@@ -1,4 +1,5 @@
-//! Reads and writes that fail in turn while two counting processes run, and a writer that takes a byte at a time.
+//! Reads and writes that fail at one place after another while two counting processes run, and a
+//! writer that takes one byte at a time.
 
 use super::jobs::job;
 use super::streams::{Narrow, Slow};
@@ -11,7 +12,7 @@ use std::sync::Wait;
 use std::test::Fail;
 use std::thread::Threads;
 
-// No read or write fails at this place.
+// A place that no read or write reaches.
 const NOWHERE: usize = 1_000_000;
 
 // The places at which the text, the input and the writer fail.
@@ -30,7 +31,7 @@ fn slow(text: &[u8], fails_at: usize) -> Slow<'_> {
     }
 }
 
-// What is answered and written, byte by byte.
+// What `execute` returns and writes, byte by byte.
 fn run<H: Threads + Wait + Sync>(
     rt: &H,
     alloc: Global,

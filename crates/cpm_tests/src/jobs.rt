@@ -10,7 +10,7 @@ use std::alloc::{AllocError, Global};
 use std::sync::Wait;
 use std::thread::Threads;
 
-// A run of so many rounds with turns of so many steps.
+// A run of `rounds` rounds with turns of `turn` steps.
 pub(crate) fn job(rounds: u32, turn: u32) -> Result<Job, AllocError> {
     match (Plan::new(turn, 2, 1, 255), Tick::new(1)) {
         (Ok(plan), Ok(tick)) => Ok(Job::Run(Run { rounds, plan, tick })),
@@ -18,7 +18,7 @@ pub(crate) fn job(rounds: u32, turn: u32) -> Result<Job, AllocError> {
     }
 }
 
-// What is answered and written for a text and an input.
+// What `execute` returns and writes for a text and an input.
 pub(crate) fn execute_job<H: Threads + Wait + Sync>(
     rt: &H,
     alloc: Global,
@@ -33,7 +33,7 @@ pub(crate) fn execute_job<H: Threads + Wait + Sync>(
     (answer, out)
 }
 
-// One part between two others, so many times.
+// `front`, `times` copies of `part`, and `back`.
 pub(crate) fn repeat(
     alloc: Global,
     front: &[u8],
@@ -50,7 +50,7 @@ pub(crate) fn repeat(
     Ok(text)
 }
 
-// `front` and so many of `open`, `inner`, and as many of `close` and `back`.
+// `front`, `times` copies of `open`, `inner`, as many copies of `close`, and `back`.
 pub(crate) fn nest(alloc: Global, parts: [&[u8]; 5], times: usize) -> Result<Vec<u8>, AllocError> {
     let [front, open, inner, close, back] = parts;
     let mut text = repeat(alloc, front, open, times, inner)?;

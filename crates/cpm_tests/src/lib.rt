@@ -1,5 +1,5 @@
-//! Tests of `execute` and of the command line: whole texts from their bytes to their reports or refusals, and streams that give or take
-//! little, or fail.
+//! Tests of `execute` and of the command line: whole texts from their bytes to their reports or
+//! refusals, and streams that return or take few bytes at a time, or fail.
 #![tactic(auto)]
 
 #[cfg(test)]

@@ -1,4 +1,5 @@
-//! One text for each message: it breaks one rule in one way. `@` marks the place, and is no part of the text.
+//! One text for each message. It breaks one rule in one way. `@` marks the place, and isn't part of
+//! the text.
 
 /// A text, the rule that it breaks, and the message.
 #[derive(Clone, Copy)]

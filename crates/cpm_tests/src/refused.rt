@@ -54,7 +54,7 @@ fn a_name_too_long_is_refused(rt: HostRuntime) -> Result<(), Fail> {
     Ok(())
 }
 
-// So many processes beside the initial one: v2, v3 ..
+// A text with `count` processes besides the initial one: v2, v3 ..
 fn processes(alloc: Global, count: usize) -> Result<Vec<u8>, AllocError> {
     let mut text = Vec::new(alloc);
     text.extend_from_slice(b"type p = process; begin end; var ")?;

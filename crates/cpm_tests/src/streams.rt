@@ -1,4 +1,4 @@
-//! Readers and writers that give or take a byte at a time, and fail in turn.
+//! Readers and writers that return or take one byte at a time, and fail at one place after another.
 
 use cp_execute::cutting::{check_input, cut_input};
 use cp_execute::reading::{ReadError, read_text};
@@ -9,7 +9,7 @@ use std::io;
 use std::io::{Cursor, Read, Write};
 use std::test::*;
 
-// Gives a byte at a time, and fails at one place.
+// A reader that returns one byte at a time, and fails at one place.
 #[derive(Drop)]
 pub(crate) struct Slow<'a> {
     pub(crate) text: &'a [u8],
@@ -33,7 +33,7 @@ impl<'a> Read for Slow<'a> {
     }
 }
 
-// Takes a byte at a time, and from one place on fails or takes nothing.
+// A writer that takes one byte at a time, fails at one place, and takes nothing at another.
 #[derive(Drop)]
 pub(crate) struct Narrow {
     pub(crate) taken: Vec<u8>,
@@ -80,7 +80,7 @@ fn a_reader_gives_a_byte_at_a_time(rt: HostRuntime) {
     }
 }
 
-// How many bytes are read of a text of so many.
+// How many bytes are read of a text of `length` bytes.
 fn read_of(alloc: Global, length: usize) -> Result<usize, ReadError> {
     let text: Vec<u8> = Vec::from_elem(alloc, b'a', length)?;
     let read = read_text(alloc, &mut Cursor::new(text.as_slice()))?;

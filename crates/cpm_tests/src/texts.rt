@@ -1,4 +1,4 @@
-//! Whole texts, from their bytes to their reports. The reports are worked by hand.
+//! Whole texts, from their bytes to their reports. The reports were worked out by hand.
 
 use super::jobs::{execute_job, job, nest, repeat};
 use cp_execute::execute::Job;

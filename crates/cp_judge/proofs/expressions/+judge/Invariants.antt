@@ -11,7 +11,7 @@ use Rattle.cp_judge.specs.Callees.{wants_of}
 use Rattle.cp_judge.specs.Tells.{Tells}
 use Rattle.cp_judge.proofs.expressions.+judge.Given as goal
 
--- what is reported so far are the violations of the arguments so far
+-- the violations reported so far are those of the arguments so far
 abbrev pub invariant-arguments-loop-number : goal.invariant-arguments-loop-number
 invariant-arguments-loop-number l =
     let env = l.env in
@@ -19,20 +19,20 @@ invariant-arguments-loop-number l =
     × (x.more_arguments env j (drop (l.number + 1) (wants_of env l.wants)) (expressions_of (map expression (drop l.number l.rest)))
     ≡ x.arguments env (wants_of env l.fn.wants) (expressions_of (map expression l.fn.list)))
 
--- what is reported so far are the violations of the operands so far
+-- the violations reported so far are those of the operands so far
 abbrev pub invariant-chain-loop-o : goal.invariant-chain-loop-o
 invariant-chain-loop-o l =
     (t : Option Violation) (m : Mode) (e : s.Expression) → Tells t l.fn.told l.fn.left (x.judge l.fn.env (x.first_operand m) e)
     → (f : s.Expression) × Tells t l.told l.left (x.judge l.env (x.first_operand m) f)
     × (chain_of f (map operation (drop l.o-index l.rest)) ≡ chain_of e (map operation l.fn.rest))
 
--- what is reported so far are the violations of the selectors so far
+-- the violations reported so far are those of the selectors so far
 abbrev pub invariant-judge_designator-loop-s : goal.invariant-judge_designator-loop-s
 invariant-judge_designator-loop-s l =
     (j : Judged Entity) × Tells l.fn.told l.told l.part j
     × (x.selected l.env j (selectors_of (map selector (drop l.s-index l.s-items))) ≡ x.designated l.fn.env (designator l.fn.d))
 
--- what is reported so far are the violations of the indices so far
+-- the violations reported so far are those of the indices so far
 abbrev pub invariant-select_elements-loop-i : goal.invariant-select_elements-loop-i
 invariant-select_elements-loop-i l =
     (t : Option Violation) (j : Judged Entity) → Tells t l.fn.told l.fn.part j
