@@ -1,4 +1,4 @@
--- A call that is compiled calls what is meant, and its target is the component that is named.
+-- A compiled call calls the routine that is meant, and its target is the component that is named.
 use Rattle.std.proofs.Common.{◌≡◌, ℕ, List, [], ◌∷◌, ◌++◌, if◌then◌else◌, Option, Some, None, refl, ap, sym, subst, ◌∙◌, Bool, true, false, not, filter, bytes_eq}
 use Rattle.std.specs.Option.{option_or}
 use Rattle.cp_model.specs.Abstract as a
@@ -128,7 +128,7 @@ distinct_first (w ∷ vs) ws d = (go (lookup w.0 vs) refl, distinct_first vs ws 
     go None e = e
     go (Some v) e = absurd (cc (lookup_first w.0 vs ws v e, d.0))
 
--- what is found in the first is not in the second
+-- a name that is found in the first list is not in the second
 distinct_later : (x : Name) (vs ws : List (Name × Variable)) (v : Variable) → Distinct (vs ++ ws) → lookup x vs ≡ Some v → lookup x ws ≡ None
 distinct_later x vs ws v d h = go (lookup x ws) refl
   where
@@ -136,7 +136,7 @@ distinct_later x vs ws v d h = go (lookup x ws) refl
     go None e = e
     go (Some w) e = absurd (cc (distinct_apart x vs ws w d e, h))
 
--- a variable that is dropped is found no more
+-- a variable that is dropped is no longer found
 dropped : (x : Name) (keep : Name × Variable → Bool) (vs : List (Name × Variable)) (v : Variable) → Distinct vs → lookup x vs ≡ Some v → ((y : Name) → keep (y, v) ≡ false)
     → lookup x (filter keep vs) ≡ None
 dropped x keep [] v d h k = absurd (cc)
@@ -161,7 +161,7 @@ module _ (scope : Scope) (at : Location) (o : Owner) (distinct : Distinct (perma
   abbrev here : Environment
   here = environment_at scope at o
 
-  -- a right lies where the rights of its component lie, and hides no member
+  -- a right is among the rights of its component, and hides no member
   right_there : (x : Name) (n : Component) (k : IsNamed here x n) → n.is_parameter ≡ true
       → (m : ℕ) × RightTo here n m
   right_there x n k is =

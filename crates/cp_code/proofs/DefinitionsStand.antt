@@ -1,4 +1,5 @@
--- The units of all system types of a text stand, and each name of a type has the first unit of its own.
+-- The units of all system types of a text stand for them, and each type's name has the first of its
+-- own units.
 use Rattle.std.proofs.Common.{◌≡◌, ℕ, ℤ, zero, suc, ◌+◌, ◌-◌, List, [], ◌∷◌, ◌++◌, Option, Some, None, refl, ap, sym, subst, ◌∙◌, Bool, true, false, if◌then◌else◌, slice_get, length, map, arith, append_assoc, bytes_eq}
 use Rattle.std.proofs.lemmas.List.{length-append}
 use Rattle.cp_model.specs.Abstract as a
@@ -91,7 +92,7 @@ module _ (g : GlobalScope) (program : Program) (texts : List UnitText) where
 
   -- ---- In order
 
-  -- The first unit of each named type is known, in the scope so far.
+  -- The first unit of each named type is known in the scope so far.
   abbrev pub FirstsRight : GlobalScope → CompiledTypes → Type 0
   FirstsRight h m = (y : Name) (q : System) (inner : Members) → lookup y h.types ≡ Some (ComponentOf q inner)
       → UnitsThere program texts m.compiled.units (or_zero (lookup y m.firsts)) q

@@ -1,4 +1,5 @@
--- What names and designators are doesn't depend on where a component lies and who owns an activation.
+-- What names and designators mean doesn't depend on where a component lies or who owns an
+-- activation.
 use Rattle.std.proofs.Common.{◌≡◌, Option, Some, None, refl, ap, ◌∙◌, if◌then◌else◌}
 use Rattle.cp_model.specs.Abstract as a
 use Rattle.cp_model.specs.Abstract.{BaseType, Integer, Name, Routine}

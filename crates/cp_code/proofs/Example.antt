@@ -102,7 +102,7 @@ is_some (Some x) = true
 nothing_there : {A : Type 0} (x : A) → None ≡ Some x → ⊥
 nothing_there x h = true≢false (ap is_some (sym h))
 
--- A routine without variables and result.
+-- A routine without variables and without a result.
 no_starts : (r : Routine) (u : CodeUnit) → declarations g r.variables ≡ [] → r.result ≡ None → u.starts ≡ [] → Starts g r u
 no_starts r u none no_result no_plan = record {
   length_is = λ base ws. ap (λ plan. length (started base plan ws)) no_plan;

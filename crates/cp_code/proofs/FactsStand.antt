@@ -1,4 +1,4 @@
--- What `TextFacts` says of a text follows from its typing, and from the numbers behind a minus.
+-- What `TextFacts` says of a text follows from its typing, and from the numbers after a minus.
 use Rattle.std.proofs.Common.{◌≡◌, ◌⊎◌, inl, inr, ℕ, ℤ, pos, negsuc, List, [], ◌∷◌, ◌++◌, Option, Some, None, refl, ap, sym, subst, ◌∙◌, Bool, true, false, if◌then◌else◌, slice_get, take, arith, bytes_eq}
 use Rattle.std.proofs.lemmas.Bool.{true≢false}
 use Rattle.cp_model.specs.Abstract as a
@@ -29,7 +29,7 @@ use Rattle.cp_code.proofs.KnownStand.{DeclaredIn, declared_in, each_found, each_
 
 -- ---- Types
 
--- of data: its parts are sound
+-- for a data type: its parts are sound
 abbrev IsFormed : Variable → Type 0
 IsFormed v = is_component v.type ≡ false → SoundType v.type
 
@@ -54,7 +54,8 @@ not_component NoType h = refl
 
 module _ (g : GlobalScope) (s : System) (before : List System) (bodies : TypedBodies g before s)
     (formed : (x : Name) (v : Variable) → lookup x (permanent_variables g s) ≡ Some v → IsFormed v) where
-  -- what holds of the variables of the component and of its routines holds of all that are named
+  -- what holds for the variables of the component and of its routines holds for everything that is
+  -- named
   of_variable : (P : Name → Variable → Type 0) → ((x : Name) (v : Variable) → lookup x (permanent_variables g s) ≡ Some v → P x v)
       → ((k : ℕ) (r : Routine) → slice_get s.routines k ≡ Some r → (x : Name) (v : Variable) → lookup x (local_variables g r) ≡ Some v → P x v)
       → (scope : Scope) (at : Location) (o : Owner) (x : Name) (l : Location) (v : Variable) → scope.globals ≡ g → scope.system ≡ s → RunsIn s scope.routine
@@ -149,7 +150,8 @@ variables_are_some h before s typed =
     each_map (SystemVariable h before s.sort) (λ w. IsSome w.1) (declarations h s.variables)
     (λ w p. elim p.1 [ inl k ↦ data_is_some h w.1.type k.0 | inr k ↦ system_is_some h before w.1.type k.0 ]) typed.variables
 
--- A component's type has a name that stands for something in the scope before, and so for the same as in the scope of the text.
+-- The name of a component's type already has a meaning in the scope before, and so the same meaning
+-- in the scope of the text.
 named_before : (g h : GlobalScope) (before : List System) (s : System) → Later h g → TypedSystem h before s → NamedBefore g h s
 named_before g h before s later typed n is = by n.is_parameter refl (is_named (some_environment g s None) n.name n is)
   where
@@ -193,7 +195,7 @@ reported_named g (t ∷ ts) h x s inner is = go (bytes_eq x t.0) is (reported_na
     go true is rest = subst (IsReported g) is h.0.1
     go false is rest = rest is
 
--- what is no further below 0 is not the mark
+-- a number that isn't further below 0 isn't the mark
 not_unset : (low high n : ℤ) → IsAbove 65535 low → within low high n ≡ true → n ≡ unset → ⊥
 not_unset (pos k) high n above inside is = grind (arith, inside, is)
 not_unset (negsuc k) high n above inside is = grind (arith, above, inside, is)

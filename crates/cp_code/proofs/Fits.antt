@@ -1,4 +1,4 @@
--- Temps that the operations of a unit use are within what the unit needs.
+-- The temps that the operations of a unit use are within what the unit needs.
 use Rattle.std.proofs.Common.{ℕ, suc, ◌≤◌, ◌+◌, List, [], ◌∷◌, ◌++◌, Option, Some, None, Bool, true, false, if◌then◌else◌, bytes_eq, codes}
 use Rattle.cp_model.specs.Abstract as a
 use Rattle.cp_model.specs.Abstract.{BaseType, Name}

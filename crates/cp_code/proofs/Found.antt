@@ -1,4 +1,4 @@
--- A variable that is found by its name lies in the activation or the component where it is declared.
+-- A variable that is found by its name lies in the activation or component that declares it.
 use Rattle.std.proofs.Common.{◌≡◌, ℕ, suc, ◌+◌, List, [], ◌∷◌, ◌++◌, Option, Some, None, refl, ap, sym, ◌∙◌, if◌then◌else◌, Bool, true, false, not, filter, bytes_eq, arith}
 use Rattle.cp_model.specs.Abstract.{Name, System}
 use Rattle.cp_model.specs.Names.{lookup}
@@ -129,7 +129,7 @@ module _ (g : GlobalScope) (s : System) (x : Name) where
   of_own : member g s x ≡ member_part g (head_words g s) (members_from own NoMembers) x []
   of_own = ap (λ ms. member_part g (head_words g s) ms x []) (members_joined (filter is_own (declarations g s.parameters)) (declarations g s.variables) NoMembers)
 
-  -- one of the variables, which no parameter hides
+  -- one of the variables, which isn't hidden by a parameter
   pub variable_is_member : (v : Variable) → lookup x (declarations g s.parameters) ≡ None → lookup x (declarations g s.variables) ≡ Some v
       → (k : ℕ) × (member g s x ≡ Some (k, v.type))
   variable_is_member v none found =
@@ -147,7 +147,7 @@ module _ (g : GlobalScope) (s : System) (x : Name) where
       let k : (k : ℕ) × (member_part g (head_words g s) (members_from own NoMembers) x [] ≡ Some (k, v.type)) = member_found g x (head_words g s) own v h in
       (k.0, of_own ∙ k.1)
 
-  -- what is no right
+  -- a parameter or variable that isn't a component
   pub is_member : (v : Variable) → lookup x (permanent_variables g s) ≡ Some v → is_component v.type ≡ false
       → (k : ℕ) × (member g s x ≡ Some (k, v.type))
   is_member v found is_data = go (lookup x (declarations g s.parameters)) refl
@@ -159,7 +159,7 @@ module _ (g : GlobalScope) (s : System) (x : Name) where
           let same : Some w ≡ Some v = sym (lookup_first x (declarations g s.parameters) (declarations g s.variables) w e) ∙ found in
           parameter_is_member v (e ∙ same) is_data
 
-  -- neither among its own parameters nor among its variables
+  -- among neither its own parameters nor its variables
   pub not_a_member : lookup x (filter is_own (declarations g s.parameters)) ≡ None → lookup x (declarations g s.variables) ≡ None → member g s x ≡ None
   not_a_member no_parameter no_variable =
       of_own ∙ member_none g x (head_words g s) own

@@ -69,7 +69,7 @@ init_fits m scope s (a.MoreExpressions e es) (q ∷ qs) low h all =
 
 -- ---- Parameters
 
--- Each of distinct names is found.
+-- Each of a list of distinct names is found.
 abbrev pub AllFound : List (Name × Variable) → List (Name × Variable) → Type 0
 AllFound all vs = Each (λ v. lookup v.0 all ≡ Some v.1) vs
 
@@ -131,7 +131,7 @@ module _ (scope : Scope) (program : Program) (texts : List UnitText) (systems : 
   named_argument r (a.Positive e) h = absurd h
   named_argument r (a.Binary q e f) h = absurd h
 
-  -- The name of a component is no call: no routine has it.
+  -- The name of a component isn't a call: no routine has it.
   not_called : (x : Name) (n : Component) → component_named env x ≡ Some n → callee env (a.Plain x) ≡ None
   not_called x n h = ap (λ r. elim r [ None ↦ None | Some q ↦ Some (record { routine = q; of = None }) ]) (own (is_local env.globals env.frame x))
     where

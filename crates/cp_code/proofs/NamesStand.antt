@@ -1,4 +1,4 @@
--- What a name of a variable is compiled to is where the variable lies.
+-- The root that a variable's name is compiled to is where the variable lies.
 use Rattle.std.proofs.Common.{◌≡◌, ◌⊎◌, inl, inr, ℕ, ℤ, List, [], ◌∷◌, ◌++◌, Option, Some, None, refl, ap, sym, subst, ◌∙◌, Bool, true, false, if◌then◌else◌, bytes_eq, append_assoc, is_some}
 use Rattle.std.proofs.lemmas.Bool.{true≢false}
 use Rattle.cp_model.specs.Abstract as a
@@ -32,7 +32,7 @@ NoResult scope x = is_result scope (Plain x) ≡ false
 same_some : {A : Type 0} (x y : A) → Some x ≡ Some y → x ≡ y
 same_some x y h = ap (λ o. elim o [ None ↦ x | Some z ↦ z ]) h
 
--- where a local is found, its name isn't the result
+-- a local's name isn't the name of the result
 pub local_is_no_result : (o : Option (ℕ × Variable)) (v : ℕ × Variable) (b : Bool) → o ≡ Some v → elim o [ None ↦ b | Some w ↦ false ] ≡ false
 local_is_no_result o v b h = ap (λ z. elim z [ None ↦ b | Some w ↦ false ]) h
 
@@ -45,7 +45,7 @@ of_routine scope w = record scope { routine = w }
 -- ---- The result
 
 module _ (scope : Scope) (at : Location) (o : Owner) (x : Name) where
-  -- a name that calls nothing isn't the running function's
+  -- a name that calls nothing isn't the name of the running function
   uncalled : (w : Option Routine) → RoutineHere (of_routine scope w) w → callee (environment_at (of_routine scope w) at o) (Plain x) ≡ None
       → NoResult (of_routine scope w) x
   uncalled None here none = refl
@@ -113,7 +113,7 @@ module _ (scope : Scope) (at : Location) (o : Owner) (x : Name) where
 
 -- ---- Variables
 
--- A root for the variable of a name.
+-- The root of the variable that a name means.
 abbrev pub RootFor : Scope → Environment → Name → ResolvedType → Type 0
 RootFor scope env x t = (r : Root) × (root_named scope x ≡ Some r) × NamesVariable env x r t
 

@@ -1,4 +1,5 @@
--- Numbers behind a minus that are within a bound, in the types of the code's tree and in its definitions one after another.
+-- Numbers after a minus that are within a bound, in the types of the code's tree and in its
+-- definitions one after another.
 use Rattle.std.proofs.Common.{◌≡◌, ◌<◌, ◌+◌, ℕ, List, [], ◌∷◌, ◌++◌, map, drop, get_or, length, Box, Vec, Global, ap, sym, subst, ◌∙◌}
 use Rattle.std.proofs.lemmas.List.{drop_more}
 use Rattle.cp_model.specs.Abstract as a

@@ -1,4 +1,4 @@
--- Operations that stand in a program from a place on, within what their unit needs.
+-- Operations that are in a program from a place on, within what their unit needs.
 use Rattle.std.proofs.Common.{◌≡◌, ◌≤◌, ℕ, suc, ◌+◌, List, [], ◌∷◌, ◌++◌, Some, refl, subst, length, arith}
 use Rattle.cp_code.specs.Programs as op
 use Rattle.cp_code.specs.Programs.{Call, CodeUnit, Operation, Program}
@@ -48,7 +48,7 @@ module _ (scope : Scope) (program : Program) (texts : List UnitText) (before : L
       let others : Chained scope program texts before unit cs rest.entry next × AllBelow unit.temps cs = calls_stand cs at next k.0 in
       ((rest.entry, k.1.0, k.1.1.0, others.0), (k.1.1.1, others.1))
 
-  -- an operation with its calls
+  -- an operation with the calls before it
   pub record WithCalls (cs : List CodedCall) (x : Operation) (at : ℕ) : Type 0 where
     pub there : operation_at program at ≡ Some x
     pub fits : OperationFits x

@@ -1,4 +1,4 @@
--- Words that are written one behind the other, by fills and by repeats.
+-- Words that are written one after the other, by fills and by repeats.
 use Rattle.std.proofs.Common.{◌≡◌, ◌≤◌, ◌<◌, ◌⊎◌, inl, inr, ◌≢◌, ℕ, zero, suc, ◌+◌, ◌*◌, ℤ, pos, List, [], ◌∷◌, ◌++◌, refl, ap, sym, ◌∙◌, length, arith}
 use Rattle.std.specs.Prelude.{replicate, slice_set, slice_index_or}
 use Rattle.std.proofs.lemmas.List.{get_or-set_same, get_or-set_other, length-append, length-set, set-get_or}
@@ -75,7 +75,7 @@ pub copies_length : (k : ℕ) (xs : List ℤ) → length (copies k xs) ≡ k * l
 copies_length zero xs = omega arith
 copies_length (suc k) xs = length-append xs (copies k xs) ∙ (omega (arith, copies_length k xs))
 
--- so many more blocks like the one that stands
+-- more blocks like the one that is there
 pub repeated_is_paste : (at size k : ℕ) (xs ws : List ℤ) → length xs ≡ size → block ws at size ≡ xs → at + size + k * size ≤ length ws
     → repeated at size k ws ≡ paste (at + size) (copies k xs) ws
 repeated_is_paste at size zero xs ws is stands room = refl
@@ -87,7 +87,7 @@ repeated_is_paste at size (suc k) xs ws is stands room =
     ∙ ap (λ n. paste (at + size + n) (copies k xs) (paste (at + size) xs ws)) (sym is)
     ∙ sym (paste_append (at + size) xs (copies k xs) ws)
 
--- what is written is there already
+-- what is to be written is there already
 pub paste_same : (to : ℕ) (xs ws : List ℤ) → ((k : ℕ) → k < length xs → word ws (to + k) ≡ slice_index_or xs k (pos 0)) → paste to xs ws ≡ ws
 paste_same to [] ws h = refl
 paste_same to (x ∷ xs) ws h =

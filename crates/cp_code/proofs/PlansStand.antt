@@ -1,4 +1,4 @@
--- What the plan of a type writes: its start values, one word behind the other.
+-- What the plan of a type writes: its start values, one word after the other.
 use Rattle.std.proofs.Common.{◌≡◌, ◌≤◌, ◌<◌, inr, ℕ, zero, suc, ◌+◌, ◌*◌, ◌-◌, ℤ, pos, negsuc, List, [], ◌∷◌, ◌++◌, Option, Some, None, refl, ap, sym, subst, ◌∙◌, Bool, true, false, ◌&&◌, if◌then◌else◌, nat_eq, eqb-true, length, arith}
 use Prim.{grind}
 use Rattle.std.specs.Prelude.{int_le, replicate, slice_index_or}
@@ -166,7 +166,7 @@ all_zero_copies : (k : ℕ) (xs : List ℤ) → AllZero xs → AllZero (copies k
 all_zero_copies zero xs h i less = absurd (omega (arith, less))
 all_zero_copies (suc k) xs h i less = all_zero_append xs (copies k xs) h (all_zero_copies k xs h) i less
 
--- a block that is planned, and the blocks behind it
+-- a planned block, and the blocks after it
 repeat_is : (at size c : ℕ) (xs : List Start) (values : List ℤ) (rest : List Start) (base : ℕ) (ws : List ℤ) → length values ≡ size
     → started base xs ws ≡ paste (base + at) values ws → base + at + suc c * size ≤ length ws
     → started base (xs ++ (Repeat at size (suc c) ∷ rest)) ws ≡ started base rest (paste (base + at) (copies (suc c) values) ws)

@@ -55,7 +55,7 @@ module _ (scope : Scope) (program : Program) (texts : List UnitText) (systems : 
 
   -- ---- Calls and standard procedures
 
-  -- the entry of an operation without calls of its own
+  -- the value of a designator has the type of its place
   value_type_is : (d : a.Designator) → TypedPlace p d → own_value_type env d ≡ place_type env d
   value_type_is (a.Plain x) t =
       ap (λ b. if b then full_range Integer else value_type_meant (meaning env x)) (standing.no_clock at o x t)
@@ -114,7 +114,7 @@ module _ (scope : Scope) (program : Program) (texts : List UnitText) (systems : 
   char_as (a.Positive e) h te = absurd h
   char_as (a.Binary q e f) h te = absurd h
 
-  -- its spot, where the argument is the lone variable
+  -- the spot of an argument that is a bare variable
   spot_of : (d : a.Designator) (t : ResolvedType) (low place next : ℕ) → callee env d ≡ None → place_type env d ≡ t → is_component t ≡ false → TypedPlace p d → low ≤ unit.temps
       → Chain (coded_spot scope d low).calls place next → AllBelow unit.temps (coded_spot scope d low).calls
       → SpotFor site nothing_known d (coded_spot scope d low).spot t place next low unit.temps

@@ -1,4 +1,4 @@
--- The name of a running function means its result, where it is compiled as one.
+-- The name of a running function means its result, if it is compiled as a result.
 use Rattle.std.proofs.Common.{◌≡◌, ℕ, ℤ, List, [], ◌++◌, Option, Some, None, refl, ap, sym, subst, ◌∙◌, Bool, true, false, if◌then◌else◌, bytes_eq, append_assoc}
 use Rattle.std.proofs.lemmas.Bool.{true≢false}
 use Rattle.cp_model.specs.Abstract.{Name, Plain, Routine}
@@ -40,7 +40,7 @@ module _ (scope : Scope) (at : Location) (o : Owner) (x : Name) where
   abbrev one : Variable → Bool → Option Variable
   one v b = if b then Some v else None
 
-  -- it has the type of the result, and its bounds
+  -- its type is that of the result, with the same bounds
   pub record Resulting (w : Option Routine) : Type 0 where
     pub names : NamesResult (env_of w) x (low_of (place_type (env_of w) (Plain x))) (high_of (place_type (env_of w) (Plain x)))
     pub simple : IsSimple (place_type (env_of w) (Plain x))

@@ -1,4 +1,4 @@
--- What is known where the code of a typed system type stands.
+-- What is known at the code of a typed system type.
 use Rattle.std.proofs.Common.{◌≡◌, ◌<◌, ℕ, zero, suc, ◌+◌, List, [], ◌∷◌, ◌++◌, Option, Some, None, refl, ap, sym, subst, ◌∙◌, Bool, true, false, if◌then◌else◌, slice_get, length, arith, bytes_eq}
 use Rattle.cp_model.specs.Abstract as a
 use Rattle.cp_model.specs.Abstract.{Name, Routine, System}
@@ -21,7 +21,7 @@ pub use Rattle.cp_code.specs.Known.{RunsIn, SystemKnown}
 use Rattle.cp_code.proofs.CallsStand.{name_kept}
 use Rattle.cp_code.proofs.Standing.{InitStands, RoutineHere, Standing, UnitThere, place_at}
 
--- A routine that is the only one of its name has the number of its place.
+-- The number of a routine whose name no other has is its place in the list.
 pub index_is : (rs : List Routine) (j : ℕ) (r : Routine) → slice_get rs j ≡ Some r → ((i : ℕ) (q : Routine) → slice_get rs i ≡ Some q → q.name ≡ r.name → i ≡ j)
     → routine_index r.name rs ≡ j
 index_is [] j r is alone = absurd (cc)
@@ -37,7 +37,7 @@ index_is (q ∷ qs) (suc j) r is alone = go (bytes_eq r.name q.name) refl (index
     go true e rest = absurd (omega (arith, alone 0 q refl (sym (bytes_same r.name q.name e))))
     go false e rest = ap suc rest
 
--- The units of a system type stand from a number on, and were compiled before.
+-- The units of a system type are numbered consecutively, and were compiled before.
 pub record UnitsThere (program : Program) (texts : List UnitText) (before : List CodeUnit) (first : ℕ) (s : System) : Type 0 where
   pub routines : (k : ℕ) (r : Routine) → slice_get s.routines k ≡ Some r → UnitThere program texts before (first + k) (RoutineOf s r)
   pub body : UnitThere program texts before (first + length s.routines) (BodyOf s)

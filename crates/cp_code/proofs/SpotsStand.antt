@@ -1,4 +1,5 @@
--- The cases of names, of parts and of variables: what they are compiled to stands for them, if what is inside does.
+-- The cases of names, parts and variables: what they are compiled to stands for them, if this holds
+-- for what they contain.
 use Rattle.std.proofs.Common.{◌≡◌, ◌≤◌, inl, inr, ℕ, ◌+◌, ℤ, List, [], ◌∷◌, Option, Some, None, refl, ap, sym, subst, ◌∙◌, Bool, true, false, if◌then◌else◌, arith, bytes_eq}
 use Rattle.cp_model.specs.Abstract as a
 use Rattle.cp_model.specs.Abstract.{BaseType, Boolean, Integer, Name, Plain, System}
@@ -93,7 +94,7 @@ module _ (scope : Scope) (program : Program) (texts : List UnitText) (systems : 
 
   -- ---- Names
 
-  -- the root of a variable that is no result and no component
+  -- the root of a variable that is neither a result nor a component
   pub variable_root : (x : Name) → NamesVariable env x → NoResult scope x → is_component (place_type env (Plain x)) ≡ false
       → RootFor scope env x (place_type env (Plain x))
   variable_root x v no_result is_data =
@@ -101,7 +102,7 @@ module _ (scope : Scope) (program : Program) (texts : List UnitText) (systems : 
       subst (RootFor scope env x) (sym t)
       (names_root scope at o x v.0 v.1 standing.running standing.by_value v.2 no_result (sym (ap is_component t) ∙ is_data))
 
-  -- a name of a type that isn't missing means a variable
+  -- a name whose type isn't missing means a variable
   pub typed_name : (x : Name) (t : ResolvedType) → place_type env (Plain x) ≡ t → (t ≡ NoType → ⊥) → NamesVariable env x
   typed_name x t is some = go (meaning env x) refl
     where

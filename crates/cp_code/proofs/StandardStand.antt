@@ -1,4 +1,4 @@
--- Standard functions answer what the definitions say.
+-- Standard functions return what the definitions say.
 use Rattle.std.proofs.Common.{◌≡◌, ℤ, pos, negsuc, Bool, true, false, refl, subst}
 use Rattle.std.specs.Prelude.{◌+ℤ◌, nat_abs}
 use Rattle.cp_model.specs.Abstract as a

@@ -1,4 +1,5 @@
--- Where code is proved to stand: the scope that it was compiled with, the site, and what is known of both.
+-- The context in which code is proved: the scope that it was compiled with, the site, and what is
+-- known about both.
 use Rattle.std.proofs.Common.{◌≡◌, ◌≤◌, ℕ, ◌+◌, List, [], ◌∷◌, ◌++◌, Option, Some, None, refl, true, false, slice_get}
 use Rattle.cp_model.specs.Abstract as a
 use Rattle.cp_model.specs.Abstract.{Name, Plain, Routine, System}
@@ -22,26 +23,27 @@ use Rattle.cp_code.specs.CodedTerms.{CodedCall}
 use Rattle.cp_code.proofs.Environments.{environment_at}
 pub use Rattle.cp_code.specs.Known.{place_at}
 
--- What a unit is the code of, and that it stands in the program, and among those that were compiled before.
+-- What a unit is the code of, and that the unit is in the program and among those compiled so far.
 pub record UnitThere (program : Program) (texts : List UnitText) (before : List CodeUnit) (n : ℕ) (t : UnitText) : Type 0 where
   pub text : slice_get texts n ≡ Some t
   pub unit : CodeUnit
   pub there : slice_get program.units n ≡ Some unit
   pub earlier : slice_get before n ≡ Some unit
 
--- The routine that runs is found by its name, and its result is simple.
+-- The running routine is found by its name, and its result is simple.
 abbrev pub RoutineHere : Scope → Option Routine → Type 0
 RoutineHere scope None = Unit {0}
 RoutineHere scope (Some r) = (routine_named r.name scope.system ≡ Some r) × ResultFits scope.globals r.result
 
--- What is known of a component that is initialised: its body stands, and its parameters are simple values and rights of distinct names.
+-- What is known about a component that is initialised: its body is compiled, and its parameters are
+-- simple values and rights with distinct names.
 pub record InitStands (scope : Scope) (program : Program) (texts : List UnitText) (before : List CodeUnit) (n : Component) : Type 0 where
   pub body : UnitThere program texts before (body_of scope n) (BodyOf n.system)
   pub defined : List System
   pub each : Each (SystemParameter scope.globals defined n.system.sort) (declarations scope.globals n.system.parameters)
   pub distinct : Distinct (declarations scope.globals n.system.parameters)
 
--- What is known where code stands. `systems` and `routines` are those that were defined before.
+-- What is known at a site. `systems` and `routines` are those that were defined before.
 pub record Standing (scope : Scope) (program : Program) (texts : List UnitText) (before : List CodeUnit) (systems : List System) (routines : ℕ) : Type 0 where
   pub running : RoutineHere scope scope.routine
   pub by_value : (x : Name) (v : Variable) → lookup x (permanent_variables scope.globals scope.system) ≡ Some v → v.by_reference ≡ false
@@ -68,12 +70,13 @@ pub record Standing (scope : Scope) (program : Program) (texts : List UnitText) 
 -- ---- Calls that stand
 
 module _ (scope : Scope) (program : Program) (texts : List UnitText) (before : List CodeUnit) (unit : CodeUnit) where
-  -- The unit that is called needs no more than there is behind the activation.
+  -- The called unit needs no more than there is after the activation.
   abbrev pub CallFits : Call → Type 0
   CallFits call = (u : CodeUnit) → slice_get before call.routine ≡ Some u
       → (call.words + u.words ≤ unit.words) × (call.temps + u.temps ≤ unit.temps) × (1 + u.frames ≤ unit.frames)
 
-  -- The calls stand from a place on, in order, and the last one leads to the next.
+  -- The calls are in the program from a place on, in order, and the last one leads to the next
+  -- place.
   abbrev pub Chained : List CodedCall → ℕ → ℕ → Type 0
   Chained [] place next = place ≡ next
   Chained (c ∷ cs) place next =

@@ -79,7 +79,7 @@ module _ (g : GlobalScope) (s : System) (fine : PlannableMembers true (reported_
       nothing_more : (a b : ℕ) → a + b ≡ a + (b + 0)
       nothing_more a b = omega arith
 
-  -- the first word of a right or a mark in front
+  -- the words before the members and after the component stay as they were
   before : (base : ℕ) (ws : List ℤ) → base + component_words g s ≤ length ws → AreZero g s base ws → (i : ℕ) → (i < base + head) ⊎ (base + component_words g s ≤ i)
       → word (started base (plan_of_component g s) ws) i ≡ word ws i
   before base ws room zeros i where' =
@@ -143,7 +143,7 @@ variables_planned g (v ∷ vs) h at base ws room =
     place : (a b c d : ℕ) → d ≡ c → a + (b + c) ≡ a + b + d
     place a b c d h = omega (arith, h)
 
--- a part of a variable lies behind those before it
+-- a part of a variable lies after those before it
 variable_part : (g : GlobalScope) (vs : List (Name × Variable)) → Each ByValue vs → (at k : ℕ) (x : Name) (v : Variable) (path : Path) (m : ℕ) (u : ResolvedType)
     → local_at g at vs x ≡ Some (k, v) → part g v.type path ≡ Some (m, u)
     → (d : ℕ) × (k ≡ at + d) × PartOf g (images_of g vs) (locals_words g vs) (d + m) u

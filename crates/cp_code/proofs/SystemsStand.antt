@@ -141,7 +141,7 @@ module _ (g : GlobalScope) (program : Program) (texts : List UnitText) where
       later : (n : ℕ) (t : UnitText) → UnitThere program texts before n t → UnitThere program texts after n t
       later n t u = record { text = u.text; unit = u.unit; there = u.there; earlier = begins_get before after h n u.unit u.earlier }
 
-  -- a unit that was compiled
+  -- a compiled unit
   pub unit_there : (c : Compiled) (n : ℕ) (t : UnitText) → Within c → n < length c.units → slice_get texts n ≡ Some t → UnitThere program texts c.units n t
   unit_there c n t within less text =
       let u = get_some c.units n less in
@@ -166,7 +166,7 @@ module _ (g : GlobalScope) (program : Program) (texts : List UnitText) where
       pub named : (n : Component) → component_named (some_environment g s None) n.name ≡ Some n
           → UnitsThere program texts start.units (or_zero (lookup (declared_type n.name (groups_of n.is_parameter s)) firsts)) n.system
 
-    -- After some routines.
+    -- After some of the routines.
     pub record After (k : ℕ) (c : Compiled) : Type 0 where
       pub good : Good c
       pub grows : Begins start.units c.units
@@ -256,7 +256,7 @@ module _ (g : GlobalScope) (program : Program) (texts : List UnitText) where
       pub system_grows : Within (with_system g firsts s start) → Within start
       system_grows h = routines_grow s.routines start (body_grows (with_routines g s firsts first s.routines start) h)
 
-      -- All its units stand.
+      -- All its units stand for their texts.
       pub system_stands : Good start → Within (with_system g firsts s start) → After (suc (length s.routines)) (with_system g firsts s start)
       system_stands good within =
           body_stands (with_routines g s firsts first s.routines start)

@@ -1,4 +1,4 @@
--- A table leads where the list of arms does: to the first arm with the label.
+-- A table leads where the list of arms leads: to the first arm with the label.
 use Rattle.std.proofs.Common.{◌≡◌, ◌≤◌, ◌<◌, ℕ, zero, suc, ◌*◌, ℤ, pos, negsuc, List, [], ◌∷◌, Some, None, refl, ap, sym, ◌∙◌, Bool, true, false, if◌then◌else◌, length, arith, eqb-true}
 use Prim.{grind}
 use Rattle.std.specs.Prelude.{◌+ℤ◌, int_le, nat_le, slice_index_or}

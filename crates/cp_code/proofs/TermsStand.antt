@@ -1,7 +1,9 @@
--- The compiled terms, spots and arguments stand for the typed expressions, designators and arguments.
+-- The compiled terms, spots and arguments stand for the typed expressions, designators and
+-- arguments.
 --
--- One induction over expressions. That a call is one is decided by the meaning's own look-up, in the compiler and in the judgement alike,
--- so each case is split by its answer, and the answer at the compiler's place is carried to every place.
+-- The proof is a single induction over expressions. Whether something is a call is decided by the
+-- meaning's own look-up, both in the compiler and in the judgement. So each case is split by the
+-- result of the look-up, and the result at the compiler's place is carried over to every place.
 use Rattle.std.proofs.Common.{◌≡◌, ◌≤◌, inl, inr, ℕ, ◌+◌, ℤ, List, [], ◌∷◌, Option, Some, None, refl, ap, sym, subst, ◌∙◌, Bool, true, false, arith}
 use Rattle.std.proofs.lemmas.Bool.{true≢false}
 use Rattle.cp_model.specs.Abstract as a
@@ -124,7 +126,7 @@ module _ (scope : Scope) (program : Program) (texts : List UnitText) (systems : 
       → TypedExpressions p es → Chain (coded_arguments scope es ps n low).calls place next → (coded_arguments scope es ps n low).temps ≤ high
       → ArgumentsFor site K ps es (coded_arguments scope es ps n low).arguments n place next low high
 
-  -- one argument, with the others behind it
+  -- one argument, followed by the others
   module _ (x : Name) (n low place between next high : ℕ) (ps : List (Name × Variable)) (es : a.Expressions) (xs : List Argument) where
     abbrev ArgumentStands : Bool → ResolvedType → a.Expression → Type 0
     ArgumentStands b t e =

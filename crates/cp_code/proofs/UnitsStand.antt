@@ -1,6 +1,7 @@
--- A unit that is compiled stands for its routine or body.
+-- A compiled unit stands for its routine or body.
 --
--- What a unit needs is the greatest of what its operations need, so each of them has it.
+-- What a unit needs is the greatest of what its operations need, so there is enough for each of
+-- them.
 use Rattle.std.proofs.Common.{◌≡◌, ◌≤◌, ℕ, suc, ◌+◌, List, [], ◌∷◌, Option, Some, None, subst, length, arith}
 use Rattle.cp_model.specs.Abstract.{Statement, System}
 use Rattle.cp_model.specs.Locations.{Location, Owner}
@@ -70,7 +71,7 @@ module _ (scope : Scope) (program : Program) (texts : List UnitText) (before : L
   operation_fits (op.Continue queue function) w = tt
   operation_fits (op.Wait next) w = tt
 
-  -- They stand in the program from a place on.
+  -- They are in the program from a place on.
   abbrev pub AllThere : List Operation → ℕ → Type 0
   AllThere [] at = Unit {0}
   AllThere (x ∷ xs) at = (operation_at program at ≡ Some x) × AllThere xs (suc at)
@@ -95,7 +96,8 @@ module _ (scope : Scope) (program : Program) (texts : List UnitText) (before : L
   abbrev unit : CodeUnit
   unit = code_unit (unit_code scope last s at).entry starts (need_of_all before scope.words (unit_code scope last s at).operations)
 
-  -- Its code stands for the statement, and ends in the last operation, wherever the component lies.
+  -- Its code stands for the statement and ends with the last operation, wherever the component
+  -- lies.
   pub unit_stands : AllThere scope program texts before unit (unit_code scope last s at).operations at
       → ((l : Location) (o : Owner) → TypedStatement (place_at scope systems routines l o) s)
       → (l : Location) (o : Owner) → (end : ℕ) × (operation_at program end ≡ Some last)

@@ -1,4 +1,4 @@
--- What a unit needs of words, temps and frames, with all that it calls.
+-- The words, temps and frames that a unit needs, together with everything that it calls.
 use Rattle.std.specs.Prelude.{ℕ, suc, ◌+◌, max, List, [], ◌∷◌, None, Some, length, slice_get}
 use Rattle.cp_code.specs.Programs.{Call, CodeUnit, For, Function, InitClass, InitMonitor, InitProcess, Operation, Procedure}
 
@@ -14,14 +14,15 @@ abbrev pub greater_need : Need → Need → Need
 greater_need x y =
     record { words = max x.words y.words; temps = max x.temps y.temps; frames = max x.frames y.frames }
 
--- The callees of a unit are units that stand already.
+-- The need of a call. The units that a unit calls have been compiled before it.
 abbrev pub need_of_call : List CodeUnit → Call → Need
 need_of_call units c = elim (slice_get units c.routine) [
   | None ↦ no_need
   | Some u ↦ record { words = c.words + u.words; temps = c.temps + u.temps; frames = 1 + u.frames }
 ]
 
--- The arguments of an `init` lie behind the activation, where the component's words begin, with its mark.
+-- The arguments of an `init` lie after the activation, where the component's words begin, and after
+-- its mark.
 abbrev pub with_room : ℕ → ℕ → Need → Need
 with_room words count need = record need { words = max need.words (words + suc count) }
 
@@ -37,7 +38,7 @@ need_of units (InitProcess r xs words next) = with_room words (length xs) no_nee
 need_of units (For c first last) = with_temps (c.temp + 2) no_need
 need_of units _ = no_need
 
--- An activation has so many words.
+-- The need of a list of operations whose activation has `words` words.
 abbrev pub need_of_all : List CodeUnit → ℕ → List Operation → Need
 need_of_all units words [] = record { words = words; temps = 0; frames = 0 }
 need_of_all units words (o ∷ os) = greater_need (need_of units o) (need_of_all units words os)

@@ -1,7 +1,8 @@
 -- The operations of statements.
 --
--- A list of statements is emitted from its last to its first, so that an operation knows the place to which it leads. The operation
--- that closes a loop comes first, at the place to which the loop's body leads; it is complete once the body stands.
+-- A list of statements is emitted from its last statement to its first, so that an operation knows
+-- the place to which it leads. The operation that closes a loop comes first, at the place to which
+-- the loop's body leads. It is complete once the body has been emitted.
 use Rattle.std.specs.Prelude.{Bool, true, false, ℕ, zero, suc, ◌+◌, ◌*◌, ℤ, pos, ◌+ℤ◌, int_le, List, [], ◌∷◌, ◌++◌, Option, None, Some, if◌then◌else◌, nat_le, length, codes}
 use Rattle.std.specs.Str.{bytes_eq}
 use Rattle.cp_model.specs.Abstract as a
@@ -24,12 +25,13 @@ use Rattle.cp_code.specs.CodedTerms.{CodedArguments, CodedCall, CodedSpot, Coded
 
 -- ---- Operations with their calls
 
--- Operations that stand one behind the other, and the place where they are entered.
+-- A list of consecutive operations, and the place where they are entered.
 pub record Emitted : Type 0 where
   pub operations : List Operation
   pub entry : ℕ
 
--- Calls from a place on, which lead to the next. The last one comes first.
+-- Calls from a place on, the last of which leads to `next`. The last call is the first operation of
+-- the list.
 abbrev pub calls_at : List CodedCall → ℕ → ℕ → Emitted
 calls_at [] at next = record { operations = []; entry = next }
 calls_at (c ∷ cs) at next =
@@ -39,13 +41,13 @@ calls_at (c ∷ cs) at next =
       entry = at + length rest.operations;
     }
 
--- An operation with its calls.
+-- An operation and the calls that are made before it.
 abbrev pub with_calls : List CodedCall → Operation → ℕ → Emitted
 with_calls cs o at =
     let calls = calls_at cs (suc at) at in
     record { operations = o ∷ calls.operations; entry = calls.entry }
 
--- Others, and then these behind them.
+-- The operations `os`, followed by those of `e`, which keeps its entry.
 abbrev pub behind : List Operation → Emitted → Emitted
 behind os e = record { operations = os ++ e.operations; entry = e.entry }
 
@@ -55,7 +57,7 @@ abbrev pub is_result_of : Option a.Routine → Name → Bool
 is_result_of None x = false
 is_result_of (Some r) x = if bytes_eq x r.name then is_function r.result else false
 
--- The name of a running function is its result, unless a parameter or variable has it.
+-- The name of the running function is its result, unless a parameter or variable has that name.
 abbrev pub is_result : Scope → a.Designator → Bool
 is_result scope (a.Plain x) = elim (local_in scope x) [ None ↦ is_result_of scope.routine x | Some v ↦ false ]
 is_result scope _ = false
@@ -75,7 +77,7 @@ abbrev pub store : GlobalScope → ResolvedType → CodedSpot → CodedTerm → 
 store g (Simple b low high start) d e s at next = with_calls (d.calls ++ e.calls) (op.Set d.spot low high e.term next) at
 store g t d e s at next = with_calls (d.calls ++ s.calls) (op.CopyWords d.spot s.spot (words g t) next) at
 
--- A result is set, or a variable.
+-- Sets the result or a variable.
 abbrev pub assign_by : Scope → a.Designator → a.Expression → ℕ → ℕ → ℕ → Bool → Emitted
 assign_by scope d e low at next true =
     set_result (place_type (environment scope) d) (coded_term scope e low) at next
@@ -106,7 +108,7 @@ standard_statement scope x a.NoExpression low at next = with_calls [] (op.Wait n
 standard_statement scope x (a.MoreExpressions e es) low at next =
     standard_procedure scope x (expression_type (environment scope) e) (coded_term scope e low) (coded_variable scope e low) at next
 
--- A standard procedure, or else a user's.
+-- A standard procedure, or a user's procedure.
 abbrev pub perform_by : Scope → a.Designator → a.Expressions → ℕ → ℕ → ℕ → Option Callee → Emitted
 perform_by scope d es low at next None = standard_statement scope (name_of d) es low at next
 perform_by scope d es low at next (Some c) =
@@ -151,12 +153,12 @@ abbrev pub highest : ℤ → List Arm → ℤ
 highest n [] = n
 highest n (x ∷ xs) = highest (higher n x.label) xs
 
--- The place of each number, from the lowest on.
+-- The places of consecutive numbers, from `low` on.
 abbrev pub places_from : List Arm → ℤ → ℕ → List (Option ℕ)
 places_from arms low zero = []
 places_from arms low (suc n) = arm_at arms low ∷ places_from arms (low +ℤ pos 1) n
 
--- A dense table has at most four places a label.
+-- A dense table has at most four places for each label.
 abbrev pub table_from : List Arm → ℤ → ℕ → Table
 table_from arms low count =
     if nat_le count (4 * length arms) then Dense low (places_from arms low count) else Sparse arms
@@ -188,7 +190,7 @@ counting scope x down low body next =
 
 -- ---- Statements
 
--- The operations of a statement from a place on, which lead to the next.
+-- The operations of a statement, from a place on, which lead to `next`.
 abbrev mutual
   pub emitted : Scope → a.Statement → ℕ → ℕ → ℕ → Emitted
   emitted scope a.Nothing low at next = record { operations = []; entry = next }

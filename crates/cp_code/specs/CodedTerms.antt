@@ -1,6 +1,8 @@
--- The terms, spots and arguments of expressions, designators and actual arguments, with the calls that are made before.
+-- The terms, spots and arguments of expressions, designators and actual arguments, with the calls
+-- that are made before them.
 --
--- The values of calls go to the temps from `low` on, one behind the other. A call keeps those below `low` for its caller.
+-- The values of calls go to consecutive temps from `low` on. A call keeps the temps below `low` for
+-- its caller.
 use Rattle.std.specs.Prelude.{ℕ, suc, ◌+◌, ℤ, pos, negsuc, List, [], ◌∷◌, ◌++◌, Option, None, Some, if◌then◌else◌, codes}
 use Rattle.std.specs.Str.{bytes_eq}
 use Rattle.cp_model.specs.Abstract as a
@@ -31,7 +33,8 @@ pub record CodedCall : Type 0 where
   pub call : Call
   pub into : ℕ
 
--- The calls are in the order in which they are made, and `temps` is the first temp behind their values.
+-- The calls are in the order in which they are made, and `temps` is the first temp after their
+-- values.
 pub record CodedTerm : Type 0 where
   pub term : Term
   pub calls : List CodedCall
@@ -143,12 +146,12 @@ function_call scope c xs low =
 abbrev pub parameters_of : Scope → Callee → List (Name × Variable)
 parameters_of scope c = declarations scope.globals c.routine.parameters
 
--- A designator alone, by what it calls.
+-- A designator without arguments, by what it calls.
 abbrev pub used_term : Scope → a.Designator → ℕ → CodedSpot → Option Callee → CodedTerm
 used_term scope d low s None = name_or_item scope d s low
 used_term scope d low s (Some c) = function_call scope c (no_arguments low) low
 
--- A call of a standard function, or else of a user's with these arguments.
+-- A call of a standard function, or of a user's function with these arguments.
 abbrev pub called_term : Scope → ℕ → CodedTerm → (Callee → CodedArguments) → Option Callee → CodedTerm
 called_term scope low standard xs None = standard
 called_term scope low standard xs (Some c) = function_call scope c (xs c) low
@@ -177,7 +180,7 @@ abbrev mutual
       let s = coded_spot scope d low in
       element_part scope.globals (place_type (environment scope) d) s (coded_term scope e s.temps)
 
-  -- The variable that is an argument.
+  -- The spot of an argument that is a variable.
   pub coded_variable : Scope → a.Expression → ℕ → CodedSpot
   coded_variable scope (a.Use d) low = coded_spot scope d low
   coded_variable scope e low = lone_spot (Rooted (Local 0)) low
@@ -202,7 +205,7 @@ abbrev mutual
 abbrev pub target_named : Environment → a.Expression → Target
 target_named env e = target_of env (component_named env (name_of (designator_of e)))
 
--- A right has no calls.
+-- The argument for a parameter of a component. A right has no calls.
 abbrev pub init_argument : Scope → System → Name × Variable → a.Expression → ℕ → CodedArgument
 init_argument scope s p e low = elim p.1.type [
   | ComponentOf r inner ↦

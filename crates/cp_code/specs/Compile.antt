@@ -1,6 +1,6 @@
 -- The compiler: the program of a text, as a function.
 --
--- Units are made in text order, so that those that a unit calls stand when it is made.
+-- Units are made in text order, so that the units that a unit calls exist when it is made.
 use Rattle.std.specs.Prelude.{ℕ, suc, ◌+◌, List, [], ◌∷◌, ◌++◌, None, Some, filter, length, map}
 use Rattle.cp_model.specs.Abstract as a
 use Rattle.cp_model.specs.Abstract.{Definition, Group, Name, Routine, Sort, Statement, System, Tree, TypeExpression, TypeName}
@@ -26,7 +26,8 @@ pub record Compiled : Type 0 where
   pub operations : List Operation
   pub units : List CodeUnit
 
--- The operations of a unit from a place on: its last one, and its body in front of that.
+-- The operations of a unit from a place on: its last operation first, and its body after it, which
+-- leads there.
 abbrev pub unit_code : Scope → Operation → Statement → ℕ → Emitted
 unit_code scope last s at =
     let body = emitted scope s 0 (suc at) at in
@@ -71,7 +72,8 @@ with_system g firsts s c =
 
 -- ---- Definitions
 
--- `firsts` has the first unit of each named type, the last one in front; 0 for a type without units.
+-- `firsts` has the first unit of each named type, the latest type first. A type without units has
+-- 0.
 pub record CompiledTypes : Type 0 where
   pub compiled : Compiled
   pub firsts : List (Name × ℕ)
@@ -142,7 +144,8 @@ of_sort s vs = filter (λ v. is_component_of s v.1.type) vs
 
 -- ---- The whole
 
--- Monitors lie one behind the other, and then the parameters that wait.
+-- The shared words are those of the monitors, one after another, followed by the parameters that
+-- wait.
 abbrev pub program_of : GlobalScope → Compiled → List Owner → List Owner → Program
 program_of g c monitors processes =
     let start = sum_words (component_words g) monitors in

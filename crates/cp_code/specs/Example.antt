@@ -1,5 +1,5 @@
--- A text with a call in an expression, a `var` parameter that is handed on, a right to a class that is handed on, a monitor, and two
--- processes:
+-- A text with a call in an expression, a `var` parameter that is passed on, a right to a class that
+-- is passed on, a monitor, and two processes:
 --
 --     type c = class; var n: integer;
 --       function entry get(t: integer): integer; begin n := n + t; get := n end;

@@ -1,4 +1,4 @@
--- What the standard functions of a program answer.
+-- What the standard functions of a program return.
 use Rattle.std.specs.Prelude.{Bool, ℤ, pos, negsuc, ◌+ℤ◌, nat_abs, Result, Ok, Err, if◌then◌else◌}
 use Rattle.cp_model.specs.Places.{within}
 use Rattle.cp_model.specs.declared.state.Fault.{Fault}

@@ -1,4 +1,4 @@
--- What the law of the compiler needs to know of a text.
+-- What the law of the compiler needs to know about a text.
 use Rattle.std.specs.Prelude.{◌≡◌, ℕ, ℤ, int_le, Bool, true, false, List, [], ◌∷◌, ◌++◌, Option, Some, None, slice_get}
 use Rattle.cp_model.specs.Syntax as s
 use Rattle.cp_model.specs.Erase as erase
@@ -26,7 +26,8 @@ use Rattle.cp_code.specs.Compile.{compile}
 
 -- ---- Types
 
--- What can be planned: arrays have elements, and components stand where words are 0.
+-- The types that can be planned: arrays have elements, and components occur only where the words
+-- are 0 before.
 abbrev mutual
   pub Plannable : Bool → ResolvedType → Type 0
   Plannable zeros (Simple b low high start) = Unit {0}
@@ -45,14 +46,15 @@ abbrev mutual
 abbrev pub place_at : Scope → List System → ℕ → Location → Owner → Place
 place_at scope systems routines at o = record { env = environment_at scope at o; systems = systems; routines = routines }
 
--- The running routine is one of the system type, or none runs.
+-- The running routine is a routine of the system type, or none is running.
 abbrev pub RunsIn : System → Option Routine → Type 0
 RunsIn s None = Unit {0}
 RunsIn s (Some r) = (k : ℕ) × (slice_get s.routines k ≡ Some r)
 
--- Of a system type in the scope of the text: its bodies are typed where these system types were defined before; its variables are no `var`
--- parameters, its components have the members that are reported, no variable is the clock, and arrays and records that are copied are
--- plain. The components that it names have their units before.
+-- What is known of a system type in the scope of the text: its bodies are typed with the system
+-- types `systems` defined before. Its variables are not `var` parameters, its components have the
+-- members that are reported, no variable is the clock, and arrays and records that are copied are
+-- plain. The system types before it are typed.
 pub record SystemKnown (g : GlobalScope) (s : System) (systems : List System) : Type 0 where
   pub bodies : TypedBodies g systems s
   pub by_value : (x : Name) (v : Variable) → lookup x (permanent_variables g s) ≡ Some v → v.by_reference ≡ false
@@ -80,7 +82,8 @@ InOrder g h ys (a.TypeDef x t ∷ ds) = InOrder g (define h (a.TypeDef x t)) ys 
 InOrder g h ys (a.EnumDef x vs ∷ ds) = InOrder g (define h (a.EnumDef x vs)) ys ds
 InOrder g h ys (a.ConstantDef x c ∷ ds) = InOrder g (define h (a.ConstantDef x c)) ys ds
 
--- What is known of a text: its system types in order, its initial process, and that components can be planned and have one layout.
+-- What is known of a text: its system types in order, its initial process, and that components can
+-- be planned and have one layout.
 pub record TextKnown (setup : Setup) : Type 0 where
   pub in_order : InOrder (globals setup.tree) standard_scope [] setup.tree.definitions
   pub initial : SystemKnown (globals setup.tree) setup.tree.initial (text_systems setup)
@@ -95,7 +98,8 @@ pub record TextKnown (setup : Setup) : Type 0 where
 
 -- ---- From the typing
 
--- What the typing of a text tells by its parts, of a system type: no variable is the clock, and what is copied is plain.
+-- What the typing of a text, part by part, says about a system type: no variable is the clock, and
+-- what is copied is plain.
 pub record SystemFacts (g : GlobalScope) (s : System) : Type 0 where
   pub no_clock : (scope : Scope) (at : Location) (o : Owner) (x : Name) → scope.globals ≡ g → scope.system ≡ s → RunsIn s scope.routine
       → NamesVariable (environment_at scope at o) x → is_clock x ≡ false
@@ -111,8 +115,8 @@ NamesInOrder g h (a.TypeDef x t ∷ ds) = NamesInOrder g (define h (a.TypeDef x 
 NamesInOrder g h (a.EnumDef x vs ∷ ds) = NamesInOrder g (define h (a.EnumDef x vs)) ds
 NamesInOrder g h (a.ConstantDef x c ∷ ds) = NamesInOrder g (define h (a.ConstantDef x c)) ds
 
--- And of a text: types are defined before they are named, a component has one layout wherever its type is named, and no value of a
--- type is the mark of a result that isn't set.
+-- What it says about a text: types are defined before they are named, a component has one layout
+-- wherever its type is named, and no value of a type is the mark of an unset result.
 pub record TextFacts (setup : Setup) : Type 0 where
   pub systems : (i : ℕ) (s : System) → slice_get (text_systems setup) i ≡ Some s → SystemFacts (globals setup.tree) s
   pub initial : SystemFacts (globals setup.tree) setup.tree.initial
@@ -124,10 +128,11 @@ pub record TextFacts (setup : Setup) : Type 0 where
 
 -- ---- The law
 
--- What the compiler makes of a text stands for it, whatever its input and its clock are.
+-- The program that the compiler makes of a text stands for it, whatever its input and its clock.
 abbrev pub HasProgram : s.Tree → Type 0
 HasProgram t = (setup : Setup) → setup.tree ≡ erase.abstract t → StandsFor (compile setup.tree) setup
 
--- Numbers of tokens have 16 bits. No rule says so of a tree, and the mark of a result that isn't set has 32.
+-- The numbers of tokens have 16 bits. No rule says so about a tree, and the mark of an unset result
+-- has 32 bits.
 abbrev pub AcceptedTextsHavePrograms : Type 0
 AcceptedTextsHavePrograms = (t : s.Tree) → Accepted t → AreNegativesWithin 65535 (erase.abstract t).definitions → HasProgram t

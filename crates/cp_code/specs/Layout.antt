@@ -1,7 +1,8 @@
 -- Where variables lie: the words of components and activations, and the words of their parts.
 --
--- A class, and a process or monitor itself, has a mark, a word for each right, and then its own members. A variable that is a process
--- or a monitor takes no word of the component that declares it. A function's result has the first word of its activation.
+-- A class, or a process or monitor itself, has a mark, a word for each right, and then its own
+-- members. A variable that is a process or a monitor takes no word of the component that declares
+-- it. A function's result is the first word of its activation.
 use Rattle.std.specs.Prelude.{ℕ, ℤ, pos, negsuc, suc, ◌+◌, ◌*◌, ◌-ℤ◌, List, [], ◌∷◌, ◌++◌, Option, None, Some, if◌then◌else◌, filter}
 use Rattle.std.specs.Str.{bytes_eq}
 use Rattle.cp_model.specs.Abstract.{Class, Name, Routine, Sort, System}
@@ -14,7 +15,7 @@ use Rattle.cp_typing.specs.Words.{rights_in, words, words_of_members}
 
 -- ---- Components
 
--- The words in front of the members: the mark and the rights.
+-- The words before the members: the mark and the rights.
 abbrev pub head_words : GlobalScope → System → ℕ
 head_words g s = suc (rights_in g s)
 
@@ -23,7 +24,7 @@ component_words g s = head_words g s + words_of_members g (reported_members g s)
 
 -- ---- Parts
 
--- How far a part lies from the first word, and its type.
+-- The distance of a part from the first word, and its type.
 abbrev pub Part : Type 0
 Part = ℕ × ResolvedType
 
@@ -31,7 +32,7 @@ abbrev pub farther : ℕ → Option Part → Option Part
 farther n None = None
 farther n (Some p) = Some (n + p.0, p.1)
 
--- Only of a class do the members lie in its variable.
+-- Only a class has its members in its variable.
 abbrev pub of_class : Sort → Option Part → Option Part
 of_class Class p = p
 of_class _ p = None
@@ -40,7 +41,7 @@ abbrev pub natural : ℤ → ℕ
 natural (pos n) = n
 natural (negsuc n) = 0
 
--- How far an index is from the lowest.
+-- The distance of an index from the lowest one.
 abbrev pub distance : ℤ → ℤ → ℕ
 distance low i = natural (i -ℤ low)
 

@@ -1,6 +1,7 @@
--- Plans: how the words of activations and components are made to start.
+-- Plans: how the words of activations and components get their start values.
 --
--- Neighbours of one value are one fill. A component's words are 0 before, so nothing is planned for a 0 there.
+-- Neighbouring words with one value are one fill. A component's words are 0 before, so nothing is
+-- planned for a 0 there.
 use Rattle.std.specs.Prelude.{Bool, true, false, ◌&&◌, ℕ, zero, ◌+◌, ◌*◌, ℤ, pos, nat_eq, List, [], ◌∷◌, ◌++◌, Option, None, Some, if◌then◌else◌}
 use Rattle.cp_model.specs.Abstract.{Class, Name, Routine, Sort, System}
 use Rattle.cp_model.specs.Types.{ArrayOf, ComponentOf, GlobalScope, Members, MoreMembers, NoMembers, NoType, Queue, RecordOf, ResolvedType, Simple}
@@ -21,7 +22,7 @@ fill_before at count n (Fill behind more m ∷ rest) =
     else Fill at count n ∷ Fill behind more m ∷ rest
 fill_before at count n rest = Fill at count n ∷ rest
 
--- The words may be 0 already.
+-- A fill before other starts. With `zeros` the words are 0 already, so a fill with 0 is left out.
 abbrev pub fill_unless : Bool → ℕ → ℕ → ℤ → List Start → List Start
 fill_unless true at count (pos zero) rest = rest
 fill_unless zeros at count n rest = fill_before at count n rest
@@ -32,7 +33,7 @@ repeat_before zeros at size count xs rest = xs ++ (Repeat at size count ∷ rest
 
 -- ---- Types
 
--- The one value with which all words of a type start, if it is made of simple elements.
+-- The one start value of all words of a type, if it is simple or an array of such elements.
 abbrev pub start_of : ResolvedType → Option ℤ
 start_of (Simple b low high start) = Some start
 start_of (ArrayOf low high t) = start_of t
@@ -46,7 +47,8 @@ abbrev pub plan_of_array : Bool → ℕ → ℕ → ℕ → Option ℤ → List 
 plan_of_array zeros at size count (Some n) xs rest = fill_unless zeros at (count * size) n rest
 plan_of_array zeros at size count None xs rest = repeat_before zeros at size count xs rest
 
--- The plan of a variable of this type that lies at a word, and then others. The words may all be 0 before.
+-- The plan of a variable of this type at a word, followed by others. With `zeros` all words are 0
+-- before.
 abbrev mutual
   pub plan : Bool → GlobalScope → ResolvedType → ℕ → List Start → List Start
   plan zeros g (Simple b low high n) at rest = fill_unless zeros at 1 n rest

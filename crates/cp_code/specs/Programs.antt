@@ -1,14 +1,15 @@
--- Programs as plain data: threaded code, one operation a step of the meaning.
+-- Programs as plain data: threaded code, with one operation for each step of the meaning.
 --
--- The place of an operation is its index in the program's list. An operation names the place to which it leads, so lists of statements,
--- `begin` and `end` need none of their own.
+-- The place of an operation is its index in the program's list. An operation names the place to
+-- which it leads, so lists of statements, `begin` and `end` need no operations of their own.
 use Rattle.std.specs.Prelude.{ℕ, ℤ, Bool, List, Option}
 use Rattle.cp_code.specs.Terms.{Argument, Root, Spot, Target, Term}
 
 -- ---- Operations
 
--- A call of a unit. The new activation lies `words` words behind the caller's first, where the arguments are put; its temps lie behind
--- the caller's first `temps`, which hold the values that the caller still needs.
+-- A call of a unit. The new activation begins `words` words after the start of the caller's, and
+-- the arguments are put there. Its temps come after the first `temps` temps of the caller, which
+-- hold the values that the caller still needs.
 pub record Call : Type 0 where
   pub routine : ℕ
   pub target : Target
@@ -20,7 +21,8 @@ pub record Arm : Type 0 where
   pub label : ℤ
   pub place : ℕ
 
--- Where a `case` leads: by a place for each number from the lowest label to the highest, or by the list of labels.
+-- Where a `case` leads: a place for each number from the lowest label to the highest, or a list of
+-- labels.
 pub data Table : Type 0 where
   Dense : (low : ℤ) (places : List (Option ℕ)) → Table
   Sparse : (arms : List Arm) → Table
@@ -35,8 +37,8 @@ pub record Counting : Type 0 where
   pub body : ℕ
   pub next : ℕ
 
--- Bounds are those of the type of the variable that is written. `Function` puts the value of the call into a temp, and `Return` and
--- `Continue` say whether the routine is a function.
+-- The bounds are those of the type of the variable that is written. `Function` puts the value of
+-- the call into a temp. `Return` and `Continue` say whether the routine is a function.
 pub data Operation : Type 0 where
   Set : (to : Spot) (low high : ℤ) (value : Term) (next : ℕ) → Operation
   SetResult : (low high : ℤ) (value : Term) (next : ℕ) → Operation
@@ -62,13 +64,15 @@ pub data Operation : Type 0 where
 
 -- ---- Units
 
--- How words start: so many of one value; or so many blocks like the first one of this size.
+-- How words start: `count` words with one value, or `count` blocks that are all like the first one,
+-- of `size` words.
 pub data Start : Type 0 where
   Fill : (at count : ℕ) (value : ℤ) → Start
   Repeat : (at size count : ℕ) → Start
 
--- The code of a routine, or of the body of a system type: the place of its first operation, how the words of an activation start, and
--- how many words, temps and frames one needs with all that it calls.
+-- The code of a routine, or of the body of a system type: the place of its first operation, how the
+-- words of an activation start, and how many words, temps and frames it needs with everything that
+-- it calls.
 pub record CodeUnit : Type 0 where
   pub start : ℕ
   pub starts : List Start
@@ -78,14 +82,16 @@ pub record CodeUnit : Type 0 where
 
 -- ---- Components
 
--- A monitor has its words among the shared ones, from `start` on. The words that `starts` doesn't write start as 0.
+-- A monitor has its words among the shared words, from `start` on. The words that `starts` doesn't
+-- write start as 0.
 pub record Monitor : Type 0 where
   pub start : ℕ
   pub body : ℕ
   pub words : ℕ
   pub starts : List Start
 
--- A process has words of its own. What is passed to it waits among the shared words, from `parameters` on, until it begins.
+-- A process has words of its own. What is passed to it waits among the shared words, from
+-- `parameters` on, until the process begins.
 pub record Process : Type 0 where
   pub body : ℕ
   pub words : ℕ
@@ -93,7 +99,7 @@ pub record Process : Type 0 where
   pub waiting : ℕ
   pub starts : List Start
 
--- Monitors are numbered from 1 and processes from 1, the initial one first.
+-- Monitors and processes are numbered from 1, and the initial process is the first.
 pub record Program : Type 0 where
   pub operations : List Operation
   pub units : List CodeUnit

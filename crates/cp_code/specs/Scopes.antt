@@ -1,6 +1,8 @@
--- Scopes: what the code of a unit is compiled with, and what names, components and routines are in one.
+-- Scopes: what the code of a unit is compiled with, and what names, components and routines are in
+-- a scope.
 --
--- Units have numbers in text order: the routines of a system type, then its body, and the initial process behind all.
+-- Units are numbered in text order: the routines of each system type and then its body, with those
+-- of the initial process last.
 use Rattle.std.specs.Prelude.{Bool, true, false, ℕ, suc, ◌+◌, List, [], ◌∷◌, Option, None, Some, length, if◌then◌else◌}
 use Rattle.std.specs.Str.{bytes_eq}
 use Rattle.cp_model.specs.Abstract as a
@@ -19,8 +21,8 @@ use Rattle.cp_code.specs.Layout.{Part, local, member, right}
 
 -- ---- Scopes
 
--- `firsts` has the first unit of each type that was defined before, by its name, and `first` is that of the system type itself. An
--- activation has so many words.
+-- `firsts` has the first unit of each type that was defined before, by its name, and `first` is the
+-- first unit of the system type itself. An activation has `words` words.
 pub record Scope : Type 0 where
   pub globals : GlobalScope
   pub system : System
@@ -37,7 +39,7 @@ abbrev pub frame_at : Owner → Option Routine → Option Frame
 frame_at o None = None
 frame_at o (Some r) = Some (record { owner = o; routine = r })
 
--- The environment of a scope, where the component lies there and the activation has this owner.
+-- The environment of a scope for a component at location `at` and an activation of owner `o`.
 abbrev pub environment_at : Scope → Location → Owner → Environment
 environment_at scope at o =
     record { globals = scope.globals; system = scope.system; component = at; frame = frame_at o scope.routine }
@@ -55,7 +57,7 @@ root_or_member (Some v) m = Some (root_of_local v)
 root_or_member None (Some p) = Some (Member p.0)
 root_or_member None None = None
 
--- Where the variable of a name begins. The result of a function has no name here.
+-- Where the variable of a name begins. The result of a function isn't found by its name here.
 abbrev pub root_named : Scope → Name → Option Root
 root_named scope x = root_or_member (local_in scope x) (member scope.globals scope.system x)
 
@@ -94,7 +96,7 @@ abbrev pub is_among : Name → List Name → Bool
 is_among x [] = false
 is_among x (y ∷ ys) = if bytes_eq x y then true else is_among x ys
 
--- The name of the type with which a name is declared.
+-- The name of the type that a name is declared with.
 abbrev pub declared_type : Name → List Group → Name
 declared_type x [] = []
 declared_type x (d ∷ ds) = if is_among x d.names then type_name d.type else declared_type x ds
@@ -107,7 +109,7 @@ groups_of false s = s.variables
 abbrev pub first_of : Scope → Component → ℕ
 first_of scope n = or_zero (lookup (declared_type n.name (groups_of n.is_parameter scope.system)) scope.firsts)
 
--- How many routines come before the one of this name.
+-- The number of routines before the one with this name.
 abbrev pub routine_index : Name → List Routine → ℕ
 routine_index x [] = 0
 routine_index x (r ∷ rs) = if bytes_eq x r.name then 0 else suc (routine_index x rs)

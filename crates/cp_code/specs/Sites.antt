@@ -1,4 +1,4 @@
--- Sites: where code stands, and what names, calls and targets are for it.
+-- Sites: where code is, and what names, calls and targets are there.
 use Rattle.std.specs.Prelude.{◌≡◌, ◌≤◌, ℕ, ◌+◌, Bool, true, false, List, [], ◌∷◌, Option, Some, None, slice_get}
 use Rattle.cp_model.specs.Abstract as a
 use Rattle.cp_model.specs.Abstract.{BaseType, Name, Process, Routine, Sort, System}
@@ -17,12 +17,13 @@ use Rattle.cp_code.specs.Layout.{local, member, right}
 
 -- ---- Sites
 
--- What a unit is the code of.
+-- The part of a text that a unit is the code of.
 pub data UnitText : Type 0 where
   RoutineOf : (s : System) (r : Routine) → UnitText
   BodyOf : (s : System) → UnitText
 
--- The program, what its units are the code of, the meaning of names, the unit, and the words of one activation of it.
+-- A site has the program, the text of each unit, the meaning of names, the unit, and the words of
+-- one activation of it.
 pub record Site : Type 0 where
   pub program : Program
   pub texts : List UnitText
@@ -38,7 +39,8 @@ operation_at program place = slice_get program.operations place
 abbrev pub local_location : Frame → Name → Location
 local_location f x = record { owner = f.owner; path = ByName x ∷ [] }
 
--- A name means the parameter or variable of the running routine that lies there in its activation.
+-- A name means the parameter or variable of the running routine that lies at `at` in its
+-- activation.
 pub record NamesLocal (env : Environment) (x : Name) (at : ℕ) (by_reference : Bool) (t : ResolvedType) : Type 0 where
   pub frame : Frame
   pub runs : env.frame ≡ Some frame
@@ -48,7 +50,7 @@ pub record NamesLocal (env : Environment) (x : Name) (at : ℕ) (by_reference : 
   pub reference : variable.by_reference ≡ by_reference
   pub type : variable.type ≡ t
 
--- A name means the parameter or variable of the running component that lies there in it.
+-- A name means the parameter or variable of the running component that lies at `at` in it.
 pub record NamesMember (env : Environment) (x : Name) (at : ℕ) (t : ResolvedType) : Type 0 where
   pub variable : Variable
   pub means : meaning env x ≡ IsVariable (under env.component (ByName x ∷ [])) variable
@@ -67,7 +69,8 @@ IsNoClock _ = Unit {0}
 
 -- ---- Targets
 
--- A parameter of the running component is a right to a component of this type, and no member has its name.
+-- A parameter of the running component is a right to a component of this type, and no member has
+-- its name.
 pub record RightTo (env : Environment) (n : Component) (at : ℕ) : Type 0 where
   pub variable : Variable
   pub lies : right env.globals env.system n.name ≡ Some (at, variable)
@@ -75,7 +78,7 @@ pub record RightTo (env : Environment) (n : Component) (at : ℕ) : Type 0 where
   pub type : variable.type ≡ ComponentOf n.system inner
   pub no_member : member env.globals env.system n.name ≡ None
 
--- A component that is named is a variable of the running one, or one to which that has a right.
+-- A named component is a variable of the running one, or the running one has a right to it.
 abbrev pub TargetOf : Environment → Component → Sort → Bool → Target → Type 0
 TargetOf env n a.Class false (target.Class at) =
     member env.globals env.system n.name ≡ Some (at, ComponentOf n.system (reported_members env.globals n.system))
@@ -94,13 +97,15 @@ abbrev pub system_of_callee : Environment → Option Component → System
 system_of_callee env None = env.system
 system_of_callee env (Some n) = n.system
 
--- Behind the activation and the first so many temps of the site a unit needs no more than the site's own unit does.
+-- After the activation and the first `kept` temps of the site, the unit `u` needs no more than the
+-- site's own unit does.
 pub record FitsBehind (site : Site) (kept : ℕ) (u : CodeUnit) : Type 0 where
   pub words : site.words + u.words ≤ site.unit.words
   pub temps : kept + u.temps ≤ site.unit.temps
   pub frames : 1 + u.frames ≤ site.unit.frames
 
--- The call runs the unit of this text behind the activation of the site. So many temps are kept for the caller.
+-- The call runs the unit of text `t` after the activation of the site, and keeps `kept` temps for
+-- the caller.
 pub record Runs (site : Site) (t : UnitText) (kept : ℕ) (call : Call) : Type 0 where
   pub text : slice_get site.texts call.routine ≡ Some t
   pub unit : CodeUnit
@@ -121,6 +126,6 @@ parameters site c = declarations site.env.globals c.routine.parameters
 abbrev pub first_parameter : Callee → ℕ
 first_parameter c = result_words c.routine.result
 
--- The value of a function has this base type.
+-- The value of a function has the base type `b`.
 abbrev pub Answers : Site → Callee → BaseType → Type 0
 Answers site c b = (t : Name) × (c.routine.result ≡ Some t) × (base_of_type (named_type site.env.globals t) ≡ b)

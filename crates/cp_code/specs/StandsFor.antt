@@ -31,7 +31,7 @@ abbrev pub system_of_unit : UnitText → System
 system_of_unit (RoutineOf s r) = s
 system_of_unit (BodyOf s) = s
 
--- The initial process, or one of the system types.
+-- The system type of the initial process, or one that the text defines.
 abbrev pub IsInText : Setup → System → Type 0
 IsInText setup s = (s ≡ setup.tree.initial) ⊎ ((i : ℕ) × (slice_get (text_systems setup) i ≡ Some s))
 
@@ -47,8 +47,9 @@ abbrev pub end_of : Sort → Operation
 end_of Process = End
 end_of _ = EndBody
 
--- Its code stands for the text, wherever the component lies and whoever owns the activation. The names of its variables are distinct, and
--- its parameters and variables are of types that those of a routine may have.
+-- The unit's code stands for the text, wherever the component lies and whoever owns the activation.
+-- The names of its variables are distinct, and its parameters and variables are of types that those
+-- of a routine may have.
 abbrev pub UnitStands : Program → List UnitText → GlobalScope → CodeUnit → UnitText → Type 0
 UnitStands program texts g u (RoutineOf s r) =
     Starts g r u × (activation_words g r ≤ u.words) × Distinct (local_variables g r ++ permanent_variables g s)
@@ -105,15 +106,16 @@ pub record MonitorStands (program : Program) (texts : List UnitText) (setup : Se
   pub lies : row.start + row.words ≤ program.shared
   pub body : slice_get texts row.body ≡ Some (BodyOf system)
 
--- So many words from one on, and so many from another.
+-- `n` words from `a` on and `m` words from `b` on have none in common.
 abbrev pub Apart : ℕ → ℕ → ℕ → ℕ → Type 0
 Apart a n b m = (a + n ≤ b) ⊎ (b + m ≤ a)
 
 -- ---- The whole
 
--- The text is well typed, and no value of a type that a name means is the mark of a result that isn't set. `texts` tells what each unit is
--- the code of. There are as many processes and monitors as in the text. The blocks of shared words are apart from one another, and the members of a component
--- are the same wherever its type is named.
+-- A program stands for a text. The text is well typed, and no value of a type that a name means is
+-- the mark of an unset result. `texts` says what each unit is the code of. There are as many
+-- processes and monitors as in the text. The blocks of shared words don't overlap, and the members
+-- of a component are the same wherever its type is named.
 pub record StandsFor (program : Program) (setup : Setup) : Type 0 where
   pub typed : WellTyped setup
   pub set_apart : (x : Name) (b : BaseType) (low high start n : ℤ) → named_type (globals setup.tree) x ≡ Simple b low high start

@@ -1,4 +1,5 @@
--- How words start: what a plan of fills and repeats does to them, and when it is that of a routine or of a component.
+-- How words start: what a plan of fills and repeats does to them, and when it is the plan of a
+-- routine or of a component.
 use Rattle.std.specs.Prelude.{◌≡◌, ◌≤◌, ◌<◌, ◌⊎◌, ℕ, zero, suc, ◌+◌, ◌-◌, ℤ, pos, negsuc, List, [], ◌∷◌, Some, length, slice_get, slice_set, slice_index_or}
 use Rattle.cp_model.specs.Abstract.{BaseType, Class, Name, Routine, System}
 use Rattle.cp_model.specs.Types.{ComponentOf, GlobalScope, Members, Queue, Simple}
@@ -14,7 +15,7 @@ use Rattle.cp_code.specs.Layout.{activation_words, component_words, head_words, 
 abbrev pub word : List ℤ → ℕ → ℤ
 word ws at = slice_index_or ws at (pos 0)
 
--- The result of a function that has set none.
+-- The mark of a function's result that hasn't been set.
 abbrev pub unset : ℤ
 unset = negsuc 2147483647
 
@@ -30,7 +31,7 @@ abbrev pub fill : ℕ → ℕ → ℤ → List ℤ → List ℤ
 fill at zero n ws = ws
 fill at (suc k) n ws = fill (suc at) k n (slice_set ws at n)
 
--- So many more blocks like the one of this size.
+-- The words after `k` more copies of the block of `size` words at `at`.
 abbrev pub repeated : ℕ → ℕ → ℕ → List ℤ → List ℤ
 repeated at size zero ws = ws
 repeated at size (suc k) ws = repeated (at + size) size k (paste (at + size) (block ws at size) ws)
@@ -39,15 +40,15 @@ abbrev pub started_by : ℕ → Start → List ℤ → List ℤ
 started_by base (Fill at count n) ws = fill (base + at) count n ws
 started_by base (Repeat at size count) ws = repeated (base + at) size (count - 1) ws
 
--- The words where a plan was carried out, counted from a base.
+-- The words after a plan has been carried out, counted from a base.
 abbrev pub started : ℕ → List Start → List ℤ → List ℤ
 started base [] ws = ws
 started base (s ∷ ss) ws = started base ss (started_by base s ws)
 
 -- ---- Activations
 
--- The plan gives each simple part of a variable its start value, marks the result as unset, and changes no parameter and nothing
--- outside.
+-- The plan gives each simple part of a variable its start value and marks the result as unset. It
+-- changes no parameter and nothing outside the activation.
 pub record Starts (g : GlobalScope) (r : Routine) (u : CodeUnit) : Type 0 where
   pub length_is : (base : ℕ) (ws : List ℤ) → length (started base u.starts ws) ≡ length ws
   pub variables : (base : ℕ) (ws : List ℤ) → base + activation_words g r ≤ length ws
@@ -67,8 +68,8 @@ pub record Starts (g : GlobalScope) (r : Routine) (u : CodeUnit) : Type 0 where
 abbrev pub AreZero : GlobalScope → System → ℕ → List ℤ → Type 0
 AreZero g s base ws = (i : ℕ) → i < component_words g s → word ws (base + i) ≡ pos 0
 
--- Where all words were 0, the plan gives each simple part of a member its start value; marks, rights and queues stay 0, and nothing
--- outside changes.
+-- If all words were 0, the plan gives each simple part of a member its start value. Marks, rights
+-- and queues stay 0, and nothing outside the component changes.
 pub record StartsComponent (g : GlobalScope) (s : System) (plan : List Start) : Type 0 where
   pub length_is : (base : ℕ) (ws : List ℤ) → length (started base plan ws) ≡ length ws
   pub cells : (base : ℕ) (ws : List ℤ) → base + component_words g s ≤ length ws → AreZero g s base ws

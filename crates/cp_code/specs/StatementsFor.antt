@@ -1,7 +1,7 @@
 -- When operations stand for statements.
 --
--- The code of a statement stands at a place and leads to the next. `low` is the first temp that it may use: the counters of the
--- enclosing `for`s lie below.
+-- The code of a statement is entered at a place and leads to `next`. `low` is the first temp that
+-- it may use: the counters of the enclosing `for` statements are below it.
 use Rattle.std.specs.Prelude.{◌≡◌, ◌≤◌, ℕ, ◌+◌, suc, ℤ, Bool, true, false, List, [], ◌∷◌, Option, Some, None, codes, length}
 use Rattle.std.specs.Str.{bytes_eq}
 use Rattle.cp_model.specs.Abstract as a
@@ -26,7 +26,8 @@ stands_at site place o = operation_at site.program place ≡ Some o
 
 -- ---- Assignments
 
--- The running routine is a function of this name and simple result type. No parameter or variable of it has its name.
+-- The running routine is a function with this name and a simple result type. No parameter or
+-- variable of it has its name.
 pub record NamesResult (env : Environment) (x : Name) (low high : ℤ) : Type 0 where
   pub frame : Frame
   pub runs : env.frame ≡ Some frame
@@ -67,7 +68,7 @@ abbrev pub is_function : Option Name → Bool
 is_function None = false
 is_function (Some t) = true
 
--- The standard procedure of one argument that a name means; `continue` is the last.
+-- The standard procedure of one argument that a name means. `continue` is the last one.
 pub data Standard : Type 0 where
   Displays Accepts Delays Continues : Standard
 
@@ -104,7 +105,7 @@ PerformsBy site K d es _ place last next low = ⊥
 
 -- ---- Init
 
--- The parameter is one of the component's own members, or a right.
+-- Each parameter is one of the component's own members, or a right.
 abbrev pub InitArgumentsFor : Site → Knowns → System → List (Name × Variable) → a.Expressions → List Argument → ℕ → ℕ → ℕ → ℕ → Type 0
 InitArgumentsFor site K s [] a.NoExpression [] place next low high = place ≡ next
 InitArgumentsFor site K s (p ∷ ps) (a.MoreExpressions e es) (Value to lower upper c ∷ xs) place next low high =
@@ -119,11 +120,12 @@ InitArgumentsFor site K s (p ∷ ps) (a.MoreExpressions (a.Use (a.Plain x)) es) 
     × InitArgumentsFor site K s ps es xs place next low high
 InitArgumentsFor site K s _ _ _ place next low high = ⊥
 
--- The arguments of an `init` lie behind the running activation first, as the component's own words will: behind its mark.
+-- At first the arguments of an `init` lie after the running activation, as the component's own
+-- words will: after its mark.
 abbrev pub HasRoom : Site → List Argument → Type 0
 HasRoom site xs = site.words + suc (length xs) ≤ site.unit.words
 
--- A class or a monitor has its body run.
+-- The body of a class or a monitor is run.
 pub record InitCalls (site : Site) (n : Component) (kept : ℕ) (call : Call) : Type 0 where
   pub own : n.is_parameter ≡ false
   pub target : TargetFor site.env (Some n) call.target

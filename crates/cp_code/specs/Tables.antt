@@ -10,7 +10,7 @@ abbrev pub arm_at : List Arm → ℤ → Option ℕ
 arm_at [] n = None
 arm_at (x ∷ xs) n = if same_integer x.label n then Some x.place else arm_at xs n
 
--- No place: no label matches.
+-- The place of a number, or none if no label matches.
 abbrev pub place_in : Table → ℤ → Option ℕ
 place_in (Dense low places) n = if int_le low n then slice_index_or places (distance low n) None else None
 place_in (Sparse arms) n = arm_at arms n

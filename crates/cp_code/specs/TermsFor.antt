@@ -1,9 +1,10 @@
 -- When terms, spots and passed arguments stand for expressions, designators and arguments.
 --
--- The user calls of an expression are operations in front of the statement's own, in the order in which they are made. `place` is
--- where the first call that is still to be made stands, and `next` where the last one leads. The values that are made lie in the temps
--- from `low` to `high`. `Known` stands for a call that has been made: its value is in a temp, and `K` is what temps are known to hold. In a
--- text nothing is known, and a value that is `Known` there is a number.
+-- The user calls of an expression are operations before the statement's own, in the order in which
+-- they are made. `place` is the place of the first call that is still to be made, and `next` is
+-- where the last one leads. The values of calls are in the temps from `low` up to `high`. `Known`
+-- stands for a call that has been made: its value is in a temp, and `K` says what the temps are
+-- known to hold. In a text nothing is known, and a value that is `Known` there is a number.
 use Rattle.std.specs.Prelude.{◌≡◌, ◌≤◌, ◌<◌, ℕ, ◌+◌, ℤ, pos, false, true, List, [], ◌∷◌, Some, None, Result, Ok, Err}
 use Rattle.cp_model.specs.Abstract as a
 use Rattle.cp_model.specs.Abstract.{BaseType, Boolean, Char, Integer, Name}
@@ -44,14 +45,14 @@ moved_root n (Local at) = Local (at + n)
 moved_root n (Member at) = Member (at + n)
 moved_root n (Through at plus) = Through at (plus + n)
 
--- So many words further on.
+-- The spot `n` words further on.
 abbrev pub moved : ℕ → Spot → Spot
 moved n (Rooted r) = Rooted (moved_root n r)
 moved n (Element s low high size plus e) = Element s low high size (plus + n) e
 
 -- ---- Structured values
 
--- Sound, and no queue lies in it.
+-- The type is sound, and holds no queue.
 abbrev pub IsPlain : ResolvedType → Type 0
 IsPlain t = SoundType t × (has_queues t ≡ false)
 
@@ -69,13 +70,13 @@ result_base a.Divide = Integer
 result_base a.Modulo = Integer
 result_base _ = Boolean
 
--- A simple value of this base type, or the same fault.
+-- The outcome is a simple value of this base type, or the same fault.
 abbrev pub Agrees : BaseType → Outcome TypedValue → Result ℤ machine.Fault → Type 0
 Agrees b (Gives v) (Ok n) = (base_of_value v ≡ b) × (v.values ≡ Ordinal n ∷ [])
 Agrees b (Fault k) (Err f) = k ≡ fault_number f
 Agrees b _ _ = ⊥
 
--- The function of the name, at values of the one base type, gives values of the other.
+-- The function with this name takes values of the base type `of` to values of the base type `to`.
 abbrev pub FunctionFor : Name → Function → BaseType → BaseType → Type 0
 FunctionFor x f of to = (v : TypedValue) → base_of_value v ≡ of → Agrees to (standard_function x v) (standard f (ordinal_of v))
 
@@ -133,7 +134,8 @@ abbrev mutual
       × SpotFor site K d of (ArrayOf lower upper t) place between low middle × TermFor site K e i b between next middle high
   SpotFor site K _ _ t place next low high = ⊥
 
-  -- The arguments of a call are passed to its parameters, of which the first lies at `at` in the new activation.
+  -- The arguments of a call are passed to its parameters, the first of which lies at `at` in the
+  -- new activation.
   pub ArgumentsFor : Site → Knowns → List (Name × Variable) → a.Expressions → List Argument → ℕ → ℕ → ℕ → ℕ → ℕ → Type 0
   ArgumentsFor site K [] a.NoExpression [] at place next low high = place ≡ next
   ArgumentsFor site K (p ∷ ps) (a.MoreExpressions e es) (Value to lower upper c ∷ xs) at place next low high =

@@ -1,4 +1,5 @@
-//! The numbers of the code's tree have 16 bits, so those that its definitions write behind a minus are within what the law wants.
+//! The numbers in the code's tree have 16 bits, so those after a minus in its definitions are
+//! within the bound that the law requires.
 
 ghost use Rattle.std.specs.Prelude.{[], ◌∷◌, map};
 ghost use Rattle.cp_model.specs.Erase as erase;
@@ -70,7 +71,8 @@ fn read_sections(sections: &[Section])
     }
 }
 
-/// Reads the numbers of a tree's definitions: whoever calls it knows that those behind a minus are within what the law wants.
+/// Reads the numbers of a tree's definitions, so that the caller knows that those after a minus are
+/// within the bound that the law requires.
 pub fn read_numbers(tree: &Tree)
     ensures { AreNegativesWithin 65535 (erase.abstract (view.tree tree.now)).definitions }
 {

@@ -1,4 +1,4 @@
--- The next action of a continuation stands in the reach of the continuation.
+-- The next action of a continuation is within the reach of the continuation.
 use Rattle.std.specs.Prelude.{Bool, List, None, Option, Some, [], ◌∷◌}
 use Rattle.cp_model.specs.Abstract.{Assign, At, Binary, Call, Case, Cycle, Designator, Expression, Expressions, For, If, Init, Known, Letter, Literal, MoreExpressions, Negative, NoExpression, Not, Nothing, Part, Perform, Plain, Positive, Repeat, Seq, Statement, Use, While}
 use Rattle.cp_model.specs.Locations.{Owner}

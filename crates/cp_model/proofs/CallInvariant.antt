@@ -40,7 +40,8 @@ abbrev CallWrites : (Owner → Bool) → Owner → Writes → Type 0
 CallWrites t o [] = Unit {0}
 CallWrites t o (x ∷ ws) = CallWrite t o x.0 x.1 × CallWrites t o ws
 
--- What refers, did before or is of the new activation and in the caller's reach.
+-- Each reference was there before, or belongs to the new activation and leads into the caller's
+-- reach.
 record NewReferences (t : Owner → Bool) (o : Owner) (st st' : Store) : Type 0 where
   pub references : (l j : Location) → st' l ≡ Reference j → (st l ≡ Reference j) ⊎ ((l.owner ≡ o) × (t j.owner ≡ true))
   pub classes : (l j : Location) → st' l ≡ ClassRight j → st l ≡ ClassRight j
@@ -121,7 +122,7 @@ bind_new t one at (q ∷ qs) (MoreExpressions e es) h =
     then_gives (CallWrites t at.owner) (CallWrites t at.owner) (bind one at qs es) _ (bind_new t one at qs es h)
     (λ vs j. append_new t at.owner ws vs i j))
 
--- The frames below a depth keep what they refer to.
+-- The invariant of the frames below a depth is kept.
 frames_below : (p n : ℕ) (t : Owner → Bool) (st st' : Store) (k : List Task) → NewReferences t (OfActivation p n) st st'
     → depth k ≤ n → FramesInvariant p st k → FramesInvariant p st' k
 frames_below p n t st st' [] r d h = tt

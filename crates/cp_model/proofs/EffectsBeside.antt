@@ -1,4 +1,4 @@
--- The effect of a step of q, beside a process p that is ready.
+-- The effect of a step of q in a state in which another process p is ready.
 use Rattle.std.specs.Prelude.{Bool, List, None, Some, [], false, if◌then◌else◌, nat_eq, refl, true, ℕ, ◌∷◌, ◌≡◌, ◌≢◌}
 use Rattle.std.proofs.Common.{ap, arith, sym, ◌∙◌}
 use Rattle.std.proofs.lemmas.Bool.{eqb-false, eqb-true}
@@ -29,7 +29,7 @@ result_status_own (Fault n) = (refl, refl)
 result_status_own (Gives x) = status_by_own x.1
 
 module _ (p : ℕ) (r : Configuration) (x : Status) (own : IsOwnStatus x) where
-  -- A status that is made ready, beside p's.
+  -- Making q ready commutes with installing p.
   ready_beside : (q : ℕ) (u : State) → u.status p ≡ Ready → make_ready q (install p r x u) ≡ install p r x (make_ready q u)
   ready_beside q u h = state_is _ _ refl refl refl refl
       (λ i k. at k (nat_eq q k) (nat_eq p k) (nat_eq p q) refl refl refl i) refl refl
@@ -107,7 +107,7 @@ module _ (p : ℕ) (r : Configuration) (x : Status) (own : IsOwnStatus x) where
   effect_beside q (Opens m) u d h = refl
   effect_beside q (Starts o k) u d h = start_beside o k (u.status o) u h refl
 
--- An effect leaves the store, and what belongs to a process that is ready.
+-- An effect leaves the store, and what belongs to a process that is ready, unchanged.
 pub record LeavesAlone (p : ℕ) (u v : State) : Type 0 where
   pub store : v.store ≡ u.store
   pub transcript : v.transcript ≡ u.transcript

@@ -1,4 +1,5 @@
--- What an expression reads lies within its reach: it has the same value wherever the store is the same there.
+-- What an expression reads is within its reach: it has the same value in every store that is the
+-- same there.
 use Rattle.std.specs.Prelude.{Bool, None, Option, Some, [], codes, false, if◌then◌else◌, pos, refl, true, ℕ, ℤ, ◌≡◌}
 use Rattle.std.proofs.Common.{ap, ◌∙◌}
 use Rattle.cp_model.specs.Abstract.{At, BaseType, Binary, Call, Designator, Expression, Expressions, Known, Letter, Literal, MoreExpressions, Name, Negative, NoExpression, Not, Part, Plain, Positive, Use}

@@ -1,4 +1,4 @@
--- Stores that are one store at some owners and another one elsewhere.
+-- Stores that agree with one store at some owners and with another store elsewhere.
 use Rattle.std.specs.Prelude.{Bool, false, if◌then◌else◌, nat_eq, refl, true, ◌&&◌, ◌≡◌}
 use Rattle.std.proofs.Common.{ap, arith, subst, ◌∙◌}
 use Rattle.std.proofs.lemmas.Bool.{eqb-true}
@@ -6,11 +6,11 @@ use Rattle.cp_model.specs.Locations.{Location, OfActivation, OfMonitor, OfProces
 use Rattle.cp_model.specs.Stores.{Absent, ClassRight, Initialised, MonitorRight, Ordinal, QueueHolds, Reference, Store, Value, forget, put}
 use Rattle.cp_model.specs.Components.{class_or_here}
 
--- The store a at the owners that pass, b elsewhere.
+-- The store a at the owners that pass the test, b elsewhere.
 abbrev pub mix : (Owner → Bool) → Store → Store → Store
 mix t a b l = if t l.owner then a l else b l
 
--- What is at a location that passes points to locations that pass.
+-- A reference at a location that passes the test points to a location that passes it.
 pub record IsClosed (t : Owner → Bool) (a : Store) : Type 0 where
   pub references : (l k : Location) → t l.owner ≡ true → a l ≡ Reference k → t k.owner ≡ true
   pub classes : (l k : Location) → t l.owner ≡ true → a l ≡ ClassRight k → t k.owner ≡ true
@@ -63,7 +63,7 @@ mix_same t a = λ i l. go l (t l.owner) i
     go l true = refl
     go l false = refl
 
--- A right to a class leads from what is in reach to what is.
+-- A right to a class leads from a location in reach to a location in reach.
 pub class_or_here_in : (t : Owner → Bool) (store : Store) → IsClosed t store → (l : Location) (v : Value) → t l.owner ≡ true → store l ≡ v
     → t (class_or_here l v).owner ≡ true
 class_or_here_in t store closed l (ClassRight k) h e = closed.classes l k h e

@@ -46,7 +46,7 @@ two_spaces = refl
 carriage_return : order_text 2 (codes "P1" ++ (13 ∷ 10 ∷ [])) ≡ NotALine 0
 carriage_return = refl
 
--- A process that isn't there, and a number of any length; the first of two bad lines.
+-- A process that doesn't exist, a number of any length, and the first of two bad lines.
 beyond : order_text 2 (10 ∷ (codes "P1 P3" ++ (10 ∷ codes "x"))) ≡ NotALine 1
 beyond = refl
 

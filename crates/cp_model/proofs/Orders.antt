@@ -1,6 +1,8 @@
--- Every lawful order of events gives what each process gives whole in turn, where steps of different processes commute.
+-- If steps of different processes commute, every lawful order of events leaves what one complete
+-- turn after the other leaves.
 --
--- This part knows nothing of the language: `one` is a step, `turn` a kernel turn, on any kind of state.
+-- This part knows nothing of the language: `one` is a step and `turn` a kernel turn, on any kind of
+-- state.
 use Rattle.std.specs.Prelude.{Bool, List, [], false, if◌then◌else◌, nat_eq, refl, suc, true, zero, ℕ, ◌∷◌, ◌≡◌, ◌≢◌}
 use Rattle.std.proofs.Common.{ap, arith, subst, sym, ◌∙◌}
 use Rattle.std.proofs.lemmas.Bool.{eq-eqb, eqb-false, eqb-true}
@@ -8,18 +10,18 @@ use Rattle.cp_model.specs.States.{is_in}
 use Rattle.cp_model.specs.Rounds.{Event, KernelTurn, PrivateStep}
 use Rattle.cp_model.specs.Orders.{ArePrivateStepsFirst, IsLawful, kernel_turn_order, private_steps}
 
--- No number stands twice.
+-- No number occurs twice.
 abbrev pub AreDistinct : List ℕ → Type 0
 AreDistinct [] = Unit {0}
 AreDistinct (p ∷ ps) = (is_in p ps ≡ false) × AreDistinct ps
 
--- The events but the private steps of p.
+-- The events except the private steps of p.
 abbrev without : ℕ → List Event → List Event
 without p [] = []
 without p (PrivateStep q ∷ es) = if nat_eq p q then without p es else PrivateStep q ∷ without p es
 without p (KernelTurn q ∷ es) = KernelTurn q ∷ without p es
 
--- The events but the first kernel turn.
+-- The events except the first kernel turn.
 abbrev past_turn : List Event → List Event
 past_turn [] = []
 past_turn (PrivateStep q ∷ es) = PrivateStep q ∷ past_turn es
@@ -61,7 +63,7 @@ module _ {S : Type 0} (one turn : S → ℕ → S) where
     many_past_turn (suc n) s p q d g =
         ap (λ x. many n x p) (sym (m.turns s p q d g)) ∙ many_past_turn n (one s p) p q d (m.good_one s p g)
 
-    -- Where none of p's steps is left.
+    -- If none of p's steps is left.
     none_left : (p : ℕ) (es : List Event) → private_steps p es ≡ 0 → without p es ≡ es
     none_left p [] h = refl
     none_left p (KernelTurn q ∷ es) h = ap (λ x. KernelTurn q ∷ x) (none_left p es h)
@@ -96,7 +98,7 @@ module _ {S : Type 0} (one turn : S → ℕ → S) where
         go false e ih =
             ih ∙ ap (λ x. after x (without p es)) (many_past_turn (private_steps p es) s p q (eqb-false p q e) g)
 
-    -- Then the first kernel turn may come, where none of its process's steps is left.
+    -- Then the first kernel turn may come, if none of its process's steps is left.
     then_turn : (p : ℕ) (ps : List ℕ) (es : List Event) (s : S) → Good s → private_steps p es ≡ 0 → kernel_turn_order es
         ≡ p ∷ ps
         → after s es ≡ after (turn s p) (past_turn es)

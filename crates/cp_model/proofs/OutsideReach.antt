@@ -1,4 +1,4 @@
--- What a step of one process leaves as it was of the reach of another.
+-- What a step of one process leaves unchanged of the reach of another.
 use Rattle.std.specs.Prelude.{Bool, List, None, Option, Some, [], false, fold, if◌then◌else◌, nat_eq, not, refl, suc, true, zero, ℕ, ◌%◌, ◌∷◌, ◌≡◌, ◌≢◌}
 use Rattle.std.proofs.Common.{ap, arith, subst, sym, ◌∙◌}
 use Rattle.std.proofs.lemmas.Bool.{eq-eqb, eqb-false, eqb-true}
@@ -72,7 +72,8 @@ tasks_more p v (i ∷ k) h g = (
       g.1,
 )
 
--- All but what no reach of another process holds.
+-- The owners that pass `v` are closed if they include, with each activation, all that its process
+-- can reach.
 pub closed_but : (s : State) → Invariant s → (v : Owner → Bool)
     → ((r d : ℕ) (ms : List ℕ) (o : Owner) → v (OfActivation r d) ≡ true → in_reach r ms o ≡ true → v o ≡ true)
     → IsClosed v s.store

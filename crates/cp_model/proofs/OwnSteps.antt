@@ -1,4 +1,4 @@
--- A private step reads and writes the own part of its process alone, so two private steps commute.
+-- A private step reads and writes only the own part of its process, so two private steps commute.
 use Rattle.std.specs.Prelude.{Bool, List, [], false, if◌then◌else◌, nat_eq, refl, suc, true, ℕ, ◌||◌, ◌∷◌, ◌≡◌, ◌≢◌}
 use Rattle.std.proofs.Common.{ap, arith, sym, ◌∙◌}
 use Rattle.std.proofs.lemmas.Bool.{eq-eqb}
@@ -30,7 +30,7 @@ install p r x s = record s {
   status = with_at p x s.status;
 }
 
--- What a quiet step makes of the process.
+-- What a quiet step does to the process.
 abbrev pub result : Configuration → StepResult → Configuration
 result r (Fault n) = r
 result r (Gives x) = x.0
@@ -82,12 +82,12 @@ kind_private (Faulted n) k h = absurd (Prim.grind arith)
 -- ---- What every machine keeps
 
 pub record MayCommute (s : State) : Type 0 where
-  -- What a private process names is its own.
+  -- What a private process names belongs to it.
   pub own : (p : ℕ) → kind s p ≡ Private → IsClosed (is_own p) s.store × ContinuationIn (is_own p) (s.continuation p)
-  -- What a process of the kernel names is no other process's.
+  -- What a kernel process names belongs to no other process.
   pub others : (p q : ℕ) → p ≢ q → kind s q ≡ Kernel → IsClosed (is_foreign p) s.store × ContinuationIn (is_foreign p)
       (s.continuation q)
-  -- Who asks or is delayed is in a monitor.
+  -- A process that is asking or delayed is in a monitor.
   pub blocked : (p : ℕ) → IsBlocked (s.status p) → is_in_monitor (s.continuation p) ≡ true
 
 module _ (setup : Setup) where
@@ -100,7 +100,7 @@ module _ (setup : Setup) where
   abbrev pub status_after : State → ℕ → Status
   status_after s p = result_status (outcome s p)
 
-  -- s' is s in p's part.
+  -- s' is s in the part of p.
   pub record IsSameFor (p : ℕ) (s s' : State) : Type 0 where
     pub store : s'.store ≡ mix (is_own p) s.store s'.store
     pub continuation : s'.continuation p ≡ s.continuation p
@@ -140,7 +140,7 @@ module _ (setup : Setup) where
   quiet_here p s k = let h = kind_private (s.status p) (s.continuation p) k in private_is_quiet (context setup s p)
       (configuration s p) h.1 h.2
 
-  -- A private step, wherever p's part is the same.
+  -- A private step does the same wherever p's part is the same.
   pub private_step_is : (p : ℕ) (s s' : State) → MayCommute s → kind s p ≡ Private → IsSameFor p s s'
       → private_step setup s' p ≡ install p (with_mixed_store (is_own p) s'.store (own_configuration s p))
       (status_after s p) s'

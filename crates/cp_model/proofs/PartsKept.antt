@@ -1,4 +1,5 @@
--- What a private step, a kernel turn and a waking leave as it was: the private states of other processes, and the kernel's part.
+-- What a private step, a kernel turn and a waking leave unchanged: the private states of other
+-- processes, and the kernel's part.
 use Rattle.std.specs.Prelude.{Bool, List, None, Some, [], false, if◌then◌else◌, nat_eq, not, refl, suc, true, zero, ℕ, ◌%◌, ◌∷◌, ◌≡◌, ◌≢◌}
 use Rattle.std.proofs.Common.{ap, arith, subst, sym, ◌∙◌}
 use Rattle.std.proofs.lemmas.Bool.{eqb-true}
@@ -193,7 +194,7 @@ module _ (setup : Setup) where
       go Kernel h = after_step_own p q s (outcome_of s q) d
           (λ a. kernel_writes_beside p q s (λ e. d (sym e)) (may_commute s i) h (begun_is_started (s.status p) a))
 
-  -- A kernel turn leaves every other process's private state as it was.
+  -- A kernel turn leaves every other process's private state unchanged.
   pub kernel_turn_other_parts : (t : ℕ) (p q : ℕ) (s : State) → q ≢ p → Invariant s
       → SamePrivateState p s (kernel_turn setup t s q)
   kernel_turn_other_parts zero p q s d i = private_state_refl p s

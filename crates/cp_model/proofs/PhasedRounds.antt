@@ -1,4 +1,4 @@
--- The phased round leaves what one processor leaves.
+-- The phased round leaves what the round of one processor leaves.
 use Rattle.std.specs.Prelude.{Bool, List, [], false, if◌then◌else◌, nat_eq, refl, suc, true, zero, ℕ, ◌||◌, ◌∷◌, ◌≡◌, ◌≢◌, ◌≤◌}
 use Rattle.std.proofs.Common.{ap, arith, subst, sym, ◌∙◌}
 use Rattle.std.proofs.lemmas.Bool.{eqb-false, eqb-true}
@@ -62,7 +62,7 @@ module _ (setup : Setup) where
       (with_at_twice p (a.consumed p) (b.consumed p) s.consumed) (with_at_twice p (a.status p) (b.status p) s.status) refl
       refl
 
-  -- A private step is the same wherever p's part is the same, and changes that part alone.
+  -- A private step is the same wherever p's part is the same, and changes only that part.
   step_merges : (p : ℕ) (s s' : State) → Invariant s → IsSameFor setup p s s' → private_step setup s' p
       ≡ merge p (private_step setup s p) s'
   unfolding merge
@@ -251,7 +251,7 @@ module _ (setup : Setup) where
       line l = at l (nat_eq (owner_process l.owner) p) refl
           ∙ ap (λ b. if b then s.store l else (if is_in (owner_process l.owner) done then (private_turn setup t s (owner_process l.owner)).store l else s.store l)) (sym (is_own-owner_process p l.owner z))
 
-  -- The processes of the list, in front of those done.
+  -- The processes of the list, before those that are done.
   put_before : List ℕ → List ℕ → List ℕ
   put_before [] done = done
   put_before (p ∷ ps) done = put_before ps (p ∷ done)

@@ -1,4 +1,5 @@
--- What a private step leaves as it was: the private states of other processes, and the kernel's part.
+-- What a private step leaves unchanged: the private states of other processes, and the kernel's
+-- part.
 use Rattle.std.specs.Prelude.{Bool, List, None, Some, [], false, if◌then◌else◌, nat_eq, not, refl, suc, true, zero, ℕ, ◌%◌, ◌∷◌, ◌≡◌, ◌≢◌}
 use Rattle.std.proofs.Common.{ap, arith, subst, sym, ◌∙◌}
 use Rattle.std.proofs.lemmas.Bool.{eqb-true}

@@ -1,4 +1,5 @@
--- Where the next step of p is private, the kernel turn of another process leaves the whole own part of p as it was.
+-- If the next step of p is private, the kernel turn of another process leaves the whole own part of
+-- p unchanged.
 use Rattle.std.specs.Prelude.{Bool, if◌then◌else◌, refl, suc, true, zero, ℕ, ◌≡◌, ◌≢◌}
 use Rattle.std.proofs.Common.{ap, sym, ◌∙◌}
 use Rattle.cp_model.specs.Locations.{Location}

@@ -1,4 +1,4 @@
--- A private step leaves nothing to the gates.
+-- A private step has no effect on gates.
 use Rattle.std.specs.Prelude.{Bool, List, None, Option, Some, [], codes, false, if◌then◌else◌, not, true, ℕ, ℤ, ◌∷◌, ◌≡◌}
 use Rattle.std.proofs.Common.{arith}
 use Rattle.cp_model.specs.Abstract.{Assign, Case, Char, Class, Cycle, Designator, Expression, Expressions, For, If, Init, Integer, Literal, Monitor, MoreExpressions, Name, NoExpression, Nothing, Perform, Plain, Process, Repeat, Seq, Sort, Statement, While}
@@ -168,7 +168,7 @@ module _ (w : Context) (config : Configuration) where
   run_task_quiet (EndBody (Some m)) k g h = absurd (Prim.grind arith)
   run_task_quiet EndProcess k g h = tt
 
--- The list behind the next action.
+-- The list after the next action.
 abbrev GatesIn : Action → Type 0
 GatesIn Rests = Unit {0}
 GatesIn (Calls u k) = Unit {0}

@@ -1,4 +1,4 @@
--- An answer and a return keep the invariant.
+-- A result that replaces its call, and a return, keep the invariant.
 use Rattle.std.specs.Prelude.{Bool, List, None, Option, Some, [], codes, false, if◌then◌else◌, nat_eq, refl, suc, true, ℕ, ℤ, ◌++◌, ◌∷◌, ◌≡◌, ◌≤◌}
 use Rattle.std.proofs.Common.{ap, arith, subst, sym, ◌∙◌}
 use Rattle.std.proofs.lemmas.Bool.{eq-eqb, eqb-false, eqb-true}
@@ -31,7 +31,7 @@ use Rattle.cp_model.specs.Invariant.{ContinuationInvariant, EnvironmentIn, Frame
 use Rattle.cp_model.proofs.ExpressionReach.{IfGives, anything, then_gives}
 use Rattle.cp_model.proofs.StoreInvariants.{AllKeepStore, continuation_keeps_store, forget_no_new_reference, forget_store, forgotten, frames_keep_store, push_continuation, push_keeps, put_all_no_new_reference, put_all_store, writes_keep_store}
 
--- What a started process has left.
+-- What a started process has left to do.
 pub record StartedContinuation (r : ℕ) (k : List Task) : Type 0 where
   pub tasks : TasksInReach r k
   pub deep : depth k ≡ 0

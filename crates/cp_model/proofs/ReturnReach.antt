@@ -1,4 +1,4 @@
--- A return commutes with a change of the store that is out of its reach.
+-- A return commutes with a change of the store outside its reach.
 use Rattle.std.specs.Prelude.{Bool, List, None, Option, Some, [], codes, false, if◌then◌else◌, not, refl, true, ℕ, ℤ, ◌∷◌, ◌≡◌}
 use Rattle.std.proofs.Common.{ap, ◌∙◌}
 use Rattle.cp_model.specs.Abstract.{Assign, Case, Char, Class, Cycle, Designator, Expression, Expressions, For, If, Init, Integer, Monitor, MoreExpressions, Name, NoExpression, Nothing, Perform, Plain, Process, Repeat, Seq, Sort, Statement, While}

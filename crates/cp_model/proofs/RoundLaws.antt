@@ -1,4 +1,5 @@
--- Lawful and phased rounds from each state with the invariant, and so from each that is reached.
+-- Lawful and phased rounds from each state with the invariant, and so from each state that rounds
+-- reach.
 use Rattle.std.specs.Prelude.{List, ℕ}
 use Rattle.cp_model.specs.States.{Setup}
 use Rattle.cp_model.specs.Rounds.{Event}

@@ -1,4 +1,4 @@
--- Private turns that are shared out in any way make a lawful order with the kernel turns after them.
+-- Private turns that are shared out in any way, followed by the kernel turns, make a lawful order.
 use Rattle.std.specs.Prelude.{AllPairs, Bool, Contains, List, [], false, flat_map, if◌then◌else◌, length, map, nat_eq, refl, replicate, suc, true, zero, ℕ, ◌++◌, ◌+◌, ◌<◌, ◌∷◌, ◌≡◌, ◌≢◌}
 use Rattle.std.proofs.Common.{ap, arith, sym, ◌∙◌}
 use Rattle.std.proofs.lemmas.Bool.{eq-eqb, eqb-true}
@@ -58,7 +58,7 @@ private_steps-replicate p q t = go t (nat_eq p q) refl
     go (suc n) true e = rw e (ap suc (go n true e))
     go (suc n) false e = rw e (go n false e)
 
--- Of processes that are drawn once each.
+-- For processes that are drawn once each.
 private_steps-steps_of : (p t : ℕ) (drawn : List ℕ) → AllPairs (λ a b. a ≢ b) drawn
     → private_steps p (steps_of t drawn) ≡ (if is_in p drawn then t else 0)
 private_steps-steps_of p t [] distinct = refl

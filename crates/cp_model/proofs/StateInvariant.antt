@@ -31,7 +31,7 @@ use Rattle.cp_model.proofs.OutsideReach.{close_round_keeps, closed_but, tasks_mo
 
 -- ---- A step keeps it
 
--- All but q's activations.
+-- All owners except q's activations.
 not_of : ℕ → Owner → Bool
 not_of q (OfActivation r d) = not (nat_eq q r)
 not_of q _ = true
@@ -130,7 +130,7 @@ module _ (setup : Setup) where
   pass_to_keeps m [] u i = set_gate_keeps m Free [] u i
   pass_to_keeps m (r ∷ qs) u i = make_ready_keeps r (set_gate m (HeldBy r) qs u) (set_gate_keeps m (HeldBy r) qs u i)
 
-  -- A status that wants a gate is only for who holds one.
+  -- A process may become blocked only if it has the end mark of a monitor.
   set_status_keeps : (p : ℕ) (x : Status) (u : State) → (IsBlocked x → is_in_monitor (u.continuation p) ≡ true) → x ≢ Unstarted
       → Invariant u → Invariant (set_status p x u)
   set_status_keeps p x u g n i = invariant_of (set_status p x u) i.store i.continuations

@@ -16,7 +16,7 @@ differ p q d = go (nat_eq p q) refl
     go true e = absurd (d (eqb-true p q e))
     go false e = refl
 
--- No owner is of two processes.
+-- No owner belongs to two processes.
 pub own_apart : (p q : ℕ) (o : Owner) → p ≢ q → is_own p o ≡ true → is_own q o ≡ false
 own_apart p q (OfProcess r) d h = differ q r (λ e. d (eqb-true p r h ∙ sym e))
 own_apart p q (OfActivation r k) d h = differ q r (λ e. d (eqb-true p r h ∙ sym e))

@@ -65,7 +65,7 @@ module _ (setup : Setup) where
           clash g = Prim.grind arith
       go false f = refl
 
-  -- q's outcome in s, and where p's private step has been.
+  -- q's outcome in s, and in a state in which p has made its private step.
   kernel_outcome : (p q : ℕ) (s : State) (r : Configuration) (x : Status) → p ≢ q → MayCommute s → kind s q ≡ Kernel
       → s.status p ≡ Ready → is_started x ≡ true
       → outcome setup (install p (with_mixed_store (is_own p) s.store r) x s) q
@@ -77,7 +77,7 @@ module _ (setup : Setup) where
       (λ k. is_started (with_at p x s.status k)) (λ m. is_set (s.gates m).holder) (configuration s q) o.0 (λ n. foreign_activation p q n d) o.1
       (λ a. record { monitors = λ m. refl; processes = foreign_process p s h; same_started = is_started_same p s x h e; same_set = refl })
 
-  -- Its own run where p's step was not.
+  -- A kernel step of q leaves what p owns as it was.
   pub kernel_writes : (p q : ℕ) (s : State) → p ≢ q → MayCommute s → kind s q ≡ Kernel → s.status p ≡ Ready
       → outcome setup s q ≡ result_mixed (is_foreign p) s.store (outcome setup s q)
   kernel_writes p q s d g k h =
@@ -87,7 +87,7 @@ module _ (setup : Setup) where
       (λ m. is_set (s.gates m).holder) (configuration s q) o.0 (λ n. foreign_activation p q n d) o.1
       (λ a. record { monitors = λ m. refl; processes = foreign_process p s h; same_started = refl; same_set = refl })
 
-  -- Where the kernel's outcome is known, the two steps change places.
+  -- If the outcome of the kernel step is known, the two steps commute.
   kernel_past : (p q : ℕ) (s : State) (r : Configuration) (x : Status) (o : StepResult) → p ≢ q → s.status p ≡ Ready
       → IsOwnStatus x
       → after_step (install p (with_mixed_store (is_own p) s.store r) x s) q

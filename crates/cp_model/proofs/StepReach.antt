@@ -41,7 +41,8 @@ module _ (t : Owner → Bool) (b : Store) (w : Context) (f g : ℕ → Bool) (co
   abbrev other_context : Context
   other_context = record w { is_started = f; is_set = g }
 
-  -- What a kernel step needs beside: where its inits write is in reach, and nothing else was started or set.
+  -- What else a kernel step needs: its inits write within reach, and nothing else was started or
+  -- set.
   pub record KernelIn : Type 0 where
     pub monitors : (m : ℕ) → t (OfMonitor m) ≡ true
     pub processes : (r : ℕ) → w.is_started r ≡ false → t (OfProcess r) ≡ true
@@ -389,7 +390,7 @@ module _ (t : Owner → Bool) (b : Store) (w : Context) (f g : ℕ → Bool) (co
   action_same (Calls u l) h k = call_same u l h k
   action_same (Acts i l) h k = run_task_same i l h.0 h.1 k
 
--- A step commutes with a change of what is out of its reach.
+-- A step commutes with a change outside its reach.
 pub step_same : (t : Owner → Bool) (b : Store) (w : Context) (f g : ℕ → Bool) (config : Configuration)
     (closed : IsClosed t config.store) (activations_pass : (d : ℕ) → t (OfActivation w.process d) ≡ true)
     → ContinuationIn t config.continuation

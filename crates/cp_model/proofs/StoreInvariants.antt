@@ -1,4 +1,5 @@
--- What writes, start values and forgotten activations keep of the invariant of a store and of a continuation.
+-- How writes, start values and forgotten activations preserve the invariant of a store and of a
+-- continuation.
 use Rattle.std.specs.Prelude.{Bool, List, None, Some, [], false, flat_map, if◌then◌else◌, map, nat_eq, nat_lt, refl, true, zip, ℕ, ℤ, ◌&&◌, ◌++◌, ◌<◌, ◌∷◌, ◌≡◌, ◌≢◌}
 use Rattle.std.proofs.Common.{ap, arith, subst, sym, ◌∙◌}
 use Rattle.std.proofs.lemmas.Bool.{eq-eqb, eqb-false, eqb-true}
@@ -22,7 +23,7 @@ use Rattle.cp_model.specs.Laws.{ReferencesAreInReach}
 use Rattle.cp_model.proofs.MixedStores.{IsClosed, same_owner-eq}
 use Rattle.cp_model.proofs.ExpressionReach.{IfGives}
 
--- What holds of a list holds of it behind statements of an environment.
+-- What holds of a list also holds when statements of an environment are put before it.
 pub push_keeps : (Q : List Task → Type 0) (env : Environment)
     → ((s : Statement) (k : List Task) → Q k → Q (Do s env ∷ k))
     → ((now e : Expression) (s : Statement) (k : List Task) → Q k → Q (WhileTest now e s env ∷ k))
@@ -40,7 +41,7 @@ push_keeps Q env a b c (For v down e f s) k h = a (For v down e f s) k h
 push_keeps Q env a b c (Cycle s) k h = a (Cycle s) k h
 push_keeps Q env a b c (Init x arguments) k h = a (Init x arguments) k h
 
--- A list with more tasks and no more marks.
+-- A list with more tasks but no more end marks.
 record Behind (p : ℕ) (st : Store) (ms : List ℕ) (n : ℕ) (k : List Task) : Type 0 where
   pub gates : marked_monitors k ≡ ms
   pub deep : depth k ≡ n
@@ -85,7 +86,7 @@ continuation_keeps_store p st st' k n o = record {
   beyond = λ l j d h e f. o.beyond l j d h e (n l j f);
 }
 
--- A write of what is no reference, and of a right to a class of the same owner.
+-- A write of something that isn't a reference, or of a right to a class of the same owner.
 abbrev pub KeepsStore : Location → Value → Type 0
 KeepsStore l (Reference j) = ⊥
 KeepsStore l (ClassRight j) = j.owner ≡ l.owner
@@ -219,7 +220,7 @@ frame_refers p st (EndBody gate ∷ k) l j d f h o e = in_reach_tail p (EndBody 
     (frame_refers p st k l j d f h o e)
 frame_refers p st (EndProcess ∷ k) l j d f h o e = frame_refers p st k l j d f h o e
 
--- What a process names in its reach stays in it.
+-- What a process names in its reach stays in its reach.
 pub is_closed : (p : ℕ) (st : Store) (k : List Task) → StoreInvariant st → ContinuationInvariant p st k
     → IsClosed (in_reach p (marked_monitors k)) st
 is_closed p st k s o = record { references = λ l j h e. go l j l.owner refl h e (s.references l j e); classes = λ l j h e. rw (s.classes l j e) h }
@@ -260,7 +261,7 @@ writes_keep_store at Queue v = zip_keeps_store at (leaves Queue) v.values
 writes_keep_store at (ComponentOf s i) v = zip_keeps_store at (leaves (ComponentOf s i)) v.values
 writes_keep_store at NoType v = tt
 
--- The start values of variables refer to nothing.
+-- The start values of variables hold no references.
 abbrev pub IsPlain : Value → Type 0
 IsPlain (Reference j) = ⊥
 IsPlain (ClassRight j) = ⊥

@@ -1,4 +1,4 @@
--- What arguments and start values write lies within reach.
+-- What arguments and start values write is within reach.
 use Rattle.std.specs.Prelude.{Bool, List, [], false, map, refl, true, zip, ◌++◌, ◌∷◌, ◌≡◌}
 use Rattle.std.proofs.Common.{ap, ◌∙◌}
 use Rattle.cp_model.specs.Abstract.{Expression, Expressions, MoreExpressions, Name, NoExpression}

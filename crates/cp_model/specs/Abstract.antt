@@ -1,7 +1,7 @@
--- The abstract syntax of a text: its tree without places, by names.
+-- The abstract syntax of a text: its tree, by names and without places.
 --
--- The meaning speaks of this tree alone. `Erase` makes it of the tree that the parser gives, so that no step of a program
--- can depend on where something is written.
+-- The meaning refers to this tree alone. `Erase` makes it from the tree that the parser returns, so
+-- no step of a program can depend on where something is written.
 use Rattle.std.specs.Prelude.{Bool, List, Option, ℕ, ℤ}
 
 -- A name is the list of its bytes, in lower case.
@@ -10,14 +10,14 @@ Name = List ℕ
 
 -- ---- Constants and types
 
--- A constant where it is written: a number, a number behind `-`, a character by its code, or a name.
+-- A constant as it is written: a number, a number after `-`, a character by its code, or a name.
 pub data Constant : Type 0 where
   Number : (n : ℕ) → Constant
   Minus : (n : ℕ) → Constant
   Character : (code : ℕ) → Constant
   Named : (name : Name) → Constant
 
--- A type where it is written. `array [a, b] of t` is `Array a (Array b t)`.
+-- A type as it is written. `array [a, b] of t` is `Array a (Array b t)`.
 mutual
   pub data TypeExpression : Type 0 where
     TypeName : (name : Name) → TypeExpression
@@ -31,7 +31,7 @@ mutual
 
 -- ---- Expressions
 
--- The base types. An enumeration has a name and the number of its last value.
+-- The base types. An enumeration has a name and the ordinal of its last value.
 pub data BaseType : Type 0 where
   Integer Char Boolean : BaseType
   Enumeration : (name : Name) (last : ℕ) → BaseType
@@ -39,8 +39,9 @@ pub data BaseType : Type 0 where
 pub data Operator : Type 0 where
   Add Subtract Multiply Divide Modulo And Or Equal Unequal Less Greater AtMost AtLeast : Operator
 
--- `Use` is a designator without arguments: a constant, a variable or a call. `Known` is the value of a call that has been
--- made. No text has it: it takes the place of the call while the statement waits to be executed.
+-- `Use` is a designator without arguments: a constant, a variable or a call. `Known` is the value
+-- of a call that has been made. No text contains it: it takes the place of the call while the
+-- statement waits to be executed.
 mutual
   pub data Expression : Type 0 where
     Literal : (n : ℕ) → Expression
@@ -64,8 +65,8 @@ mutual
 
 -- ---- Statements
 
--- A list of statements is `Seq` and `Nothing`. `Perform` is a procedure statement. `Init` is one item of an `init`: a text's
--- `init a, b` is a `Seq` of two.
+-- A list of statements is built from `Seq` and `Nothing`. `Perform` is a procedure statement.
+-- `Init` is one item of an `init`: `init a, b` in a text is a `Seq` of two.
 mutual
   pub data Statement : Type 0 where
     Nothing : Statement
@@ -92,7 +93,7 @@ pub record Group : Type 0 where
   pub names : List Name
   pub type : TypeExpression
 
--- A procedure, or a function where it has a result type.
+-- A procedure, or a function if it has a result type.
 pub record Routine : Type 0 where
   pub name : Name
   pub entry : Bool
@@ -101,7 +102,7 @@ pub record Routine : Type 0 where
   pub variables : List Group
   pub body : Statement
 
--- What the components of a system type are.
+-- The kind of component that a system type declares.
 pub data Sort : Type 0 where
   Process Monitor Class : Sort
 

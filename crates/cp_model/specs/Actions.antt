@@ -6,7 +6,8 @@ use Rattle.cp_model.specs.Continuations.{Do, Task}
 use Rattle.cp_model.specs.Components.{component_named, same_sort}
 use Rattle.cp_model.specs.Calls.{UserCall, call_in_task, is_monitor_call, procedure_call}
 
--- Nothing is left; or a call is made, with what is left behind it; or the first task itself is done.
+-- `Rests` means that nothing is left to do. `Calls` makes a call, and the tasks `k` are left after
+-- it. `Acts` executes the first task itself.
 pub data Action : Type 0 where
   Rests : Action
   Calls : (u : UserCall) (k : List Task) → Action
@@ -23,7 +24,8 @@ action (i ∷ k) =
 abbrev pub is_init_of_class : Environment → Name → Bool
 is_init_of_class env x = elim (component_named env x) [ None ↦ true | Some c ↦ same_sort Class c.system.sort ]
 
--- Calls of a monitor and `init` of a monitor or a process belong to the kernel, by the type of the component alone.
+-- Calls of a monitor, and `init` of a monitor or a process, belong to the kernel. This depends on
+-- the type of the component alone.
 abbrev pub is_kernel_action : Action → Bool
 is_kernel_action Rests = false
 is_kernel_action (Calls u k) = is_monitor_call u.callee

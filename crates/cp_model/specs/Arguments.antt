@@ -1,4 +1,4 @@
--- Arguments: of a call and of an `init`, one after another, each tested before the next one is evaluated.
+-- The arguments of a call or of an `init`: in order, each checked before the next one is evaluated.
 use Rattle.std.specs.Prelude.{List, None, Option, Some, [], if◌then◌else◌, ◌++◌, ◌∷◌}
 use Rattle.cp_model.specs.Abstract.{Class, Designator, Expression, Expressions, Monitor, MoreExpressions, Name, Plain, Sort, Use}
 use Rattle.cp_model.specs.Types.{ComponentOf, ResolvedType}
@@ -22,7 +22,8 @@ designator_of _ = Plain []
 abbrev pub reference_writes : Location → Outcome Place → Outcome Writes
 reference_writes at o = and_then o (λ p. Gives ((at, Reference p.at) ∷ []))
 
--- A `var` parameter gets the location of the argument's variable, another one its value.
+-- A `var` parameter gets the location of the argument's variable, any other parameter gets its
+-- value.
 abbrev pub argument_writes : Clock → Environment → Store → Location → Variable → Expression → Outcome Writes
 argument_writes clock env store at v e =
     if v.by_reference

@@ -1,7 +1,8 @@
 -- Calls and returns.
 --
--- A call tests that the component was initialised (else fault 6), evaluates the arguments and makes a new activation. At its
--- end a function's result takes the place of the call in what is left; a function that set none is fault 9.
+-- A call checks that the component is initialised (otherwise fault 6), evaluates the arguments and
+-- makes a new activation. At the end of a function its result replaces the call in the remaining
+-- tasks. A function that returns without a result is fault 9.
 use Rattle.std.specs.Prelude.{Bool, List, None, Option, Some, [], false, if◌then◌else◌, true, ℕ, ◌∷◌}
 use Rattle.cp_model.specs.Abstract.{Class, Expression, Known, Monitor, Name, Process, Sort, System}
 use Rattle.cp_model.specs.Types.{base_of_type, named_type}
@@ -23,7 +24,8 @@ abbrev pub is_initialised : Value → Bool
 is_initialised (Initialised b) = b
 is_initialised _ = false
 
--- The component and its system type, whether it may be called, and the monitor that is entered.
+-- Where a call goes: the component and its system type, whether it may be called, and the monitor
+-- that is entered, if any.
 pub record Target : Type 0 where
   pub component : Location
   pub system : System
@@ -60,7 +62,8 @@ activation_environment u t o =
       frame = Some (record { owner = o; routine = u.callee.routine });
     }
 
--- The parameters are written, the variables start, and the body is left in front of the end mark.
+-- Writes the parameters, gives the variables their start values, and leaves the body before its end
+-- mark.
 abbrev pub called_configuration
     : Configuration → UserCall → List Task → Target → Owner → Writes → Configuration × Effect
 called_configuration config u k t o ws =
@@ -91,7 +94,7 @@ abbrev pub leaving : Option ℕ → Effect
 leaving None = Own
 leaving (Some m) = Leaves m
 
--- A value in the place of the first call of what is left.
+-- The remaining tasks, with a value in place of their first call.
 abbrev pub with_answer : Expression → List Task → List Task
 with_answer v [] = []
 with_answer v (i ∷ k) = elim (call_in_task v i) [ None ↦ i ∷ k | Some f ↦ f.1 ∷ k ]
@@ -105,7 +108,7 @@ return_value config env o k t _ = Fault 9
 abbrev pub result_location : Frame → Location
 result_location f = under (root f.owner) (ByName f.routine.name ∷ [])
 
--- The routine of an environment returns to k.
+-- The routine of an environment returns to the continuation `k`.
 abbrev pub returns : Configuration → Environment → List Task → Outcome Configuration
 returns config env k = elim env.frame [
   | None ↦ Gives config
@@ -115,7 +118,7 @@ returns config env k = elim env.frame [
   ]
 ]
 
--- The innermost end mark of a routine: its environment, its gate, and what is left behind it.
+-- The innermost end mark of a routine: its environment, its gate, and the tasks after it.
 abbrev pub innermost_call : List Task → Option (Environment × Option ℕ × List Task)
 innermost_call [] = None
 innermost_call (EndCall env gate ∷ k) = Some (env, gate, k)

@@ -1,7 +1,8 @@
 -- User calls: which routine a designator names, and the first call of a task.
 --
--- The user calls in the expressions of a statement are made first, leftmost and innermost first, each by steps of its own. The
--- value of a call then takes its place in the statement. A test makes its calls anew each time.
+-- The user calls in the expressions of a statement are made first, leftmost and innermost first,
+-- each by steps of its own. The value of a call then takes its place in the statement. A test makes
+-- its calls again each time.
 use Rattle.std.specs.Prelude.{Bool, None, Option, Some, false, find, true, ◌++◌, is_some}
 use Rattle.cp_model.specs.Abstract.{Assign, At, Binary, Call, Case, Designator, Expression, Expressions, For, If, Init, Monitor, MoreExpressions, Name, Negative, NoExpression, Not, Part, Perform, Plain, Positive, Routine, Statement, System, Use}
 use Rattle.cp_model.specs.Names.{lookup}
@@ -14,7 +15,8 @@ use Rattle.cp_model.specs.Components.{Component, component_named, same_sort}
 
 -- ---- Routines
 
--- The routine that is called: one of the running component, or an entry of a component named before the point.
+-- The routine that is called: a routine of the running component, or an entry of a component that
+-- is named before the `.`.
 pub record Callee : Type 0 where
   pub routine : Routine
   pub of : Option Component
@@ -22,7 +24,8 @@ pub record Callee : Type 0 where
 abbrev pub routine_named : Name → System → Option Routine
 routine_named x s = find (λ r. bytes_eq x r.name) s.routines
 
--- A parameter or variable of a routine may have the name of a routine that is declared behind it: then no call is meant.
+-- A parameter or variable of a routine may have the name of a routine that is declared later. Such
+-- a name isn't a call.
 abbrev pub is_local : GlobalScope → Option Frame → Name → Bool
 is_local g None x = false
 is_local g (Some f) x = is_some (lookup x (declarations g f.routine.parameters ++ declarations g f.routine.variables))
@@ -54,7 +57,7 @@ pub record UserCall : Type 0 where
   pub arguments : Expressions
   pub environment : Environment
 
--- A call, and what it stands in with a value in its place.
+-- A call, and what contains it, with a value in place of the call.
 abbrev pub Found : Type 0 → Type 0
 Found A = Option (UserCall × A)
 
@@ -114,7 +117,8 @@ call_in_task v (WhileTest now e s env) = in_context (λ y. WhileTest y e s env) 
 call_in_task v (RepeatTest now s e env) = in_context (λ y. RepeatTest y s e env) (first_call env v now)
 call_in_task v _ = None
 
--- A procedure statement of a user's procedure, once its arguments hold no call.
+-- The call that a procedure statement makes of a user's procedure, once its arguments contain no
+-- call.
 abbrev pub procedure_call : Task → Option UserCall
 procedure_call (Do (Perform d arguments) env) =
     elim (callee env d) [

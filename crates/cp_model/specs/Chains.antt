@@ -1,6 +1,8 @@
--- Chains of askers: p, then, while the last one is asking, the holder of that gate.
+-- Chains of askers: a process p and then, as long as the last process is asking, the holder of the
+-- gate that it asks for.
 --
--- Nothing bounds a chain here. That it ends, and soon, is a property of accepted texts and not of the definition.
+-- Nothing bounds a chain here. That a chain ends, and soon, is a property of accepted texts and not
+-- of the definition.
 use Rattle.std.specs.Prelude.{List, None, Option, Some, [], option_map, suc, zero, ℕ, ◌≡◌, ◌∷◌}
 use Rattle.cp_model.specs.Configurations.{Asking, Status}
 use Rattle.cp_model.specs.States.{HeldBy, Holder, State}
@@ -9,18 +11,18 @@ abbrev pub holding_process : Holder → Option ℕ
 holding_process (HeldBy p) = Some p
 holding_process _ = None
 
--- Whom an asking process waits for.
+-- The process that an asking process waits for.
 abbrev pub holder_asked : State → Status → Option ℕ
 holder_asked s (Asking m) = holding_process (s.gates m).holder
 holder_asked s _ = None
 
--- These processes are the chain from p.
+-- A list of processes is the asking chain from p.
 abbrev pub IsAskingChain : State → ℕ → List ℕ → Type 0
 IsAskingChain s p [] = ⊥
 IsAskingChain s p (q ∷ []) = (q ≡ p) × (holder_asked s (s.status p) ≡ None)
 IsAskingChain s p (q ∷ r ∷ rs) = (q ≡ p) × (holder_asked s (s.status p) ≡ Some r) × IsAskingChain s r (r ∷ rs)
 
--- The chain from p, where it ends within n more processes.
+-- The chain from p, if it ends within n more processes.
 abbrev pub chain_from : ℕ → State → ℕ → Option ℕ → Option (List ℕ)
 chain_from n s p None = Some (p ∷ [])
 chain_from zero s p (Some q) = None

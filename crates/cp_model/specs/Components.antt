@@ -38,7 +38,7 @@ component_named env x =
 
 -- ---- Where it lies
 
--- The location of its name: of its variable, or of the parameter that holds a right to it.
+-- The location of a component's name: its variable, or the parameter that holds a right to it.
 abbrev pub name_location : Environment → Component → Location
 name_location env n = under env.component (ByName n.name ∷ [])
 
@@ -46,7 +46,7 @@ abbrev pub class_or_here : Location → Value → Location
 class_or_here l (ClassRight k) = k
 class_or_here l _ = l
 
--- A class lies at its variable, or where the right points.
+-- A class lies at its variable, or where the right to it points.
 abbrev pub class_location : Environment → Store → Component → Location
 class_location env store n =
     let at = name_location env n in

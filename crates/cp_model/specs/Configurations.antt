@@ -1,4 +1,4 @@
--- What one step of a process works on, what it reads beside, and what it leaves to the kernel.
+-- What one step of a process works on, what else it reads, and what it leaves to the kernel.
 use Rattle.std.specs.Prelude.{Bool, List, Option, [], drop, false, true, ℕ, ◌∷◌}
 use Rattle.cp_model.specs.Abstract.{Designator, Expression}
 use Rattle.cp_model.specs.Locations.{Location}
@@ -10,16 +10,16 @@ use Rattle.cp_model.specs.Operators.{Clock}
 use Rattle.cp_model.specs.Expressions.{place, value}
 use Rattle.cp_model.specs.Continuations.{Task, marked_monitors}
 
--- Unstarted; fresh, which is started in the running round; ready; asking for a monitor's gate; delayed in a queue of a
--- monitor; ended; waiting for the clock; stopped by a fault.
+-- A process is unstarted, fresh (started in the running round), ready, ended, waiting for the
+-- clock, asking for the gate of a monitor, delayed in a queue of a monitor, or stopped by a fault.
 pub data Status : Type 0 where
   Unstarted Fresh Ready Ended Waiting : Status
   Asking : (m : ℕ) → Status
   Delayed : (m : ℕ) (queue : Location) → Status
   Faulted : (number : ℕ) → Status
 
--- The gates that a process holds, the innermost first: those that its end marks name, but not the innermost one while it is
--- asking for that or delayed there.
+-- The gates that a process holds, innermost first: those that its end marks name, except the
+-- innermost one while the process is asking for it or is delayed there.
 abbrev pub held_gates : Status → List Task → List ℕ
 held_gates (Asking m) k = drop 1 (marked_monitors k)
 held_gates (Delayed m q) k = drop 1 (marked_monitors k)
@@ -28,14 +28,16 @@ held_gates _ k = marked_monitors k
 abbrev pub holds_gate : Status → List Task → Bool
 holds_gate x k = elim (held_gates x k) [ [] ↦ false | m ∷ ms ↦ true ]
 
--- The store of the system, and of the process: what is left to do, the transcript, and how much input was taken.
+-- The store of the system and, for one process, what it has left to do, its transcript, and how
+-- much input it has taken.
 pub record Configuration : Type 0 where
   pub store : Store
   pub continuation : List Task
   pub transcript : List ℕ
   pub consumed : ℕ
 
--- The clock, the number of the process and its input; which processes were started, and which monitors were initialised.
+-- What else a step reads: the clock, the number of the process and its input, which processes are
+-- started, and which monitors are initialised.
 pub record Context : Type 0 where
   pub clock : Clock
   pub process : ℕ
@@ -43,9 +45,10 @@ pub record Context : Type 0 where
   pub is_started : ℕ → Bool
   pub is_set : ℕ → Bool
 
--- What a step leaves to the kernel. `Own` is nothing; `Ends` and `Waits` concern the process alone. The others: it enters or
--- leaves a monitor, is delayed there, continues (with the process that stood in the queue, if any), opens a monitor's body as
--- its holder, or starts a process, which then has that left to do.
+-- What a step leaves to the kernel. `Own` leaves nothing. `Ends` and `Waits` concern only the
+-- process itself. With the others the process enters or leaves a monitor, is delayed in a monitor's
+-- queue, continues (with the process that stood in the queue, if any), opens a monitor's body as
+-- the holder of its gate, or starts process `r`, which then has `continuation` left to do.
 pub data Effect : Type 0 where
   Own Ends Waits : Effect
   Enters : (m : ℕ) → Effect

@@ -1,15 +1,17 @@
 -- Continuations: what a process has left to do, as a list of tasks.
 --
--- A statement is unfolded, free of cost, when it is put in front of a continuation: compound statements give way to their
--- statements, empty ones vanish, `repeat` gives way to its statements and its test. So each task costs a step.
+-- Putting a statement before a continuation unfolds it at no cost: a compound statement becomes its
+-- statements, an empty one vanishes, and a `repeat` becomes its statements and its test. So each
+-- task costs a step.
 use Rattle.std.specs.Prelude.{Bool, List, Option, Some, [], false, suc, true, ℕ, ℤ, ◌∷◌}
 use Rattle.cp_model.specs.Abstract.{Expression, Name, Nothing, Repeat, Seq, Statement, While}
 use Rattle.cp_model.specs.Environments.{Environment}
 
--- What is left can be a statement in its environment; the test of a `while` or `repeat`, of which some calls may have been
--- made (`now`) beside the whole test; the next test of a `for`, with the counter, which is kept apart from the variable; and
--- the end marks: of a routine, of the body of a class or monitor, of the body of a process. An end mark of a monitor's entry
--- or body names that monitor, whose gate is held till then.
+-- A task is a statement in its environment, a test, or an end mark. The test of a `while` or
+-- `repeat` keeps the whole test beside `now`, in which some calls may already have been made. The
+-- next test of a `for` has its counter, which is kept apart from the variable. There are end marks
+-- of a routine, of the body of a class or monitor, and of the body of a process. An end mark of a
+-- monitor's entry or body names that monitor, whose gate is held until then.
 pub data Task : Type 0 where
   Do : (s : Statement) (env : Environment) → Task
   WhileTest : (now e : Expression) (s : Statement) (env : Environment) → Task
@@ -19,7 +21,7 @@ pub data Task : Type 0 where
   EndBody : (gate : Option ℕ) → Task
   EndProcess : Task
 
--- A statement in front of a continuation.
+-- Puts a statement before a continuation.
 abbrev pub push : Statement → Environment → List Task → List Task
 push Nothing env k = k
 push (Seq a b) env k = push a env (push b env k)
@@ -27,7 +29,7 @@ push (While e s) env k = WhileTest e e s env ∷ k
 push (Repeat s e) env k = push s env (RepeatTest e s e env ∷ k)
 push s env k = Do s env ∷ k
 
--- The monitors that end marks name, the innermost first.
+-- The monitors that end marks name, innermost first.
 abbrev pub marked_monitors : List Task → List ℕ
 marked_monitors [] = []
 marked_monitors (EndCall env (Some m) ∷ k) = m ∷ marked_monitors k
@@ -38,7 +40,7 @@ marked_monitors (_ ∷ k) = marked_monitors k
 abbrev pub is_in_monitor : List Task → Bool
 is_in_monitor k = elim (marked_monitors k) [ [] ↦ false | m ∷ ms ↦ true ]
 
--- How many activations there are. The body of a component is none.
+-- The number of activations. The body of a component isn't one.
 abbrev pub depth : List Task → ℕ
 depth [] = 0
 depth (EndCall env gate ∷ k) = suc (depth k)

@@ -1,7 +1,8 @@
 -- Decimal digits, as `display` and the report write them.
 use Rattle.std.specs.Prelude.{List, [], if◌then◌else◌, nat_lt, negsuc, pos, suc, zero, ℕ, ℤ, ◌%◌, ◌+◌, ◌/◌, ◌∷◌}
 
--- The decimal digits of a number in front of a text, at most as many as the first argument says.
+-- The decimal digits of a number, followed by a text. The first argument limits how many digits
+-- there are.
 abbrev pub digits : ℕ → ℕ → List ℕ → List ℕ
 digits zero n text = text
 digits (suc k) n text = if nat_lt n 10 then (48 + n) ∷ text else digits k (n / 10) ((48 + n % 10) ∷ text)

@@ -1,6 +1,7 @@
 -- Declarations: the variables that groups of names declare, and the definitions of a text in order.
 --
--- A definition speaks only of what is defined before it, so the outermost scope is made by one pass in text order.
+-- A definition refers only to earlier definitions, so one pass in text order makes the outermost
+-- scope.
 use Rattle.std.specs.Prelude.{Bool, List, None, Option, Some, [], false, filter, length, not, pos, suc, true, ℕ, ℤ, ◌++◌, ◌-◌, ◌∷◌}
 use Rattle.cp_model.specs.Abstract.{BaseType, ConstantDef, Definition, EnumDef, Enumeration, Group, Name, System, SystemDef, Tree, TypeDef}
 use Rattle.cp_model.specs.Types.{ComponentOf, GlobalScope, Members, MoreMembers, NoMembers, ResolvedType, constant_value, full_range, resolved_type, standard_scope}
@@ -29,7 +30,8 @@ abbrev pub members_from : List (Name × Variable) → Members → Members
 members_from [] rest = rest
 members_from (v ∷ vs) rest = MoreMembers v.0 v.1.type (members_from vs rest)
 
--- The members of a component that are its own: all parameters but rights to components, then all variables.
+-- The members of a component that are its own: all parameters except rights to components, then all
+-- variables.
 abbrev pub reported_members : GlobalScope → System → Members
 reported_members g s =
     members_from (filter (λ v. not (is_component v.1.type)) (declarations g s.parameters))
@@ -37,7 +39,7 @@ reported_members g s =
 
 -- ---- Definitions
 
--- The values of an enumeration, from the number k on.
+-- The values of an enumeration, numbered from k.
 abbrev pub enumeration_constants : BaseType → ℕ → List Name → List (Name × (BaseType × ℤ))
 enumeration_constants b k [] = []
 enumeration_constants b k (x ∷ xs) = (x, (b, pos k)) ∷ enumeration_constants b (suc k) xs
@@ -46,7 +48,7 @@ abbrev pub with_constant : Name → Option (BaseType × ℤ) → GlobalScope →
 with_constant x (Some c) g = record g { constants = (x, c) ∷ g.constants }
 with_constant x None g = g
 
--- The outermost scope behind one more definition.
+-- The outermost scope after one more definition.
 abbrev pub define : GlobalScope → Definition → GlobalScope
 define g (ConstantDef x c) = with_constant x (constant_value g c) g
 define g (TypeDef x t) = record g { types = (x, resolved_type g t) ∷ g.types }

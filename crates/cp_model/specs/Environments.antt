@@ -1,8 +1,10 @@
 -- Environments: what each name means at a place of the text.
 --
--- A statement stands in a component of some system type and perhaps in an activation of a routine of it. A name means the
--- parameter, variable or result of that routine; else the parameter or variable of the component; else a constant. Names of
--- the outermost scope that are defined behind a system type may be names of its own, and the inner meaning is found first.
+-- A statement belongs to a component of some system type, and perhaps to an activation of one of
+-- its routines. A name means a parameter, a variable or the result of that routine, otherwise a
+-- parameter or variable of the component, otherwise a constant. A name that the outermost scope
+-- defines after a system type may also be declared within that type, and the inner meaning is found
+-- first.
 use Rattle.std.specs.Prelude.{List, None, Option, Some, [], false, ℤ, ◌++◌, ◌∷◌}
 use Rattle.cp_model.specs.Abstract.{BaseType, Name, Routine, System}
 use Rattle.cp_model.specs.Names.{lookup}
@@ -23,7 +25,7 @@ pub record Environment : Type 0 where
 
 -- ---- The variables of a routine and of a component
 
--- A function has a variable of its own name, for its result.
+-- A function has a variable with its own name, for its result.
 abbrev pub result_variable : GlobalScope → Name → Option Name → List (Name × Variable)
 result_variable g x None = []
 result_variable g x (Some t) = (x, record { by_reference = false; type = named_type g t }) ∷ []

@@ -1,5 +1,6 @@
--- The abstract syntax of a syntax tree: what is left of it when places and parentheses are left out.
--- Statement lists become `Seq` and `Nothing`, `init a, b` two statements, `v[i, j]` becomes `v[i][j]`, `array [a, b] of t` an array of arrays.
+-- The abstract syntax of a syntax tree: what is left when places and parentheses are removed.
+-- Statement lists become `Seq` and `Nothing`, `init a, b` becomes two statements, `v[i, j]` becomes
+-- `v[i][j]`, and `array [a, b] of t` becomes an array of arrays.
 use Rattle.std.specs.Prelude.{ℕ, Bool, true, false, List, [], ◌∷◌, ◌++◌, Option, None, Some, map, is_some}
 use Rattle.cp_model.specs.Syntax as s
 use Rattle.cp_model.specs.Abstract as a
@@ -27,7 +28,7 @@ constant (written.Negative at n) = a.Minus n
 constant (written.Character at n) = a.Character n
 constant (written.Named x) = a.Named x.name
 
--- an array of arrays, one for each index type
+-- an array of arrays, one level for each index type
 abbrev pub arrays : List a.TypeExpression → a.TypeExpression → a.TypeExpression
 arrays [] element = element
 arrays (i ∷ is) element = a.Array i (arrays is element)
@@ -68,7 +69,7 @@ abbrev pub signed : Sign → a.Expression → a.Expression
 signed sign.Plus e = a.Positive e
 signed sign.Minus e = a.Negative e
 
--- a call without arguments, which no text has, is a name alone
+-- a call without arguments, which no text contains, becomes a bare name
 abbrev pub called : a.Designator → a.Expressions → a.Expression
 called d a.NoExpression = a.Use d
 called d es = a.Call d es

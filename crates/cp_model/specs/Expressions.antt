@@ -1,6 +1,7 @@
--- Expressions: the value of an expression in which no user call is left, and the place of a designator.
+-- Expressions: the value of an expression in which no user call is left, and the place of a
+-- designator.
 --
--- They are evaluated left to right, operands before their operator, indices where they stand.
+-- Evaluation goes from left to right, operands before their operator, and indices where they stand.
 use Rattle.std.specs.Prelude.{[], codes, if◌then◌else◌, neg_ℤ, pos}
 use Rattle.cp_model.specs.Abstract.{At, Binary, Call, Char, Designator, Expression, Expressions, Integer, Known, Letter, Literal, MoreExpressions, Name, Negative, NoExpression, Not, Part, Plain, Positive, Use}
 use Rattle.std.specs.Str.{bytes_eq}
@@ -17,7 +18,7 @@ value_of_name clock env store x =
     then integer_result (pos (realtime clock))
     else Gives (value_of_meaning env store (meaning env x))
 
--- The name of a designator that is a name alone, as of a standard routine or of a component.
+-- The name of a designator that is a bare name, such as that of a standard routine or a component.
 abbrev pub name_of : Designator → Name
 name_of (Plain x) = x
 name_of _ = []

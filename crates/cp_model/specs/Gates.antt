@@ -1,7 +1,8 @@
 -- The gates of monitors, and the effect of a step on them.
 --
--- To pass a gate on: the first asker leaves the list, holds the gate and is ready; with no asker the gate is free. An asker's
--- activation was made when it asked, so being given the gate costs no step.
+-- When a gate is passed on, the first asker leaves the list, holds the gate and is ready. If there
+-- is no asker, the gate becomes free. An asker's activation was made when it asked, so being given
+-- the gate costs no step.
 use Rattle.std.specs.Prelude.{List, None, Option, Some, [], ℕ, ◌++◌, ◌∷◌}
 use Rattle.cp_model.specs.Continuations.{Task}
 use Rattle.cp_model.specs.Configurations.{Asking, Continues, Delayed, Delays, Effect, Ended, Ends, Enters, Fresh, Leaves, Opens, Own, Ready, Starts, Status, Unstarted, Waiting, Waits}
@@ -10,7 +11,7 @@ use Rattle.cp_model.specs.States.{Free, HeldBy, Holder, State, set_status, with_
 abbrev pub set_gate : ℕ → Holder → List ℕ → State → State
 set_gate m h askers s = record s { gates = with_at m (record { holder = h; askers = askers }) s.gates }
 
--- Who asks or is delayed is made ready; nobody else changes.
+-- A process that is asking or delayed becomes ready. Any other status stays.
 abbrev pub made_ready : Status → Status
 made_ready (Asking m) = Ready
 made_ready (Delayed m q) = Ready
@@ -26,17 +27,19 @@ pass_to m (r ∷ rs) s = make_ready r (set_gate m (HeldBy r) rs s)
 abbrev pub pass_on : ℕ → State → State
 pass_on m s = pass_to m (s.gates m).askers s
 
--- A taken gate is asked for, behind those who asked before.
+-- If the gate is held, the process asks for it and becomes the last asker. Otherwise it holds the
+-- gate.
 abbrev pub enter : ℕ → ℕ → Holder → State → State
 enter p m (HeldBy q) s = set_status p (Asking m) (set_gate m (HeldBy q) ((s.gates m).askers ++ p ∷ []) s)
 enter p m h s = set_gate m (HeldBy p) (s.gates m).askers s
 
--- A process that stood in the queue holds the gate, ahead of all askers. With none the gate is passed on.
+-- A process that stood in the queue holds the gate, ahead of all askers. If there was none, the
+-- gate is passed on.
 abbrev pub resume : ℕ → Option ℕ → State → State
 resume m None s = pass_on m s
 resume m (Some r) s = make_ready r (set_gate m (HeldBy r) (s.gates m).askers s)
 
--- An unstarted process is fresh, with that left to do.
+-- An unstarted process becomes fresh, with the continuation `k`. Any other process stays as it is.
 abbrev pub start_process : ℕ → List Task → Status → State → State
 start_process r k Unstarted s = set_status r Fresh (record s { continuation = with_at r k s.continuation })
 start_process r k _ s = s

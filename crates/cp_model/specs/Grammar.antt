@@ -1,4 +1,4 @@
--- The grammar of declarations and of a whole text, and what it says of lists of tokens.
+-- The grammar of declarations and of a whole text, and what it says about lists of tokens.
 --   text    = { consts | types } [ vars ] { routine } body "."
 --   consts  = "const" NAME "=" constant ";" { NAME "=" constant ";" }
 --   types   = "type" typedef ";" { typedef ";" }
@@ -11,7 +11,7 @@
 --   routine = ( "procedure" [ "entry" ] NAME [ params ]
 --             | "function" [ "entry" ] NAME [ params ] ":" NAME ) ";" [ vars ] body ";"
 --   body    = "begin" list "end"
--- No level is open between declarations, so each has the whole limit.
+-- No level is open between declarations, so each declaration has the whole limit.
 use Rattle.std.specs.Prelude.{◌≡◌, ℕ, List, [], ◌∷◌, ◌++◌, Option, Some, None}
 use Rattle.cp_model.specs.Languages.{Language, empty, never, symbol, symbol_at, identifier, ◌⋅◌, opens, optional, each, separated}
 use Rattle.cp_model.specs.GrammarExpressions.{constant}
@@ -43,7 +43,7 @@ abbrev pub parameters : List s.Parameters → Language
 parameters [] = empty
 parameters (p ∷ ps) = symbol symbol.OpenParenthesis ⋅ separated symbol.Semicolon parameter_group (p ∷ ps) ⋅ symbol symbol.CloseParenthesis
 
--- a function tells the type of its result
+-- a routine with a result type is a function
 abbrev pub routine_word : Option Identifier → Language
 routine_word None = symbol symbol.Procedure
 routine_word (Some t) = symbol symbol.Function
@@ -78,7 +78,7 @@ constant_definition d = identifier d.name ⋅ symbol symbol.Equal ⋅ constant d
 abbrev pub type_definition : ℕ → s.TypeDefinition → Language
 type_definition limit d = identifier d.name ⋅ symbol symbol.Equal ⋅ defined limit d.defined ⋅ symbol symbol.Semicolon
 
--- one definition or more behind the word
+-- at least one definition after the word
 abbrev pub definitions : {A : Type 0} → Symbol → (A → Language) → List A → Language
 definitions word f [] = never
 definitions word f (d ∷ ds) = symbol word ⋅ each f (d ∷ ds)
@@ -99,7 +99,7 @@ nesting_limit = 200
 abbrev pub Reads : List Token → s.Tree → Type 0
 Reads tokens t = text nesting_limit t tokens []
 
--- some text begins with these tokens, however deep it is nested
+-- some text begins with these tokens, however deep its nesting
 abbrev pub Begins : List Token → Type 0
 Begins tokens = (limit : ℕ) × (more : List Token) × (t : s.Tree) × text limit t (tokens ++ more) []
 

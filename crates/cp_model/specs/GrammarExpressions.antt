@@ -1,4 +1,4 @@
--- The grammar of constants and expressions. The number says how many levels may still be opened.
+-- The grammar of constants and expressions. The number says how many more levels may be opened.
 --   constant = [ "-" ] NUMBER | CHAR | NAME
 --   desig    = NAME { "." NAME | "[" expr { "," expr } "]" }
 --   args     = "(" expr { "," expr } ")"
@@ -6,7 +6,8 @@
 --   simple   = [ "+" | "-" ] term { ( "+" | "-" | "or" ) term }
 --   term     = factor { ( "*" | "div" | "mod" | "&" ) factor }
 --   factor   = NUMBER | CHAR | desig [ args ] | "(" expr ")" | "not" factor
--- A tree of expressions is one type, and what may stand on the left and the right of an operator is a condition.
+-- All expressions are one type of tree, and conditions say what may stand to the left and to the
+-- right of an operator.
 use Rattle.std.specs.Prelude.{◌≡◌, ℕ, Bool, true, false}
 use Rattle.cp_model.specs.Languages.{Language, empty, never, token, anywhere, symbol, symbol_at, identifier, ◌⋅◌, ◌▸◌, opens}
 use Rattle.cp_model.specs.Syntax as s
@@ -62,7 +63,7 @@ is_term (s.Signed sign at e) = false
 is_term (s.Binary a o at b) = is_product o
 is_term _ = true
 
--- a sum, or what binds more tightly
+-- a sum, or an expression that binds more tightly
 abbrev pub is_simple : s.Expression → Bool
 is_simple (s.Binary a operator.Equal at b) = false
 is_simple (s.Binary a operator.Unequal at b) = false
@@ -72,7 +73,7 @@ is_simple (s.Binary a operator.AtMost at b) = false
 is_simple (s.Binary a operator.AtLeast at b) = false
 is_simple _ = true
 
--- the left operand of a product is a term, and else a sum
+-- the left operand of a product is a term, that of any other operator a sum
 abbrev pub IsLeft : Operator → s.Expression → Type 0
 IsLeft operator.Multiply e = is_term e ≡ true
 IsLeft operator.Divide e = is_term e ≡ true
@@ -143,7 +144,7 @@ abbrev mutual
   selector room (s.Field at name) = symbol_at symbol.Dot at ⋅ identifier name
   selector room (s.Indexed is) = opens room (λ r. indices r is ⋅ symbol symbol.CloseBracket)
 
-  -- the `[` and one index or more, with commas between
+  -- the `[`, then at least one index, with commas between
   pub indices : ℕ → s.Indices → Language
   indices room s.NoIndices = never
   indices room (s.MoreIndices at e is) = symbol_at symbol.OpenBracket at ⋅ expression room e ⋅ more_indices room is
@@ -152,7 +153,7 @@ abbrev mutual
   more_indices room s.NoIndices = empty
   more_indices room (s.MoreIndices at e is) = symbol_at symbol.Comma at ⋅ expression room e ⋅ more_indices room is
 
--- arguments, or none
+-- arguments in parentheses, or nothing
 abbrev pub arguments : ℕ → s.Expressions → Language
 arguments room s.NoExpressions = empty
 arguments room (s.MoreExpressions e es) =

@@ -1,4 +1,4 @@
--- The grammar of statements. The number says how many levels may still be opened.
+-- The grammar of statements. The number says how many more levels may be opened.
 --   list = stat { ";" stat }
 --   stat = nothing
 --        | desig ":=" expr | desig [ args ] | "begin" list "end"
@@ -21,7 +21,7 @@ use Rattle.cp_model.specs.declared.tree.Constant.{Constant}
 use Rattle.cp_model.specs.declared.tree.Direction.{Direction}
 use Rattle.cp_model.specs.declared.tree.Direction.TheVariants as direction
 
--- an `else` behind the statement would belong to an `if` inside it
+-- whether an `else` after the statement would belong to an `if` inside it
 abbrev pub ends_open : s.Statement → Bool
 ends_open (s.If c x) = true
 ends_open (s.IfElse c x y) = ends_open y

@@ -1,4 +1,4 @@
--- The grammar of written types. The number says how many levels may still be opened.
+-- The grammar of written types. The number says how many more levels may be opened.
 --   type   = NAME | constant ".." constant
 --          | "array" "[" type { "," type } "]" "of" type
 --          | "record" fields { ";" fields } "end"

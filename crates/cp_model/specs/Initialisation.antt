@@ -1,7 +1,8 @@
 -- `init` of one component.
 --
--- A component that was initialised before is fault 7. Then come the arguments, then its body. A class or a monitor runs its body
--- as part of the caller; a process is started, with its body left to do.
+-- A component that is already initialised is fault 7. Otherwise the arguments are evaluated, and
+-- the body is left to do. A class or a monitor runs its body as part of the caller. A process is
+-- started, with its body left to do.
 use Rattle.std.specs.Prelude.{List, None, Some, [], if◌then◌else◌, true, ◌∷◌}
 use Rattle.cp_model.specs.Abstract.{Class, Expressions, Monitor, Process, Sort, System}
 use Rattle.cp_model.specs.Declarations.{declarations}

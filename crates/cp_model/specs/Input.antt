@@ -1,7 +1,7 @@
 -- The inputs of the processes: the input is cut at each byte 28, and part k is the input of process k.
 use Rattle.std.specs.Prelude.{List, [], if◌then◌else◌, nat_eq, suc, zero, ℕ, ◌∷◌}
 
--- Part k, from 1. A missing part is empty.
+-- Part k, counted from 1. A missing part is empty.
 abbrev pub cut : List ℕ → ℕ → List ℕ
 cut [] k = []
 cut (b ∷ bs) zero = []

@@ -1,8 +1,10 @@
--- The invariant of states: what each step, waking and closing of a round keeps, whatever the text and the order of events.
+-- The invariant of states, which each step, waking and closing of a round keeps, whatever the text
+-- and the order of events.
 --
--- That each `var` parameter of a process refers into its reach follows from it, and is not kept by itself: when an entry of a
--- monitor returns, its end mark goes, and one has to know that no activation below referred to that monitor. So the invariant
--- says it of each activation with the reach that its caller has.
+-- That each `var` parameter of a process refers into its reach follows from the invariant, but
+-- isn't preserved by itself: when an entry of a monitor returns, its end mark disappears, and one
+-- has to know that no older activation referred to that monitor. So the invariant says it of each
+-- activation, with the reach that its caller has.
 use Rattle.std.specs.Prelude.{Bool, List, None, Option, Some, [], true, ℕ, ◌∷◌, ◌≡◌, ◌≢◌, ◌≤◌}
 use Rattle.cp_model.specs.Locations.{Location, OfActivation, Owner}
 use Rattle.cp_model.specs.Stores.{ClassRight, Reference, Store}
@@ -18,19 +20,20 @@ abbrev pub IsActivation : Owner → Type 0
 IsActivation (OfActivation p d) = Unit {0}
 IsActivation _ = ⊥
 
--- Only variables of activations refer to others, and a right to a class names a class of the same owner.
+-- Only variables of activations hold references, and a right to a class names a class of the same
+-- owner.
 pub record StoreInvariant (store : Store) : Type 0 where
   pub references : (l j : Location) → store l ≡ Reference j → IsActivation l.owner
   pub classes : (l j : Location) → store l ≡ ClassRight j → j.owner ≡ l.owner
 
 -- ---- What is left to do
 
--- The owner of an activation passes the test `t`.
+-- The owner of the activation, if there is one, passes the test `t`.
 abbrev pub FrameIn : (Owner → Bool) → Option Frame → Type 0
 FrameIn t None = Unit {0}
 FrameIn t (Some f) = t f.owner ≡ true
 
--- The component and the activation where a statement stands belong to owners that pass the test.
+-- The component and the activation of an environment belong to owners that pass the test `t`.
 pub record EnvironmentIn (t : Owner → Bool) (env : Environment) : Type 0 where
   pub component : t env.component.owner ≡ true
   pub frame : FrameIn t env.frame
@@ -44,7 +47,7 @@ TaskIn t (EndCall env gate) = EnvironmentIn t env
 TaskIn t (EndBody gate) = Unit {0}
 TaskIn t EndProcess = Unit {0}
 
--- Each task stands in the reach that the process has with it and what is left behind it.
+-- Each task is within the reach that the process has with this task and those after it.
 abbrev pub TasksInReach : ℕ → List Task → Type 0
 TasksInReach p [] = Unit {0}
 TasksInReach p (i ∷ k) = TaskIn (in_reach p (marked_monitors (i ∷ k))) i × TasksInReach p k
@@ -55,7 +58,8 @@ abbrev pub IsFrameOf : Option Frame → Owner → Type 0
 IsFrameOf None o = ⊥
 IsFrameOf (Some f) o = f.owner ≡ o
 
--- An end mark of a routine is of the activation of its depth, whose parameters refer into the caller's reach.
+-- The end mark of a routine belongs to the activation at its depth, whose parameters refer into the
+-- caller's reach.
 pub record FrameInvariant (p : ℕ) (store : Store) (env : Environment) (k : List Task) : Type 0 where
   pub frame : IsFrameOf env.frame (OfActivation p (depth k))
   pub references : (l j : Location) → l.owner ≡ OfActivation p (depth k) → store l ≡ Reference j
@@ -66,7 +70,7 @@ FramesInvariant p store [] = Unit {0}
 FramesInvariant p store (EndCall env gate ∷ k) = FrameInvariant p store env k × FramesInvariant p store k
 FramesInvariant p store (_ ∷ k) = FramesInvariant p store k
 
--- Nothing refers from activations at a depth or beyond.
+-- Activations at depth n or beyond hold no references.
 abbrev pub NoneBeyond : ℕ → Store → ℕ → Type 0
 NoneBeyond p store n = (l j : Location) (d : ℕ) → n ≤ d → l.owner ≡ OfActivation p d → store l ≢ Reference j
 
@@ -77,14 +81,14 @@ pub record ContinuationInvariant (p : ℕ) (store : Store) (k : List Task) : Typ
 
 -- ---- States
 
--- A process that asks or is delayed.
+-- A process that is asking or delayed.
 abbrev pub IsBlocked : Status → Type 0
 IsBlocked (Asking m) = Unit {0}
 IsBlocked (Delayed m q) = Unit {0}
 IsBlocked _ = ⊥
 
--- A held process has the end mark of a monitor, so that it is not private when it is ready again; and an unstarted process
--- has no activation.
+-- A blocked process has the end mark of a monitor, so it isn't private when it is ready again. An
+-- unstarted process has no activation.
 pub record Invariant (s : State) : Type 0 where
   pub store : StoreInvariant s.store
   pub continuations : (p : ℕ) → ContinuationInvariant p s.store (s.continuation p)

@@ -1,5 +1,5 @@
--- Sets of token lists, put together from smaller ones: what the grammar is written in.
--- A language relates the tokens from a place on to those that are left behind what was read.
+-- Sets of token lists, built from smaller ones: what the grammar is written in. A language relates
+-- the tokens from a place on to those that are left after it has been read.
 use Rattle.std.specs.Prelude.{◌≡◌, ℕ, zero, suc, List, [], ◌∷◌, Option, Some, None}
 use Rattle.cp_model.specs.declared.token.Token.{Token}
 use Rattle.cp_model.specs.declared.token.Kind.{Kind}
@@ -40,27 +40,27 @@ infixr 12 ◌⋅◌
 abbrev pub ◌⋅◌ : Language → Language → Language
 (a ⋅ b) ts rest = (middle : List Token) × a ts middle × b middle rest
 
--- only where this holds
+-- only if this holds
 infixr 11 ◌▸◌
 abbrev pub ◌▸◌ : Type 0 → Language → Language
 (P ▸ a) ts rest = P × a ts rest
 
--- what opens a level, where so many levels may still be opened
+-- a construct that opens a level, if another level may be opened
 abbrev pub opens : ℕ → (ℕ → Language) → Language
 opens zero a = never
 opens (suc room) a = a room
 
--- a symbol at this place, where there is one
+-- a symbol at this place, if there is one
 abbrev pub optional : Symbol → Option ℕ → Language
 optional x None = empty
 optional x (Some at) = symbol_at x at
 
--- each of a list, one behind the other
+-- each element of a list, one after the other
 abbrev pub each : {A : Type 0} → (A → Language) → List A → Language
 each f [] = empty
 each f (x ∷ xs) = f x ⋅ each f xs
 
--- each of a list, with a symbol before each
+-- each element of a list, with a symbol before each
 abbrev pub each_behind : {A : Type 0} → Symbol → (A → Language) → List A → Language
 each_behind separator f [] = empty
 each_behind separator f (x ∷ xs) = symbol separator ⋅ f x ⋅ each_behind separator f xs

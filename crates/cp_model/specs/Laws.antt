@@ -1,4 +1,4 @@
--- The laws of rounds and of the invariant, which the functions of `src/law.rt` state.
+-- The laws of rounds and of the invariant, which the functions in `src/law.rt` state.
 use Rattle.std.specs.Prelude.{List, Some, map, true, ℕ, ◌++◌, ◌≡◌, ◌≢◌}
 use Rattle.cp_model.specs.Locations.{Location, OfActivation}
 use Rattle.cp_model.specs.Stores.{ClassRight, Reference}
@@ -15,18 +15,19 @@ use Rattle.cp_model.specs.Parts.{SameKernelPart, SameOwnPart, SamePrivateState}
 
 -- ---- One processor
 
--- For each state with the invariant and each lawful list of events: the fold of the events is the round of one processor.
+-- For each state with the invariant and each lawful list of events, replaying the events is the
+-- round of one processor.
 abbrev pub LawfulRoundIsSequential : Type 0
 LawfulRoundIsSequential =
     (setup : Setup) (t : ℕ) (s : State) (events : List Event)
     → Invariant s → IsLawful t (processes setup) events → replay_round setup t s events ≡ sequential_round setup t s
 
--- For each state with the invariant: the phased round is the round of one processor.
+-- For each state with the invariant, the phased round is the round of one processor.
 abbrev pub PhasedRoundIsSequential : Type 0
 PhasedRoundIsSequential =
     (setup : Setup) (t : ℕ) (s : State) → Invariant s → phased_round setup t s ≡ sequential_round setup t s
 
--- The same of each state that rounds in any orders reach from the start, lawful or not.
+-- The same for each state that rounds reach from the start, in any orders, lawful or not.
 abbrev pub LawfulRoundIsSequentialFromStart : Type 0
 LawfulRoundIsSequentialFromStart =
     (setup : Setup) (past : List (ℕ × List Event)) (t : ℕ) (events : List Event)
@@ -44,7 +45,7 @@ PhasedRoundIsSequentialFromStart =
 abbrev pub InvariantAtStart : Type 0
 InvariantAtStart = (setup : Setup) → Invariant (start setup)
 
--- What a function of states keeps.
+-- A function of states keeps the invariant.
 abbrev pub KeepsInvariant : (State → State) → Type 0
 KeepsInvariant f = (s : State) → Invariant s → Invariant (f s)
 
@@ -84,13 +85,13 @@ RunKeepsInvariant = (setup : Setup) (t n : ℕ) → KeepsInvariant (run setup t 
 
 -- ---- Reach
 
--- Each location that a `var` parameter of p names is in p's reach.
+-- Each location that a `var` parameter of p refers to is in p's reach.
 abbrev pub ReferencesAreInReach : Type 0
 ReferencesAreInReach =
     (s : State) (p d : ℕ) (l j : Location)
     → Invariant s → l.owner ≡ OfActivation p d → s.store l ≡ Reference j → reach s p j ≡ true
 
--- Only variables of activations refer to others.
+-- Only variables of activations hold references.
 abbrev pub OnlyActivationsRefer : Type 0
 OnlyActivationsRefer = (s : State) (l j : Location) → Invariant s → s.store l ≡ Reference j → IsActivation l.owner
 
@@ -100,7 +101,8 @@ ClassRightsKeepOwner = (s : State) (l j : Location) → Invariant s → s.store 
 
 -- ---- Parts
 
--- In `own_parts` each process has the private state that its private turn makes, and the kernel's part is as it was.
+-- In `own_parts` each process has the private state that its private turn makes, and the kernel's
+-- part stays as it was.
 abbrev pub OwnPartIsTurned : Type 0
 OwnPartIsTurned =
     (setup : Setup) (t : ℕ) (s : State) (p : ℕ)
@@ -115,7 +117,7 @@ WakeKeepsKernelPart = (setup : Setup) (s : State) → SameKernelPart s (wake set
 abbrev pub PrivateStepKeepsKernelPart : Type 0
 PrivateStepKeepsKernelPart = (setup : Setup) (p : ℕ) (s : State) → Invariant s → SameKernelPart s (private_step setup s p)
 
--- A private step and a kernel turn of q leave the private state of every other process as it was.
+-- A private step or a kernel turn of q leaves the private state of every other process as it was.
 abbrev pub PrivateStepKeepsOtherParts : Type 0
 PrivateStepKeepsOtherParts =
     (setup : Setup) (p q : ℕ) (s : State) → q ≢ p → Invariant s → SamePrivateState p s (private_step setup s q)
@@ -124,7 +126,8 @@ abbrev pub KernelTurnKeepsOtherParts : Type 0
 KernelTurnKeepsOtherParts =
     (setup : Setup) (t p q : ℕ) (s : State) → q ≢ p → Invariant s → SamePrivateState p s (kernel_turn setup t s q)
 
--- Where the next step of p is private, a kernel turn of q leaves the whole own part of p as it was, its status included.
+-- If the next step of p is private, a kernel turn of q leaves the whole own part of p as it was,
+-- including its status.
 abbrev pub KernelTurnKeepsPrivatelyReady : Type 0
 KernelTurnKeepsPrivatelyReady =
     (setup : Setup) (t p q : ℕ) (s : State)
@@ -138,7 +141,8 @@ KernelTurnMakesNonePrivate =
 
 -- ---- Changing places
 
--- A private step of p may change places with every private step of another process, and with every kernel turn of one.
+-- A private step of p commutes with every private step and with every kernel turn of another
+-- process.
 abbrev pub PrivateStepsCommute : Type 0
 PrivateStepsCommute =
     (setup : Setup) (s : State) (p q : ℕ)
@@ -151,8 +155,8 @@ PrivateStepCommutesWithKernelTurn =
     → p ≢ q → Invariant s
     → kernel_turn setup t (private_step setup s p) q ≡ private_step setup (kernel_turn setup t s q) p
 
--- However the private turns of the processes are shared out and cut into steps: with the kernel turns by number after them they
--- make a lawful order.
+-- However the private turns of the processes are shared out and cut into steps, these steps
+-- followed by the kernel turns by number make a lawful order.
 abbrev pub SharedTurnsAreLawful : Type 0
 SharedTurnsAreLawful =
     (t : ℕ) (ps drawn : List ℕ) (steps : List Event)
@@ -174,7 +178,8 @@ OwnPartsKeepCount = (setup : Setup) (t : ℕ) (s : State) → (own_parts setup t
 
 -- ---- Chains
 
--- A chain that ends within a bound is the asking chain, and a report with chains that was computed within one is the report.
+-- A chain that is computed within a bound is the asking chain, and a report with chains that is
+-- computed within a bound is the report.
 abbrev pub ChainWithinIsAskingChain : Type 0
 ChainWithinIsAskingChain =
     (n : ℕ) (s : State) (p : ℕ) (ps : List ℕ) → chain_within n s p ≡ Some ps → IsAskingChain s p ps

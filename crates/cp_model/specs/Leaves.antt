@@ -1,7 +1,8 @@
--- The leaves of a variable: its simple parts, queues and marks, each with its path and start value, in the report's order.
+-- The leaves of a variable: its simple parts, queues and marks, each with its path and start value,
+-- in the report's order.
 --
--- Fields come in text order, elements by rising index. A class is a leaf for its mark and then its members; what a process or
--- a monitor owns does not lie at its variable.
+-- Fields come in text order, elements by rising index. A class has a leaf for its mark, followed by
+-- the leaves of its members. What a process or a monitor owns does not lie at its variable.
 use Rattle.std.specs.Prelude.{List, None, [], false, flat_map, map, negsuc, pos, suc, zero, ℕ, ℤ, ◌++◌, ◌+◌, ◌-◌, ◌∷◌}
 use Rattle.cp_model.specs.Abstract.{Class, Monitor, Process, Sort}
 use Rattle.cp_model.specs.Types.{ArrayOf, ComponentOf, Members, MoreMembers, NoMembers, NoType, Queue, RecordOf, ResolvedType, Simple}
@@ -9,7 +10,7 @@ use Rattle.cp_model.specs.Locations.{ByIndex, ByName, Path, PathStep}
 use Rattle.cp_model.specs.Stores.{Initialised, Ordinal, QueueHolds, Value}
 use Rattle.cp_model.specs.Integers.{count_between}
 
--- So many integers, rising, from the lowest.
+-- A list of rising integers, given the lowest and how many there are.
 abbrev pub integers_from : ℤ → ℕ → List ℤ
 integers_from low zero = []
 integers_from low (suc n) = low ∷ integers_from (next low) n

@@ -1,6 +1,7 @@
--- Which levels the tokens of a tree open: for each of its tokens, in their order, the level that it opens, or 0.
--- The number says how many levels are open around. A level is opened by `begin`, `if`, `case`, `while`, `repeat`, `for`, `cycle`, `not`,
--- `array` and `record`, by each `(` of a factor or of arguments, and by each `[` of a designator.
+-- Which levels the tokens of a tree open: for each of its tokens, in order, the level that it
+-- opens, or 0. The number says how many levels are open around the construct. A level is opened by
+-- `begin`, `if`, `case`, `while`, `repeat`, `for`, `cycle`, `not`, `array` and `record`, by each
+-- `(` of a factor or of arguments, and by each `[` of a designator.
 use Rattle.std.specs.Prelude.{ℕ, suc, List, [], ◌∷◌, ◌++◌, Option, Some, None}
 use Rattle.cp_model.specs.Syntax as s
 use Rattle.cp_model.specs.declared.tree.Identifier.{Identifier}
@@ -8,7 +9,7 @@ use Rattle.cp_model.specs.declared.tree.Constant.{Constant}
 use Rattle.cp_model.specs.declared.tree.Constant.TheVariants as written
 use Rattle.cp_model.specs.declared.tree.ConstantDefinition.{ConstantDefinition}
 
--- one behind the other, grouped to the right
+-- one after the other, grouped to the right
 infixr 66 ◌⊕◌
 abbrev pub ◌⊕◌ : List ℕ → List ℕ → List ℕ
 l ⊕ m = l ++ m
@@ -19,12 +20,12 @@ abbrev pub each_levels : {A : Type 0} → (A → List ℕ) → List A → List �
 each_levels f [] = []
 each_levels f (x ∷ xs) = f x ⊕ each_levels f xs
 
--- with a token before each
+-- each element with a token before it
 abbrev pub behind_levels : {A : Type 0} → (A → List ℕ) → List A → List ℕ
 behind_levels f [] = []
 behind_levels f (x ∷ xs) = 0 ∷ f x ⊕ behind_levels f xs
 
--- with a token between them
+-- the elements with a token between them
 abbrev pub separated_levels : {A : Type 0} → (A → List ℕ) → List A → List ℕ
 separated_levels f [] = []
 separated_levels f (x ∷ xs) = f x ⊕ behind_levels f xs
@@ -78,7 +79,7 @@ abbrev mutual
   selector_levels depth (s.Field at name) = 0 ∷ 0 ∷ []
   selector_levels depth (s.Indexed is) = indices_levels depth is ⊕ 0 ∷ []
 
-  -- the `[` opens the level that they stand in
+  -- the `[` opens the level that the indices stand in
   pub indices_levels : ℕ → s.Indices → List ℕ
   indices_levels depth s.NoIndices = []
   indices_levels depth (s.MoreIndices at e is) = suc depth ∷ expression_levels (suc depth) e ⊕ more_indices_levels (suc depth) is
@@ -87,7 +88,7 @@ abbrev mutual
   more_indices_levels depth s.NoIndices = []
   more_indices_levels depth (s.MoreIndices at e is) = 0 ∷ expression_levels depth e ⊕ more_indices_levels depth is
 
--- arguments, or none
+-- arguments in parentheses, or nothing
 abbrev pub arguments_levels : ℕ → s.Expressions → List ℕ
 arguments_levels depth s.NoExpressions = []
 arguments_levels depth (s.MoreExpressions e es) = suc depth ∷ expressions_levels (suc depth) (s.MoreExpressions e es) ⊕ 0 ∷ []

@@ -1,14 +1,15 @@
 -- Owners and locations: where the variables of a running program lie.
 --
--- An owner is a process, a monitor, or an activation of a routine by a process. A class lies where its variable lies, so it
--- belongs to the process or the monitor there. A location is an owner and a path of names and indices.
+-- An owner is a process, a monitor, or an activation of a routine by a process. A class lies where
+-- its variable lies, so it belongs to the process or monitor that owns the variable. A location is
+-- an owner and a path of names and indices.
 use Rattle.std.specs.Prelude.{Bool, List, [], false, nat_eq, negsuc, pos, true, ℕ, ℤ, ◌&&◌, ◌++◌, ◌∷◌}
 use Rattle.cp_model.specs.Abstract.{Name}
 use Rattle.std.specs.Str.{bytes_eq}
 use Rattle.cp_model.specs.Integers.{same_integer}
 
--- Processes and monitors are numbered from 1. An activation has the number of its process, and its depth: how many
--- activations of that process were there before it.
+-- Processes and monitors are numbered from 1. An activation has the number of its process and its
+-- depth, which is how many activations of that process existed before it.
 pub data Owner : Type 0 where
   OfProcess : (p : ℕ) → Owner
   OfMonitor : (m : ℕ) → Owner
@@ -30,7 +31,7 @@ pub record Location : Type 0 where
 abbrev pub root : Owner → Location
 root o = record { owner = o; path = [] }
 
--- The location that is reached from another by a path.
+-- The location that is reached from another one along a path.
 abbrev pub under : Location → Path → Location
 under l path = record { owner = l.owner; path = l.path ++ path }
 

@@ -1,6 +1,6 @@
 -- Operators and standard functions on values.
 --
--- Both operands have been evaluated before; `&` and `or` too take both.
+-- Both operands are evaluated first, even those of `&` and `or`.
 use Rattle.std.specs.Prelude.{Bool, Some, codes, false, if◌then◌else◌, int_div, int_le, int_lt, int_rem, nat_abs, negsuc, not, pos, true, ℕ, ℤ, ◌&&◌, ◌*ℤ◌, ◌+ℤ◌, ◌-ℤ◌, ◌/◌, ◌||◌}
 use Rattle.cp_model.specs.Abstract.{Add, And, AtLeast, AtMost, Char, Divide, Equal, Greater, Integer, Less, Modulo, Multiply, Name, Operator, Or, Subtract, Unequal}
 use Rattle.std.specs.Str.{bytes_eq}
@@ -18,7 +18,7 @@ integer_result n = provided (within (negsuc 32767) (pos 32767) n) 3 (simple_valu
 abbrev pub with_divisor : ℤ → Outcome TypedValue → Outcome TypedValue
 with_divisor d v = if same_integer d (pos 0) then Fault 4 else v
 
--- `div` cuts toward zero, and `mod` is the rest of it.
+-- `div` rounds toward zero, and `mod` is its remainder.
 abbrev pub apply_operator : Operator → TypedValue → TypedValue → Outcome TypedValue
 apply_operator Add a b = integer_result (ordinal_of a +ℤ ordinal_of b)
 apply_operator Subtract a b = integer_result (ordinal_of a -ℤ ordinal_of b)
@@ -36,7 +36,7 @@ apply_operator AtLeast a b = Gives (truth_value (int_le (ordinal_of b) (ordinal_
 
 -- ---- Standard functions
 
--- `succ` and `pred` move in the base type; past its ends is fault 1.
+-- `succ` and `pred` move within the base type. Moving past its ends is fault 1.
 abbrev pub shifted : TypedValue → ℤ → Outcome TypedValue
 shifted v d =
     let n = ordinal_of v +ℤ d in

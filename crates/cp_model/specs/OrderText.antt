@@ -1,13 +1,14 @@
 -- The order text: one line for each round, with the events of that round.
 --
--- A line ends with a line feed, but for a last one that isn't empty. It has no events, or events parted by one space. An event is
--- `P` or `K` and the number of a process, without leading zeros. Of a text with a line that is none the place of the first such
--- line is told.
+-- A line ends with a line feed, except a last line that isn't empty. It has no events, or events
+-- separated by one space. An event is `P` or `K` and the number of a process, without leading
+-- zeros. If some line isn't of this form, the place of the first such line is reported.
 use Rattle.std.specs.Prelude.{Bool, List, None, Option, Some, [], if◌then◌else◌, length, nat_eq, nat_le, ℕ, ◌&&◌, ◌*◌, ◌+◌, ◌-◌, ◌∷◌}
 use Rattle.cp_model.specs.Decimal.{digits}
 use Rattle.cp_model.specs.Rounds.{Event, KernelTurn, PrivateStep}
 
--- The events of each round, or the place of the first line that is none: its first byte, counted from 0.
+-- The events of each round, or the place of the first line that isn't well formed: its first byte,
+-- counted from 0.
 pub data OrderText : Type 0 where
   Orders : (rounds : List (List Event)) → OrderText
   NotALine : (at : ℕ) → OrderText
@@ -18,7 +19,7 @@ abbrev pub with_first_byte : ℕ → List (List ℕ) → List (List ℕ)
 with_first_byte b [] = (b ∷ []) ∷ []
 with_first_byte b (piece ∷ pieces) = (b ∷ piece) ∷ pieces
 
--- The pieces before, between and behind the places where a byte stands.
+-- The pieces before, between and after the places where a byte stands.
 abbrev pub split_at_byte : ℕ → List ℕ → List (List ℕ)
 split_at_byte b [] = [] ∷ []
 split_at_byte b (c ∷ text) = if nat_eq b c then [] ∷ split_at_byte b text else with_first_byte c (split_at_byte b text)
@@ -36,7 +37,7 @@ lines_of text = without_empty_last (split_at_byte 10 text)
 abbrev pub is_digit : ℕ → Bool
 is_digit b = nat_le 48 b && nat_le b 57
 
--- The number that digits write behind those of the value so far.
+-- The number whose first digits have the value so far and whose remaining digits are these.
 abbrev pub number_from : ℕ → List ℕ → Option ℕ
 number_from value [] = Some value
 number_from value (b ∷ digits) = if is_digit b then number_from (10 * value + (b - 48)) digits else None
@@ -54,7 +55,7 @@ abbrev pub event_of : (ℕ → Event) → Option ℕ → Option Event
 event_of kind None = None
 event_of kind (Some p) = Some (kind p)
 
--- The event that a word names, of the processes 1..n.
+-- The event that a word names, for the processes 1 to n.
 abbrev pub event_named : ℕ → List ℕ → Option Event
 event_named n [] = None
 event_named n (b ∷ word) =
@@ -81,7 +82,7 @@ round_before None at rest = NotALine at
 round_before (Some events) at (Orders rounds) = Orders (events ∷ rounds)
 round_before (Some events) at (NotALine later) = NotALine later
 
--- The lines from a place on.
+-- The orders of these lines, the first of which begins at the place `at`.
 abbrev pub orders_from : ℕ → ℕ → List (List ℕ) → OrderText
 orders_from n at [] = Orders []
 orders_from n at (line ∷ lines) = round_before (line_events n line) at (orders_from n (at + length line + 1) lines)

@@ -1,16 +1,16 @@
--- Outcomes: a value, or the number of the fault that is told.
+-- Outcomes: a value, or the number of a fault.
 use Rattle.std.specs.Prelude.{Bool, false, true, ℕ}
 
 pub data Outcome (A : Type 0) : Type 0 where
   Fault : (number : ℕ) → Outcome A
   Gives : (x : A) → Outcome A
 
--- The first fault met is the one that is told.
+-- The first fault is the outcome.
 abbrev pub and_then : {A B : Type 0} → Outcome A → (A → Outcome B) → Outcome B
 and_then (Fault f) go = Fault f
 and_then (Gives x) go = go x
 
--- A value, provided that a test passes; else a fault.
+-- A value if a test passes, otherwise a fault.
 abbrev pub provided : {A : Type 0} → Bool → ℕ → A → Outcome A
 provided true f x = Gives x
 provided false f x = Fault f

@@ -1,16 +1,17 @@
--- The parts of a state: the own part of each process, and, as a machine keeps them apart, the private state of each process and
--- the kernel's part.
+-- The parts of a state: the own part of each process and, as a machine keeps them apart, the
+-- private state of each process and the kernel's part.
 --
--- A process's own part is all that concerns it alone: its variables, what it has left to do, its transcript, the place in its
--- input, its status. The private state is less: it tells neither whether the process is ready, asking or delayed, nor whether
--- it is unstarted or fresh, since the kernel changes that. Before a process has begun, its variables and what it has left to do
--- belong to the kernel's part, so that the kernel can start it.
+-- The own part of a process is all that concerns it alone: its variables, what it has left to do,
+-- its transcript, its place in the input, and its status. The private state is less: it doesn't say
+-- whether the process is ready, asking or delayed, nor whether it is unstarted or fresh, since the
+-- kernel changes that. Until a process has begun, its variables and what it has left to do belong
+-- to the kernel's part, so that the kernel can start it.
 use Rattle.std.specs.Prelude.{Bool, false, nat_eq, true, ℕ, ◌≡◌}
 use Rattle.cp_model.specs.Locations.{Location, OfActivation, OfMonitor, OfProcess, Owner}
 use Rattle.cp_model.specs.Configurations.{Asking, Delayed, Ended, Faulted, Fresh, Ready, Status, Unstarted, Waiting}
 use Rattle.cp_model.specs.States.{State}
 
--- ---- Whose a location is
+-- ---- Who owns a location
 
 abbrev pub is_own : ℕ → Owner → Bool
 is_own p (OfProcess q) = nat_eq p q

@@ -1,4 +1,4 @@
--- Places: where a variable or a part of one lies, of what type it is, and what is read there.
+-- Places: where a variable or a part of one lies, what type it has, and what is read there.
 use Rattle.std.specs.Prelude.{Bool, List, [], if◌then◌else◌, int_le, map, pos, ℤ, ◌&&◌, ◌∷◌}
 use Rattle.cp_model.specs.Abstract.{BaseType, Boolean, Name}
 use Rattle.std.specs.Str.{bytes_eq}
@@ -13,7 +13,7 @@ pub record Place : Type 0 where
   pub at : Location
   pub type : ResolvedType
 
--- A value is the values of all leaves of its type: one for a simple value.
+-- A value consists of the values of all leaves of its type: just one for a simple value.
 pub record TypedValue : Type 0 where
   pub type : ResolvedType
   pub values : List Value
@@ -46,12 +46,12 @@ base_of_value v = base_of_type v.type
 
 -- ---- Places
 
--- What a `var` parameter at a location refers to.
+-- What a parameter at a location refers to, or the location itself if it holds no reference.
 abbrev pub referent : Location → Value → Location
 referent l (Reference k) = k
 referent l _ = l
 
--- A name that means no variable has the component's own place, of no type.
+-- A name that doesn't mean a variable has the component's own location, and no type.
 abbrev pub place_of_meaning : Environment → Store → Meaning → Place
 place_of_meaning env store (IsVariable l v) = record { at = (if v.by_reference then referent l (store l) else l); type = v.type }
 place_of_meaning env store _ = record { at = env.component; type = NoType }

@@ -1,14 +1,16 @@
--- The reach of a process: the locations that it owns, those of its activations, and those of each monitor that an end mark of
--- its continuation names.
+-- The reach of a process: the locations that it owns, those of its activations, and those of each
+-- monitor that an end mark of its continuation names.
 --
--- A process that asks or is delayed still has the monitor in its reach, though it doesn't hold the gate: its activation may
--- refer to the monitor's variables, and it goes on only when it holds the gate again.
+-- A process that is asking or delayed still has the monitor in its reach, although it doesn't hold
+-- the gate: its activation may refer to the monitor's variables, and it goes on only when it holds
+-- the gate again.
 use Rattle.std.specs.Prelude.{Bool, List, nat_eq, ℕ}
 use Rattle.cp_model.specs.Locations.{Location, OfActivation, OfMonitor, OfProcess, Owner}
 use Rattle.cp_model.specs.Continuations.{marked_monitors}
 use Rattle.cp_model.specs.States.{State, is_in}
 
--- Whether the locations of an owner are in the reach of p, where p's end marks name these monitors.
+-- Whether the locations of an owner are in the reach of p, given the monitors `ms` that p's end
+-- marks name.
 abbrev pub in_reach : ℕ → List ℕ → Owner → Bool
 in_reach p ms (OfProcess q) = nat_eq p q
 in_reach p ms (OfActivation q d) = nat_eq p q

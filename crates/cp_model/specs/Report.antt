@@ -1,8 +1,9 @@
 -- The report of a state.
 --
--- One line for the count of rounds; for each process its status, transcript and variables; for each monitor its gate, askers and
--- variables; and where chains are wanted one line for each asking process. Each line ends with one line feed. Chains make the
--- report a relation, since nothing in the definitions bounds them.
+-- It has one line for the count of rounds, for each process its status, transcript and variables,
+-- for each monitor its gate, askers and variables, and, if chains are wanted, one line for each
+-- asking process. Each line ends with one line feed. With chains the report is a relation, since
+-- nothing in the definitions bounds a chain.
 use Rattle.std.specs.Prelude.{◌≡◌, option_map, Bool, List, None, Option, Some, [], codes, false, filter, flat_map, if◌then◌else◌, nat_eq, nat_le, nat_lt, not, suc, true, zero, ℕ, ◌%◌, ◌&&◌, ◌++◌, ◌+◌, ◌-◌, ◌/◌, ◌∷◌}
 use Rattle.cp_model.specs.Abstract.{Monitor, Name, Process, Sort}
 use Rattle.cp_model.specs.Types.{ComponentOf, Members, NoMembers, ResolvedType}
@@ -24,7 +25,7 @@ line t = t ++ 10 ∷ []
 
 -- ---- Names
 
--- The component variables of a sort, in order of declaration.
+-- The component variables of a sort in the initial process, in order of declaration.
 abbrev pub components_of : Setup → Sort → List (Name × Variable)
 components_of setup s = filter (λ v. is_component_of s v.1.type) (initial_variables setup)
 
@@ -47,7 +48,7 @@ path_rest [] = []
 path_rest (ByName x ∷ p) = codes "." ++ (x ++ path_rest p)
 path_rest (ByIndex i ∷ p) = codes "[" ++ (decimal i ++ (codes "]" ++ path_rest p))
 
--- A path as `field.part[index]`.
+-- A path, written as `field.part[index]`.
 abbrev pub path_text : Path → Text
 path_text (ByName x ∷ p) = x ++ path_rest p
 path_text p = path_rest p
@@ -56,7 +57,7 @@ abbrev pub occupant_text : Option ℕ → Text
 occupant_text None = codes "-"
 occupant_text (Some p) = natural p
 
--- A simple part and a queue have a line; a right and a mark have none.
+-- A simple part or a queue has a line. A right or a mark has none.
 abbrev pub leaf_line : Path → Value → Text
 leaf_line p (Ordinal n) = line (codes "var " ++ (path_text p ++ (codes " = " ++ decimal n)))
 leaf_line p (QueueHolds w) = line (codes "queue " ++ (path_text p ++ (codes " = " ++ occupant_text w)))
@@ -70,7 +71,7 @@ variable_lines store at ps = flat_map (λ leaf. leaf_line leaf.0 (store (under a
 abbrev pub hex_digit : ℕ → ℕ
 hex_digit n = if nat_lt n 10 then 48 + n else 87 + n
 
--- The bytes 32..126 but the apostrophe and the backslash stand for themselves.
+-- The bytes 32 to 126, except the apostrophe and the backslash, stand for themselves.
 abbrev pub escaped : ℕ → Text
 escaped b =
     if nat_le 32 b && nat_le b 126 && not (nat_eq b 39) && not (nat_eq b 92)
@@ -131,13 +132,13 @@ is_asking _ = false
 abbrev pub chain_line : List ℕ → Text
 chain_line chain = line (codes "chain" ++ numbers_text chain)
 
--- A text begins with the chain of p, if it is asking, and goes on as said.
+-- The text begins with the chain of p, if p is asking, and the rest is as `GoesOn` says.
 abbrev pub BeginsWithChain : Bool → State → ℕ → (Text → Type 0) → Text → Type 0
 BeginsWithChain true s p GoesOn text =
     (chain : List ℕ) × ((rest : Text) × IsAskingChain s p chain × GoesOn rest × (text ≡ chain_line chain ++ rest))
 BeginsWithChain false s p GoesOn text = GoesOn text
 
--- A text has the chain of each of these processes that is asking.
+-- The text has the chain of each of these processes that is asking.
 abbrev pub AreChainLines : State → List ℕ → Text → Type 0
 AreChainLines s [] text = text ≡ []
 AreChainLines s (p ∷ ps) text = BeginsWithChain (is_asking (s.status p)) s p (AreChainLines s ps) text
@@ -151,7 +152,7 @@ report setup s =
     ++ (processes_text setup s 2 (components_of setup Process)
     ++ monitors_text s 1 (components_of setup Monitor)))
 
--- The report with the chains of askers.
+-- The text is the report with the chains of askers.
 abbrev pub IsReportWithChains : Setup → State → Text → Type 0
 IsReportWithChains setup s text = (lines : Text) × (AreChainLines s (processes setup) lines × (text ≡ report setup s ++ lines))
 
@@ -161,7 +162,7 @@ abbrev pub with_chain : Option (List ℕ) → Option Text → Option Text
 with_chain (Some chain) (Some rest) = Some (chain_line chain ++ rest)
 with_chain _ _ = None
 
--- The chain lines, where each chain ends within n more processes.
+-- The chain lines, if each chain ends within n more processes.
 abbrev pub chain_lines_within : ℕ → State → List ℕ → Option Text
 chain_lines_within n s [] = Some []
 chain_lines_within n s (p ∷ ps) =

@@ -1,6 +1,6 @@
 -- Rounds of one processor, phased rounds, and rounds in any order of events.
 --
--- Each begins with the waking and ends with the closing.
+-- Each round begins with the waking and ends with the closing.
 use Rattle.std.specs.Prelude.{List, [], fold, if◌then◌else◌, nat_eq, suc, zero, ℕ, ◌%◌, ◌∷◌}
 use Rattle.cp_model.specs.Locations.{OfActivation, OfMonitor, OfProcess, Owner}
 use Rattle.cp_model.specs.Configurations.{Fresh, Ready, Status, Waiting}
@@ -13,7 +13,7 @@ abbrev pub awakened : Status → Status
 awakened Waiting = Ready
 awakened x = x
 
--- In a round whose number is a multiple of the tick, every waiting process becomes ready at the start.
+-- If the number of the round is a multiple of the tick, every waiting process becomes ready.
 abbrev pub wake : Setup → State → State
 wake setup s = if nat_eq (suc s.rounds % setup.tick) 0 then record s { status = λ p. awakened (s.status p) } else s
 
@@ -21,13 +21,13 @@ abbrev pub after_closing : Status → Status
 after_closing Fresh = Ready
 after_closing x = x
 
--- Fresh becomes ready, and the count of rounds grows by one.
+-- Every fresh process becomes ready, and the count of rounds grows by one.
 abbrev pub close_round : State → State
 close_round s = record s { status = λ p. after_closing (s.status p); rounds = suc s.rounds }
 
 -- ---- One processor
 
--- Each process's private turn and then its kernel turn, by number.
+-- For each process by number, its private turn and then its kernel turn.
 abbrev pub all_turns : Setup → ℕ → State → List ℕ → State
 all_turns setup t s [] = s
 all_turns setup t s (p ∷ ps) = all_turns setup t (kernel_turn setup t (private_turn setup t s p) p) ps
@@ -35,24 +35,25 @@ all_turns setup t s (p ∷ ps) = all_turns setup t (kernel_turn setup t (private
 abbrev pub sequential_round : Setup → ℕ → State → State
 sequential_round setup t s = close_round (all_turns setup t (wake setup s) (processes setup))
 
--- So many rounds of one processor.
+-- The state after a number of rounds of one processor.
 abbrev pub run : Setup → ℕ → ℕ → State → State
 run setup t zero s = s
 run setup t (suc n) s = run setup t n (sequential_round setup t s)
 
 -- ---- Phased
 
--- The process to which a location belongs; 0 where a monitor owns it.
+-- The process that a location belongs to, or 0 if a monitor owns it.
 abbrev pub owner_process : Owner → ℕ
 owner_process (OfProcess p) = p
 owner_process (OfActivation p d) = p
 owner_process (OfMonitor m) = 0
 
--- A part of the state as the private turn of p leaves it, where p is a process.
+-- A part of the state as the private turn of p leaves it, if p is one of the processes.
 abbrev pub after_own_turn : {A : Type 0} → Setup → ℕ → State → (State → A) → ℕ → A
 after_own_turn setup t s part p = if is_in p (processes setup) then part (private_turn setup t s p) else part s
 
--- All private turns on one state: each process's own part is what its turn makes of it, all else is as before.
+-- All private turns on one state: each process's own part is what its turn makes of it, and all
+-- else stays.
 abbrev pub own_parts : Setup → ℕ → State → State
 own_parts setup t s = record s {
   store = λ l. after_own_turn setup t s (λ x. x.store l) (owner_process l.owner);

@@ -1,4 +1,4 @@
--- Definitions and the whole text: what is broken in a tree, and which trees are accepted.
+-- Definitions and the whole text: the violations of a tree, and which trees are accepted.
 use Rattle.std.specs.Prelude.{◌≡◌, ℕ, suc, ◌+◌, ◌-◌, pos, false, List, [], ◌∷◌, ◌++◌, Option, None, Some, if◌then◌else◌, length, drop}
 use Rattle.cp_model.specs.Syntax as s
 use Rattle.cp_model.specs.declared.tree.Identifier.{Identifier}
@@ -31,12 +31,12 @@ define_constant env d =
     let value = constant (declare d.name entity.UnfinishedConstant env) d.value in
     record { env = declare d.name (entity_of (λ c. entity.Constant c.0 c.1) value) env; violations = c1_declared env d.name ++ violations_of value }
 
--- the values of an enumeration, from an ordinal on
+-- the values of an enumeration, numbered from an ordinal
 abbrev pub values : ℕ → ℕ → List Identifier → List (Identifier × Entity)
 values base n [] = []
 values base n (x ∷ xs) = (x, entity.Constant base (pos n)) ∷ values base (suc n) xs
 
--- a name that is being defined is no name for a value
+-- the name that is being defined can't be the name of a value
 abbrev pub define_enumeration : Environment → Identifier → List Identifier → Declared
 define_enumeration env x xs =
     let t = length env.types in
@@ -111,12 +111,12 @@ abbrev pub define_section : Environment → s.Section → Declared
 define_section env (s.Constants ds) = define_each define_constant env ds
 define_section env (s.Types ds) = define_each (λ e d. define_as e d.name d.defined) env ds
 
--- C13: the initial process has more than 65,536 words, which is judged only where nothing is broken in its body
+-- C13: the initial process has more than 65,536 words, judged only if nothing is broken in its body
 abbrev pub c13_initial : ℕ → ℕ → Violations → Violations
 c13_initial at words [] = unless (is_within words) C13 at
 c13_initial at words (v ∷ vs) = []
 
--- what is broken in a tree
+-- the violations of a tree
 abbrev pub violations : s.Tree → Violations
 violations t =
     let defined = define_each define_section standard_environment t.sections in
@@ -126,14 +126,15 @@ violations t =
     let words = 1 + own.words + need_statements all.env t.body.list in
     defined.violations ++ own.violations ++ all.violations ++ body ++ c13_initial t.body.at words body
 
--- this rule is broken at this place
+-- the tree breaks this rule at this place
 abbrev pub IsBroken : s.Tree → Rule → ℕ → Type 0
 IsBroken t rule at = IsAmong (violation rule at) (violations t)
 
--- nothing is broken
+-- the tree breaks no rule
 abbrev pub Accepted : s.Tree → Type 0
 Accepted t = violations t ≡ []
 
--- the earliest place at which a rule is broken, and there the lowest rule
+-- the violation that is reported: at the earliest place where a rule is broken, and there of the
+-- lowest rule
 abbrev pub told : s.Tree → Option Violation
 told t = least None (violations t)

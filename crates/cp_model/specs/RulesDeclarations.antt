@@ -1,4 +1,5 @@
--- Declarations: variables, parameters, routines. What they add to the environment, and the rules inside them.
+-- Declarations of variables, parameters and routines: what they add to the environment, and the
+-- rules inside them.
 use Rattle.std.specs.Prelude.{Bool, List, None, Option, Some, ℕ, [], false, if◌then◌else◌, is_some, length, map, min, nat_eq, not, replicate, suc, true, ◌&&◌, ◌*◌, ◌++◌, ◌+◌, ◌∷◌}
 use Rattle.cp_model.specs.Syntax as s
 use Rattle.cp_model.specs.declared.tree.Identifier.{Identifier}
@@ -27,43 +28,44 @@ use Rattle.cp_model.specs.RulesTypes.{named_type, type_placed, capped, is_within
 use Rattle.cp_model.specs.RulesStatements.{statements}
 use Rattle.cp_model.specs.RulesNeeds.{need_statements}
 
--- the environment with what was declared, and what is broken in the declarations
+-- the environment with what was declared, and the violations in the declarations
 pub record Declared : Type 0 where
   pub env : Environment
   pub violations : Violations
 
--- each of these names in order, as what stands beside it
+-- declares each of these names in order, as the entity beside it
 abbrev pub declare_each : Environment → List (Identifier × Entity) → Declared
 declare_each env [] = record { env = env; violations = [] }
 declare_each env (d ∷ ds) =
     let rest = declare_each (declare d.0 d.1 env) ds in
     record { env = rest.env; violations = c1_declared env d.0 ++ rest.violations }
 
--- all of these names, as the same
+-- declares all of these names as the same entity
 abbrev pub declare_all : Environment → Entity → List Identifier → Declared
 declare_all env e xs = declare_each env (map (λ x. (x, e)) xs)
 
--- names that are being defined, before their type is known: a variable is no type
+-- what names stand for while they are being declared, before their type is known: a variable isn't
+-- a type
 abbrev pub unfinished_variable : Entity
 unfinished_variable = entity.Variable integer access.Own
 
 -- ---- owners
 
--- there are at most 255 processes, with the initial one, and at most 255 monitors
+-- there are at most 255 processes, including the initial one, and at most 255 monitors
 abbrev pub one_too_many : ℕ
 one_too_many = 256
 
--- one more, counted to one too many
+-- one more, counted up to `one_too_many`
 abbrev pub one_more : ℕ → ℕ
 one_more n = min (suc n) one_too_many
 
--- one more process or monitor
+-- the environment with one more process or monitor
 abbrev pub with_owner : Environment → Sort → Environment
 with_owner env sort.Process = record env { processes = one_more env.processes }
 with_owner env sort.Monitor = record env { monitors = one_more env.monitors }
 with_owner env sort.Class = env
 
--- C13: process 256; monitor 256; an owner of more than 65,536 words
+-- C13: process 256, monitor 256, or an owner of more than 65,536 words
 abbrev pub c13_owner : Environment → Identifier → SystemRow → Sort → Violations
 c13_owner env x y sort.Process = unless (not (nat_eq (suc env.processes) one_too_many) && is_within y.words) C13 x.at
 c13_owner env x y sort.Monitor = unless (not (nat_eq (suc env.monitors) one_too_many) && is_within y.words) C13 x.at
@@ -79,7 +81,7 @@ abbrev pub owners_in : Environment → Structure → List Identifier → Declare
 owners_in env (structure.System y) xs = owners_of env (system_row env y) xs
 owners_in env row xs = record { env = env; violations = [] }
 
--- processes and monitors exist in the initial process alone
+-- processes and monitors exist only in the initial process
 abbrev pub owners : Environment → Position → Judged ℕ → List Identifier → Declared
 owners env position.InitialVariable (Sound t) xs = owners_in env (row_of env t).structure xs
 owners env p j xs = record { env = env; violations = [] }
@@ -90,7 +92,8 @@ abbrev pub is_owner : Sort → Bool
 is_owner sort.Class = false
 is_owner y = true
 
--- the words that a variable takes of its owner: a process or a monitor is an owner itself
+-- the words that a variable takes from its owner: none for a process or a monitor, which is an
+-- owner itself
 abbrev pub words_in : Environment → ℕ → Structure → ℕ
 words_in env words (structure.System y) = if is_owner (system_row env y).sort then 0 else words
 words_in env words row = words
@@ -99,7 +102,7 @@ abbrev pub words_of : Environment → Judged ℕ → ℕ
 words_of env (Sound t) = words_in env (row_of env t).words (row_of env t).structure
 words_of env (Broken v vs) = 0
 
--- the environment with the variables, what is broken in them, and their words
+-- the environment with the variables, the violations in them, and their words
 pub record Variables : Type 0 where
   pub env : Environment
   pub violations : Violations
@@ -129,23 +132,24 @@ variables env p (g ∷ gs) =
 
 -- ---- parameters
 
--- a simple type or a monitor, and for a class also a class
+-- the components that a parameter may be: a monitor, and for a class also a class
 abbrev pub allows_component : Sort → Sort → Bool
 allows_component of sort.Monitor = true
 allows_component sort.Class sort.Class = true
 allows_component of y = false
 
 abbrev pub allows_parameter : Environment → Option Sort → Structure → Bool
--- of a system type
+-- a parameter of a system type
 allows_parameter env (Some of) (structure.Simple base low high) = true
 allows_parameter env (Some of) (structure.System y) = allows_component of (system_row env y).sort
 allows_parameter env (Some of) row = false
--- of a routine
+-- a parameter of a routine
 allows_parameter env None (structure.System y) = false
 allows_parameter env None row = true
 
--- C7: a parameter of a process or monitor type that is neither simple nor a monitor; of a class type that is neither simple nor a monitor nor a
--- class; a system type for a routine's parameter. C8: a parameter with queues, which is C8 alone
+-- C7: a parameter of a process or monitor type that is neither simple nor a monitor; a parameter of
+-- a class type that is neither simple nor a monitor nor a class; a parameter of a routine that is
+-- of a system type. C8: a parameter with queues, which is C8 alone
 abbrev pub c7_c8_parameter : Environment → Option Sort → ℕ → ℕ → Judged ℕ
 c7_c8_parameter env of at t =
     if (row_of env t).has_queues then breaks C8 at else provided (allows_parameter env of (row_of env t).structure) C7 at t
@@ -164,7 +168,8 @@ abbrev pub parameter_access : Bool → Access
 parameter_access true = access.ByReference
 parameter_access false = access.Passive
 
--- a heading so far: its names hidden, what they will stand for, their rows, and the words that they take in an activation
+-- the heading so far: the environment with its names hidden, the violations, what the names will
+-- stand for, their rows, and the words that they take in an activation
 pub record Heading : Type 0 where
   pub env : Environment
   pub violations : Violations
@@ -207,7 +212,7 @@ heading env of is_function (g ∷ gs) =
 
 -- ---- routines
 
--- C11: a result type that isn't simple. C8: one with queues
+-- C11: a result type that isn't simple. C8: a result type with queues
 abbrev pub c8_c11_result : Environment → ℕ → ℕ → Judged ℕ
 c8_c11_result env at t = also (unless (not (row_of env t).has_queues) C8 at) (provided (is_simple env t) C11 at t)
 

@@ -25,7 +25,7 @@ use Rattle.cp_model.specs.Names.{lookup}
 abbrev pub Text : Type 0
 Text = List ℕ
 
--- the visible names, in the order of their declarations
+-- the visible names, in order of declaration
 abbrev pub Names : Type 0
 Names = List (Text × Entity)
 
@@ -40,7 +40,7 @@ pub record Environment : Type 0 where
   pub routines : List RoutineRow
   pub parameters : List ParameterRow
   pub systems : List SystemRow
-  -- how many processes and monitors there are so far
+  -- the number of processes and monitors so far
   pub processes : ℕ
   pub monitors : ℕ
   -- where the statements stand
@@ -123,7 +123,7 @@ system_row env s = get_or env.systems s no_system
 abbrev pub parameters_from : Environment → ℕ → ℕ → List ParameterRow
 parameters_from env first count = take count (drop first env.parameters)
 
--- what has members: a record or a component
+-- the members of a record or a component
 abbrev pub members_in : Environment → Structure → Option Members
 members_in env (structure.Record k) = Some (get_or env.members k [])
 members_in env (structure.System y) = Some (get_or env.members (system_row env y).members [])
@@ -134,11 +134,11 @@ members_in env _ = None
 abbrev pub resolve : Identifier → Option Entity → Judged Entity
 resolve x None = breaks C1 x.at
 resolve x (Some entity.Hidden) = breaks C1 x.at
--- told at its declaration
+-- the violation is reported at its declaration
 resolve x (Some (entity.Broken v)) = Broken v []
 resolve x (Some e) = Sound e
 
--- C1: a name that isn't visible and isn't being defined
+-- C1: a name that is neither visible nor being defined
 abbrev pub c1_named : Environment → Identifier → Judged Entity
 c1_named env x = resolve x (lookup x.name env.names)
 
@@ -172,8 +172,9 @@ is_allowed region standard.Continue = is_monitor region.sort && is_in_entry regi
 is_allowed region standard.Wait = is_process region.sort
 is_allowed region _ = true
 
--- C9: `delay` or `empty` outside a monitor's routine; `continue` elsewhere than in the body of a monitor's entry routine; `wait` elsewhere
--- than in the body or a routine of a process type or of the initial process
+-- C9: `delay` or `empty` outside a monitor's routine; `continue` anywhere but in the body of a
+-- monitor's entry routine; `wait` anywhere but in the body or a routine of a process type or of the
+-- initial process
 abbrev pub c9_standard : Environment → Identifier → Entity → Violations
 c9_standard env x (entity.Standard s) = unless (is_allowed env.region s) C9 x.at
 c9_standard env x _ = []
@@ -199,7 +200,7 @@ declare x e env = with_names (declare_if_new x e env.names (lookup x.name env.na
 abbrev pub c1_declared : Environment → Identifier → Violations
 c1_declared env x = unless (not (is_some (lookup x.name env.names))) C1 x.at
 
--- what a declared name stands for: nothing more is told of it where its declaration is broken
+-- what a declared name stands for. If its declaration is broken, nothing more is reported of it
 abbrev pub entity_of : {A : Type 0} → (A → Entity) → Judged A → Entity
 entity_of f (Sound x) = f x
 entity_of f (Broken v vs) = entity.Broken v

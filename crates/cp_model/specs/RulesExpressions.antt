@@ -15,7 +15,8 @@ use Rattle.cp_model.specs.RulesNames.{Callee, first_token, count_of, member_of, 
 
 -- ---- C2, operands
 
--- what an operator wants of both operands: this base, or any one base; and what it gives
+-- what an operator requires of both operands (this base, or any one base), and the type of its
+-- result
 pub record Signature : Type 0 where
   pub wants : Option ℕ
   pub gives : ℕ
@@ -39,7 +40,7 @@ operands_fit None None b = false
 abbrev pub c2_operands : Environment → Operator → ℕ → ℕ → ℕ → Judged ℕ
 c2_operands env o at a b = provided (operands_fit (signature o).wants (base_of env a) (base_of env b)) C2 at (signature o).gives
 
--- C2: a sign wants an integer, `not` a Boolean
+-- C2: a sign requires an integer, `not` a Boolean
 abbrev pub c2_operand : Environment → ℕ → ℕ → ℕ → Judged ℕ
 c2_operand env base at t = provided (is_base base (base_of env t)) C2 at base
 
@@ -56,7 +57,8 @@ mode_of want.CharVariable = mode.Variable
 mode_of want.QueueVariable = mode.Queue
 mode_of _ = mode.Value
 
--- C2: a value argument doesn't agree. C10: a `var` argument isn't of the parameter's very type. Nothing is told of a parameter whose type is broken
+-- C2: a value argument doesn't agree. C10: a `var` argument isn't of the parameter's very type. If
+-- the parameter's type is broken, nothing is reported
 abbrev pub fits_type : Environment → Bool → Option ℕ → s.Expression → ℕ → Judged ℕ
 fits_type env by_reference None e t = Sound t
 fits_type env true (Some u) e t = provided (nat_eq t u) C10 (first_token e) t
@@ -66,7 +68,7 @@ abbrev pub c10_by_reference : Environment → Bool → s.Expression → Violatio
 c10_by_reference env true e = c10_variable env e
 c10_by_reference env false e = []
 
--- an argument, whose expression was judged
+-- an argument whose expression has been judged
 abbrev pub argument : Environment → Want → s.Expression → Judged ℕ → Judged ℕ
 argument env (want.Parameter p) e j = also (c10_by_reference env p.by_reference e) (then_judge j (fits_type env p.by_reference p.of e))
 argument env want.Simple e j = then_judge j (λ t. provided (is_simple env t) C2 (first_token e) t)
@@ -74,7 +76,7 @@ argument env want.Integer e j = then_judge j (λ t. provided (is_base integer (b
 argument env want.CharVariable e j = also (c10_variable env e) (then_judge j (λ t. provided (is_base char (base_of env t)) C2 (first_token e) t))
 argument env want.QueueVariable e j = then_judge j (λ t. provided (nat_eq t queue) C2 (first_token e) t)
 
--- what the arguments have to meet; nothing, where it isn't known what is called
+-- what is required of the arguments; nothing if it isn't known what is called
 abbrev pub wants_in : Environment → Judged Entity → Judged Callee → List Want
 wants_in env e (Sound c) = c.wants
 wants_in env e (Broken v vs) = wants_named env e
@@ -85,8 +87,8 @@ first_type t u = Sound t
 abbrev pub result_of : Environment → Callee → ℕ → Judged ℕ
 result_of env c t = Sound (given env t c.gives)
 
--- the first operand of an argument, or the name of a call that is one, isn't the argument itself: it is used as a value. Where C10 judges
--- the argument, it judges the place of that name
+-- the first operand of an argument, or the name of a call that is an argument, isn't the argument
+-- itself: it is used as a value. If C10 judges the argument, it judges the place of that name
 abbrev pub first_operand : Mode → Mode
 first_operand mode.Queue = mode.Value
 first_operand mode.Variable = mode.FirstOperand
@@ -127,13 +129,13 @@ abbrev mutual
   indexed env e (s.MoreIndices at i is) =
       indexed env (both (then_judge e (c2_array env at)) (judge env mode.Value i) (c2_index env (first_token i))) is
 
-  -- the arguments, against what they have to meet: the type of the first
+  -- judges the arguments against what is required of them; the result is the type of the first
   pub arguments : Environment → List Want → s.Expressions → Judged ℕ
   arguments env ws s.NoExpressions = Sound integer
   arguments env [] (s.MoreExpressions e es) = more_arguments env (judge env mode.Value e) [] es
   arguments env (w ∷ ws) (s.MoreExpressions e es) = more_arguments env (argument env w e (judge env (mode_of w) e)) ws es
 
-  -- the arguments after those that were judged so far
+  -- judges the arguments after those that have been judged so far
   pub more_arguments : Environment → Judged ℕ → List Want → s.Expressions → Judged ℕ
   more_arguments env j ws s.NoExpressions = j
   more_arguments env j [] (s.MoreExpressions e es) = more_arguments env (both j (judge env mode.Value e) first_type) [] es

@@ -1,4 +1,4 @@
--- Designators: where their names stand, and what is judged of a name by its sort.
+-- Designators: where their names stand, and how a name is judged by its sort.
 use Rattle.std.specs.Prelude.{ℕ, suc, Bool, true, false, ◌&&◌, not, List, [], ◌∷◌, ◌++◌, Option, None, Some, nat_eq, if◌then◌else◌, length, map, is_some}
 use Rattle.std.specs.Option.{unwrap_or}
 use Rattle.cp_model.specs.Syntax as s
@@ -48,7 +48,7 @@ has_field s.NoSelectors = false
 has_field (s.MoreSelectors (s.Field at y) ss) = true
 has_field (s.MoreSelectors (s.Indexed is) ss) = has_field ss
 
--- the first token of an expression
+-- the place of an expression's first token
 abbrev pub first_token : s.Expression → ℕ
 first_token (s.Number at n) = at
 first_token (s.Character at n) = at
@@ -65,8 +65,8 @@ count_of (s.MoreExpressions e es) = suc (count_of es)
 
 -- ---- parts of variables
 
--- C2: `.` after what is neither a record nor a component. C1: a field that the record lacks; a name that is no routine of the component's
--- type
+-- C2: `.` after something that is neither a record nor a component. C1: a field that the record
+-- lacks; a name that isn't a routine of the component's type
 abbrev pub member_named : Environment → Identifier → Access → Option Member → Judged Entity
 member_named env x a None = breaks C1 x.at
 member_named env x a (Some (member.Field t)) = Sound (entity.Variable t a)
@@ -80,7 +80,7 @@ abbrev pub member_of : Environment → ℕ → Identifier → Entity → Judged 
 member_of env at x (entity.Variable t a) = member_among env at x a (members_in env (row_of env t).structure)
 member_of env at x e = breaks C2 at
 
--- C2: `[` after what is no array; one index more than dimensions
+-- C2: `[` after something that isn't an array; more indices than dimensions
 abbrev pub array_in : ℕ → Access → Structure → Judged ArrayPart
 array_in at a (structure.Array index element) = Sound (record { index = index; element = element; access = a })
 array_in at a _ = breaks C2 at
@@ -93,14 +93,15 @@ c2_array env at e = breaks C2 at
 abbrev pub c2_index : Environment → ℕ → ArrayPart → ℕ → Judged Entity
 c2_index env at part t = provided (agree env part.index t) C2 at (entity.Variable part.element part.access)
 
--- what a name stands for before its parts are selected. Where none is, its use judges it
+-- what a name stands for before its parts are selected. If no part is, the use of the name judges
+-- it
 abbrev pub before_selectors : Environment → Identifier → s.Selectors → Entity → Judged Entity
 before_selectors env x s.NoSelectors e = Sound e
 before_selectors env x (s.MoreSelectors y ys) e = also (c4_c9_named env x e) (Sound e)
 
 -- ---- what is judged of a designator's names, whatever is broken in it
 
--- C2: a first name of another sort than is wanted; where C10 judges the place, C10 in its stead
+-- C2: the first name is of another sort than is wanted. If C10 judges the place, it is C10 instead
 abbrev pub first_rule : Mode → Rule
 first_rule mode.Variable = C10
 first_rule mode.FirstOperand = C10
@@ -115,16 +116,16 @@ abbrev pub is_indexed_first : s.Selectors → Bool
 is_indexed_first (s.MoreSelectors (s.Indexed is) ss) = true
 is_indexed_first ss = false
 
--- C2: a type's name before `[`
+-- C2: the name of a type before `[`
 abbrev pub c2_before_index : Environment → Mode → s.Designator → Violations
 c2_before_index env m (s.Designate x ss) = unless (not (is_indexed_first ss && is_type (c1_named env x))) (first_rule m) x.at
 
--- the member of this name that a part has
+-- the member with this name
 abbrev pub member_in : Text → Option Members → Option Member
 member_in x None = None
 member_in x (Some ms) = lookup x ms
 
--- C5: after a component's `.` stands a routine without `entry`
+-- C5: a routine without `entry` after a component's `.`
 abbrev pub c5_member : Environment → Identifier → Option Member → Violations
 c5_member env y (Some (member.Routine r)) = unless (routine_of env r).entry C5 y.at
 c5_member env y m = []
@@ -137,7 +138,7 @@ abbrev pub c5_selected : Environment → Identifier → s.Selectors → Violatio
 c5_selected env x (s.MoreSelectors (s.Field at y) ss) = c5_member env y (member_selected env y.name (c1_named env x))
 c5_selected env x ss = []
 
--- a component is no part of a variable, so its routines stand after the first name
+-- a component is never a part of a variable, so its routines come right after the first name
 abbrev pub c5_after_point : Environment → s.Designator → Violations
 c5_after_point env (s.Designate x ss) = c5_selected env x ss
 
@@ -147,7 +148,7 @@ abbrev pub has_queues : Environment → Judged Entity → Bool
 has_queues env (Sound (entity.Variable t a)) = (row_of env t).has_queues
 has_queues env j = false
 
--- C8: a variable with queues named elsewhere than as the argument of `delay`, `continue`, `empty`
+-- C8: a variable with queues named anywhere but as the argument of `delay`, `continue` or `empty`
 abbrev pub c8_named : Environment → Mode → Identifier → Violations
 c8_named env mode.Queue x = []
 c8_named env m x = unless (not (has_queues env (c1_named env x))) C8 x.at
@@ -157,7 +158,7 @@ c2_c5_c8_named env m d = c2_before_index env m d ++ c5_after_point env d ++ c8_n
 
 -- ---- routines that are called
 
--- what is called: what its arguments have to meet, and what it gives
+-- what is called: what is required of its arguments, and what it returns
 pub record Callee : Type 0 where
   pub wants : List Want
   pub gives : Gives
@@ -165,7 +166,8 @@ pub record Callee : Type 0 where
 abbrev pub wants_of : Environment → RoutineRow → List Want
 wants_of env r = map want.Parameter (parameters_from env r.first r.count)
 
--- C2: a procedure in an expression; a wrong number of arguments. The rule is that of a name of another sort
+-- C2: a procedure in an expression; a wrong number of arguments. The parameter `rule` is the rule
+-- for a name of another sort
 abbrev pub function_gives : Rule → Identifier → Bool → Returns → Judged Gives
 function_gives rule x fits returns.Nothing = breaks (if fits then rule else C2) x.at
 function_gives rule x fits (returns.Value t) = provided fits C2 x.at (gives.Value t)
@@ -186,12 +188,12 @@ abbrev pub procedure_called : Environment → Identifier → ℕ → RoutineRow 
 procedure_called env x n r =
     provided (is_procedure r.returns && nat_eq r.count n) C2 x.at (record { wants = wants_of env r; gives = gives.Nothing })
 
--- A routine without `entry` after a `.` is not called. C2: a wrong number of arguments; else C5, wherever it stands. Whether it is a function
--- isn't judged
+-- a routine without `entry` after a `.` is not called. C2: a wrong number of arguments; otherwise
+-- C5, wherever it stands. Whether it is a function isn't judged
 abbrev pub counted : Environment → Identifier → ℕ → RoutineRow → Judged Callee
 counted env x n r = breaks (if nat_eq r.count n then C5 else C2) x.at
 
--- C5: an entry routine is called by its name alone
+-- C5: an entry routine called by its name alone
 abbrev pub c5_by_name : Identifier → RoutineRow → Violations
 c5_by_name x r = unless (not r.entry) C5 x.at
 
@@ -230,7 +232,7 @@ standard_procedure standard.Accept = callee standard.Accept gives.Nothing
 standard_procedure standard.Wait = callee standard.Wait gives.Nothing
 standard_procedure _ = None
 
--- C2: a wrong number of arguments. The rule is that of a name of another sort
+-- C2: a wrong number of arguments. The parameter `rule` is the rule for a name of another sort
 abbrev pub standard_called : Rule → Identifier → Bool → Option Callee → Judged Callee
 standard_called rule x fits None = breaks (if fits then rule else C2) x.at
 standard_called rule x fits (Some c) = provided fits C2 x.at c
@@ -238,7 +240,7 @@ standard_called rule x fits (Some c) = provided fits C2 x.at c
 abbrev pub standard_fits : Standard → ℕ → Bool
 standard_fits f n = nat_eq (length (standard_wants f)) n
 
--- the same of a last name, which is the first where no field is selected
+-- the rule for a last name of another sort; the last name is the first if no field is selected
 abbrev pub sort_rule_of_variable : s.Selectors → Rule
 sort_rule_of_variable ss = if has_field ss then C2 else C10
 
@@ -247,7 +249,7 @@ sort_rule mode.Variable (s.Designate x ss) = sort_rule_of_variable ss
 sort_rule mode.FirstOperand (s.Designate x ss) = sort_rule_of_variable ss
 sort_rule m d = C2
 
--- a function that is called with so many arguments
+-- a function that is called with n arguments
 abbrev pub function_of : Environment → Mode → s.Designator → ℕ → Entity → Judged Callee
 function_of env m d n (entity.Routine r) =
     also (c5_by_name (last_name d) (routine_of env r)) (function_called env (sort_rule m d) (last_name d) n (routine_of env r))
@@ -260,7 +262,7 @@ function_of env m d n (entity.Standard f) =
     also (c9_standard env (last_name d) (entity.Standard f)) (standard_called (sort_rule m d) (last_name d) (standard_fits f n) (standard_function f))
 function_of env m d n e = also (c4_unfinished (last_name d) e) (breaks (sort_rule m d) (last_name d).at)
 
--- a procedure that is called with so many arguments
+-- a procedure that is called with n arguments
 abbrev pub procedure_of : Environment → s.Designator → ℕ → Entity → Judged Callee
 procedure_of env d n (entity.Routine r) = also (c5_by_name (last_name d) (routine_of env r)) (procedure_called env (last_name d) n (routine_of env r))
 procedure_of env d n (entity.Entry r) =
@@ -271,7 +273,7 @@ procedure_of env d n (entity.Standard f) =
     also (c9_standard env (last_name d) (entity.Standard f)) (standard_called C2 (last_name d) (standard_fits f n) (standard_procedure f))
 procedure_of env d n e = also (c4_unfinished (last_name d) e) (breaks C2 (last_name d).at)
 
--- what the arguments of a call have to meet, whatever is broken in the call
+-- what is required of the arguments of a call, whatever is broken in the call
 abbrev pub wants_named : Environment → Judged Entity → List Want
 wants_named env (Sound (entity.Routine r)) = wants_of env (routine_of env r)
 wants_named env (Sound (entity.Entry r)) = wants_of env (routine_of env r)
@@ -286,7 +288,8 @@ is_value (Sound (entity.Constant base n)) = true
 is_value (Sound (entity.Variable t a)) = true
 is_value j = false
 
--- the type of a variable; of its field; of an element, whatever its index is: if there is such a part
+-- the type of a variable, of its field, or of its element, whatever the index is, if there is such
+-- a part
 abbrev pub variable_type : Judged Entity → Option ℕ
 variable_type (Sound (entity.Variable t a)) = Some t
 variable_type j = None
@@ -332,24 +335,24 @@ last_part_of env (s.Designate x ss) = last_part env (first_part (c1_named env x)
 abbrev pub is_indexed_value : NamedPart → Bool
 is_indexed_value p = p.is_indexed && p.is_value
 
--- C2: a routine is wanted, and what is indexed is a variable, a field, a constant or a component
+-- C2: a routine is wanted, but what is indexed is a variable, a field, a constant or a component
 abbrev pub c2_indexed : Environment → Mode → s.Designator → Violations
 c2_indexed env m d = unless (not (is_indexed_value (last_part_of env d))) (sort_rule m d) (last_name d).at
 
 -- ---- what is used as a value, or as a variable
 
--- a routine without arguments: called as a function, but not where C10 judges the place
+-- a routine without arguments: it is called as a function, except where C10 judges the place
 abbrev pub function_alone : Environment → Mode → s.Designator → Entity → Judged Gives
 function_alone env mode.Variable d e = also (c4_c9_named env (first_name d) e) (breaks C10 (first_name d).at)
 function_alone env m d e = then_judge (function_of env m d 0 e) (λ c. Sound c.gives)
 
--- the type of what a call gives, whose first argument is of a type
+-- the type of the result of a call whose first argument is of type t
 abbrev pub given : Environment → ℕ → Gives → ℕ
 given env t (gives.Value u) = u
 given env t gives.ArgumentBase = unwrap_or (base_of env t) t
 given env t gives.Nothing = t
 
--- C2: a value is wanted, and the name is of another sort; a component as a value
+-- C2: a value is wanted and the name is of another sort; a component used as a value
 abbrev pub is_used_as_component : Mode → Environment → ℕ → Bool
 is_used_as_component mode.Variable env t = true
 is_used_as_component m env t = not (is_component env t)
@@ -364,7 +367,8 @@ value_of env m d e = then_judge (function_alone env m d e) (λ g. Sound (given e
 
 -- ---- C10, what should be a variable
 
--- a component variable is a variable, but what it holds is no part of it for others. A right is none
+-- a component variable is a variable, but to others what it holds is no part of it. A right isn't a
+-- variable
 abbrev pub selects_field_first : s.Selectors → Bool
 selects_field_first (s.MoreSelectors (s.Field at y) ss) = true
 selects_field_first ss = false
@@ -376,10 +380,10 @@ is_changeable a = true
 abbrev pub is_variable : Environment → s.Selectors → Judged Entity → Bool
 is_variable env ss (Sound (entity.Variable t a)) = is_changeable a && not (is_component env t && selects_field_first ss)
 is_variable env ss (Sound e) = false
--- told already
+-- already reported
 is_variable env ss (Broken v vs) = true
 
--- C10: not a variable or `var` parameter or a part of one
+-- C10: neither a variable nor a `var` parameter nor a part of one
 abbrev pub c10_designator : Environment → s.Designator → Violations
 c10_designator env (s.Designate x ss) = unless (is_variable env ss (c1_named env x)) C10 x.at
 

@@ -1,5 +1,6 @@
--- The need of statements: the words of the activations that they call for, one inside the other.
--- The need of a body is the greatest need among the routines called in it and the bodies of classes and monitors initialised in it, or 0.
+-- The need of statements: the words of the activations that they make, one inside the other. The
+-- need of a body is the greatest need among the routines called in it and the bodies of classes and
+-- monitors initialised in it, or 0.
 use Rattle.std.specs.Prelude.{ℕ, max, List, [], ◌∷◌, Option, None, Some}
 use Rattle.cp_model.specs.Syntax as s
 use Rattle.cp_model.specs.declared.tree.Sort.{Sort}
@@ -33,7 +34,7 @@ abbrev mutual
   need_expressions env s.NoExpressions = 0
   need_expressions env (s.MoreExpressions e es) = max (need_expression env e) (need_expressions env es)
 
-  -- a routine that it names is called
+  -- a routine that the designator names is called
   pub need_designator : Environment → s.Designator → ℕ
   need_designator env (s.Designate x ss) = max (need_called env (designated env (s.Designate x ss))) (need_selectors env ss)
 
@@ -51,7 +52,7 @@ abbrev mutual
 
 -- ---- statements
 
--- the body of a process is run by the process itself
+-- a process runs its body itself, so its `init` needs no words
 abbrev pub need_body_of : SystemRow → Sort → ℕ
 need_body_of y sort.Process = 0
 need_body_of y sort.Monitor = y.body_need

@@ -25,7 +25,8 @@ plain x = s.Designate x s.NoSelectors
 
 -- ---- assignment
 
--- the name of the function that is being defined, on the left: its result, where it is the whole left side
+-- the name of the function that is being defined, on the left: it is the result, if it is the whole
+-- left side
 abbrev pub own_result : Identifier → s.Selectors → Returns → Judged ℕ
 own_result x ss returns.Nothing = also (violation C4 x.at ∷ []) (breaks C10 x.at)
 own_result x s.NoSelectors (returns.Value t) = Sound t
@@ -44,7 +45,7 @@ left_by env x ss j = other_left env (s.Designate x ss)
 abbrev pub left : Environment → s.Designator → Judged ℕ
 left env (s.Designate x ss) = left_by env x ss (c1_named env x)
 
--- a lone component name on the right isn't judged as a value where the left side is a component
+-- a bare component name on the right isn't judged as a value if the left side is a component
 abbrev pub is_component_type : Environment → Judged ℕ → Bool
 is_component_type env (Sound t) = is_component env t
 is_component_type env j = false
@@ -83,7 +84,7 @@ c2_selector env e = then_judge (judge env mode.Value e) (λ t. provided (is_simp
 
 -- ---- labels
 
--- a constant: its base type and its ordinal
+-- a constant, by its base type and its ordinal
 abbrev pub Label : Type 0
 Label = ℕ × ℤ
 
@@ -95,11 +96,11 @@ abbrev pub fits_selector : Option ℕ → Label → Bool
 fits_selector None c = true
 fits_selector (Some base) c = nat_eq base c.0
 
--- C2: a label isn't of the selector's base. C3: a label stands twice in one `case`
+-- C2: a label isn't of the selector's base. C3: a label occurs twice in one `case`
 abbrev pub c2_c3_label : Option ℕ → List Label → ℕ → Label → Judged Label
 c2_c3_label base seen at c = also (unless (fits_selector base c) C2 at) (provided (not (is_among c seen)) C3 at c)
 
--- each label once
+-- adds a label, unless it was seen already
 abbrev pub with_label : List Label → Label → List Label
 with_label seen c = if is_among c seen then seen else seen ++ c ∷ []
 
@@ -107,7 +108,7 @@ abbrev pub more_seen : List Label → Judged Label → List Label
 more_seen seen (Sound c) = with_label seen c
 more_seen seen (Broken v vs) = seen
 
--- the labels that were seen, and what is broken in them
+-- the labels seen so far, and the violations in them
 pub record Labelled : Type 0 where
   pub seen : List Label
   pub violations : Violations
@@ -119,7 +120,7 @@ labels env base seen (c ∷ cs) =
     let rest = labels env base (more_seen seen one) cs in
     record { seen = rest.seen; violations = violations_of (then_judge one (c2_c3_label base seen (constant_at c))) ++ rest.violations }
 
--- labels aren't judged against a selector that is broken
+-- labels aren't judged against a broken selector
 abbrev pub selector_base : Environment → Judged ℕ → Option ℕ
 selector_base env (Sound t) = base_of env t
 selector_base env (Broken v vs) = None
@@ -150,7 +151,7 @@ abbrev pub system_initialised : Identifier → Access → Option ℕ → Judged 
 system_initialised x access.Own (Some y) = Sound y
 system_initialised x a y = breaks C12 x.at
 
--- C12: `init` of what is no component variable declared by this component
+-- C12: `init` of something that isn't a component variable declared by this component
 abbrev pub c12_component : Environment → Identifier → Entity → Judged ℕ
 c12_component env x (entity.Variable t a) = system_initialised x a (system_of env t)
 c12_component env x e = also (c4_c9_named env x e) (breaks C12 x.at)
@@ -159,7 +160,8 @@ c12_component env x e = also (c4_c9_named env x e) (breaks C12 x.at)
 abbrev pub c12_count : Environment → Identifier → ℕ → ℕ → Judged SystemRow
 c12_count env x n y = provided (nat_eq (system_row env y).count n) C12 x.at (system_row env y)
 
--- an argument of which nothing is wanted, or only a component's name: what it stands for isn't judged as a value
+-- an argument of which nothing is wanted, or only the name of a component: what it stands for isn't
+-- judged as a value
 abbrev pub unused : Environment → s.Designator → Entity → Judged ℕ
 unused env d e = also (c4_c9_named env (last_name d) e) (Sound integer)
 
@@ -190,7 +192,7 @@ init_arguments env ps s.NoExpressions = []
 init_arguments env [] (s.MoreExpressions e es) = violations_of (unwanted env e) ++ init_arguments env [] es
 init_arguments env (p ∷ ps) (s.MoreExpressions e es) = violations_of (init_argument env p.of e) ++ init_arguments env ps es
 
--- the parameters of what is initialised, whatever the number of arguments is
+-- the parameters of what is initialised, whatever the number of arguments
 abbrev pub parameters_in : Environment → Judged ℕ → List ParameterRow
 parameters_in env (Sound y) = parameters_from env (system_row env y).first (system_row env y).count
 parameters_in env (Broken v vs) = []

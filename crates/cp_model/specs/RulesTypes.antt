@@ -68,7 +68,7 @@ abbrev pub is_class : Sort → Bool
 is_class sort.Class = true
 is_class _ = false
 
--- a system type that a variable may have here
+-- whether a variable at this position may be of such a system type
 abbrev pub allows_system : Position → Sort → Bool
 allows_system position.InitialVariable y = true
 allows_system position.MonitorVariable y = is_class y
@@ -85,9 +85,10 @@ allows_queues position.Element = true
 allows_queues position.MonitorVariable = true
 allows_queues _ = false
 
--- C6: a system type as the type of a field, an array element, a routine's variable, or of `NAME = NAME`; a process or monitor type for a
--- variable of a system type. C8: a queue, or an array with queues, elsewhere than as a type definition, an element of an array, or a permanent
--- variable of a monitor
+-- C6: a system type as the type of a field, an array element, a routine's variable, or of `NAME =
+-- NAME`; a process or monitor type for a variable of a system type. C8: a queue, or an array with
+-- queues, anywhere but in a type definition, as an element of an array, or as a permanent variable
+-- of a monitor
 abbrev pub c6_c8_placed : Environment → Position → ℕ → ℕ → Judged ℕ
 c6_c8_placed env p at t =
     also (unless (allows_structure env p (row_of env t).structure) C6 at)
@@ -95,7 +96,7 @@ c6_c8_placed env p at t =
 
 -- ---- types
 
--- the first token of a written type
+-- the place of a written type's first token
 abbrev pub type_at : s.TypeExpression → ℕ
 type_at (s.Named x) = x.at
 type_at (s.Subrange a b) = constant_at a
@@ -111,7 +112,7 @@ c2_type x e = also (c4_unfinished x e) (breaks C2 x.at)
 abbrev pub named_type : Environment → Identifier → Judged ℕ
 named_type env x = then_judge (c1_named env x) (c2_type x)
 
--- whether a written type has queues, as far as that is known where something is broken inside it
+-- whether a written type has queues, as far as that is known if something is broken inside it
 abbrev pub has_queues : Environment → Judged ℕ → Bool
 has_queues env (Sound t) = (row_of env t).has_queues
 has_queues env (Broken v vs) = false
@@ -121,7 +122,7 @@ holds_queues env (s.Named x) = has_queues env (named_type env x)
 holds_queues env (s.Array at is e) = holds_queues env e
 holds_queues env t = false
 
--- a type, and the environment with the rows that were made for it
+-- what was made of a written type, and the environment with the rows that were added for it
 pub record Made (A : Type 0) : Type 0 where
   pub env : Environment
   pub of : A
@@ -134,7 +135,7 @@ abbrev pub made_type : Environment → Judged TypeRow → Made (Judged ℕ)
 made_type env (Sound r) = record { env = add_type env r; of = Sound (length env.types) }
 made_type env (Broken v vs) = record { env = env; of = Broken v vs }
 
--- C2: base types of a subrange's constants differ. C3: lower bound above upper bound
+-- C2: the base types of a subrange's constants differ. C3: the lower bound is above the upper bound
 abbrev pub c2_c3_subrange : ℕ → (ℕ × ℤ) → (ℕ × ℤ) → Judged TypeRow
 c2_c3_subrange at a b =
     also (unless (nat_eq a.0 b.0) C2 at)
@@ -144,18 +145,18 @@ c2_c3_subrange at a b =
 abbrev pub c2_index_type : Environment → ℕ → Judged ℕ → Judged ℕ
 c2_index_type env at j = then_judge j (λ t. provided (is_simple env t) C2 at t)
 
--- C2: an array or a record that is written there isn't, whatever is broken inside it
+-- C2: an array or a record written as an index type isn't simple, whatever is broken inside it
 abbrev pub c2_written_index : s.TypeExpression → Judged ℕ → Violations
 c2_written_index (s.Array at is e) (Broken v vs) = violation C2 at ∷ []
 c2_written_index (s.Record at gs) (Broken v vs) = violation C2 at ∷ []
 c2_written_index t j = []
 
--- C8: an array with queues that is written has them, whatever is broken inside it
+-- C8: a written array with queues has them, whatever is broken inside it
 abbrev pub c8_written : Environment → Position → s.TypeExpression → Judged ℕ → Violations
 c8_written env p (s.Array at is e) (Broken v vs) = unless (allows_queues p || not (holds_queues env e)) C8 at
 c8_written env p t j = []
 
--- a type where it stands
+-- a type at its position
 abbrev pub placed : Environment → Position → s.TypeExpression → Judged ℕ → Judged ℕ
 placed env p t j = also (c8_written env p t j) (then_judge j (c6_c8_placed env p (type_at t)))
 
@@ -170,7 +171,7 @@ array_row env i e = record {
 abbrev pub c13_type : ℕ → TypeRow → Judged TypeRow
 c13_type at r = provided (is_within r.words) C13 at r
 
--- an array of arrays, one for each index type
+-- an array of arrays, one level for each index type
 abbrev pub arrays : Environment → ℕ → List (Judged ℕ) → Judged ℕ → Made (Judged ℕ)
 arrays env at [] e = record { env = env; of = e }
 arrays env at (i ∷ is) e =
@@ -185,7 +186,7 @@ abbrev pub has_name : Text → List Text → Bool
 has_name x [] = false
 has_name x (y ∷ ys) = bytes_eq x y || has_name x ys
 
--- C1: a name twice in one record
+-- C1: a name occurs twice in one record
 abbrev pub c1_fields : List Text → List Identifier → Violations
 c1_fields seen [] = []
 c1_fields seen (x ∷ xs) = unless (not (has_name x.name seen)) C1 x.at ++ c1_fields (seen ++ x.name ∷ []) xs
@@ -236,7 +237,7 @@ abbrev mutual
       let rest = index_types one.env ts in
       record { env = rest.env; of = also (c2_written_index t one.of) (c2_index_type one.env (type_at t) one.of) ∷ rest.of }
 
-  -- the fields, where names were seen before
+  -- the fields, after the names that were seen before
   pub fields_of : Environment → List Text → s.FieldGroups → Made (Judged FieldList)
   fields_of env seen s.NoFields = record { env = env; of = Sound [] }
   fields_of env seen (s.MoreFields xs t gs) =

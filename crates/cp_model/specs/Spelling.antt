@@ -1,5 +1,6 @@
--- Which tokens spell a text: the text is a row of pieces, each a separator or the spelling of the next token.
--- A word goes on as long as letters, digits or underscores follow, a number as long as digits do, a mark is the longest that fits.
+-- Which tokens spell a text: the text is a sequence of pieces, each a separator or the spelling of
+-- the next token. A word goes on as long as letters, digits or underscores follow, a number as long
+-- as digits follow, and a mark is the longest that fits.
 use Rattle.std.specs.Prelude.{◌≡◌, ℕ, ◌+◌, ◌≤◌, Bool, true, false, not, ◌||◌, ◌==◌, if◌then◌else◌, List, [], ◌∷◌, ◌++◌, length, map, Option, Some, None, codes, ◌⊎◌}
 use Rattle.cp_model.specs.Characters.{is_blank, is_digit, is_letter, is_in_word, is_quote, is_apostrophe, is_printable, lower, decimal_value}
 use Rattle.cp_model.specs.declared.token.Kind.{Kind}
@@ -28,18 +29,18 @@ same_text [] (y ∷ ys) = false
 same_text (x ∷ xs) [] = false
 same_text (x ∷ xs) (y ∷ ys) = if x == y then same_text xs ys else false
 
--- the reserved word that is written so, or else a name
+-- the reserved word that is written like this, or else a name
 abbrev pub word_among : List (List ℕ × Symbol) → List ℕ → Kind
 word_among [] letters = kind.Name letters
 word_among (w ∷ ws) letters = if same_text w.0 letters then kind.Symbol w.1 else word_among ws letters
 
--- what a word in lower case is
+-- the kind of token that a word in lower case is
 abbrev pub kind_of_word : List ℕ → Kind
 kind_of_word = word_among reserved_words
 
 -- ---- marks
 
--- how a mark is written. Two of them are written in two ways, and a reserved word is no mark
+-- how a mark is written. Two marks can be written in two ways, and a reserved word isn't a mark
 abbrev pub IsWritten : Symbol → List ℕ → Type 0
 IsWritten symbol.Plus bytes = bytes ≡ codes "+"
 IsWritten symbol.Minus bytes = bytes ≡ codes "-"
@@ -63,7 +64,7 @@ IsWritten symbol.Dot bytes = bytes ≡ codes "."
 IsWritten symbol.DotDot bytes = bytes ≡ codes ".."
 IsWritten _ bytes = ⊥
 
--- with this byte behind it the mark would be the beginning of a longer one
+-- with this byte after it, the mark would be the beginning of a longer one
 abbrev pub grows : Symbol → ℕ → Bool
 grows symbol.Less b = b == 61 || b == 62
 grows symbol.Greater b = b == 61
@@ -74,23 +75,23 @@ grows _ b = false
 
 -- ---- pieces
 
--- each byte is such a byte
+-- every byte passes the test
 abbrev pub Each : (ℕ → Bool) → List ℕ → Type 0
 Each p [] = Unit {0}
 Each p (b ∷ bs) = (p b ≡ true) × Each p bs
 
--- the text doesn't go on with such a byte
+-- the text doesn't go on with a byte that passes the test
 abbrev pub Stops : (ℕ → Bool) → List ℕ → Type 0
 Stops p [] = Unit {0}
 Stops p (b ∷ bs) = p b ≡ false
 
--- the bytes are a word, as far as it goes before the rest
+-- the bytes are a whole word, before this rest
 abbrev pub IsWord : Kind → List ℕ → List ℕ → Type 0
 IsWord k [] rest = ⊥
 IsWord k (b ∷ bs) rest =
     (is_letter b ≡ true) × Each is_in_word bs × Stops is_in_word rest × (length (b ∷ bs) ≤ 64) × (k ≡ kind_of_word (map lower (b ∷ bs)))
 
--- the bytes are the digits of this number, as far as they go
+-- the bytes are all the digits of this number, before this rest
 abbrev pub IsNumber : ℕ → List ℕ → List ℕ → Type 0
 IsNumber n [] rest = ⊥
 IsNumber n (b ∷ bs) rest = Each is_digit (b ∷ bs) × Stops is_digit rest × (decimal_value (b ∷ bs) ≤ 32767) × (n ≡ decimal_value (b ∷ bs))
@@ -107,17 +108,17 @@ IsCoded n bytes = (digits : List ℕ) × Each is_digit digits × (1 ≤ length d
 abbrev pub IsCharacter : ℕ → List ℕ → Type 0
 IsCharacter n bytes = IsShown n bytes ⊎ IsCoded n bytes
 
--- a mark, where no longer one fits
+-- a mark, if no longer one fits
 abbrev pub IsMark : Symbol → List ℕ → List ℕ → Type 0
 IsMark m bytes rest = IsWritten m bytes × Stops (grows m) rest
 
--- a blank, or a comment: any bytes but `"` between two of these
+-- a blank, or a comment: any bytes but `"` between two `"`
 abbrev pub IsSeparator : List ℕ → Type 0
 IsSeparator [] = ⊥
 IsSeparator (b ∷ bs) = ((is_blank b ≡ true) × (bs ≡ []))
     ⊎ ((is_quote b ≡ true) × ((inner : List ℕ) × Each (λ c. not (is_quote c)) inner × (bs ≡ inner ++ 34 ∷ [])))
 
--- the bytes are the spelling of a token of this kind, or of a separator, where this rest follows
+-- the bytes spell a token of this kind, or a separator, if this rest follows
 abbrev pub IsPiece : Option Kind → List ℕ → List ℕ → Type 0
 IsPiece None bytes rest = IsSeparator bytes
 IsPiece (Some (kind.Number n)) bytes rest = IsNumber n bytes rest
@@ -125,12 +126,12 @@ IsPiece (Some (kind.Character n)) bytes rest = IsCharacter n bytes
 IsPiece (Some (kind.Name letters)) bytes rest = IsWord (kind.Name letters) bytes rest
 IsPiece (Some (kind.Symbol x)) bytes rest = IsWord (kind.Symbol x) bytes rest ⊎ IsMark x bytes rest
 
--- a token of this kind in front, whose bytes are these; a separator gives none
+-- puts a token of this kind, with these bytes, before the others; a separator adds none
 abbrev pub with_token : Option Kind → ℕ → ℕ → List Token → List Token
 with_token None from to tokens = tokens
 with_token (Some k) from to tokens = record { kind = k; span = record { from = from; to = to } } ∷ tokens
 
--- from this place on the text is these pieces, up to a rest, and their tokens are these
+-- from this place on the text consists of these pieces, up to a rest, and their tokens are these
 abbrev pub Row : ℕ → List (Option Kind × List ℕ) → List ℕ → List Token → List ℕ → Type 0
 Row at [] text tokens last = (text ≡ last) × (tokens ≡ [])
 Row at (p ∷ ps) text tokens last = (rest : List ℕ) × (others : List Token) × (text ≡ p.1 ++ rest) × IsPiece p.0 p.1 rest
@@ -142,12 +143,12 @@ Spells text tokens = (pieces : List (Option Kind × List ℕ)) × Row 0 pieces t
 
 -- ---- texts that have no tokens
 
--- the text up to this place is a row of pieces, and this is what follows
+-- the text up to this place consists of pieces, and this is what follows
 abbrev pub SpelledUpTo : List ℕ → ℕ → List ℕ → Type 0
 SpelledUpTo text at rest =
     (pieces : List (Option Kind × List ℕ)) × (tokens : List Token) × Row 0 pieces text tokens rest × (length text ≡ at + length rest)
 
--- the text goes on with at least this many such bytes
+-- the text goes on with at least n bytes that pass the test
 abbrev pub Runs : (ℕ → Bool) → ℕ → List ℕ → Type 0
 Runs p n text = (run : List ℕ) × (rest : List ℕ) × (text ≡ run ++ rest) × Each p run × (n ≤ length run)
 
@@ -157,7 +158,7 @@ IsBadByte [] = ⊥
 IsBadByte (b ∷ bs) = (is_blank b ≡ false) × (is_quote b ≡ false) × (is_apostrophe b ≡ false) × (is_digit b ≡ false) × (is_letter b ≡ false)
     × ((m : Symbol) (more : List ℕ) → IsWritten m (b ∷ more) → ⊥)
 
--- a comment begins and doesn't end
+-- a comment that begins but doesn't end
 abbrev pub IsOpenComment : List ℕ → Type 0
 IsOpenComment [] = ⊥
 IsOpenComment (b ∷ bs) = (is_quote b ≡ true) × Each (λ c. not (is_quote c)) bs

@@ -19,7 +19,8 @@ use Rattle.cp_model.specs.Decimal.{decimal}
 
 -- ---- display and accept
 
--- Each character is one. A number beyond is told by its lowest eight bits, so that a transcript has bytes alone.
+-- Each character is a byte. Of a larger number the lowest eight bits are taken, and a negative one
+-- gives 0, so a transcript has only bytes.
 abbrev pub byte : ℤ → ℕ
 byte (pos n) = n % 256
 byte (negsuc n) = 0
@@ -28,11 +29,11 @@ byte (negsuc n) = 0
 abbrev pub display_text : TypedValue → List ℕ
 display_text v = elim (base_of_value v) [ Char ↦ byte (ordinal_of v) ∷ [] | _ ↦ decimal (ordinal_of v) ]
 
--- At the end of the input each character is 25.
+-- The next character of the input, which is 25 at the end.
 abbrev pub next_input : List ℕ → ℕ → ℤ
 next_input input i = elim (slice_get input i) [ None ↦ pos 25 | Some b ↦ pos b ]
 
--- The place in the input after one more `accept`: at the end nothing is taken.
+-- The place in the input after one more `accept`. At the end of the input nothing is taken.
 abbrev pub next_place : List ℕ → ℕ → ℕ
 next_place input i = elim (slice_get input i) [ None ↦ i | Some b ↦ suc i ]
 
@@ -42,7 +43,7 @@ abbrev pub process_in_queue : Value → Option ℕ
 process_in_queue (QueueHolds p) = p
 process_in_queue _ = None
 
--- Into a queue where nobody stands; a taken queue is fault 5.
+-- Enters a queue in which no process stands. A taken queue is fault 5.
 abbrev pub enqueue : ℕ → Configuration → List Task → Location → ℕ → Option ℕ → StepResult
 enqueue p config k q m (Some r) = Fault 5
 enqueue p config k q m None = Gives (with_writes config ((q, QueueHolds (Some p)) ∷ []) k, Delays m q)
@@ -52,7 +53,8 @@ abbrev pub delay : ℕ → Configuration → List Task → Location → List ℕ
 delay p config k q [] = own_step config
 delay p config k q (m ∷ ms) = enqueue p config k q m (process_in_queue (config.store q))
 
--- The entry routine returns at once, and the queue is empty. A process that stood in it resumes.
+-- The entry routine returns at once, and the queue becomes empty. A process that stood in it
+-- resumes.
 abbrev pub continue : Configuration → Location → Option (Environment × Option ℕ × List Task) → StepResult
 continue config q (Some (env, Some m, k)) =
     and_then (returns (record config { store = put q (QueueHolds None) config.store }) env k)

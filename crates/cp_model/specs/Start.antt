@@ -1,7 +1,8 @@
 -- The start of a run.
 --
--- Process 1 is ready and all others are unstarted; all variables and simple parameters of components have their start values; no
--- component is initialised, no gate is set, no input is taken, and the count of rounds is 0.
+-- Process 1 is ready and all others are unstarted. All variables and simple parameters of
+-- components have their start values. No component is initialised, no gate is set, no input is
+-- taken, and the count of rounds is 0.
 use Rattle.std.specs.Prelude.{None, [], false, flat_map, map, ◌++◌, ◌∷◌}
 use Rattle.cp_model.specs.Abstract.{Class, Monitor, Name, Process, Sort}
 use Rattle.cp_model.specs.Types.{ComponentOf, Members, ResolvedType}

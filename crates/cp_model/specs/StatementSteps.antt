@@ -37,7 +37,7 @@ abbrev pub next_counter : Bool → ℤ → ℤ
 next_counter false n = n +ℤ pos 1
 next_counter true n = n +ℤ negsuc 0
 
--- The variable gets the counter; then the statement and the next test are left.
+-- The variable gets the counter, and the statement and the next test are left.
 abbrev pub for_step
     : Context → Configuration → Environment → List Task → Name → Bool → ℤ → ℤ → Statement → StepResult
 for_step context config env k v down n last s =

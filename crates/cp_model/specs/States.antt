@@ -1,4 +1,4 @@
--- States of a whole system, and what stays the same from round to round.
+-- The state of a whole system, and the setup, which stays the same from round to round.
 use Rattle.std.specs.Prelude.{Bool, List, [], false, if◌then◌else◌, nat_eq, suc, true, zero, ℕ, ◌∷◌}
 use Rattle.cp_model.specs.Abstract.{Monitor, Name, Process, Sort, Tree}
 use Rattle.cp_model.specs.Declarations.{Variable, declarations, globals}
@@ -15,15 +15,15 @@ pub data Holder : Type 0 where
   Unset Free : Holder
   HeldBy : (p : ℕ) → Holder
 
--- Askers stand in the order in which they asked.
+-- The askers are in the order in which they asked.
 pub record Gate : Type 0 where
   pub holder : Holder
   pub askers : List ℕ
 
 -- ---- States
 
--- The store; of each process by number what is left to do, the transcript, how much input was taken, and the status; of each
--- monitor by number the gate; and the count of rounds.
+-- The store; for each process, by number, what it has left to do, its transcript, how much input it
+-- has taken, and its status; for each monitor, by number, its gate; and the count of rounds.
 pub record State : Type 0 where
   pub store : Store
   pub continuation : ℕ → List Task
@@ -39,7 +39,7 @@ pub record Setup : Type 0 where
   pub inputs : ℕ → List ℕ
   pub tick : ℕ
 
--- A function with another value at one number.
+-- The function `f`, but with the value `v` at the number `n`.
 abbrev pub with_at : {A : Type 0} → ℕ → A → (ℕ → A) → ℕ → A
 with_at n v f k = if nat_eq n k then v else f k
 
@@ -94,19 +94,19 @@ abbrev pub count_components : Sort → List (Name × Variable) → ℕ
 count_components s [] = 0
 count_components s (v ∷ vs) = if is_component_of s v.1.type then suc (count_components s vs) else count_components s vs
 
--- How many processes there are, with the initial one, and how many monitors.
+-- The number of processes, including the initial one, and the number of monitors.
 abbrev pub process_count : Setup → ℕ
 process_count setup = suc (count_components Process (initial_variables setup))
 
 abbrev pub monitor_count : Setup → ℕ
 monitor_count setup = count_components Monitor (initial_variables setup)
 
--- So many numbers, rising, from p.
+-- A list of numbers, rising from p, of the given length.
 abbrev pub numbers_from : ℕ → ℕ → List ℕ
 numbers_from p zero = []
 numbers_from p (suc n) = p ∷ numbers_from (suc p) n
 
--- The numbers of all processes, rising: 1 is the initial process.
+-- The numbers of all processes, rising. The initial process is 1.
 abbrev pub processes : Setup → List ℕ
 processes setup = numbers_from 1 (process_count setup)
 

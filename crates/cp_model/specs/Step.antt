@@ -1,4 +1,5 @@
--- One step of a process: of its next action, on its configuration, with what is left to the kernel.
+-- One step of a process: its next action, on its configuration, with the effect that it leaves to
+-- the kernel.
 use Rattle.std.specs.Prelude.{List, if◌then◌else◌, ◌∷◌}
 use Rattle.cp_model.specs.Integers.{same_integer}
 use Rattle.cp_model.specs.Outcomes.{Gives, and_then}

@@ -1,5 +1,6 @@
--- The syntax tree as plain data: what the grammar and the rules of the language speak of.
--- It has the place of each token that a rule names; `View` makes it of the code's tree, whose sequences it folds into lists of its own.
+-- The syntax tree as plain data: what the grammar and the rules of the language refer to. It has
+-- the place of each token that a rule names. `View` makes it from the code's tree, folding its
+-- sequences into lists of its own.
 use Rattle.std.specs.Prelude.{ℕ, List, [], ◌∷◌, Option}
 use Rattle.cp_model.specs.declared.tree.Identifier.{Identifier}
 use Rattle.cp_model.specs.declared.tree.Constant.{Constant}
@@ -55,7 +56,7 @@ mutual
     Field : (at : ℕ) (name : Identifier) → Selector
     Indexed : (indices : Indices) → Selector
 
-  -- each with the place of the `[` or the `,` before it
+  -- each index with the place of the `[` or the `,` before it
   pub data Indices : Type 0 where
     NoIndices : Indices
     MoreIndices : (at : ℕ) (value : Expression) (rest : Indices) → Indices
@@ -112,13 +113,13 @@ pub record Variables : Type 0 where
   pub names : List Identifier
   pub of : TypeExpression
 
--- parameters of one type, and the place of the `var` before them
+-- parameters of one type, and the place of the `var` before them, if there is one
 pub record Parameters : Type 0 where
   pub by_reference : Option ℕ
   pub names : List Identifier
   pub of : Identifier
 
--- the place of `entry`, and the type of a function's result
+-- a routine has the place of its `entry`, if there is one, and the type of a function's result
 pub record Routine : Type 0 where
   pub entry : Option ℕ
   pub name : Identifier
@@ -143,12 +144,12 @@ pub record TypeDefinition : Type 0 where
   pub name : Identifier
   pub defined : Defined
 
--- the definitions behind one word `const` or `type`
+-- the definitions after one word `const` or `type`
 pub data Section : Type 0 where
   Constants : (definitions : List ConstantDefinition) → Section
   Types : (definitions : List TypeDefinition) → Section
 
--- its variables, routines and body are those of the initial process
+-- the variables, routines and body are those of the initial process
 pub record Tree : Type 0 where
   pub sections : List Section
   pub variables : List Variables

@@ -1,7 +1,8 @@
 -- Kinds of steps, and turns.
 --
--- The next step of a ready process belongs to the kernel where the process holds a gate, or where its next action is a call of a
--- monitor or `init` of a monitor or process. Any other is private. A process that is not ready has no next step.
+-- The next step of a ready process belongs to the kernel if the process holds a gate, or if its
+-- next action is a call of a monitor or `init` of a monitor or process. Any other step is private.
+-- A process that isn't ready has no next step.
 use Rattle.std.specs.Prelude.{List, if◌then◌else◌, suc, zero, ℕ, ◌||◌}
 use Rattle.cp_model.specs.Outcomes.{Fault, Gives}
 use Rattle.cp_model.specs.Continuations.{Task}
@@ -13,7 +14,7 @@ use Rattle.cp_model.specs.Gates.{apply_effect}
 
 -- ---- Steps
 
--- A step that faults changes nothing but the status.
+-- A step that faults changes only the status.
 abbrev pub after_step : State → ℕ → StepResult → State
 after_step s p (Fault f) = set_status p (Faulted f) s
 after_step s p (Gives x) = apply_effect p x.1 (with_configuration s p x.0)
@@ -43,7 +44,7 @@ abbrev pub if_kernel : Kind → State → State → State
 if_kernel Kernel a b = a
 if_kernel _ a b = b
 
--- One step of p if its next step is private, else nothing.
+-- One step of p if its next step is private, otherwise nothing.
 abbrev pub private_step : Setup → State → ℕ → State
 private_step setup s p = if_private (kind s p) (step setup s p) s
 

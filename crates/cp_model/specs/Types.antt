@@ -1,13 +1,13 @@
--- Types: what a written type stands for, among the definitions of a text.
+-- Types: what a written type stands for, given the definitions of a text.
 use Rattle.std.specs.Prelude.{List, None, Option, Some, [], codes, neg_ℤ, negsuc, pos, ℤ, ◌∷◌}
 use Rattle.cp_model.specs.Abstract.{Array, BaseType, Boolean, Char, Character, Constant, Enumeration, Fields, Integer, Minus, MoreFields, Name, Named, NoFields, Number, Range, Record, System, TypeExpression, TypeName}
 use Rattle.cp_model.specs.Names.{lookup}
 
 -- ---- Resolved types
 
--- What a written type stands for. A simple type has its base type, its bounds and its start value. A component has its system
--- type, and the members that are its own: its parameters but the rights to components, then its variables. What names nothing
--- is `NoType`; no accepted text has it.
+-- What a written type stands for. A simple type has its base type, its bounds and its start value.
+-- A component has its system type and its own members: its parameters except rights to components,
+-- then its variables. A name without a meaning gives `NoType`, which no accepted text has.
 mutual
   pub data ResolvedType : Type 0 where
     Simple : (base : BaseType) (low high start : ℤ) → ResolvedType
@@ -31,7 +31,7 @@ last_ordinal Char = pos 127
 last_ordinal Boolean = pos 1
 last_ordinal (Enumeration name last) = pos last
 
--- A base type itself: it starts at 0.
+-- A base type itself, which starts at 0.
 abbrev pub full_range : BaseType → ResolvedType
 full_range b = Simple b (first_ordinal b) (last_ordinal b) (pos 0)
 
@@ -81,7 +81,7 @@ abbrev pub or_no_type : Option ResolvedType → ResolvedType
 or_no_type (Some t) = t
 or_no_type None = NoType
 
--- Members of one type, in front of others.
+-- Members of one type, followed by others.
 abbrev pub with_members : List Name → ResolvedType → Members → Members
 with_members [] t ps = ps
 with_members (x ∷ xs) t ps = MoreMembers x t (with_members xs t ps)

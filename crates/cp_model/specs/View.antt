@@ -1,4 +1,5 @@
--- The code's syntax tree as plain data. A sequence becomes a list, and a chain of operands the expression that it groups to.
+-- The code's syntax tree as plain data. A sequence becomes a list, and a chain of operands becomes
+-- the expression that it groups to.
 use Rattle.std.specs.Prelude.{ℕ, List, [], ◌∷◌, map}
 use Rattle.cp_model.specs.Syntax as s
 use Rattle.cp_model.specs.Syntax.{chain_of}
@@ -65,7 +66,7 @@ abbrev pub selectors_of : List s.Selector → s.Selectors
 selectors_of [] = s.NoSelectors
 selectors_of (x ∷ xs) = s.MoreSelectors x (selectors_of xs)
 
--- an index and the place before it
+-- an index and the place of the token before it
 pub record PlacedIndex : Type 0 where
   pub at : ℕ
   pub value : s.Expression

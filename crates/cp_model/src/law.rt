@@ -1,8 +1,8 @@
-//! The laws of rounds, as functions without a body.
+//! The laws of rounds, as functions with empty bodies.
 //!
-//! A caller has a law as a fact once it calls the function: `one_processor` in a round, `invariant` where states go from round to
-//! round. The laws are stated in `specs/Laws.antt`, over the invariant of `specs/Invariant.antt`, and told in docs/meaning.md,
-//! "Laws".
+//! A caller obtains a law as a fact by calling its function: `one_processor` within a round,
+//! `invariant` where states pass from round to round. The laws are stated in `specs/Laws.antt`,
+//! over the invariant of `specs/Invariant.antt`, and described in docs/meaning.md, "Laws".
 
 ghost use Rattle.cp_model.specs.Laws.{LawfulRoundIsSequential, PhasedRoundIsSequential, LawfulRoundIsSequentialFromStart, PhasedRoundIsSequentialFromStart};
 ghost use Rattle.cp_model.specs.Laws.{InvariantAtStart, PrivateStepKeepsInvariant, KernelStepKeepsInvariant, PrivateTurnKeepsInvariant, KernelTurnKeepsInvariant, OwnPartsKeepInvariant, WakeKeepsInvariant, CloseKeepsInvariant, EventKeepsInvariant, RoundKeepsInvariant, SequentialRoundKeepsInvariant, RunKeepsInvariant};
@@ -12,8 +12,9 @@ ghost use Rattle.cp_model.specs.Laws.{PrivateStepsCommute, PrivateStepCommutesWi
 ghost use Rattle.cp_model.specs.Laws.{ChainWithinIsAskingChain, AskingChainIsOne, ReportWithinIsReport};
 ghost use Rattle.cp_model.specs.Laws.{WakeKeepsCount, PrivateTurnKeepsCount, KernelTurnKeepsCount, OwnPartsKeepCount};
 
-/// From every state with the invariant, each lawful order of a round and the phased round leave what one processor leaves. So it
-/// is from every state that rounds reach from the start, in any orders.
+/// From every state that satisfies the invariant, each lawful order of a round and the phased round
+/// leave the state that one processor leaves. The same holds from every state that rounds reach
+/// from the start, in any orders.
 pub fn one_processor()
     ensures lawful { LawfulRoundIsSequential }
     ensures phased { PhasedRoundIsSequential }
@@ -37,16 +38,16 @@ pub fn invariant()
     ensures run { RunKeepsInvariant }
 {}
 
-/// In every state with the invariant, what a `var` parameter names is in the reach of its process, and a right to a class names one
-/// of the same owner.
+/// In every state that satisfies the invariant, what a `var` parameter refers to is in the reach of
+/// its process, and a right to a class names a class of the same owner.
 pub fn reach()
     ensures references { ReferencesAreInReach }
     ensures activations { OnlyActivationsRefer }
     ensures classes { ClassRightsKeepOwner }
 {}
 
-/// What the turns of a round leave as it was: the private states of other processes, the own part of a process that is privately
-/// ready, and the kernel's part.
+/// What the turns of a round leave unchanged: the private states of other processes, the own part
+/// of a process that is privately ready, and the kernel's part.
 pub fn parts()
     ensures turned { OwnPartIsTurned }
     ensures own_parts { OwnPartsKeepKernelPart }
@@ -58,15 +59,16 @@ pub fn parts()
     ensures none_private { KernelTurnMakesNonePrivate }
 {}
 
-/// A private step may change places with the private steps and the kernel turns of other processes, so private turns may be shared
-/// out and cut into steps in any way.
+/// A private step commutes with the private steps and the kernel turns of other processes, so
+/// private turns may be shared out and cut into steps in any way.
 pub fn changing_places()
     ensures private_steps { PrivateStepsCommute }
     ensures kernel_turn { PrivateStepCommutesWithKernelTurn }
     ensures shared_turns { SharedTurnsAreLawful }
 {}
 
-/// A process has at most one asking chain, and a chain or report that was computed within a bound is the one of the definition.
+/// A process has at most one asking chain, and a chain or report that is computed within a bound is
+/// the one that the definition gives.
 pub fn chains()
     ensures chain { ChainWithinIsAskingChain }
     ensures one { AskingChainIsOne }

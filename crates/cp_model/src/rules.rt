@@ -1,7 +1,9 @@
-//! What the rules of the language speak of: the rules by number, what a name stands for, and the tables of types and routines.
+//! What the rules of the language refer to: the rules by number, what a name stands for, and the
+//! tables of types and routines.
 //!
-//! A type, a routine, a system type and a parameter are named by the number of its row in a table, in the order of the text. The
-//! rules themselves are defined in `specs/Rules*.antt` and told in docs/language.md, "Rules".
+//! A type, a routine, a system type or a parameter is identified by the number of its row in a
+//! table, in the order of the text. The rules themselves are defined in `specs/Rules*.antt` and
+//! described in docs/language.md, "Rules".
 
 ghost use Rattle.std.specs.Prelude.{◌≡◌};
 ghost use Rattle.cp_model.specs.RulesJudged.{number_of};
@@ -27,7 +29,7 @@ pub enum Rule {
 }
 
 impl Rule {
-    /// Its number, 1 to 13.
+    /// The number of the rule, 1 to 13.
     pub const fn number(self) -> u8
         ensures { result ≡ number_of self }
     {
@@ -49,7 +51,7 @@ impl Rule {
     }
 }
 
-/// A rule that is broken at a place of the text.
+/// A violation of a rule at a place of the text.
 #[derive(Clone, Copy, Debug, PartialEq, Eq)]
 pub struct Violation {
     pub rule: Rule,
@@ -63,7 +65,7 @@ pub enum Access {
     Own,
     /// A `var` parameter.
     ByReference,
-    /// Another parameter. It may not be changed, and where it names a component it is a right.
+    /// Any other parameter. It may not be changed, and if it names a component it is a right.
     Passive,
 }
 
@@ -84,18 +86,19 @@ pub enum Standard {
     Wait,
 }
 
-/// What a routine answers.
+/// What a routine returns.
 #[derive(Clone, Copy, Debug, PartialEq, Eq)]
 pub enum Returns {
-    /// It is a procedure.
+    /// Nothing: it is a procedure.
     Nothing,
     /// A value of this type.
     Value(usize),
-    /// It is a function whose result type is broken.
+    /// Unknown: it is a function whose result type is broken.
     Broken(Violation),
 }
 
-/// A routine: its parameters from the first on, and the words that it needs with all that it calls.
+/// A routine: its parameters (`count` rows from row `first`), and the words that it needs together
+/// with everything that it calls.
 #[derive(Clone, Copy, Debug, PartialEq, Eq)]
 pub struct RoutineRow {
     pub entry: bool,
@@ -105,14 +108,15 @@ pub struct RoutineRow {
     pub need: usize,
 }
 
-/// A parameter. It has no type where its type is broken.
+/// A parameter. It has no type if its type is broken.
 #[derive(Clone, Copy, Debug, PartialEq, Eq)]
 pub struct ParameterRow {
     pub by_reference: bool,
     pub of: Option<usize>,
 }
 
-/// A system type: its parameters from the first on, the words of a component, and what the body of one needs.
+/// A system type: its parameters (`count` rows from row `first`), the words of a component, and
+/// what the body of a component needs.
 #[derive(Clone, Copy, Debug, PartialEq, Eq)]
 pub struct SystemRow {
     pub sort: Sort,
@@ -120,25 +124,25 @@ pub struct SystemRow {
     pub count: usize,
     pub words: usize,
     pub body_need: usize,
-    /// The number of its members, which are its routines.
+    /// The number of its table of members, which are its routines.
     pub members: usize,
 }
 
 /// What a type is.
 #[derive(Clone, Copy, Debug, PartialEq, Eq)]
 pub enum Structure {
-    /// The base type, the lower and the upper bound. A base type is its own.
+    /// The base type, the lower bound and the upper bound. A base type is its own base type.
     Simple(usize, i32, i32),
     /// The index type and the element type.
     Array(usize, usize),
-    /// A record type, by the number of its members.
+    /// A record type, by the number of its table of members.
     Record(usize),
     Queue,
     /// A system type, by its row.
     System(usize),
 }
 
-/// A type, and the words of a variable of it, at most one above the limit.
+/// A type, and the number of words of a variable of it, which is at most one above the limit.
 #[derive(Clone, Copy, Debug, PartialEq, Eq)]
 pub struct TypeRow {
     pub structure: Structure,
@@ -146,7 +150,7 @@ pub struct TypeRow {
     pub has_queues: bool,
 }
 
-/// What a name behind a `.` stands for.
+/// What a name after a `.` stands for.
 #[derive(Clone, Copy, Debug, PartialEq, Eq)]
 pub enum Member {
     /// A field of this type.
@@ -175,7 +179,7 @@ pub enum Entity {
     UnfinishedRoutine(RoutineRow),
     /// A parameter between its own group and the end of its heading, where it isn't visible.
     Hidden,
-    /// Its declaration is broken.
+    /// A name whose declaration is broken.
     Broken(Violation),
 }
 
@@ -187,14 +191,15 @@ pub enum Part {
     EntryRoutine,
 }
 
-/// Where statements stand: in a part of a component of this sort. The initial process is a process.
+/// Where a statement stands: the part of a component of this sort. The initial process is a
+/// process.
 #[derive(Clone, Copy, Debug, PartialEq, Eq)]
 pub struct Region {
     pub sort: Sort,
     pub part: Part,
 }
 
-/// What a written type is the type of.
+/// Where a written type stands.
 #[derive(Clone, Copy, Debug, PartialEq, Eq)]
 pub enum Position {
     Definition,
@@ -217,39 +222,39 @@ pub struct ArrayPart {
     pub access: Access,
 }
 
-/// A name of a designator and the indices after it.
+/// A name of a designator, with the indices after it.
 #[derive(Clone, Copy, Debug)]
 pub struct NamedPart {
-    /// The name stands for a variable, a field or a constant.
+    /// Whether the name stands for a variable, a field or a constant.
     pub is_value: bool,
-    /// There are indices after the name.
+    /// Whether there are indices after the name.
     pub is_indexed: bool,
     /// The type of the part, whatever the indices are.
     pub of: Option<usize>,
 }
 
-/// What an argument has to meet.
+/// What is required of an argument.
 #[derive(Clone, Copy, Debug, PartialEq, Eq)]
 pub enum Want {
-    /// To agree with a parameter.
+    /// It must agree with this parameter.
     Parameter(ParameterRow),
-    /// To be a simple value.
+    /// It must be a simple value.
     Simple,
-    /// To be an integer.
+    /// It must be an integer.
     Integer,
-    /// To be a variable of base char.
+    /// It must be a variable of base type char.
     CharVariable,
-    /// To be a variable of type queue.
+    /// It must be a variable of type queue.
     QueueVariable,
 }
 
-/// What a call gives.
+/// What a call returns.
 #[derive(Clone, Copy, Debug, PartialEq, Eq)]
 pub enum Gives {
     Nothing,
     /// A value of this type.
     Value(usize),
-    /// A value of its argument's base type.
+    /// A value of the base type of its argument.
     ArgumentBase,
 }
 
@@ -258,10 +263,11 @@ pub enum Gives {
 pub enum Mode {
     /// As a value.
     Value,
-    /// As what should be a variable: its sort is no rule of a value's.
+    /// As something that should be a variable, so the rules of a value don't judge its sort.
     Variable,
-    /// As the first operand of what should be a variable: a value, whose sort is no rule of a value's either.
+    /// As the first operand of something that should be a variable: a value, but the rules of a
+    /// value don't judge its sort either.
     FirstOperand,
-    /// As the argument that may be a queue.
+    /// As an argument that may be a queue.
     Queue,
 }

@@ -1,6 +1,7 @@
 //! Why a process of a running program has stopped.
 
-/// Why a process has stopped. Reports tell the number, which is `fault_number` in `specs/StateViews.antt`.
+/// Why a process has stopped. Reports print its number, which is `fault_number` in
+/// `specs/StateViews.antt`.
 #[derive(Clone, Copy, Debug, PartialEq, Eq)]
 pub enum Fault {
     /// 1: a value out of range.
@@ -11,14 +12,14 @@ pub enum Fault {
     Overflow,
     /// 4: a zero divisor.
     DivisionByZero,
-    /// 5: a delay in a queue where a process stands.
+    /// 5: a delay in a queue in which a process already stands.
     QueueTaken,
     /// 6: a call of a component that isn't initialised.
     NotInitialised,
-    /// 7: `init` of a component that was initialised before.
+    /// 7: `init` of a component that was already initialised.
     InitialisedTwice,
-    /// 8: a `case` without a label that matches.
+    /// 8: a `case` with no matching label.
     NoLabel,
-    /// 9: a function without a result.
+    /// 9: a function that returns without a result.
     NoResult,
 }

@@ -1,6 +1,7 @@
-//! Tokens: the words, numbers, character constants and marks that a text is spelled with.
+//! Tokens: the words, numbers, character constants and marks that a text is made of.
 //!
-//! Which tokens a text has is defined in `specs/Spelling.antt` and told in docs/language.md, "Tokens".
+//! Which tokens a text has is defined in `specs/Spelling.antt` and described in docs/language.md,
+//! "Tokens".
 
 ghost use Rattle.std.specs.Prelude.{◌≡◌, IfOk};
 
@@ -36,7 +37,7 @@ impl Name {
         self.letters.as_slice()
     }
 
-    /// The same name once more. It fails only for want of memory.
+    /// Returns a copy of the name. Fails only if memory runs out.
     pub fn copy(&self, alloc: Global) -> Result<Name, AllocError>
         ensures { IfOk result (λ name. name ≡ self.now) }
     {
@@ -45,14 +46,15 @@ impl Name {
     }
 }
 
-/// The bytes of a text that a token is spelled with: from the byte `from` to before the byte `to`, counted from 0.
+/// The bytes of a text that spell a token: from byte `from` up to, but not including, byte `to`,
+/// counted from 0.
 #[derive(Clone, Copy, Debug, PartialEq, Eq)]
 pub struct Span {
     pub from: usize,
     pub to: usize,
 }
 
-/// A reserved word, or a mark. `(.` is read as `[`, and `.)` as `]`.
+/// A reserved word or a mark. `(.` is read as `[`, and `.)` as `]`.
 #[derive(Clone, Copy, Debug, PartialEq, Eq)]
 pub enum Symbol {
     Array,
@@ -124,7 +126,7 @@ pub enum Kind {
     Symbol(Symbol),
 }
 
-/// A token, and where it stands in the text.
+/// A token and its span in the text.
 #[derive(Debug, Drop)]
 pub struct Token {
     pub kind: Kind,

@@ -1,8 +1,9 @@
 //! The syntax tree of a text, with the place of each token that a rule of the language names.
 //!
-//! A place is the first byte of a token, counted from 0. What the grammar repeats (operands, selectors, arguments, statements,
-//! declarations) is a `Vec`, so that a tree is never deeper than the limit of nesting, however long its text. Which tokens a
-//! tree is read from is defined in `specs/Grammar*.antt`, over the plain data that `specs/View.antt` makes of these types.
+//! A place is the first byte of a token, counted from 0. Whatever the grammar repeats (operands,
+//! selectors, arguments, statements, declarations) is a `Vec`, so a tree is never deeper than the
+//! limit of nesting, however long its text. Which tokens a tree is read from is defined in
+//! `specs/Grammar*.antt`, over the plain data that `specs/View.antt` makes of these types.
 
 use crate::token::Name;
 
@@ -13,23 +14,24 @@ pub struct Identifier {
     pub at: usize,
 }
 
-/// A constant where it is written: in a definition, a subrange or a label.
+/// A constant as it is written: in a definition, a subrange or a label.
 #[derive(Debug, Drop)]
 pub enum Constant {
     Number { at: usize, value: u16 },
-    /// A number behind a `-`, which stands at the place.
+    /// A number after a `-`. The place is that of the `-`.
     Negative { at: usize, value: u16 },
     Character { at: usize, ordinal: u8 },
     Named(Identifier),
 }
 
-/// A type where it is written. An enumeration and a system type stand in definitions alone, each behind its name.
+/// A type as it is written. Enumerations and system types occur only in definitions, each with its
+/// own name.
 #[cycle(types)]
 #[derive(Debug, Drop)]
 pub enum TypeExpression {
     Named(Identifier),
     Subrange(Constant, Constant),
-    /// The index types are one or more. `array [a, b] of t` means `array [a] of array [b] of t`.
+    /// There is at least one index type. `array [a, b] of t` means `array [a] of array [b] of t`.
     Array {
         at: usize,
         indices: Vec<TypeExpression>,
@@ -88,7 +90,7 @@ pub enum Expression {
     },
     /// A constant, a variable or a part of one, or a function called without arguments.
     Designated(Designator),
-    /// A function called with one argument or more.
+    /// A function called with at least one argument.
     Call(Designator, Vec<Expression>),
     Parenthesized {
         at: usize,
@@ -103,7 +105,8 @@ pub enum Expression {
         at: usize,
         operand: Box<Expression>,
     },
-    /// Operands with operators between them, which group to the left: a chain of `*`, of `+`, or one relation.
+    /// Operands with operators between them, which group to the left: a chain of `*` and its like,
+    /// a chain of `+` and its like, or one relation.
     Chain {
         first: Box<Expression>,
         rest: Vec<Operation>,
@@ -119,7 +122,7 @@ pub struct Operation {
     pub operand: Expression,
 }
 
-/// A name, and the parts that are selected of what it names.
+/// A name, followed by the selectors that pick a part of what it names.
 #[cycle(expressions)]
 #[derive(Debug, Drop)]
 pub struct Designator {
@@ -127,12 +130,12 @@ pub struct Designator {
     pub selectors: Vec<Selector>,
 }
 
-/// A selected part. The place of a field is that of the `.`.
+/// A selector. The place of a field is that of the `.`.
 #[cycle(expressions)]
 #[derive(Debug, Drop)]
 pub enum Selector {
     Field { at: usize, name: Identifier },
-    /// One index or more between `[` and `]`. `v[i, j]` means `v[i][j]`.
+    /// At least one index between `[` and `]`. `v[i, j]` means `v[i][j]`.
     Indexed(Vec<Index>),
 }
 
@@ -144,7 +147,7 @@ pub struct Index {
     pub value: Expression,
 }
 
-/// Which way the variable of a `for` counts.
+/// The direction in which the variable of a `for` counts.
 #[derive(Clone, Copy, Debug, PartialEq, Eq)]
 pub enum Direction {
     Up,
@@ -162,7 +165,7 @@ pub enum Statement {
         at: usize,
         value: Expression,
     },
-    /// A procedure called, with or without arguments.
+    /// A procedure call, with or without arguments.
     Call(Designator, Vec<Expression>),
     Compound(Vec<Statement>),
     If {
@@ -194,14 +197,14 @@ pub enum Statement {
         body: Box<Statement>,
     },
     Cycle(Vec<Statement>),
-    /// The place is that of the word `init`. There is one item or more.
+    /// The place is that of the word `init`. There is at least one item.
     Init {
         at: usize,
         items: Vec<InitItem>,
     },
 }
 
-/// One labelled statement of a `case`. The labels are one or more.
+/// One labelled statement of a `case`. There is at least one label.
 #[cycle(statements)]
 #[derive(Debug, Drop)]
 pub struct Arm {
@@ -226,7 +229,7 @@ pub struct Body {
 /// Parameters of one type.
 #[derive(Debug, Drop)]
 pub struct Parameters {
-    /// The place of the word `var`, where it stands before them.
+    /// The place of the word `var`, if it stands before them.
     pub by_reference: Option<usize>,
     pub names: Vec<Identifier>,
     pub of: Identifier,
@@ -235,17 +238,17 @@ pub struct Parameters {
 /// A procedure or a function.
 #[derive(Debug, Drop)]
 pub struct Routine {
-    /// The place of the word `entry`, where it stands.
+    /// The place of the word `entry`, if there is one.
     pub entry: Option<usize>,
     pub name: Identifier,
     pub parameters: Vec<Parameters>,
-    /// The type of its result, where it is a function.
+    /// The type of the result, if the routine is a function.
     pub result_type: Option<Identifier>,
     pub variables: Vec<Fields>,
     pub body: Body,
 }
 
-/// What the components of a system type are.
+/// The kind of component that a system type declares.
 #[derive(Clone, Copy, Debug, PartialEq, Eq)]
 pub enum Sort {
     Process,
@@ -263,7 +266,7 @@ pub struct System {
     pub body: Body,
 }
 
-/// What a type definition gives its name to.
+/// What a type definition gives a name to.
 #[derive(Debug, Drop)]
 pub enum Defined {
     Written(TypeExpression),
@@ -271,28 +274,28 @@ pub enum Defined {
     System(System),
 }
 
-/// A constant's definition.
+/// The definition of a constant.
 #[derive(Debug, Drop)]
 pub struct ConstantDefinition {
     pub name: Identifier,
     pub value: Constant,
 }
 
-/// A type's definition.
+/// The definition of a type.
 #[derive(Debug, Drop)]
 pub struct TypeDefinition {
     pub name: Identifier,
     pub defined: Defined,
 }
 
-/// The definitions behind one word `const` or `type`: one or more.
+/// The definitions after one word `const` or `type`. There is at least one.
 #[derive(Debug, Drop)]
 pub enum Section {
     Constants(Vec<ConstantDefinition>),
     Types(Vec<TypeDefinition>),
 }
 
-/// The tree of a text. Its variables, routines and body are those of the initial process.
+/// The syntax tree of a text. Its variables, routines and body are those of the initial process.
 #[derive(Debug, Drop)]
 pub struct Tree {
     pub sections: Vec<Section>,

@@ -1,4 +1,5 @@
--- That the compiled program of an accepted text answers as the meaning does, computed from the bytes.
+-- The compiled program of an accepted text gives the same answers as the meaning, computed from the
+-- bytes.
 use Rattle.std.specs.Prelude.{ℕ, Bool, true, false, [], ◌++◌, IsOkAnd, IsTrue, unwrap_or}
 use Rattle.cp_model.specs.Report.{Text, chain_lines_within}
 use Rattle.cp_model.specs.Rounds.{run}
@@ -12,24 +13,24 @@ use Rattle.cp_rows.specs.Answers as meaning
 use Rattle.cp_rows.specs.Answers.{counts, setup_of, tree_of}
 use Rattle.cp_steps_rows.specs.MachineStates.{state_of}
 
--- The machine after so many rounds.
+-- The machine after `rounds` rounds.
 abbrev pub machine_after : Setup → ℕ → ℕ → Machine
 machine_after setup rounds turn = phased_rounds turn (processes setup) rounds (first_machine (compile setup.tree) setup.tick setup.inputs)
 
--- The report is read off the machine's words; chains are those of the state that it shows.
+-- The report is read from the machine's words. The chains are those of the state that it shows.
 abbrev pub reported : Setup → Bool → Machine → Text
 reported setup false m = machine_report setup m
 reported setup true m =
     machine_report setup m ++ unwrap_or (chain_lines_within (monitor_count setup) (state_of setup m) (processes setup)) []
 
--- The report of a run.
+-- The report after a run is that of the meaning.
 abbrev pub RunIsMeant : (rounds turn tick : ℕ) (chains : Bool) (input text : Text) → Type 0
 RunIsMeant rounds turn tick chains input text = IsOkAnd (tree_of text) (λ t.
     let setup = setup_of t input tick in
     let meant = meaning.reported setup chains (run setup turn rounds (start setup)) in
     IsTrue (same_text (reported setup chains (machine_after setup rounds turn)) meant))
 
--- How much of its input each process has taken after a run.
+-- After a run each process has taken as much of its input as in the meaning.
 abbrev pub ConsumedIsMeant : (rounds turn tick : ℕ) (input text : Text) → Type 0
 ConsumedIsMeant rounds turn tick input text = IsOkAnd (tree_of text) (λ t.
     let setup = setup_of t input tick in

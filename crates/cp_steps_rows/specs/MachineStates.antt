@@ -1,6 +1,6 @@
--- The state of the meaning that a machine shows: what its report tells of.
+-- The state of the meaning that a machine shows: everything that its report contains.
 --
--- Where a variable lies is what the relation of private states says of it. What is left to do isn't reported.
+-- A variable lies where the relation of private states says. What is left to do isn't reported.
 use Rattle.std.specs.Prelude.{ℕ, ◌-◌, ℤ, List, [], ◌∷◌, ◌++◌, Option, None, Some, if◌then◌else◌, length, nat_eq, slice_get}
 use Rattle.cp_model.specs.Abstract.{Monitor}
 use Rattle.cp_model.specs.Types.{Queue, ResolvedType, Simple}
@@ -26,7 +26,7 @@ part_of m p read other = elim (slice_get m.parts (p - 1)) [ None ↦ other | Som
 
 -- ---- Variables
 
--- The monitors' words are counted from the first shared one.
+-- The monitors' words are counted from the first shared word.
 abbrev pub ground : Setup → Machine → ℕ → Ground
 ground setup m p = record {
   program = m.program;

@@ -1,8 +1,8 @@
-//! Runs of some worked texts. Which ones, `worked/make_rows.py` says.
+//! Runs of some worked texts, which `worked/make_rows.py` selects.
 
 ghost use Rattle.cp_steps_rows.specs.Runs.{Runs};
 
-/// In each of these runs the machine of the compiled program shows what the meaning does.
+/// In each of these runs the machine of the compiled program gives the same answer as the meaning.
 pub fn runs_hold()
     ensures { Runs }
 {}

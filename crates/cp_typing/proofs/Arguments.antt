@@ -1,4 +1,4 @@
--- Arguments that fit by the rules fit by the meaning; what a call then gives.
+-- Arguments that fit by the rules fit by the meaning, and what a call then returns.
 use Rattle.std.proofs.Common.{◌≡◌, ◌⊎◌, inr, ℕ, Bool, true, false, List, [], ◌∷◌, Option, Some, None, if◌then◌else◌, nat_eq, eqb-true, slice_get, length, map, drop, refl, ap, sym, subst, ◌∙◌, arith, codes, bytes_eq}
 use Rattle.std.proofs.lemmas.List.{length-drop, length-take-le}
 use Rattle.cp_model.specs.Syntax as s
@@ -119,7 +119,7 @@ module _ (G : GlobalScope → Type 0) (env : Environment) (rs : Types) (p : Plac
   AllAs (w ∷ ws) (s.MoreExpressions e es) = ArgumentAs w e × AllAs ws es
 
   module _ (v : Visible G env rs p) where
-    -- what was passed, of an argument that is judged already
+    -- what is passed for an argument that has already been judged
     passed_again : (w : Want) (e : s.Expression) (m : ArgumentAs w e) → argument env w e (Sound m.type) ≡ Sound m.type
     passed_again w e m = sym (ap (argument env w e) m.judged) ∙ m.passed
 
@@ -162,7 +162,7 @@ module _ (G : GlobalScope → Type 0) (env : Environment) (rs : Types) (p : Plac
         go true is = subst (λ z. FitsBy z p.env x.type (erase.expression e)) (sym is ∙ same) (by_reference is)
         go false is = subst (λ z. FitsBy z p.env x.type (erase.expression e)) (sym is ∙ same) (by_value is)
 
-    -- so many arguments as parameters
+    -- as many arguments as parameters
     pub fit_all : (qs : List ParameterRow) (xs : List (Text × Variable)) (es : s.Expressions) → ParametersAs rs qs xs → length qs ≡ count_of es
         → AllAs (map (λ q. want.Parameter q) qs) es → AllFit p.env xs (erase.expressions es)
     fit_all [] [] s.NoExpressions h n m = tt
@@ -184,7 +184,7 @@ module _ (G : GlobalScope → Type 0) (env : Environment) (rs : Types) (p : Plac
 
     -- ---- what calls give
 
-    -- the answer of a function has the base of its declared type
+    -- the result of a function has the base of its declared type
     pub answer_as : (row : RoutineRow) (q : a.Routine) (t : ℕ) → RoutineAs G env rs row q → row.returns ≡ returns.Value t
         → IsFunction q × ((r : ResolvedType) × TypeAt rs t r × ((r ≡ answer_type p.env.globals q.result) ⊎ ((b : a.BaseType) × IsOfBase b r × IsOfBase b (answer_type p.env.globals q.result))))
     answer_as row q t meets is = go q.result refl (subst (λ z. ReturnsAs G rs z q.result) is meets.returns)

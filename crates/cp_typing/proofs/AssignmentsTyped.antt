@@ -49,7 +49,7 @@ module _ (G : GlobalScope → Type 0) (env : Environment) (rs : Types) (p : Plac
     pub changeable : IsChangeable p.env z
     pub free : has_queues type ≡ false
 
-  -- a name that is judged free of queues
+  -- a name that is judged to have no queues
   pub queue_free : (x : Identifier) (t : ℕ) (acc : Access) → c1_named env x ≡ Sound (entity.Variable t acc) → c8_named env mode.Value x ≡ []
       → has_queues (place_type p.env (a.Plain x.name)) ≡ false
   queue_free x t acc is h =
@@ -131,7 +131,7 @@ module _ (G : GlobalScope → Type 0) (env : Environment) (rs : Types) (p : Plac
 
   -- ---- assignments
 
-  -- no component agrees with anything
+  -- a component agrees with nothing
   pub agrees_alone : (a b : Structure) (same : Bool) → bases_agree (base_in a) (base_in b) (same && is_structured a) ≡ true → is_some (system_in a) ≡ false
   agrees_alone (structure.Simple base low high) b same h = refl
   agrees_alone (structure.Array index element) b same h = refl

@@ -1,5 +1,5 @@
--- Bounds: what a count of the rules says of a count of the meaning. The rules count words to one above the limit, so a count that is within the
--- limit is the true one.
+-- Bounds: what a count of the rules says about a count of the meaning. The rules count words to one
+-- above the limit, so a count that is within the limit is the true one.
 use Rattle.std.proofs.Common.{◌≡◌, ◌≤◌, ℕ, zero, suc, ◌*◌, ℤ, pos, negsuc, true, refl, arith}
 use Rattle.std.specs.Prelude.{int_le}
 use Rattle.cp_model.specs.RulesTypes.{at_most, capped, is_within, word_limit}

@@ -1,4 +1,4 @@
--- What is called, and with which arguments: by the rules and by the meaning.
+-- What is called, and with which arguments, by the rules and by the meaning.
 use Rattle.std.proofs.Common.{if◌then◌else◌, ◌≡◌, ◌⊎◌, inl, inr, ℕ, Bool, true, false, ◌&&◌, not, List, [], ◌∷◌, Option, Some, None, nat_eq, eqb-true, length, refl, ap, sym, subst, ◌∙◌}
 use Rattle.std.proofs.lemmas.Bool.{true≢false, and_parts}
 use Rattle.cp_model.specs.Syntax as s
@@ -138,7 +138,7 @@ module _ (G : GlobalScope → Type 0) (env : Environment) (rs : Types) (p : Plac
     pub answers : GivesAs row.returns c.gives
     pub kind : is_procedure row.returns ≡ procedure
 
-  -- a routine of the language
+  -- a standard routine
   pub record StandardCalled (table : Standard → Option rules.Callee) (d : a.Designator) (n : ℕ) (c : rules.Callee) : Type 0 where
     pub name : Text
     pub which : Standard
@@ -225,7 +225,7 @@ module _ (G : GlobalScope → Type 0) (env : Environment) (rs : Types) (p : Plac
         count = ap (λ w. length w.wants) (sym fits.1) ∙ ap length (wants k e) ∙ eqb-true (length (standard_wants f)) n fits.0;
       }
 
-  -- a routine after a point is an entry
+  -- a routine after a `.` is an entry
   entry_called : (x : Identifier) (n r : ℕ) (c : rules.Callee) (j : Judged rules.Callee) → (if (routine_of env r).entry then j else counted env x n (routine_of env r)) ≡ Sound c
       → ((routine_of env r).entry ≡ true) × (j ≡ Sound c)
   entry_called x n r c j h = go (routine_of env r).entry refl h

@@ -1,7 +1,9 @@
--- A call gets its value: what is typed stays typed when the value of its first call takes the place of that call.
+-- A call gets its value: what is typed stays typed when the value of its first call takes the place
+-- of that call.
 --
--- All static types stay the same, since a call has the very type of the `Known` that takes its place. What is wanted of a variable stays too:
--- a designator keeps its first name and the type of its place, and one in which a call stands is no call itself.
+-- All static types stay the same, since a call has exactly the type of the `Known` that takes its
+-- place. What is required of a variable also stays: a designator keeps its first name and the type
+-- of its place, and a designator that contains a call isn't a call itself.
 use Rattle.std.proofs.Common.{◌≡◌, ◌⊎◌, inl, inr, ℤ, Bool, true, false, List, [], ◌∷◌, Option, Some, None, refl, ap, sym, subst, ◌∙◌}
 use Rattle.cp_model.specs.Abstract.{At, BaseType, Binary, Boolean, Call, Designator, Expression, Expressions, Integer, Operator, Known, Letter, Literal, MoreExpressions, Name, Negative, NoExpression, Not, Part, Plain, Positive, Use}
 use Rattle.cp_model.specs.Types.{ResolvedType, full_range}
@@ -20,7 +22,7 @@ module _ (p : Place) (b : BaseType) (n : ℤ) where
 
   -- ---- designators
 
-  -- one in which a call stands is no call, before and after
+  -- a designator that contains a call isn't a call, neither before nor after
   pub record Shape (d e : Designator) : Type 0 where
     pub before : callee p.env d ≡ None
     pub after : callee p.env e ≡ None
@@ -87,13 +89,13 @@ module _ (p : Place) (b : BaseType) (n : ℤ) where
       go (inl g) rec = let k = found_inside (λ y. At y i) (call_in_designator p.env known d) u e g in at k.0 i k.2 (rec k.0 k.1).first
       go (inr g) rec = let k = found_inside (At d) (first_call p.env known i) u e g in at d k.0 k.2 refl
 
-  -- the call itself gives way to its value
+  -- the call itself is replaced by its value
   answered : (e : Expression) → expression_type p.env e ≡ full_range b → ((t : ResolvedType) → IsVariableArgument p.env e t → ⊥) → (IsQueueArgument p.env e → ⊥)
       → (IsCharVariable p.env e → ⊥) → ExpressionKept e known
   answered e type variable queue char =
       record { typed = tt; type = sym type; variable = λ t h. absurd (variable t h); queue = λ h. absurd (queue h); char = λ h. absurd (char h) }
 
-  -- what is no designator is no variable
+  -- an expression that isn't a designator isn't a variable
   computed_kept : (e f : Expression) → TypedExpression p f → expression_type p.env f ≡ expression_type p.env e → ((t : ResolvedType) → IsVariableArgument p.env e t → ⊥)
       → (IsQueueArgument p.env e → ⊥) → (IsCharVariable p.env e → ⊥) → ExpressionKept e f
   computed_kept e f typed type variable queue char =

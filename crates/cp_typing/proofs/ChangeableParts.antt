@@ -1,4 +1,4 @@
--- Parts of a variable keep its access: what is selected of one that may be changed may be changed.
+-- Parts of a variable keep its access: a part of a variable that may be changed may be changed too.
 use Rattle.std.proofs.Common.{◌≡◌, ℕ, true, [], Option, Some, None, refl, ap, sym, subst, ◌∙◌}
 use Rattle.std.proofs.lemmas.Bool.{true≢false, and_parts}
 use Rattle.cp_model.specs.Syntax as s
@@ -85,7 +85,7 @@ module _ (G : GlobalScope → Type 0) (env : Environment) (rs : Types) (p : Plac
           member_kept q at x root.0 e (k root.0 root.1) root.2
   selectors_kept (s.MoreSelectors (s.Indexed is) ss) q j k e h = selectors_kept ss q (indexed env j is) (indices_kept is q j k) e h
 
-  -- what is selected of nothing sound is not sound
+  -- nothing sound can be selected from something that isn't sound
   pub indices_sound : (is : s.Indices) (j : Judged Entity) (e : Entity) → ((e0 : Entity) → j ≡ Sound e0 → ⊥) → indexed env j is ≡ Sound e → ⊥
   indices_sound s.NoIndices j e k h = k e h
   indices_sound (s.MoreIndices at i is) j e k h = indices_sound is (both (then_judge j (c2_array env at)) (judge env mode.Value i) (c2_index env (first_token i))) e

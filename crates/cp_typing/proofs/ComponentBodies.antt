@@ -80,7 +80,7 @@ module _ (G : GlobalScope → Type 0) (ys : List a.System) (y : s.System) (p : P
   body_of : (g : GlobalScope) → G g → (at : Location) → TypedStatement (body_place g ys (erase.system y) at) (erase.statements y.body.list)
   body_of g in_scope at = statements_as G all.env routines_all.more (body_place g ys (erase.system y) at) (visible_in_body g in_scope at) y.body.list body_sound
 
-  -- the need of its body, with calls counted so many deep
+  -- the need of its body, counting calls to the given depth
   pub body_need : (k : ℕ) (g : GlobalScope) → G g → Bounded (statement_need k g (erase.system y) None (erase.system y).body) (need_statements all.env y.body.list)
   body_need zero g in_scope h = omega arith
   body_need (suc k) g in_scope h =

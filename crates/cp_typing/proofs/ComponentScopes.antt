@@ -69,7 +69,7 @@ module _ (G : GlobalScope → Type 0) (ys : List a.System) (y : a.System) where
     pub tables : Tables G env rs
     pub systems : (t : ℕ) (w : a.System) (inner : Members) → TypeAt rs t (ComponentOf w inner) → (i : ℕ) × (slice_get ys i ≡ Some w)
 
-  -- the layers of a statement in it
+  -- the layers of names for a statement in the component
   pub layers : (env after : Environment) (rs more : Types) (k : ℕ) (inner : Names) (p : Place) → (c : ComponentScope env rs k) → Grows env after rs more
       → G p.env.globals → p.env.system ≡ y → p.routines ≡ k → after.names ≡ env.names ++ inner → AllDistinct (keys after.names) → Layers G after more p inner
   layers env after rs more k inner p c grows scope system_is count names_are distinct =
@@ -173,7 +173,7 @@ module _ (G : GlobalScope → Type 0) (ys : List a.System) (y : a.System) where
   entry_part None h = h
   entry_part (Some at) h = refl
 
-  -- what a routine leaves as it was
+  -- what a routine leaves unchanged
   abbrev pub with_routine : Environment → Environment → Environment
   with_routine env after = record env {
     names = after.names;

@@ -1,4 +1,4 @@
--- Names that are declared: what they add to the environment of the rules, and which stay known.
+-- Declared names: what they add to the environment of the rules, and which names stay known.
 use Rattle.std.proofs.Common.{◌≡◌, ◌≤◌, ℕ, Bool, true, false, ◌||◌, not, List, [], ◌∷◌, ◌++◌, Option, Some, None, if◌then◌else◌, get_or, length, map, refl, ap, sym, subst, ◌∙◌, arith, append_assoc, append-nil, bytes_eq, is_some}
 use Rattle.std.specs.Option.{option_or}
 use Rattle.std.proofs.lemmas.Bool.{true≢false}
@@ -34,7 +34,7 @@ use Rattle.cp_typing.proofs.LayerNames.{VariablesAs}
 abbrev pub text_of : Identifier → Text
 text_of x = x.name
 
--- names with what stands beside them
+-- names with the entities beside them
 abbrev pub names_of : List (Identifier × Entity) → Names
 names_of [] = []
 names_of (b ∷ bs) = (b.0.name, b.1) ∷ names_of bs
@@ -54,7 +54,7 @@ pub none_of : {A : Type 0} (o : Option A) → not (is_some o) ≡ true → o ≡
 none_of None h = refl
 none_of (Some x) h = absurd (true≢false (sym h))
 
--- what is declared without a violation is no visible name
+-- a name that is declared without a violation wasn't visible
 pub declared_new : (env : Environment) (x : Identifier) → c1_declared env x ≡ [] → lookup x.name env.names ≡ None
 declared_new env x h = none_of (lookup x.name env.names) (unless_holds (not (is_some (lookup x.name env.names))) C1 x.at h)
 
@@ -90,7 +90,7 @@ all_declared env e xs h = each_declared (map (λ x. (x, e)) xs) env (subst (NewN
 
 -- ---- more names
 
--- what stands for a new name is known, the old are kept
+-- what a new name stands for is known, and the old names are kept
 pub names_more : (G : GlobalScope → Type 0) (rs : Types) (names : Names) (x : Text) (e : Entity) → NamesAs G rs names → GlobalAs G rs x e → NamesAs G rs (names ++ (x, e) ∷ [])
 names_more G rs names x e h new y f found = go (lookup y names) refl (sym (lookup-append y names ((x, e) ∷ [])) ∙ found)
   where
@@ -109,7 +109,7 @@ names_added G rs names e (x ∷ xs) h new =
     subst (NamesAs G rs) (append_assoc names ((x.name, e) ∷ []) (entries e xs))
     (names_added G rs (names ++ (x.name, e) ∷ []) e xs (names_more G rs names x.name e h (new x.name)) new)
 
--- tables that are the same stand for the same
+-- equal tables stand for the same types
 pub tables_same : (G : GlobalScope → Type 0) (env after : Environment) (rs : Types) → env.types ≡ after.types → env.members ≡ after.members → env.routines ≡ after.routines
     → env.systems ≡ after.systems → env.parameters ≡ after.parameters → Tables G env rs → Tables G after rs
 tables_same G env after rs t m r y p tables =
@@ -134,7 +134,7 @@ tables_grown G env after rs t grows tables = record {
   queue = tables.queue;
 }
 
--- variables are no global names
+-- variables aren't global names
 pub names_local : (G : GlobalScope → Type 0) (q : Bool) (rs : Types) (names vs : Names) (ds : List (Text × Variable)) → NamesAs G rs names → VariablesAs q rs vs ds → NamesAs G rs (names ++ vs)
 names_local G q rs names [] [] h k = subst (NamesAs G rs) (sym (append-nil names)) h
 names_local G q rs names ((x, entity.Variable t acc) ∷ vs) (d ∷ ds) h k =
@@ -144,7 +144,7 @@ names_local G q rs names [] (d ∷ ds) h k = absurd k
 names_local G q rs names (x ∷ vs) [] h k = absurd k
 names_local G q rs names ((x, e) ∷ vs) (d ∷ ds) h k = absurd k.1
 
--- the same tables before and after
+-- the tables stay the same before and after a step in which they grow
 pub grows_between : (env b c after : Environment) (rs more : Types) → length b.types ≤ length c.types → Grows b c rs more
     → env.types ≡ b.types → env.members ≡ b.members → env.routines ≡ b.routines → env.systems ≡ b.systems → env.parameters ≡ b.parameters
     → c.types ≡ after.types → c.members ≡ after.members → c.routines ≡ after.routines → c.systems ≡ after.systems → c.parameters ≡ after.parameters → Grows env after rs more

@@ -1,4 +1,5 @@
--- Variables that are declared: what they add to the environment of the rules, and what the meaning says of them.
+-- Declared variables: what they add to the environment of the rules, and what the meaning says
+-- about them.
 use Rattle.std.proofs.Common.{◌≡◌, ◌≤◌, ◌+◌, ◌*◌, ℕ, Bool, true, false, ◌||◌, not, List, [], ◌∷◌, ◌++◌, if◌then◌else◌, length, map, refl, ap, ap₂, sym, subst, ◌∙◌, arith, append_assoc, append-nil}
 use Rattle.cp_model.specs.Syntax as s
 use Rattle.cp_model.specs.Abstract as a
@@ -51,7 +52,7 @@ module _ (G : GlobalScope → Type 0) where
 
   -- ---- variables
 
-  -- what variables leave as it was
+  -- what variables leave unchanged
   abbrev pub with_variables : Environment → Environment → Environment
   with_variables env after =
       record env { names = after.names; types = after.types; members = after.members; processes = after.processes; monitors = after.monitors }
@@ -100,7 +101,7 @@ module _ (G : GlobalScope → Type 0) where
   entries_kept q env after rs more grows (x ∷ vs) [] h = absurd h
   entries_kept q env after rs more grows ((x, e) ∷ vs) (d ∷ ds) h = absurd h.1
 
-  -- the words that a variable takes of its owner
+  -- the words that a variable takes from its owner
   pub placed_words : (env : Environment) (rs : Types) (t : ℕ) (r : ResolvedType) (g : GlobalScope) → G g → RowAs G env rs (row_of env t) r
       → words_of env (Sound t) ≤ word_limit → words g r ≤ words_of env (Sound t)
   placed_words env rs t r g in_scope row = go (row_of env t).structure r row.structure (row.words g in_scope)
@@ -135,7 +136,7 @@ module _ (G : GlobalScope → Type 0) where
   words-append g [] es = omega arith
   words-append g (d ∷ ds) es = ap (λ n. words g d.1.type + n) (words-append g ds es) ∙ omega arith
 
-  -- where the counts are the same before
+  -- if the counts were the same before
   counted_from : (p : Position) (env before after : Environment) (ds : List (Text × Variable)) → env.processes ≡ before.processes → env.monitors ≡ before.monitors
       → CountedIn p env after ds → CountedIn p before after ds
   counted_from position.InitialVariable env before after ds e f c = λ h k.

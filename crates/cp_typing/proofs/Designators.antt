@@ -1,4 +1,4 @@
--- What is selected of a variable, by the rules and by the meaning.
+-- What is selected from a variable, by the rules and by the meaning.
 use Rattle.std.proofs.Common.{◌≡◌, inl, inr, ℕ, true, false, [], Option, Some, None, get_or, slice_get, refl, ap, sym, subst, ◌∙◌}
 use Rattle.std.proofs.lemmas.Bool.{true≢false}
 use Rattle.cp_model.specs.Syntax as s
@@ -50,7 +50,7 @@ before_same env x (s.MoreSelectors y ys) e0 e h =
     sound_same e0 e (also_sound (c4_c9_named env x e0) _ e h)
 
 module _ (G : GlobalScope → Type 0) (env : Environment) (rs : Types) (p : Place) (v : Visible G env rs p) where
-  -- a name that is sound stands for what it means
+  -- a sound name stands for what it means
   pub named_as : (x : Identifier) (e : Entity) → c1_named env x ≡ Sound e → EntityAs G env rs p x.name e
   named_as x e h = v.names x.name e (resolved x (lookup x.name env.names) e h)
 
@@ -62,7 +62,7 @@ module _ (G : GlobalScope → Type 0) (env : Environment) (rs : Types) (p : Plac
 
   -- ---- what is after a point
 
-  -- the routine after a component's point
+  -- the routine after a component's `.`
   abbrev entry_in : Text → Option Component → Option Callee
   entry_in f o = elim o [
     | None ↦ None

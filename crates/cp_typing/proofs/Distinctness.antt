@@ -1,4 +1,4 @@
--- Names that are all distinct: parts of a list, in any order, are distinct too.
+-- Distinct names: parts of a list of distinct names, in any order, are distinct too.
 use Rattle.std.proofs.Common.{◌≡◌, Bool, true, false, ◌||◌, List, [], ◌∷◌, ◌++◌, Option, Some, None, refl, ap, ap₂, sym, subst, ◌∙◌, append_assoc, append-nil, bytes_eq, codes}
 use Rattle.std.proofs.lemmas.Bool.{true≢false, or_from, or_right}
 use Rattle.cp_model.specs.Abstract.{Name}
@@ -14,7 +14,7 @@ use Rattle.cp_typing.proofs.Names.{AllDistinct, bytes_eq-refl, bytes_same, has-a
 use Rattle.cp_typing.proofs.TableMeanings.{Types}
 use Rattle.cp_typing.proofs.LayerNames.{VariablesAs}
 
--- no name stands in both
+-- no name occurs in both lists
 abbrev pub Apart : List Text → List Text → Type 0
 Apart xs ys = (x : Text) → has_name x xs ≡ true → has_name x ys ≡ false
 
@@ -67,7 +67,7 @@ pub distinct_variables : (ds : List (Text × Variable)) → AllDistinct (keys ds
 distinct_variables [] d = tt
 distinct_variables (v ∷ vs) d = (lookup_none v.0 vs d.0, distinct_variables vs d.1)
 
--- Where the clock is no name among them, no variable is the clock.
+-- If the name of the clock isn't among the names, no variable is the clock.
 pub no_clock : (vs : List (Text × Variable)) → has_name (codes "realtime") (keys vs) ≡ false → NoClock vs
 no_clock vs none x v found = go (is_clock x) refl
   where
@@ -81,7 +81,8 @@ keys_same q rs (v ∷ vs) (d ∷ ds) h = ap₂ (λ x l. x ∷ l) h.0 (keys_same 
 keys_same q rs [] (d ∷ ds) h = absurd h
 keys_same q rs (v ∷ vs) [] h = absurd h
 
--- Of the names outer, then parameters, variables and routines of a component, then a routine's own name, parameters and variables.
+-- The names, in order: the outer ones, the parameters, variables and routines of a component, and a
+-- routine's own name, parameters and variables.
 module _ (outer ps vs rs : List Text) (f : Text) (qs ws : List Text) (d : AllDistinct (outer ++ (ps ++ (vs ++ (rs ++ (f ∷ (qs ++ ws))))))) where
   abbrev own : List Text
   own = f ∷ (qs ++ ws)
@@ -107,7 +108,7 @@ module _ (outer ps vs rs : List Text) (f : Text) (qs ws : List Text) (d : AllDis
   result_distinct None = tt
   result_distinct (Some t) = (refl, tt)
 
-  -- a name of these is among the routine's own
+  -- each of these names is one of the routine's own
   among : (o : Option Name) (x : Text) → has_name x ((qs ++ ws) ++ result_name o) ≡ true → has_name x own ≡ true
   among None x h = has_second x (f ∷ []) (qs ++ ws) (ap (has_name x) (sym (append-nil (qs ++ ws))) ∙ h)
   among (Some t) x h = go (has_name x (qs ++ ws)) refl (sym (has-append x (qs ++ ws) (f ∷ [])) ∙ h)
@@ -116,7 +117,7 @@ module _ (outer ps vs rs : List Text) (f : Text) (qs ws : List Text) (d : AllDis
       go true is k = has_second x (f ∷ []) (qs ++ ws) is
       go false is k = has_first x (f ∷ []) (qs ++ ws) k
 
-  -- a name outside is none of the routine's own
+  -- an outer name isn't one of the routine's own
   not_own : (x : Text) → has_name x outer ≡ true → has_name x own ≡ false
   not_own x h =
       (not_either x rs own (not_either x vs (rs ++ own) (not_either x ps (vs ++ (rs ++ own)) (distinct_apart outer (ps ++ (vs ++ (rs ++ own))) d x h)).1).1).1
@@ -125,7 +126,7 @@ module _ (outer ps vs rs : List Text) (f : Text) (qs ws : List Text) (d : AllDis
   result_keys g None = refl
   result_keys g (Some t) = refl
 
-  -- the names of the routine's own variables, with its result's, and those of the component
+  -- the names of the routine's own variables, including its result, and those of the component
   pub local_names_distinct : (g : GlobalScope) (o : Option Name) → AllDistinct ((qs ++ (ws ++ keys (result_variable g f o))) ++ (ps ++ vs))
   local_names_distinct g o =
       subst (λ l. AllDistinct (l ++ (ps ++ vs))) (append_assoc qs ws (result_name o) ∙ ap (λ l. qs ++ (ws ++ l)) (result_keys g o))

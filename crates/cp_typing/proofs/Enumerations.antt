@@ -1,4 +1,4 @@
--- An enumeration in which nothing is broken: its type and its values are what they are by the meaning.
+-- An enumeration in which nothing is broken: its type and its values are those of the meaning.
 use Rattle.std.proofs.Common.{◌≡◌, ℕ, suc, ◌-◌, ℤ, pos, Bool, true, false, ◌||◌, List, [], ◌∷◌, ◌++◌, Option, Some, None, if◌then◌else◌, length, map, arith, refl, ap, sym, subst, ◌∙◌, append_assoc, append-nil, codes, bytes_eq}
 use Rattle.std.specs.Option.{option_or}
 use Rattle.std.proofs.lemmas.Bool.{true≢false}
@@ -133,7 +133,7 @@ module _ (env : Environment) (g : GlobalScope) (rs : Types) (ys : List a.System)
   later_a : Later g scope_a
   later_a = type_later x.name (full_range b) g (stage.seen x.name none).1
 
-  -- a constant that was there is no value of the enumeration
+  -- an earlier constant isn't a value of the enumeration
   later_b : Later scope_a scope_behind
   later_b = record {
     constants = λ z v h. lookup_later z (value_constants b 0 xs) g.constants (value_constants_none b 0 xs z (there_is_not_new z (keys env.names ++ x.name ∷ []) (map text_of xs) new_values (visible z v h)))

@@ -87,18 +87,18 @@ here = body_place (globals setup.tree) [] (erase.system monitor) (root (OfMonito
 abbrev use_of : Text → a.Expression
 use_of x = a.Use (a.Plain x)
 
--- no value of another base is assigned
+-- a value of another base can't be assigned
 pub boolean_is_not_assigned : TypedStatement here (a.Assign (a.Plain (codes "n")) (use_of (codes "true"))) → ⊥
 boolean_is_not_assigned t = elim t.2 [ inl h ↦ cc (h.1.is, h.2.is) | inr h ↦ cc (h.1) ]
 
--- no name that is not declared is used
+-- a name that isn't declared can't be used
 pub unknown_is_not_used : TypedStatement here (a.Assign (a.Plain (codes "n")) (use_of (codes "k"))) → ⊥
 unknown_is_not_used t = elim t.1 [ inl h ↦ cc h | inr h ↦ elim h [ inl c ↦ cc (c.1.2) | inr v ↦ cc (v.1.2) ] ]
 
--- an entry is not called by its name alone
+-- an entry can't be called by its bare name
 pub entry_is_not_called : TypedStatement here (a.Perform (a.Plain (codes "put")) (a.MoreExpressions (a.Literal 1) a.NoExpression)) → ⊥
 entry_is_not_called t = cc (t.1.0.may.3)
 
--- no process waits in a monitor
+-- a process can't wait in a monitor
 pub monitor_does_not_wait : TypedStatement here (a.Perform (a.Plain (codes "wait")) a.NoExpression) → ⊥
 monitor_does_not_wait t = cc (t.1.1)

@@ -1,7 +1,8 @@
--- The needs of expressions: what their calls take by the meaning is no more than the rules say.
+-- The needs of expressions: what their calls take by the meaning is at most what the rules count.
 --
--- Both walk over an expression in the same way, so all that is to be shown is that a designator calls the routine that the rules know.
--- The rules count words to one above the limit; so a bound says something only where the rules' count is within the limit.
+-- Both walk over an expression in the same way, so it only has to be shown that a designator calls
+-- the routine that the rules know. The rules count words to one above the limit, so a bound says
+-- something only if the rules' count is within the limit.
 use Rattle.std.proofs.Common.{◌≡◌, ◌≤◌, ℕ, max, List, [], ◌∷◌, Option, None, ap, sym, subst, ◌∙◌, arith}
 use Rattle.cp_model.specs.Syntax as s
 use Rattle.cp_model.specs.Abstract as a
@@ -32,7 +33,7 @@ use Rattle.cp_typing.proofs.Visible.{DesignatorAs, OwnAs, Visible}
 use Rattle.cp_typing.proofs.Calls.{AllSound, FirstIs, argument_same, arguments_sound}
 use Rattle.cp_typing.proofs.Expressions.{designated_as}
 
--- at most so many, where that is within the limit
+-- n is at most k, if k is within the limit
 abbrev pub Bounded : ℕ → ℕ → Type 0
 Bounded n k = k ≤ word_limit → n ≤ k
 
@@ -76,7 +77,7 @@ module _ (env : Environment) where
   used_by_procedure d n entity.Hidden c h = absurd (cc)
   used_by_procedure d n (entity.Broken w) c h = absurd (cc)
 
-  -- a function that is called by its name alone, where no variable is wanted
+  -- a function that is called by its bare name, where a variable isn't required
   alone_used : (m : Mode) (d : s.Designator) (e : Entity) (t : ℕ)
       → then_judge (then_judge (function_of env m d 0 e) (λ c. Sound c.gives)) (λ g. Sound (rules.given env integer g)) ≡ Sound t → IsUsed e
   alone_used m d e t h =
@@ -109,7 +110,7 @@ module _ (env : Environment) where
 -- ---- expressions
 
 module _ (G : GlobalScope → Type 0) (env : Environment) (rs : Types) (p : Place) (v : Visible G env rs p) (n : ℕ) where
-  -- what the parts of an expression take, with calls counted so many deep
+  -- what the parts of an expression take, counting calls to the given depth
   abbrev pub called : Option Callee → ℕ
   called o = of_callee (call_need n p.env.globals p.env.system) (start_need n p.env.globals) p.env o
 
@@ -122,7 +123,7 @@ module _ (G : GlobalScope → Type 0) (env : Environment) (rs : Types) (p : Plac
   abbrev pub expressions_take : a.Expressions → ℕ
   expressions_take es = in_expressions (call_need n p.env.globals p.env.system) (start_need n p.env.globals) p.env es
 
-  -- where no call is meant
+  -- a designator that isn't a call
   none_called : (d : a.Designator) (k : ℕ) → callee p.env d ≡ None → Bounded (called (callee p.env d)) k
   none_called d k h = subst (λ o. Bounded (called o) k) (sym h) (λ l. omega arith)
 
@@ -184,7 +185,7 @@ module _ (G : GlobalScope → Type 0) (env : Environment) (rs : Types) (p : Plac
     arguments_bounded (s.MoreExpressions e es) (w ∷ ws) h =
         max_bounded _ _ _ _ (expression_bounded e (mode_of w) h.0.0 (argument_same env w e (judge env (mode_of w) e) h.0.0 h.0.1)) (arguments_bounded es ws h.1)
 
-    -- a designator, with the call that it may be
+    -- a designator, and the call that it may be
     pub designator_bounded : (d : s.Designator) (e : Entity) → designated env d ≡ Sound e → IsUsed e
         → Bounded (max (called (callee p.env (erase.designator d))) (inside (erase.designator d))) (need_designator env d)
     designator_bounded (s.Designate x ss) e h used =

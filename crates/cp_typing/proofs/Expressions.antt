@@ -1,4 +1,4 @@
--- Expressions in which nothing is broken are typed, and of the type that the rules say.
+-- Expressions in which nothing is broken are typed, with the types that the rules give them.
 use Rattle.std.proofs.Common.{◌≡◌, ◌⊎◌, inl, inr, ℕ, ℤ, true, false, ◌&&◌, List, [], ◌∷◌, Option, Some, None, if◌then◌else◌, refl, ap, sym, subst, ◌∙◌}
 use Rattle.std.proofs.lemmas.Bool.{true≢false, and_parts}
 use Rattle.cp_model.specs.Syntax as s
@@ -166,7 +166,7 @@ module _ (G : GlobalScope → Type 0) (env : Environment) (rs : Types) (p : Plac
       let parts : (is_base w (base_of env t) ≡ true) × (is_base w (base_of env u) ≡ true) = and_parts (is_base w (base_of env t)) _ h in
       (with_base e t w b m base parts.0, with_base q u w b n base parts.1)
 
-  -- two of one base, whatever it is
+  -- two operands of the same base, whatever it is
   related : (e q : a.Expression) (t u : ℕ) → ExpressionAs G env rs p e t → ExpressionAs G env rs p q u → operands_fit None (base_of env t) (base_of env u) ≡ true
       → (b : a.BaseType) × IsOfBase b (expression_type p.env e) × IsOfBase b (expression_type p.env q)
   related e q t u m n h = go (base_of env t) refl h

@@ -22,7 +22,7 @@ use Rattle.cp_typing.proofs.Names.{lookup_later, bytes_eq-refl, bytes_same}
 
 -- ---- names
 
--- the constant that a meaning is
+-- the constant that a meaning is, if it is one
 abbrev constant_in : BaseType × ℤ → Meaning → BaseType × ℤ
 constant_in c (IsConstant b n) = (b, n)
 constant_in c _ = c
@@ -113,7 +113,7 @@ plain_call : (p : Place) (d : Designator) (es : Expressions) (o : Option Callee)
 plain_call p d es (Some c) h = plain_answer p.env.globals c.routine.result h
 plain_call p d es None h = plain_standard (name_of d) (first_type p.env es) h
 
--- a name alone, where it is no call
+-- a bare name that isn't a call
 plain_used : (p : Place) (x : Name) → TypedUse p (Plain x) → is_structured (named_value_type p.env x) ≡ true → TypedPlace p (Plain x) × (named_value_type p.env x ≡ place_type p.env (Plain x))
 plain_used p x (inl is) h = absurd (true≢false (sym h ∙ ap (λ b. is_structured (if b then full_range Integer else value_type_meant (meaning p.env x))) (ap is_clock is)))
 plain_used p x (inr (inl c)) h =
@@ -162,7 +162,7 @@ callees_before setup i p r m typed systems may =
 
 -- ---- results
 
--- a name that is declared later in a list of distinct names is none of those before it
+-- a name that is declared later in a list of distinct names isn't one of those before it
 none_before : (x : Name) (v : Variable) (ds es : List (Name × Variable)) → Distinct (ds ++ (x, v) ∷ es) → lookup x ds ≡ None
 none_before x v [] es d = refl
 none_before x v (e ∷ ds) es d = go (bytes_eq x e.0) refl (none_before x v ds es d.1)

@@ -1,4 +1,4 @@
--- The call that is found in a part of a statement, and what it stands in.
+-- The call that is found in a part of a statement, and what contains it.
 use Rattle.std.proofs.Common.{◌≡◌, ◌⊎◌, inl, inr, Option, Some, None, refl, ap}
 use Rattle.cp_model.specs.Abstract.{Designator, Expression, Expressions}
 use Rattle.cp_model.specs.Environments.{Environment}
@@ -17,7 +17,7 @@ pub found_either : {A : Type 0} (o q : Found A) (z : UserCall × A) → or_else 
 found_either None q z h = inr h
 found_either (Some w) q z h = inl h
 
--- a user's call by name, where one is found
+-- a user's call by name, if one is found
 pub called_here : (env : Environment) (d : Designator) (es : Expressions) (known : Expression) (u : UserCall) (e : Expression) → user_call env d es known ≡ Some (u, e)
     → (c : Callee) × (callee env d ≡ Some c) × (record { callee = c; arguments = es; environment = env } ≡ u) × (known ≡ e)
 called_here env d es known u e h = go (callee env d) refl h

@@ -1,4 +1,5 @@
--- Headings: what parameters add to the environment of the rules, and what the meaning says of them.
+-- Headings: what parameters add to the environment of the rules, and what the meaning says about
+-- them.
 use Rattle.std.proofs.Common.{◌≡◌, ◌≤◌, ◌+◌, ◌*◌, arith, ◌⊎◌, inl, inr, ℕ, Bool, true, false, ◌&&◌, not, List, [], ◌∷◌, ◌++◌, Option, Some, None, if◌then◌else◌, length, map, replicate, refl, ap, ap₂, sym, subst, ◌∙◌, append_assoc, append-nil, is_some}
 use Rattle.std.proofs.lemmas.Bool.{true≢false}
 use Rattle.cp_model.specs.Syntax as s

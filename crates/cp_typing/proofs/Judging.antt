@@ -1,4 +1,4 @@
--- What is sound, where no rule is broken: the parts of what was judged.
+-- What is sound if no rule is broken: the parts of what was judged.
 use Rattle.std.proofs.Common.{◌≡◌, ℕ, Bool, true, false, [], ◌∷◌, ◌++◌, refl}
 use Rattle.cp_model.specs.declared.rules.Rule.{Rule}
 use Rattle.cp_model.specs.RulesJudged.{Judged, Sound, Broken, Violations, violations_of, unless, also, both, then_judge, provided}
@@ -19,7 +19,7 @@ pub provided_holds : {A : Type 0} (b : Bool) (rule : Rule) (at : ℕ) (x : A) �
 provided_holds true rule at x h = refl
 provided_holds false rule at x h = absurd (cc)
 
--- what is sound has a meaning
+-- a part without violations has a meaning
 pub sound_has : {A : Type 0} (j : Judged A) → violations_of j ≡ [] → (x : A) × (j ≡ Sound x)
 sound_has (Sound x) h = (x, refl)
 sound_has (Broken v vs) h = absurd (cc)
@@ -32,7 +32,7 @@ pub also_sound : {A : Type 0} (vs : Violations) (j : Judged A) (x : A) → also 
 also_sound [] j x h = h
 also_sound (v ∷ vs) j x h = absurd (cc)
 
--- the two sides, and what is outside them
+-- the two sides, and what is around them
 pub record BothSound {A B C : Type 0} (a : Judged A) (b : Judged B) (k : A → B → Judged C) : Type 0 where
   pub x : A
   pub y : B
@@ -50,7 +50,7 @@ both_parts (Broken v vs) b k h = absurd (cc)
 pub sound_same : {A : Type 0} (x y : A) → Sound x ≡ Sound y → x ≡ y
 sound_same x y h = cc
 
--- the meaning of what is sound, and what is judged after it
+-- the meaning of a sound part, and the judgement that follows it
 pub then_sound : {A B : Type 0} (j : Judged A) (k : A → Judged B) (y : B) → then_judge j k ≡ Sound y → (x : A) × (j ≡ Sound x) × (k x ≡ Sound y)
 then_sound (Sound x) k y h = (x, refl, h)
 then_sound (Broken v vs) k y h = absurd (cc)

@@ -24,7 +24,8 @@ use Rattle.cp_typing.proofs.Visible.{ConstantHere, OwnAs, PartAs, component_of, 
 
 -- ---- variables of the rules and of the meaning
 
--- variables are a component's or a routine's own; parameters are value or by reference
+-- variables are a component's or a routine's own, and parameters are passed by value or by
+-- reference
 abbrev pub AccessAs : Bool → Access → Bool → Type 0
 AccessAs false acc b = (acc ≡ access.Own) × (b ≡ false)
 AccessAs true acc b = acc ≡ parameter_access b
@@ -102,13 +103,13 @@ module _ (G : GlobalScope → Type 0) (env : Environment) (rs : Types) (p : Plac
   abbrev pub own_variables : List (Text × Variable)
   own_variables = declarations here.globals here.system.variables
 
-  -- no name of the running routine
+  -- the name isn't one of the running routine's names
   pub record Outside (z : Text) : Type 0 where
     pub local : (m : Meaning) → local_or here.globals here.frame z m ≡ m
     pub not_local : is_local here.globals here.frame z ≡ false
     pub no_parameter : lookup z (frame_parameters here.globals here.frame) ≡ None
 
-  -- no name of a routine of the component, and not the clock's
+  -- the name is neither that of a routine of the component nor the clock's
   pub record NoRoutine (z : Text) : Type 0 where
     pub no_routine : routine_named z here.system ≡ None
     pub no_clock : is_clock z ≡ false
@@ -132,7 +133,7 @@ module _ (G : GlobalScope → Type 0) (env : Environment) (rs : Types) (p : Plac
     no_clock = r.no_clock;
   }
 
-  -- the two lists of a component's variables, and where a name stands in them
+  -- the two lists of a component's variables, and the one that has the name
   pub record Permanent (z : Text) (q : Bool) (v : Variable) : Type 0 where
     pub found : lookup z (permanent_variables here.globals here.system) ≡ Some v
     pub component : component_named here z ≡ option_or (as_component z true (lookup z own_parameters)) (as_component z false (lookup z own_variables))

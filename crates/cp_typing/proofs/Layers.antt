@@ -45,7 +45,7 @@ pub later_distinct : (vs ws : Names) → AllDistinct (keys (vs ++ ws)) → AllDi
 later_distinct [] ws d = d
 later_distinct (v ∷ vs) ws d = later_distinct vs ws d.1
 
--- what stands for constants, types and routines of the language, in the outermost scope
+-- an entity of the outermost scope: a constant, a type or a standard routine
 abbrev pub IsOuter : Entity → Type 0
 IsOuter (entity.Variable t acc) = ⊥
 IsOuter (entity.Routine r) = ⊥
@@ -66,7 +66,8 @@ module _ (G : GlobalScope → Type 0) (env : Environment) (rs : Types) (p : Plac
     pub meets : RoutineAs G env rs (routine_of env number) routine
     pub need : NeedAs G p.env.system (routine_of env number).need routine
 
-  -- the names that a statement sees: of the outermost scope, the component's parameters, variables and routines, and inner ones
+  -- the names that a statement sees: those of the outermost scope, the component's parameters,
+  -- variables and routines, and inner ones
   pub record Layers (inner : Names) : Type 0 where
     pub outer : Names
     pub parameters : Names
@@ -85,7 +86,7 @@ module _ (G : GlobalScope → Type 0) (env : Environment) (rs : Types) (p : Plac
     pub scope : G p.env.globals
 
   module _ (inner : Names) (l : Layers inner) where
-    -- a name of an outer layer is no inner one
+    -- a name of an outer layer isn't an inner one
     pub not_clock : (z : Text) → lookup z l.outer ≡ None → is_clock z ≡ false
     not_clock z h = go (is_clock z) refl
       where
@@ -107,7 +108,7 @@ module _ (G : GlobalScope → Type 0) (env : Environment) (rs : Types) (p : Plac
         d3 : AllDistinct (keys (l.routines ++ inner))
         d3 = later_distinct l.variables _ d2
 
-        -- nothing in a longer list is nothing in its parts
+        -- what isn't found in a longer list isn't found in its parts
         none_first : (vs ws : Names) → lookup z (vs ++ ws) ≡ None → lookup z vs ≡ None
         none_first vs ws h = go (lookup z vs) refl (sym (lookup-append z vs ws) ∙ h)
           where

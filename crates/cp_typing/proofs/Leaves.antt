@@ -1,4 +1,5 @@
--- The leaves of a sound type, and of the members of a system type, have paths of their own: so each has one start value.
+-- The leaves of a sound type, and of the members of a system type, have distinct paths, so each has
+-- one start value.
 use Rattle.std.proofs.Common.{◌≡◌, ◌⊎◌, inl, inr, Bool, true, false, ◌||◌, List, [], ◌∷◌, ◌++◌, map, flat_map, bytes_eq, refl, ap, sym, subst, ◌∙◌}
 use Rattle.std.proofs.lemmas.Bool.{true≢false}
 use Rattle.cp_model.specs.Abstract.{Name}
@@ -91,7 +92,7 @@ members_functional (MoreMembers x t ps) good path v w h g =
     go (in_either (path, v) (map (below_step (ByName x)) (leaves t)) (leaves_of_members ps) h) (in_either (path, w) (map (below_step (ByName x)) (leaves t)) (leaves_of_members ps) g)
     (members_functional ps good.2 path v w)
   where
-    -- the name of the first member is none of the others
+    -- no other member has the name of the first one
     clash : (u : Value) (rest : Path) → path ≡ ByName x ∷ rest → IsIn (path, u) (leaves_of_members ps) → v ≡ w
     clash u rest is there =
         let k = member_named ps path u there in

@@ -1,4 +1,5 @@
--- Lower bounds of named types come from the numbers that are written behind a minus: so they are no further below 0.
+-- The lower bounds of named types come from the numbers that are written after a minus, so they are
+-- no further below 0.
 use Rattle.std.proofs.Common.{◌≤◌, ℕ, zero, suc, ℤ, pos, neg_ℤ, Bool, true, false, List, [], ◌∷◌, ◌++◌, Option, Some, None, if◌then◌else◌, bytes_eq, subst}
 use Rattle.cp_model.specs.Abstract.{Array, BaseType, Character, Constant, ConstantDef, Definition, EnumDef, Minus, Name, Named, Number, Range, Record, SystemDef, TypeDef, TypeExpression, TypeName}
 use Rattle.cp_model.specs.Names.{lookup}

@@ -1,4 +1,4 @@
--- Bounds of types come from the numbers that are written: so they are as small as these.
+-- The bounds of types come from the numbers that are written, so they are no larger.
 use Rattle.std.proofs.Common.{◌≤◌, ℕ, suc, ◌+◌, ℤ, pos, neg_ℤ, nat_abs, Bool, true, false, List, [], ◌∷◌, ◌++◌, Option, Some, None, if◌then◌else◌, filter, length, bytes_eq, arith}
 use Rattle.cp_model.specs.Abstract.{Array, BaseType, Character, Constant, ConstantDef, Definition, EnumDef, Fields, Group, Minus, MoreFields, Name, Named, NoFields, Number, Range, Record, System, SystemDef, TypeDef, TypeExpression, TypeName}
 use Rattle.cp_model.specs.Names.{lookup}

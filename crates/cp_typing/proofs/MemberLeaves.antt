@@ -1,5 +1,6 @@
--- The leaves of the members of a system type have paths of their own: its names are distinct, data is sound, and its classes are of system types
--- that were defined before, for which the same was shown.
+-- The leaves of the members of a system type have distinct paths: its names are distinct, its data
+-- is sound, and its classes are of system types that were defined before, for which the same has
+-- been shown.
 use Rattle.std.proofs.Common.{◌≡◌, ◌<◌, ◌⊎◌, inl, inr, ℕ, zero, suc, Bool, true, false, ◌||◌, not, List, [], ◌∷◌, ◌++◌, Option, Some, None, if◌then◌else◌, slice_get, take, filter, bytes_eq, refl, ap, ap₂, sym, subst, ◌∙◌, arith}
 use Rattle.std.proofs.lemmas.Bool.{true≢false}
 use Rattle.cp_model.specs.Abstract.{Class, Monitor, Name, Process, Sort, System}
@@ -60,7 +61,7 @@ reported_good (p ∷ ps) vs d f g = go (is_own p) refl (reported_good ps vs d.1 
 
 -- ---- the types of members
 
--- the system types that were defined before have good members
+-- the members of the system types that were defined before are good
 abbrev AllGood : GlobalScope → List System → Type 0
 AllGood g before = (j : ℕ) (s : System) → slice_get before j ≡ Some s → GoodMembers (reported_members g s)
 
@@ -129,7 +130,7 @@ module _ (g : GlobalScope) (before : List System) (good : AllGood g before) wher
       reported_good (declarations g s.parameters) (declarations g s.variables) t.bodies.distinct
       (parameters_functional s.sort (declarations g s.parameters) t.parameters) (variables_functional s.sort (declarations g s.variables) t.variables)
 
--- each speaks of those before it
+-- each system type depends only on those before it
 systems_good : (setup : Setup) → WellTyped setup → (n i : ℕ) → i < n → (s : System) → slice_get (text_systems setup) i ≡ Some s → GoodMembers (reported_members (globals setup.tree) s)
 systems_good setup typed zero i h s there = absurd (omega (arith, h))
 systems_good setup typed (suc n) i h s there =

@@ -1,4 +1,4 @@
--- The routines among the names of a component: they are the members of its type.
+-- The routines among the names of a component, which are the members of its type.
 use Rattle.std.proofs.Common.{◌≡◌, ℕ, zero, suc, Bool, true, false, ◌||◌, List, [], ◌∷◌, ◌++◌, Option, Some, None, if◌then◌else◌, slice_get, length, map, drop, refl, ap, sym, subst, ◌∙◌, append_assoc, bytes_eq}
 use Rattle.std.specs.Option.{option_or}
 use Rattle.std.proofs.lemmas.Bool.{true≢false}

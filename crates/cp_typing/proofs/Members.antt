@@ -40,7 +40,7 @@ one_each z g (d ∷ ds) h = go (is_component d.1.type) refl (one_each z g ds h.1
     go true is rest = grind (arith, is, rest)
     go false is rest = grind (arith, is, rest, one_word d.1.type h.0 is)
 
--- what its own members are, of these parameters and variables
+-- the members of a component that are its own, given its parameters and variables
 abbrev pub members_of : List (Text × Variable) → List (Text × Variable) → Members
 members_of ds vs = members_from (filter is_own ds) (members_from vs NoMembers)
 

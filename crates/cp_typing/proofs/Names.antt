@@ -105,7 +105,7 @@ new_append ks [] ys h g = subst (λ l. NewNames l ys) (append-nil ks) g
 new_append ks (x ∷ xs) ys h g =
     (h.0, new_append (ks ++ x ∷ []) xs ys h.1 (subst (λ l. NewNames l ys) (sym (append_assoc ks (x ∷ []) xs)) g))
 
--- a name that is there is none of the new ones
+-- a name that is already there isn't one of the new names
 pub there_is_not_new : (x : Text) (ks xs : List Text) → NewNames ks xs → has_name x ks ≡ true → has_name x xs ≡ false
 there_is_not_new x ks [] h there = refl
 there_is_not_new x ks (y ∷ xs) h there =

@@ -1,4 +1,4 @@
--- Processes and monitors: the rules count them as they are declared, to 255.
+-- Processes and monitors: the rules count them up to 255 as they are declared.
 use Rattle.std.proofs.Common.{◌≡◌, ◌≤◌, ℕ, suc, ◌+◌, Bool, true, false, ◌&&◌, not, List, [], ◌∷◌, ◌++◌, if◌then◌else◌, nat_eq, map, refl, ap, sym, subst, ◌∙◌, arith}
 use Rattle.std.proofs.lemmas.Bool.{true≢false, and_parts}
 use Rattle.cp_model.specs.Abstract as a
@@ -27,7 +27,7 @@ use Rattle.cp_typing.proofs.Bounds.{is_within_true}
 use Rattle.cp_typing.proofs.TypeRows.{holds, not_is}
 use Rattle.cp_typing.proofs.TableMeanings.{StructureAs, Types}
 
--- so many more processes and monitors, and no more than 255 of each
+-- `p` more processes and `m` more monitors, and at most 255 of each
 pub record CountsMore (env after : Environment) (p m : ℕ) : Type 0 where
   pub processes : after.processes ≡ env.processes + p
   pub monitors : after.monitors ≡ env.monitors + m
@@ -123,7 +123,7 @@ none_counted s r (x ∷ xs) h =
 abbrev pub CountsAll : Environment → Environment → List (Text × Variable) → Type 0
 CountsAll env after ds = Counts env after (count_components a.Process ds) (count_components a.Monitor ds)
 
--- elsewhere than in the initial process there are no owners
+-- only the initial process has owners
 abbrev pub CountedIn : Position → Environment → Environment → List (Text × Variable) → Type 0
 CountedIn position.InitialVariable env after ds = CountsAll env after ds
 CountedIn _ env after ds = (after.processes ≡ env.processes) × (after.monitors ≡ env.monitors)

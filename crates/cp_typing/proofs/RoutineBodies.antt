@@ -64,7 +64,7 @@ module _ (G : GlobalScope → Type 0) (ys : List a.System) (y : a.System) where
     abbrev pub locals : Variables
     locals = variables inside position.RoutineVariable r.variables
 
-    -- the parts in which nothing is broken
+    -- nothing is broken in the parts
     pub five : c1_declared env r.name ++ c5_entry z r.entry ++ head.violations ++ result_violations answer ++ locals.violations ≡ []
     five = first_empty _ (statements locals.env r.body.list) sound
 
@@ -213,6 +213,6 @@ module _ (G : GlobalScope → Type 0) (ys : List a.System) (y : a.System) where
       pub body_typed : TypedStatement p q.body
       body_typed = statements_as G locals.env made.more p visible r.body.list body_sound
 
-      -- its need, with calls counted so many deep
+      -- the need of the body, counting calls to the given depth
       pub body_need : (n : ℕ) → Bounded (in_statement (call_need n g y) (start_need n g) p.env q.body) (need_statements locals.env r.body.list)
       body_need n = statements_bounded G locals.env made.more p visible n r.body.list body_sound

@@ -1,4 +1,4 @@
--- The names of routines: how each is found, and that it is the only one.
+-- The names of routines: how each is found, and that no other routine has it.
 use Rattle.std.proofs.Common.{◌≡◌, ℕ, zero, suc, Bool, true, false, ◌||◌, List, [], ◌∷◌, ◌++◌, Some, None, slice_get, cond, find, length, map, refl, ap, sym, subst, ◌∙◌, append_assoc, append-nil, bytes_eq}
 use Rattle.std.proofs.lemmas.Bool.{true≢false, or_right}
 use Rattle.cp_model.specs.declared.rules.Entity.TheVariants as entity

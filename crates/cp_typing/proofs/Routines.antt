@@ -54,7 +54,7 @@ module _ (G : GlobalScope → Type 0) (ys : List a.System) (y : a.System) where
   module _ (z : Sort) (sort_is : erase.sort_of z ≡ y.sort) (env : Environment) (rs : Types) (k : ℕ) (c : ComponentScope G ys y env rs k) (r : s.Routine)
       (sound : (routine env z r).violations ≡ []) (names_distinct : AllDistinct (routine_names y.routines)) (before after : List a.Routine) (here : y.routines ≡ before ++ erase.routine r ∷ after) (count : length before ≡ k)
       (new_here : has_name r.name.name (map (λ q. q.name) before) ≡ false) where
-    -- what stands in `RoutineBodies`, here
+    -- short names for what `RoutineBodies` defines
     abbrev q : a.Routine
     q = first.q G ys y z sort_is env rs k c r sound
 
@@ -207,7 +207,7 @@ module _ (G : GlobalScope → Type 0) (ys : List a.System) (y : a.System) where
         deep zero h = omega arith
         deep (suc m) h = first.body_need G ys y z sort_is env rs k c r sound g i (root (OfProcess 0)) (OfProcess 0) m h
 
-    -- its own name finds it
+    -- the routine is found by its own name
     own_known : KnownRoutine G ys y final made.more (suc k) r.name.name (entity.Routine n)
     own_known = record {
       number = n;

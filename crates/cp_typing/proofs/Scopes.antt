@@ -1,4 +1,4 @@
--- What a body and a routine see: the layers of names, and so all that statements need.
+-- What a body and a routine see: the layers of names, and so everything that statements need.
 use Rattle.std.proofs.Common.{◌≡◌, ℕ, Bool, true, false, not, List, [], ◌∷◌, ◌++◌, Option, Some, None, if◌then◌else◌, slice_get, refl, ap, sym, subst, ◌∙◌, bytes_eq, is_some}
 use Rattle.std.specs.Option.{option_or}
 use Rattle.std.proofs.lemmas.Bool.{true≢false}
@@ -26,7 +26,7 @@ use Rattle.cp_typing.proofs.Layers.{none_apart, Layers, entities, later_distinct
 use Rattle.cp_typing.proofs.LayerNames.{FoundAs, VariablesAs, variable_found, variable_none, Outside, local_here, own_parameters, own_variables}
 
 module _ (G : GlobalScope → Type 0) (env : Environment) (rs : Types) (p : Place) where
-  -- all but the names
+  -- everything but the names
   pub record Surroundings : Type 0 where
     pub globals : NamesAs G rs env.names
     pub tables : Tables G env rs

@@ -117,7 +117,7 @@ module _ (G H : GlobalScope → Type 0) (sub : (g : GlobalScope) → H g → G g
 
 -- ---- the outermost scope
 
--- a name that is not visible is not defined
+-- a name that isn't visible isn't defined
 abbrev pub Seen : Names → GlobalScope → Type 0
 Seen names g = (x : Text) → lookup x names ≡ None → (lookup x g.constants ≡ None) × (lookup x g.types ≡ None)
 
@@ -134,7 +134,7 @@ pub record Stage (env : Environment) (g : GlobalScope) (rs : Types) (ys : List a
   pub seen : Seen env.names g
   pub systems : (t : ℕ) (w : a.System) (inner : Members) → TypeAt rs t (ComponentOf w inner) → (i : ℕ) × (slice_get ys i ≡ Some w)
 
--- a system type is typed where these were defined before, in every scope with more definitions
+-- a system type is typed after the system types before it, in every scope with more definitions
 abbrev pub SystemTyped : GlobalScope → List a.System → a.System → Type 0
 SystemTyped g before y = (h : GlobalScope) → Later g h → TypedSystem h before y
 
@@ -146,7 +146,7 @@ pub record Defined (env : Environment) (g : GlobalScope) (rs : Types) (ys : List
   pub typed : (i : ℕ) (y : a.System) → slice_get (systems_of ds) i ≡ Some y → SystemTyped (define_all g ds) (ys ++ take i (systems_of ds)) y
   pub in_order : (h : GlobalScope) → Later (define_all g ds) h → TypedInOrder h g ys ds
 
--- a lookup in a scope with one more name in front
+-- a lookup in a scope with one more name before the others
 front : {A : Type 0} (x y : Text) (v : A) (vs : List (Text × A)) (w : A) → lookup x vs ≡ None → lookup y vs ≡ Some w → lookup y ((x, v) ∷ vs) ≡ Some w
 front x y v vs w none h = go (bytes_eq y x) refl
   where
@@ -160,7 +160,7 @@ first_there x v vs = ap (λ c. if c then Some v else lookup x vs) (bytes_eq-refl
 pub not_first : {A : Type 0} (x y : Text) (v : A) (vs : List (Text × A)) → bytes_eq y x ≡ false → lookup y ((x, v) ∷ vs) ≡ lookup y vs
 not_first x y v vs h = ap (λ c. if c then Some v else lookup y vs) (h)
 
--- what is not among more names is not the last of them, and not among the first
+-- a name that isn't found after one was added is neither that one nor one of the earlier names
 not_more : (names : Names) (x y : Text) (e : Entity) → lookup y (names ++ (x, e) ∷ []) ≡ None → (lookup y names ≡ None) × (bytes_eq y x ≡ false)
 not_more names x y e h = go (lookup y names) refl (sym (lookup-append y names ((x, e) ∷ [])) ∙ h)
   where
@@ -192,7 +192,7 @@ constant_later x v g none = record { constants = λ y w h. front x y v g.constan
 pub type_later : (x : Text) (r : ResolvedType) (g : GlobalScope) → lookup x g.types ≡ None → Later g (record g { types = (x, r) ∷ g.types })
 type_later x r g none = record { constants = λ y w h. h; types = λ y w h. front x y r g.types w none h }
 
--- what definitions leave as it was
+-- what definitions leave unchanged
 pub record KeepsRest (env after : Environment) : Type 0 where
   pub region : after.region ≡ env.region
   pub processes : after.processes ≡ env.processes
@@ -201,7 +201,7 @@ pub record KeepsRest (env after : Environment) : Type 0 where
 pub keeps_rest : (env : Environment) → KeepsRest env env
 keeps_rest env = record { region = refl; processes = refl; monitors = refl }
 
--- one name more, with new rows
+-- one more name, with new rows
 pub stage_named : (env env1 : Environment) (g g1 : GlobalScope) (rs more : Types) (ys zs : List a.System) (x : Text) (e : Entity) → Stage env g rs ys → Tables (Later g) env1 more
     → Grows env env1 rs more
     → ((t : ℕ) (w : a.System) (inner : Members) → TypeAt more t (ComponentOf w inner) → (i : ℕ) × (slice_get zs i ≡ Some w))
@@ -315,7 +315,7 @@ type_defined env g rs ys x te stage h =
       in_order = λ k l. tt;
     })
 
--- what is typed is typed in scopes with more definitions
+-- what is typed stays typed in scopes with more definitions
 pub typed_later : (g h : GlobalScope) (ys : List a.System) (y : a.System) → Later g h → SystemTyped g ys y → SystemTyped h ys y
 typed_later g h ys y later t i l = t i (later_on g h i later l)
 

@@ -1,4 +1,4 @@
--- Calls of standard functions: what their arguments are, and what they give.
+-- Calls of standard functions: their arguments, and what they return.
 use Rattle.std.proofs.Common.{◌≡◌, ◌⊎◌, inl, inr, ℕ, true, ◌&&◌, [], ◌∷◌, Option, Some, None, nat_eq, eqb-true, slice_get, length, refl, ap, sym, subst, ◌∙◌, arith, codes, is_some}
 use Rattle.std.proofs.lemmas.Bool.{true≢false, and_parts}
 use Rattle.std.specs.Option.{unwrap_or}
@@ -43,7 +43,7 @@ module _ (G : GlobalScope → Type 0) (env : Environment) (rs : Types) (p : Plac
       same_base a.Integer m.meets.type _ m.meets.same (of_base G env rs v.tables m.type integer m.meets.type a.Integer m.meets.there v.tables.integer
       (provided_sound (is_base integer (base_of env m.type)) C2 (first_token e) m.type m.type (passed_as want.Integer e m)).0)
 
-  -- a simple value: of the rules' base too
+  -- a simple value, also by the base of the rules
   pub record SimpleArgument (e : s.Expression) (t : ℕ) : Type 0 where
     pub number : ℕ
     pub is : base_of env t ≡ Some number
@@ -88,7 +88,7 @@ module _ (G : GlobalScope → Type 0) (env : Environment) (rs : Types) (p : Plac
 
   -- ---- a standard function
 
-  -- what is known of a call's arguments, and of the type that it gives
+  -- what is known of a call's arguments, and of the type of its result
   abbrev pub CallKnown : s.Expressions → ℕ → ℕ → rules.Callee → Type 0
   CallKnown es u t c = AllAs G env rs p c.wants es × FirstIs env c.wants es u × (given env u c.gives ≡ t) × (length c.wants ≡ count_of es)
 
@@ -152,7 +152,7 @@ module _ (G : GlobalScope → Type 0) (env : Environment) (rs : Types) (p : Plac
       }
 
   module _ (es : s.Expressions) (x : Text) (c : rules.Callee) (u t : ℕ) (no_call : callee p.env (a.Plain x) ≡ None) (k : CallKnown es u t c) where
-    -- with the row of its name
+    -- with the row of this name
     rowed : (z : rules.Callee) → Some z ≡ Some c → (CallKnown es u t z → Function x es t) → Function x es t
     rowed z h f =
         let same : z ≡ c = some_same (Some z) z c refl h in

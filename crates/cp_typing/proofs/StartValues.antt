@@ -1,7 +1,8 @@
 -- At the start, each leaf of each variable has its start value.
 --
--- All that is written at one location is one value: the leaves of one variable have paths of their own, the names of one component differ, and
--- the owners of different variables differ by their numbers. And what was written once stays.
+-- Everything that is written at one location is one value: the leaves of one variable have distinct
+-- paths, the names of one component differ, and the owners of different variables have different
+-- numbers. What was written stays.
 use Rattle.std.proofs.Common.{true, ◌≡◌, ◌⊎◌, inl, inr, ℕ, ◌+◌, List, [], ◌∷◌, ◌++◌, map, flat_map, refl, ap, sym, subst, ◌∙◌, arith}
 use Rattle.cp_model.specs.Abstract.{Class, Monitor, Name, Process, Sort, System}
 use Rattle.cp_model.specs.Names.{lookup}
@@ -29,7 +30,7 @@ each_in P [] d h g = absurd g
 each_in P (e ∷ ds) d h (inl g) = subst P (sym g) h.0
 each_in P (e ∷ ds) d h (inr g) = each_in P ds d h.1 g
 
--- the number in an owner
+-- the number of an owner
 abbrev pub process_in : Owner → ℕ
 process_in (OfProcess n) = n
 process_in _ = 0

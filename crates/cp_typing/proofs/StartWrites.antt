@@ -1,4 +1,4 @@
--- The writes of the start: each location is written with one value, and that stays.
+-- The writes of the start: each location is written with one value, which stays.
 use Rattle.std.proofs.Common.{◌≡◌, inl, inr, ℕ, suc, ℤ, pos, negsuc, Bool, true, false, List, [], ◌∷◌, Some, if◌then◌else◌, nat_eq, eqb-true, eq-eqb, bytes_eq, refl, ap, ap₂, sym, subst, ◌∙◌, arith}
 use Rattle.std.proofs.lemmas.Bool.{true≢false, and_from, and_parts}
 use Rattle.cp_model.specs.Abstract.{Name, Sort}
@@ -74,7 +74,7 @@ same_location-refl l = and_from (same_owner l.owner l.owner) (same_path l.path l
 
 -- ---- what stays of writes
 
--- all that is written at one location is one value
+-- everything that is written at one location is one value
 abbrev pub OneValue : Writes → Location → Value → Type 0
 OneValue ws l v = (w : Value) → IsIn (l, w) ws → w ≡ v
 
@@ -105,7 +105,7 @@ found_in (e ∷ ds) x v d (inr h) = go (bytes_eq x e.0) refl (found_in ds x v d.
     go false is k = k
     go true is k = absurd (cc (ap (λ z. lookup z ds) (bytes_same x e.0 is), d.0, k))
 
--- two components of one sort with one number have one name
+-- two components of one sort with the same number have the same name
 pub numbers_apart : (s : Sort) (ds : List (Name × Variable)) (x y : Name) (v w : Variable) → lookup x ds ≡ Some v → is_component_of s v.type ≡ true → lookup y ds ≡ Some w
     → is_component_of s w.type ≡ true → count_before s x ds ≡ count_before s y ds → x ≡ y
 numbers_apart s [] x y v w h p g q same = absurd (cc)

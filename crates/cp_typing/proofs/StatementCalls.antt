@@ -1,4 +1,4 @@
--- Statements and tasks in which a call gets its value stay typed.
+-- Statements and tasks stay typed when a call gets its value.
 use Rattle.std.proofs.Common.{◌≡◌, ◌⊎◌, inl, inr, ℤ, Bool, List, [], ◌∷◌, Some, ap, sym, subst, ◌∙◌}
 use Rattle.cp_model.specs.Abstract.{Assign, BaseType, Boolean, Case, Cycle, Designator, Expression, Expressions, For, If, Init, MoreExpressions, Name, NoExpression, Nothing, Perform, Plain, Repeat, Seq, Statement, Use, While}
 use Rattle.cp_model.specs.Types.{ArrayOf, ComponentOf, NoType, Queue, RecordOf, ResolvedType, Simple}
@@ -24,7 +24,7 @@ module _ (p : Place) (b : BaseType) (n : ℤ) where
   abbrev InitResult : List (Name × Variable) → UserCall → Expressions → Type 0
   InitResult vs u fs = TypedCall p u × (Answers p u b → AllInitFit p vs fs)
 
-  -- a component that is passed on is no call
+  -- a component that is passed on isn't a call
   init_one : (t : ResolvedType) (e : Expression) (u : UserCall) (f : Expression) → first_call p.env value e ≡ Some (u, f) → InitFits p t e → TypedCall p u × (Answers p u b → InitFits p t f)
   init_one (ComponentOf s inner) (Use (Plain x)) u f h fits = absurd (not_called p.env (Plain x) NoExpression value (u, f) fits.0 h)
   init_one (ComponentOf s inner) _ u f h fits = absurd fits

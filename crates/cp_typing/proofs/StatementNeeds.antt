@@ -1,4 +1,5 @@
--- The needs of statements: what their calls, and the bodies that they start, take by the meaning is no more than the rules say.
+-- The needs of statements: what their calls, and the bodies that they start, take by the meaning is
+-- at most what the rules count.
 use Rattle.std.proofs.Common.{◌≡◌, ℕ, max, Bool, true, false, List, [], ◌∷◌, ◌++◌, Option, Some, if◌then◌else◌, nat_eq, refl, ap, sym, subst, ◌∙◌, arith, length}
 use Rattle.cp_model.specs.Syntax as s
 use Rattle.cp_model.specs.Abstract as a
@@ -130,7 +131,7 @@ module _ (G : GlobalScope → Type 0) (env : Environment) (rs : Types) (p : Plac
 
   -- ---- init
 
-  -- a component that is passed on is no call
+  -- a component that is passed on isn't a call
   passed_bounded : (u : ℕ) (e : s.Expression) → violations_of (component_argument env u e) ≡ [] → Bounded (takes (erase.expression e)) (need_expression env e)
   passed_bounded u (s.Designated (s.Designate x s.NoSelectors)) h =
       let rest : violations_of (then_judge (c1_named env x) (c12_passed env u x)) ≡ [] = also_rest (c8_named env mode.Value x) _ h in

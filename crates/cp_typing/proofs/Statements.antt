@@ -57,7 +57,7 @@ module _ (G : GlobalScope → Type 0) (env : Environment) (rs : Types) (p : Plac
 
   -- ---- for
 
-  -- the base of the variable, and its place
+  -- the base of the variable of a `for`, and its place
   pub record ForAs (x : Identifier) (t : ℕ) : Type 0 where
     pub part_of : VariablePart G env rs p (a.Use (a.Plain x.name)) t
     pub type : ResolvedType
@@ -170,7 +170,7 @@ module _ (G : GlobalScope → Type 0) (env : Environment) (rs : Types) (p : Plac
   process_sort sort.Class h = absurd (true≢false (sym h))
 
   module _ (es : s.Expressions) (x : Text) (c : rules.Callee) (all : AllAs G env rs p c.wants es) (count : length c.wants ≡ count_of es) where
-    -- with the row of its name
+    -- with the row of this name
     rowed : (w : Want) (g : Gives) → Some (record { wants = w ∷ []; gives = g }) ≡ Some c → ((e : s.Expression) → ArgumentAs G env rs p w e → Standards x (s.MoreExpressions e s.NoExpressions)) → Standards x es
     rowed w g h f =
         let row : rules.Callee = record { wants = w ∷ []; gives = g } in
@@ -223,7 +223,7 @@ module _ (G : GlobalScope → Type 0) (env : Environment) (rs : Types) (p : Plac
 
   -- ---- all statements
 
-  -- what is known of a selector that is sound
+  -- what is known of a sound selector
   selector_as : (e : s.Expression) → violations_of (c2_selector env e) ≡ []
       → (t : ℕ) × (c2_selector env e ≡ Sound t) × ExpressionAs G env rs p (erase.expression e) t × SimpleArgument G env rs p v e t
   selector_as e h =

@@ -161,7 +161,7 @@ module _ (G : GlobalScope → Type 0) where
   fields_in rs [] u r fs ps there alone free h = h
   fields_in rs (x ∷ xs) u r fs ps there alone free h = (refl, there, fields_in rs xs u r fs ps there alone free h, alone, free)
 
-  -- the names of fields are new, each
+  -- each field name is new
   pub fields_new : (seen : List Text) (xs : List Identifier) → c1_fields seen xs ≡ [] → NewNames seen (map name_of xs)
   fields_new seen [] h = tt
   fields_new seen (x ∷ xs) h = (

@@ -1,4 +1,5 @@
--- A system type in which nothing is broken: its bodies are typed, and the rules and the meaning make the same of it.
+-- A system type in which nothing is broken: its bodies are typed, and the rules and the meaning
+-- agree about it.
 use Rattle.std.proofs.Common.{◌≡◌, ◌<◌, ◌≤◌, filter, ap₂, inl, inr, ℕ, zero, suc, ◌+◌, true, false, List, [], ◌∷◌, ◌++◌, Some, None, if◌then◌else◌, get_or, slice_get, length, take, drop, refl, ap, sym, subst, ◌∙◌, arith, append-nil, length-append, codes}
 use Rattle.std.proofs.lemmas.Bool.{true≢false}
 use Rattle.std.proofs.Math.Seq.{get_or-append_seam}
@@ -292,7 +293,7 @@ module _ (env : Environment) (g : GlobalScope) (rs : Types) (ys : List a.System)
   members_same : (h : GlobalScope) → G h → reported_members g meaning ≡ reported_members h meaning
   members_same h i = members_here g (later_same g) ∙ sym (members_here h i)
 
-  -- what the rules count is at least what a component takes, with the need of a process
+  -- the rules count at least as many words as a component takes, including the need of a process
   own_words : (h : GlobalScope) → G h → words ≤ word_limit
       → 1 + rights_in h meaning + words_of_members h (reported_members h meaning) + (if is_process y.sort then need_statements behind.env y.body.list else 0) ≤ words
   own_words h i fits =

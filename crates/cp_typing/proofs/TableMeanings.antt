@@ -1,7 +1,9 @@
--- What the tables of the rules stand for: each type of the table has a resolved type of the meaning.
+-- What the tables of the rules stand for: each type of the table has a resolved type of the
+-- meaning.
 --
--- `G` tells the scopes of which facts are known: those of the definitions so far and any that define more names after them. So a fact
--- that was shown at a definition is one of the whole text.
+-- `G` selects the scopes about which facts are known: the scope of the definitions so far, and
+-- those that define more names after them. So a fact that is shown at a definition holds for the
+-- whole text.
 use Rattle.std.proofs.Common.{◌≡◌, ◌<◌, ◌≤◌, ◌⊎◌, inl, inr, ℕ, zero, suc, ◌+◌, ℤ, false, List, [], ◌∷◌, ◌++◌, true, Option, Some, None, get_or, slice_get, length, take, drop, refl, ap, sym, subst, ◌∙◌, arith, codes}
 use Rattle.std.proofs.lemmas.Bool.{true≢false}
 use Rattle.cp_model.specs.Abstract as a
@@ -110,11 +112,11 @@ pub record RoutineAs (G : GlobalScope → Type 0) (env : Environment) (rs : Type
   pub heading : HeadingAs G env rs row.first row.count q.parameters
   pub returns : ReturnsAs G rs row.returns q.result
 
--- with calls counted so deep as may be, what a call takes is no more than the rules say
+-- counting calls to any depth, a call takes at most what the rules count
 abbrev pub NeedAs : (GlobalScope → Type 0) → a.System → ℕ → a.Routine → Type 0
 NeedAs G y need q = (n : ℕ) (g : GlobalScope) → G g → need ≤ word_limit → activation_words g q + statement_need n g y (Some q) q.body ≤ need
 
--- routine k of a system type, which its name finds
+-- routine k of a system type, which is found by its name
 pub record RoutineOf (G : GlobalScope → Type 0) (env : Environment) (rs : Types) (r : ℕ) (x : Text) (y : a.System) : Type 0 where
   pub within : r < length env.routines
   pub place : ℕ
@@ -154,12 +156,12 @@ StructureAs G env rs _ _ = ⊥
 pub record RowAs (G : GlobalScope → Type 0) (env : Environment) (rs : Types) (row : TypeRow) (r : ResolvedType) : Type 0 where
   pub structure : StructureAs G env rs row.structure r
   pub queues : row.has_queues ≡ has_queues r
-  -- of data: it is sound, and its words are within the limit
+  -- for data: it is sound, and its words are within the limit
   pub sound : is_component r ≡ false → SoundType r × (row.words ≤ word_limit)
   pub words : (g : GlobalScope) → G g → row.words ≤ word_limit → words g r ≤ row.words
   pub reported : (g : GlobalScope) → G g → IsReported g r
 
--- what is known of the row of a type that is no component's
+-- what is known of the row of a type that isn't a component's type
 pub record DataRow (G : GlobalScope → Type 0) (row : TypeRow) (r : ResolvedType) : Type 0 where
   pub alone : is_component r ≡ false
   pub queues : row.has_queues ≡ has_queues r
@@ -186,7 +188,7 @@ row_data G env rs row r h alone = record { alone = alone; queues = h.queues; sou
 pub data_fits : (G : GlobalScope → Type 0) (row : TypeRow) (r : ResolvedType) → DataRow G row r → (g : GlobalScope) → G g → IsData g r
 data_fits G row r d g k = (d.sound, omega (arith, d.words g k, d.fits))
 
--- of values that start at the first, or at 0
+-- for values that start at the first value, or at 0
 pub simple_data : (G : GlobalScope → Type 0) (row : TypeRow) (b : a.BaseType) (low high start : ℤ) → row.words ≡ 1 → row.has_queues ≡ false → within low high start ≡ true
     → DataRow G row (Simple b low high start)
 simple_data G row b low high start words queues sound = record {
@@ -222,7 +224,7 @@ ConstantAs G rs x base n = (b : a.BaseType) × BaseAt rs base b × ((g : GlobalS
 abbrev pub TypeAs : (GlobalScope → Type 0) → Types → Text → ℕ → Type 0
 TypeAs G rs x t = (r : ResolvedType) × TypeAt rs t r × ((g : GlobalScope) → G g → lookup x g.types ≡ Some r)
 
--- names of the outermost scope; of others nothing is said here
+-- names of the outermost scope. Nothing is said about others
 abbrev pub GlobalAs : (GlobalScope → Type 0) → Types → Text → Entity → Type 0
 GlobalAs G rs x (entity.Constant base n) = ConstantAs G rs x base n
 GlobalAs G rs x (entity.Type t) = TypeAs G rs x t
@@ -243,7 +245,7 @@ pub record Tables (G : GlobalScope → Type 0) (env : Environment) (rs : Types) 
 
 -- ---- growth
 
--- what stood in the tables stands there still
+-- what was in the tables is still there
 pub record Grows (env after : Environment) (rs more : Types) : Type 0 where
   pub types : (t : ℕ) (r : ResolvedType) → TypeAt rs t r → TypeAt more t r
   pub rows : (t : ℕ) → t < length env.types → row_of after t ≡ row_of env t

@@ -355,7 +355,7 @@ module _ (t : s.Tree) (accepted : Accepted t) where
   monitors_fit : count_components a.Monitor (declarations g (erase.abstract t).initial.variables) ≤ 255
   monitors_fit = omega (arith, owners.monitors, owners.monitors_fit, stage.monitors, ap (count_components a.Monitor) (variables_are.declares g (later_same g)))
 
-  -- the initial process with the need of its body
+  -- the initial process, including the need of its body
   initial_words : (n : ℕ) → owner_words n g (erase.abstract t).initial ≤ word_limit
   initial_words n =
       let judged : unless (is_within words) C13 t.body.at ≡ [] =

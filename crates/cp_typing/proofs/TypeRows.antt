@@ -1,4 +1,4 @@
--- Rows of types: what is added to the tables, and that what stood there is kept.
+-- Rows of types: what is added to the tables, and that the existing rows are kept.
 use Rattle.std.proofs.Common.{◌≡◌, ◌<◌, ◌≤◌, ◌⊎◌, inl, inr, ℕ, ◌+◌, ℤ, pos, neg_ℤ, Bool, true, false, ◌||◌, not, List, [], ◌∷◌, ◌++◌, Option, Some, None, nat_eq, eqb-true, get_or, slice_get, length, take, drop, refl, ap, sym, subst, ◌∙◌, arith, append-nil, length-append}
 use Rattle.std.proofs.lemmas.Bool.{true≢false}
 use Rattle.std.proofs.lemmas.List.{get_or_append_left}
@@ -26,7 +26,7 @@ use Rattle.cp_typing.proofs.TableMeanings.{BaseAt, ConstantAs, DataRow, data_row
 
 -- ---- more rows
 
--- each table has more rows after those that it had
+-- each table has more rows after the existing ones
 pub record Longer (env after : Environment) : Type 0 where
   pub types : List TypeRow
   pub types_are : after.types ≡ env.types ++ types
@@ -91,7 +91,7 @@ pub record TablesMade (G : GlobalScope → Type 0) (env : Environment) (rs : Typ
   pub more : Types
   pub grows : Grows env after rs more
   pub tables : Tables G after more
-  -- no type that was added is a component's
+  -- no added type is a component's type
   pub components : (t : ℕ) (y : a.System) (inner : Members) → TypeAt more t (ComponentOf y inner) → TypeAt rs t (ComponentOf y inner)
   pub longer : length env.types ≤ length after.types
   pub same : after ≡ with_tables env after
@@ -182,7 +182,7 @@ record_sound env (Broken v vs) n h = absurd (cc)
 pub cons_same : {A : Type 0} (x y : A) (xs ys : List A) → x ∷ xs ≡ y ∷ ys → (x ≡ y) × (xs ≡ ys)
 cons_same x y xs ys h = (cc, cc)
 
--- what is no component's type was not added as one
+-- a type that isn't a component's type wasn't added as one
 pub not_new : (rs : Types) (r : ResolvedType) (t : ℕ) (y : a.System) (inner : Members) → is_component r ≡ false → TypeAt (rs ++ r ∷ []) t (ComponentOf y inner)
     → TypeAt rs t (ComponentOf y inner)
 not_new rs r t y inner alone h = elim (slice_last rs r t (ComponentOf y inner) h) [

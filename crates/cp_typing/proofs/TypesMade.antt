@@ -1,4 +1,4 @@
--- A written type in which nothing is broken: the rules and the meaning make the same of it.
+-- A written type in which nothing is broken: the rules and the meaning agree about it.
 use Rattle.std.proofs.Common.{◌≡◌, ℕ, ℤ, true, false, ◌||◌, not, List, [], ◌∷◌, ◌++◌, length, map, refl, ap, ap₂, sym, subst, ◌∙◌, is_some}
 use Rattle.std.proofs.lemmas.Bool.{true≢false}
 use Rattle.cp_model.specs.Syntax as s
@@ -25,7 +25,7 @@ use Rattle.cp_typing.proofs.StructuredTypes.{subrange_made, IndexAs, IndicesAs, 
 module _ (G : GlobalScope → Type 0) where
   -- ---- all written types
 
-  -- the elements of an array of arrays are sound, each
+  -- each element of an array of arrays is sound
   arrays_are_sound : (env : Environment) (at : ℕ) (js : List (Judged ℕ)) (e : Judged ℕ) (n : ℕ) → (arrays env at js e).of ≡ Sound n
       → (ns : List ℕ) × (m : ℕ) × (js ≡ map (λ i. Sound i) ns) × (e ≡ Sound m)
   arrays_are_sound env at [] e n h = ([], n, refl, h)
@@ -37,7 +37,7 @@ module _ (G : GlobalScope → Type 0) where
       let rest : (ns : List ℕ) × (m : ℕ) × (js ≡ map (λ i. Sound i) ns) × (e ≡ Sound m) = arrays_are_sound env at js e parts.1 parts.3 in
       (parts.0 ∷ rest.0, rest.1, ap₂ (λ x y. x ∷ y) parts.2 rest.2, rest.3)
 
-  -- an index type that is sound is simple
+  -- a sound index type is simple
   simple_row : (env : Environment) (rs : Types) (st : Structure) (r : ResolvedType) → StructureAs G env rs st r → is_some (base_in st) ≡ true
       → (b : a.BaseType) × (low : ℤ) × (high : ℤ) × (start : ℤ) × (r ≡ Simple b low high start)
   simple_row env rs (structure.Simple base low high) (Simple b lo hi start) h e = (b, lo, hi, start, refl)
@@ -81,7 +81,7 @@ module _ (G : GlobalScope → Type 0) where
   kept_same : (env : Environment) (rs : Types) (after : Environment) (m : TablesMade G env rs after) → NamesAs G rs env.names → NamesAs G m.more after.names
   kept_same env rs after m names = subst (λ e. NamesAs G m.more e.names) (sym m.same) (names_kept G env after rs m.more m.grows env.names names)
 
-  -- what is sound where it stands
+  -- what is sound at its position
   pub placed_inner : (env : Environment) (p : Position) (te : s.TypeExpression) (j : Judged ℕ) (u : ℕ) → placed env p te j ≡ Sound u
       → (t : ℕ) × (j ≡ Sound t) × (c6_c8_placed env p (type_at te) t ≡ Sound u)
   placed_inner env p te j u h = then_sound j (c6_c8_placed env p (type_at te)) u (also_sound (c8_written env p te j) _ u h)
@@ -99,7 +99,7 @@ module _ (G : GlobalScope → Type 0) where
         (also_sound (unless (allows_structure env p (row_of env t).structure) C6 at) _ u h)).0,
   )
 
-  -- where no system type may stand
+  -- at a position where no system type may stand
   abbrev pub NoSystem : Position → Type 0
   NoSystem p = (y : _) → allows_system p y ≡ false
 

@@ -128,7 +128,7 @@ named_value clock env store x v h = go (is_clock x) h
     go true h = integer_of (pos (realtime clock)) v h
     go false h = ap (λ z. z.type) (sym (given_same _ v h)) ∙ meant_value env store (meaning env x)
 
--- no user call is left in it
+-- no user call is left in the parts
 neither : {A : Type 0} (x y : Found A) → or_else x y ≡ None → (x ≡ None) × (y ≡ None)
 neither None y h = (refl, h)
 neither (Some x) y h = absurd (cc)

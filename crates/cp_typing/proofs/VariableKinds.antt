@@ -44,7 +44,7 @@ no_queues : (b : Bool) → not b ≡ true → b ≡ false
 no_queues true h = absurd (true≢false (sym h))
 no_queues false h = refl
 
--- what is data or a component of a known type
+-- data, or a component of a known type
 abbrev pub IsKnown : GlobalScope → List a.System → ResolvedType → Type 0
 IsKnown h ys r = IsData h r ⊎ IsSystem h ys r
 

@@ -1,4 +1,4 @@
--- What the names of statements stand for, by the rules and by the meaning; and the types that agree.
+-- What the names of statements stand for, by the rules and by the meaning, and which types agree.
 use Rattle.std.proofs.Common.{◌≡◌, ◌<◌, ◌⊎◌, inl, inr, ℕ, ℤ, Bool, true, false, ◌&&◌, [], ◌∷◌, Option, Some, None, if◌then◌else◌, nat_eq, eqb-true, slice_get, refl, ap, sym, subst, ◌∙◌, bytes_eq}
 use Rattle.std.proofs.lemmas.Bool.{true≢false, and_parts}
 use Rattle.cp_model.specs.Abstract as a
@@ -41,7 +41,7 @@ component_of x acc (ComponentOf y inner) = Some (record { name = x; system = y; 
 component_of x acc _ = None
 
 module _ (G : GlobalScope → Type 0) (env : Environment) (rs : Types) (p : Place) where
-  -- a component is reached by its own name alone
+  -- a component is reached only by its bare name
   abbrev pub ComponentFor : a.Designator → Access → ResolvedType → Type 0
   ComponentFor (a.Plain x) acc r = component_named p.env x ≡ component_of x acc r
   ComponentFor (a.Part d x) acc r = is_component r ≡ false
@@ -58,10 +58,10 @@ module _ (G : GlobalScope → Type 0) (env : Environment) (rs : Types) (p : Plac
     pub no_call : callee p.env d ≡ None
     pub component : ComponentFor d acc type
     pub changeable : is_changeable acc ≡ true → IsChangeable p.env d
-    -- no part of what has no queues has one
+    -- a part of a variable without queues has no queues
     pub free : has_queues (place_type p.env (a.Plain (first_name d))) ≡ false → has_queues type ≡ false
 
-  -- a routine that is called by its name alone
+  -- a routine that is called by its bare name
   pub record OwnAs (x : Text) (r : ℕ) : Type 0 where
     pub routine : a.Routine
     pub named : callee p.env (a.Plain x) ≡ Some (record { routine = routine; of = None })
@@ -103,7 +103,7 @@ module _ (G : GlobalScope → Type 0) (env : Environment) (rs : Types) (p : Plac
   EntityAs x (entity.UnfinishedRoutine row) = ResultAs x row
   EntityAs x _ = Unit {0}
 
-  -- where the statements stand
+  -- the region of the rules agrees with the place of the meaning
   pub record RegionAs : Type 0 where
     pub sort : erase.sort_of env.region.sort ≡ p.env.system.sort
     pub routine : is_in_routine env.region.part ≡ true → (f : Frame) × (p.env.frame ≡ Some f)
@@ -143,7 +143,7 @@ module _ (G : GlobalScope → Type 0) (env : Environment) (rs : Types) (p : Plac
   abbrev pub SameValue : ResolvedType → ResolvedType → Type 0
   SameValue r q = (r ≡ q) ⊎ ((b : a.BaseType) × IsOfBase b r × IsOfBase b q)
 
-  -- a value of type t, which the meaning may know by its base alone
+  -- a value of type t, of which the meaning may know only the base
   pub record ExpressionAs (e : a.Expression) (t : ℕ) : Type 0 where
     pub typed : TypedExpression p e
     pub type : ResolvedType
@@ -179,7 +179,7 @@ module _ (G : GlobalScope → Type 0) (env : Environment) (rs : Types) (tables :
   in_structure (structure.System y) r k h e = absurd (cc)
   in_structure (structure.Simple base low high) _ k h e = absurd h
 
-  -- a type of the rules' base has the base of the meaning
+  -- a type with a base by the rules has that base by the meaning
   pub base_for : (t k : ℕ) (r : ResolvedType) → TypeAt rs t r → base_of env t ≡ Some k → (b : a.BaseType) × IsOfBase b r × BaseAt rs k b
   base_for t k r there h = in_structure (row_of env t).structure r k (tables.rows t r there).structure h
 
@@ -221,7 +221,7 @@ module _ (G : GlobalScope → Type 0) (env : Environment) (rs : Types) (tables :
       go (Some k) None e f h = same_type h
       go None o e f h = same_type h
 
--- what agrees with a type agrees with what its values are
+-- a type that agrees with r agrees with the type of r's values
 pub agree_value : (t r q : ResolvedType) → Agree t r → (r ≡ q) ⊎ ((c : a.BaseType) × IsOfBase c r × IsOfBase c q) → Agree t q
 agree_value t r q (inl h) g = inl (h.0, h.1, same_base h.0 r q g h.2)
 agree_value t r q (inr h) (inl e) = inr (h.0 ∙ e, h.1)

@@ -1,6 +1,7 @@
 -- The typing judgement of expressions and statements, over the environment of the meaning.
 --
--- A judgement is a type by recursion on the abstract syntax, so that a clause of it computes to what it says of the parts.
+-- A judgement is a type, defined by recursion on the abstract syntax, so each clause computes to
+-- what it says about the parts.
 use Rattle.std.specs.Prelude.{◌≡◌, ◌<◌, ◌⊎◌, ℕ, not, if◌then◌else◌, ℤ, Bool, true, false, List, [], ◌∷◌, ◌++◌, Option, None, Some, codes, slice_get}
 use Rattle.std.specs.Str.{bytes_eq}
 use Rattle.cp_model.specs.Abstract.{Add, And, Arms, Assign, At, BaseType, Binary, Boolean, Call, Case, Char, Constant, Cycle, Designator, Divide, Expression, Expressions, For, If, Init, Integer, Known, Letter, Literal, Modulo, Monitor, MoreArms, MoreExpressions, Multiply, Name, Negative, NoArm, NoExpression, Not, Nothing, Operator, Or, Part, Perform, Plain, Positive, Process, Repeat, Routine, Seq, Statement, Subtract, System, Use, While}
@@ -16,8 +17,8 @@ use Rattle.cp_typing.specs.StaticTypes.{expression_type, is_clock, place_type}
 
 -- ---- Where a statement stands
 
--- The environment; the system types that were defined before it; and how many routines of its component were declared before it.
--- Only these may be called.
+-- The environment, the system types that were defined before it, and the number of routines of its
+-- component that were declared before it. Only these may be called.
 pub record Place : Type 0 where
   pub env : Environment
   pub systems : List System
@@ -60,13 +61,14 @@ has_queues (ArrayOf low high t) = has_queues t
 has_queues Queue = true
 has_queues _ = false
 
--- simple of one base, or the very same array or record type
+-- simple types of one base, or the very same array or record type
 abbrev pub Agree : ResolvedType → ResolvedType → Type 0
 Agree t u = ((b : BaseType) × IsOfBase b t × IsOfBase b u) ⊎ ((t ≡ u) × (is_structured t ≡ true))
 
 -- ---- Calls
 
--- A routine of the component itself that was declared before, and is no entry; or an entry of a component of a type defined before.
+-- A routine of the component itself that was declared before and isn't an entry, or an entry of a
+-- component whose type was defined before.
 abbrev pub MayBeCalled : Place → Routine → Option Component → Type 0
 MayBeCalled p r None = (k : ℕ) × (k < p.routines) × (slice_get p.env.system.routines k ≡ Some r) × (r.entry ≡ false)
 MayBeCalled p r (Some n) =
@@ -87,18 +89,19 @@ abbrev pub frame_parameters : GlobalScope → Option Frame → List (Name × Var
 frame_parameters g None = []
 frame_parameters g (Some f) = declarations g f.routine.parameters
 
--- it may be written: what it names is no value parameter, of the routine or of the component
+-- it may be changed: what it names isn't a value parameter, neither of the routine nor of the
+-- component
 abbrev pub IsChangeable : Environment → Designator → Type 0
 IsChangeable env d =
     (is_value_parameter (lookup (first_name d) (frame_parameters env.globals env.frame)) ≡ false)
     × (is_value_parameter (lookup (first_name d) (declarations env.globals env.system.parameters)) ≡ false)
 
--- a variable, and no call
+-- a variable that isn't a call
 abbrev pub IsVariableArgument : Environment → Expression → ResolvedType → Type 0
 IsVariableArgument env (Use d) t = (callee env d ≡ None) × (place_type env d ≡ t) × IsChangeable env d
 IsVariableArgument env _ t = ⊥
 
--- by reference or not
+-- an argument that is passed by reference, or by value
 abbrev pub FitsBy : Bool → Environment → ResolvedType → Expression → Type 0
 FitsBy true env t e = IsVariableArgument env e t
 FitsBy false env t e = Agree t (expression_type env e)
@@ -106,7 +109,7 @@ FitsBy false env t e = Agree t (expression_type env e)
 abbrev pub Fits : Environment → Variable → Expression → Type 0
 Fits env v e = FitsBy v.by_reference env v.type e
 
--- so many arguments as parameters, and each fits its own
+-- there are as many arguments as parameters, and each fits its parameter
 abbrev pub AllFit : Environment → List (Name × Variable) → Expressions → Type 0
 AllFit env [] NoExpression = Unit {0}
 AllFit env (v ∷ vs) (MoreExpressions e es) = Fits env v.1 e × AllFit env vs es
@@ -156,7 +159,7 @@ IsFunctionCall p None d es = IsStandardCall p.env d es
 
 -- ---- Expressions
 
--- what a name alone is, where it is no call: the clock, a constant, or a variable
+-- what a bare name is, if it isn't a call: the clock, a constant, or a variable
 abbrev pub NamesValue : Environment → Name → Type 0
 NamesValue env x =
     (x ≡ codes "realtime")
@@ -177,7 +180,7 @@ OperandsFit Or t u = IsOfBase Boolean t × IsOfBase Boolean u
 OperandsFit _ t u = (b : BaseType) × IsOfBase b t × IsOfBase b u
 
 abbrev mutual
-  -- every call, place and operand in it is sound
+  -- every call, place and operand in an expression is sound
   pub TypedExpression : Place → Expression → Type 0
   TypedExpression p (Literal n) = Unit {0}
   TypedExpression p (Letter n) = Unit {0}
@@ -194,7 +197,7 @@ abbrev mutual
   TypedExpressions p NoExpression = Unit {0}
   TypedExpressions p (MoreExpressions e es) = TypedExpression p e × TypedExpressions p es
 
-  -- a designator that is no call
+  -- a designator that isn't a call
   pub TypedUse : Place → Designator → Type 0
   TypedUse p (Plain x) = NamesValue p.env x
   TypedUse p (Part d x) = TypedPlace p d × HasField x (place_type p.env d)
@@ -206,7 +209,7 @@ abbrev mutual
   TypedPlace p (Part d x) = TypedPlace p d × HasField x (place_type p.env d)
   TypedPlace p (At d e) = TypedPlace p d × TypedExpression p e × IsArray (place_type p.env d) × IsSimple (expression_type p.env e)
 
--- a designator alone, by what it calls
+-- a designator without arguments, by what it calls
 abbrev pub IsUsedAs : Place → Option Callee → Designator → Type 0
 IsUsedAs p o d = elim o [ Some c ↦ Called p c NoExpression × IsFunction c.routine | None ↦ TypedUse p d ]
 
@@ -234,7 +237,7 @@ IsProcedureCall p None d es = IsStandardStatement p d es
 
 -- ---- Init
 
--- a component that is named alone, and of the parameter's very system type; or a value
+-- a bare name of a component of the parameter's very system type, or a value
 abbrev pub IsComponentArgument : Environment → System → Expression → Type 0
 IsComponentArgument env s (Use (Plain x)) =
     (callee env (Plain x) ≡ None) × (c : Component) × (component_named env x ≡ Some c) × (c.system ≡ s)
@@ -249,7 +252,7 @@ AllInitFit p [] NoExpression = Unit {0}
 AllInitFit p (v ∷ vs) (MoreExpressions e es) = InitFits p v.1.type e × AllInitFit p vs es
 AllInitFit p _ _ = ⊥
 
--- a component variable of the component itself, outside routines
+-- a component variable of the component itself, outside its routines
 pub record Initialises (p : Place) (x : Name) (es : Expressions) : Type 0 where
   pub component : Component
   pub named : component_named p.env x ≡ Some component
@@ -261,7 +264,7 @@ pub record Initialises (p : Place) (x : Name) (es : Expressions) : Type 0 where
 
 -- ---- Statements
 
--- each label is a constant of the base, and stands once
+-- each label is a constant of the base, and occurs once
 abbrev pub IsNew : ℤ → List ℤ → Type 0
 IsNew n [] = Unit {0}
 IsNew n (m ∷ ms) = (same_integer n m ≡ false) × IsNew n ms

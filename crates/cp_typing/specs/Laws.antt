@@ -34,7 +34,8 @@ AcceptedTextsAreWellTyped = (t : s.Tree) (setup : Setup) → Accepted t → setu
 
 -- ---- Static types
 
--- Whatever the text and the store, a place has its static type, and so has the value of an expression in which no user call is left.
+-- Whatever the text and the store, a place has its static type, and so has the value of an
+-- expression in which no user call is left.
 abbrev pub PlacesHaveStaticTypes : Type 0
 PlacesHaveStaticTypes =
     (clock : Clock) (env : Environment) (store : Store) (d : Designator) (p : places.Place)
@@ -47,21 +48,23 @@ ValuesHaveStaticTypes =
 
 -- ---- Calls
 
--- The call that is made next in a typed task may be made and fits; with its value in its place the task is typed again.
+-- The next call of a typed task may be made and fits. With its value in its place, the task is
+-- typed again.
 abbrev pub TasksStayTyped : Type 0
 TasksStayTyped =
     (p : Place) (b : BaseType) (n : ℤ) (task : Task) (u : UserCall) (after : Task)
     → TypedTask p task → call_in_task (Known b n) task ≡ Some (u, after)
     → TypedCall p u × (Answers p u b → TypedTask p after)
 
--- A component whose routine may be called has a system type that was defined before, and is no process.
+-- A component whose routine may be called has a system type that was defined before, and isn't a
+-- process.
 abbrev pub CalleesAreDefinedBefore : Type 0
 CalleesAreDefinedBefore =
     (setup : Setup) (i : ℕ) (p : Place) (r : Routine) (m : Component)
     → WellTyped setup → p.systems ≡ take i (text_systems setup) → MayBeCalled p r (Some m)
     → (j : ℕ) × (j < i) × (slice_get (text_systems setup) j ≡ Some m.system) × (m.system.sort ≡ Process → ⊥)
 
--- In a function its own name is no value: it is assigned alone.
+-- Within a function its own name isn't a value: it can only be assigned.
 abbrev pub ResultsAreAssignedAlone : Type 0
 ResultsAreAssignedAlone =
     (g : GlobalScope) (before : List System) (s : System) (k : ℕ) (r : Routine) (t : Name) (at : Location) (o : Owner)
@@ -79,7 +82,7 @@ abbrev pub ConstantsAreGlobal : Type 0
 ConstantsAreGlobal =
     (env : Environment) (x : Name) (b : BaseType) (n : ℤ) → meaning env x ≡ IsConstant b n → IsGlobalConstant env x b n
 
--- a value of an array or record type is that of a lone variable, or of a part of one
+-- a value of an array or record type is that of a variable, or of a part of one
 abbrev pub StructuredValuesAreVariables : Type 0
 StructuredValuesAreVariables =
     (p : Place) (e : Expression) → TypedExpression p e → is_structured (expression_type p.env e) ≡ true
@@ -87,7 +90,7 @@ StructuredValuesAreVariables =
 
 -- ---- Numbers
 
--- the number of a process and of a monitor is at most their count
+-- the numbers of processes and monitors are at most their counts
 abbrev pub ProcessesAreNumbered : Type 0
 ProcessesAreNumbered =
     (setup : Setup) (x : Name) (v : Variable) → lookup x (initial_variables setup) ≡ Some v → is_component_of Process v.type ≡ true
@@ -100,14 +103,15 @@ MonitorsAreNumbered =
 
 -- ---- Bounds
 
--- Where all numbers of the definitions are at most n, and n is at least 32768, so are the bounds and ordinals of all types; and those of
--- declarations with such numbers.
+-- If all numbers of the definitions are at most n, and n is at least 32768, then so are the bounds
+-- and ordinals of all types, and those of declarations with such numbers.
 abbrev pub BoundsAreAsWritten : Type 0
 BoundsAreAsWritten =
     (n : ℕ) (tree : Tree) → 32768 ≤ n → AreSmallDefinitions n tree.definitions
     → IsSmallScope n (globals tree) × ((gs : List Group) → AreSmallGroups n gs → AllSmallBounds n (declarations (globals tree) gs))
 
--- Where all numbers behind a minus are at most n, and n is at least 32768, no named type begins further below 0.
+-- If all numbers after a minus are at most n, and n is at least 32768, then no named type begins
+-- further below 0 than n.
 abbrev pub LowerBoundsAreAsWritten : Type 0
 LowerBoundsAreAsWritten =
     (n : ℕ) (tree : Tree) (x : Name) (b : BaseType) (low high start : ℤ) → 32768 ≤ n → AreNegativesWithin n tree.definitions

@@ -1,5 +1,6 @@
--- Magnitudes: where all numbers of a text are at most n, and no enumeration has more than n values, all bounds and ordinals of its types are
--- at most n from 0. No rule limits these numbers: how far a token's number goes is a matter of tokens.
+-- Magnitudes: if all numbers of a text are at most n, and no enumeration has more than n values,
+-- all bounds and ordinals of its types are at most n away from 0. No rule limits these numbers: how
+-- large the number of a token may be is a matter of tokens.
 use Rattle.std.specs.Prelude.{◌≤◌, ℕ, ℤ, nat_abs, pos, negsuc, suc, List, [], ◌∷◌, length}
 use Rattle.cp_model.specs.Abstract.{Array, Character, Constant, ConstantDef, Definition, EnumDef, Fields, Group, Minus, MoreFields, Name, Named, NoFields, Number, Range, Record, Routine, System, SystemDef, TypeDef, TypeExpression, TypeName}
 use Rattle.cp_model.specs.Types.{ArrayOf, ComponentOf, GlobalScope, Members, MoreMembers, NoMembers, NoType, Queue, RecordOf, ResolvedType, Simple}
@@ -78,7 +79,8 @@ pub record IsSmallScope (n : ℕ) (g : GlobalScope) : Type 0 where
 
 -- ---- Below 0
 
--- Of numbers behind a minus alone: where those of constants and of the lower bounds of subranges are at most n.
+-- Only numbers after a minus: those of constants and of the lower bounds of subranges are at most
+-- n.
 abbrev pub IsNegativeWithin : ℕ → Constant → Type 0
 IsNegativeWithin n (Number k) = Unit {0}
 IsNegativeWithin n (Minus k) = k ≤ n
@@ -98,7 +100,7 @@ AreNegativesWithin n (TypeDef x t ∷ ds) = BeginsWithin n t × AreNegativesWith
 AreNegativesWithin n (EnumDef x values ∷ ds) = AreNegativesWithin n ds
 AreNegativesWithin n (SystemDef x s ∷ ds) = AreNegativesWithin n ds
 
--- no more than n below 0
+-- at most n below 0
 abbrev pub IsAbove : ℕ → ℤ → Type 0
 IsAbove n (pos k) = Unit {0}
 IsAbove n (negsuc k) = suc k ≤ n

@@ -1,4 +1,5 @@
--- Needs: what an activation takes of its process with all that it calls, and what a process or a monitor takes with it.
+-- Needs: the words of its process that an activation takes together with everything that it calls,
+-- and the words that a process or a monitor takes including these.
 use Rattle.std.specs.Prelude.{◌≤◌, ℕ, suc, ◌+◌, zero, max, if◌then◌else◌, List, [], ◌∷◌, Option, None, Some}
 use Rattle.cp_model.specs.Abstract.{Arms, Assign, At, Binary, Call, Case, Class, Cycle, Designator, Expression, Expressions, For, If, Init, MoreArms, MoreExpressions, Name, Negative, NoArm, NoExpression, Not, Nothing, Part, Perform, Plain, Positive, Process, Repeat, Routine, Seq, Sort, Statement, System, Use, While}
 use Rattle.cp_model.specs.RulesTypes.{word_limit}
@@ -13,7 +14,7 @@ use Rattle.cp_typing.specs.Words.{rights_in, words, words_of_members, words_of_v
 
 -- ---- Of calls
 
--- the greatest of what is needed for the calls, and for the components that are initialised
+-- the greatest need of the calls, and of the components that are initialised
 module _ (of_call : Callee → ℕ) (of_start : Component → ℕ) (env : Environment) where
   abbrev pub of_callee : Option Callee → ℕ
   of_callee None = 0
@@ -89,14 +90,14 @@ abbrev pub of_body : Sort → ℕ → ℕ
 of_body Process n = 0
 of_body _ n = n
 
--- the need of a statement, with calls counted so many deep
+-- the need of a statement, counting calls to the given depth
 abbrev pub statement_need : ℕ → GlobalScope → System → Option Routine → Statement → ℕ
 statement_need zero g s f x = 0
 statement_need (suc n) g s f x =
     in_statement (λ c. activation_words g c.routine + statement_need n g (callee_system s c.of) (Some c.routine) c.routine.body)
     (λ m. of_body m.system.sort (statement_need n g m.system None m.system.body)) (some_environment g s f) x
 
--- what a call takes, and what `init` of a component takes, in a component of this system type
+-- what a call takes, and what the `init` of a component takes, in a component of this system type
 abbrev pub call_need : ℕ → GlobalScope → System → Callee → ℕ
 call_need n g s c = activation_words g c.routine + statement_need n g (callee_system s c.of) (Some c.routine) c.routine.body
 
@@ -112,12 +113,13 @@ process_need _ n = 0
 abbrev pub owner_words : ℕ → GlobalScope → System → ℕ
 owner_words n g s = 1 + rights_in g s + words_of_members g (reported_members g s) + process_need s.sort (statement_need n g s None s.body)
 
--- a class's words stand in those of its variable's owner
+-- the words of a class are among those of the owner of its variable
 abbrev pub words_as_owner : Sort → ℕ → ℕ
 words_as_owner Class n = 0
 words_as_owner _ n = n
 
--- the type of a variable of the initial process
+-- a process or monitor that a variable of the initial process declares has no more words than an
+-- owner may have
 abbrev pub OwnerFits : ℕ → GlobalScope → ResolvedType → Type 0
 OwnerFits n g (ComponentOf s inner) = words_as_owner s.sort (owner_words n g s) ≤ word_limit
 OwnerFits n g _ = Unit {0}
@@ -126,7 +128,7 @@ abbrev pub AllOwnersFit : ℕ → GlobalScope → List (Name × Variable) → Ty
 AllOwnersFit n g [] = Unit {0}
 AllOwnersFit n g (v ∷ vs) = OwnerFits n g v.1.type × AllOwnersFit n g vs
 
--- every process and every monitor fits, however deep its calls are
+-- every process and every monitor fits, however deep its calls
 pub record WordsFit (setup : Setup) : Type 0 where
   pub initial : (n : ℕ) → owner_words n (globals setup.tree) setup.tree.initial ≤ word_limit
   pub others : (n : ℕ) → AllOwnersFit n (globals setup.tree) (declarations (globals setup.tree) setup.tree.initial.variables)

@@ -1,7 +1,8 @@
 -- Sound types: those that the variables, fields and elements of an accepted text have.
 --
--- A sound type is resolved to the end: there is no `NoType` in it, and no component. A simple type starts within its bounds, the
--- bounds of an array rise, and the fields of a record have names of their own and hold no queues.
+-- A sound type is fully resolved: it contains no `NoType` and no component. A simple type starts
+-- within its bounds, the bounds of an array are in order, and the fields of a record have distinct
+-- names and hold no queues.
 use Rattle.std.specs.Prelude.{◌≡◌, int_le, Bool, true, false, ◌||◌}
 use Rattle.std.specs.Str.{bytes_eq}
 use Rattle.cp_model.specs.Abstract.{Name}

@@ -1,4 +1,5 @@
--- Start values: what the store of the start holds at the leaves of the variables of the initial process, and of each process and monitor.
+-- Start values: what the store holds at the start, at the leaves of the variables of the initial
+-- process, and of each process and monitor.
 use Rattle.std.specs.Prelude.{◌≡◌, ◌⊎◌, false, List, [], ◌∷◌}
 use Rattle.cp_model.specs.Abstract.{Monitor, Name, Process, System}
 use Rattle.cp_model.specs.Types.{ComponentOf, Members}
@@ -14,7 +15,7 @@ abbrev pub IsIn : {A : Type 0} → A → List A → Type 0
 IsIn x [] = ⊥
 IsIn x (y ∷ ys) = (x ≡ y) ⊎ IsIn x ys
 
--- all leaves of what lies here have their start values
+-- all leaves at this location have their start values
 abbrev pub StartsAt : Setup → Location → List Leaf → Type 0
 StartsAt setup at ls = (path : Path) (v : Value) → IsIn (path, v) ls → (start setup).store (under at path) ≡ v
 

@@ -1,7 +1,9 @@
--- Static types: of what type the place of a designator and the value of an expression are, wherever they are evaluated.
+-- Static types: the type of a designator's place and of an expression's value, wherever they are
+-- evaluated.
 --
--- They are functions over the environment of the meaning alone. A value has the very type that is said here (`full_range` of a base
--- for what is computed), so it keeps its type when a call is replaced by its value.
+-- They are functions of the environment of the meaning alone. A value has exactly the type that is
+-- given here (the `full_range` of a base if it is computed), so it keeps its type when a call is
+-- replaced by its value.
 use Rattle.std.specs.Prelude.{codes, if◌then◌else◌, Option, None, Some, Bool}
 use Rattle.std.specs.Str.{bytes_eq}
 use Rattle.cp_model.specs.Abstract.{Add, At, Binary, Boolean, Call, Char, Designator, Divide, Expression, Expressions, Integer, Known, Letter, Literal, Modulo, MoreExpressions, Multiply, Name, Negative, NoExpression, Not, Operator, Part, Plain, Positive, Subtract, Use}
@@ -13,7 +15,7 @@ use Rattle.cp_model.specs.Calls.{Callee, callee}
 
 -- ---- Designators
 
--- of the place that a name means
+-- the type of the place that a name means
 abbrev pub place_type_meant : Meaning → ResolvedType
 place_type_meant (IsVariable at v) = v.type
 place_type_meant _ = NoType
@@ -43,12 +45,12 @@ abbrev pub own_value_type : Environment → Designator → ResolvedType
 own_value_type env (Plain x) = named_value_type env x
 own_value_type env d = place_type env d
 
--- of what a function answers
+-- the type of what a function returns
 abbrev pub answer_type : GlobalScope → Option Name → ResolvedType
 answer_type g None = NoType
 answer_type g (Some t) = full_range (base_of_type (named_type g t))
 
--- a user's function, or else this
+-- the type of a user's function, if one is called, or else this type
 abbrev pub called_type : GlobalScope → Option Callee → ResolvedType → ResolvedType
 called_type g (Some c) t = answer_type g c.routine.result
 called_type g None t = t

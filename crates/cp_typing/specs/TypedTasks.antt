@@ -1,4 +1,4 @@
--- Typed tasks: what a process has left to do, as it is typed at the place of its statements.
+-- Typed tasks: what a process has left to do, typed at the place of its statements.
 use Rattle.std.specs.Prelude.{◌≡◌, None}
 use Rattle.cp_model.specs.Abstract.{BaseType, Boolean, Expression, Name, Plain, Statement}
 use Rattle.cp_model.specs.Types.{full_range}
@@ -11,7 +11,7 @@ use Rattle.cp_typing.specs.Judgement.{Called, IsChangeable, IsFunction, IsOfBase
 abbrev pub TypedTest : Place → Expression → Type 0
 TypedTest p e = TypedExpression p e × IsOfBase Boolean (expression_type p.env e)
 
--- what is left of a `for`: its variable, and its statement
+-- what is left of a `for`: its variable and its statement
 pub record TypedLoop (p : Place) (v : Name) (s : Statement) : Type 0 where
   pub variable : NamesVariable p.env v
   pub no_call : callee p.env (Plain v) ≡ None
@@ -19,7 +19,7 @@ pub record TypedLoop (p : Place) (v : Name) (s : Statement) : Type 0 where
   pub simple : IsSimple (place_type p.env (Plain v))
   pub body : TypedStatement p s
 
--- an end mark has no part
+-- an end mark has nothing to be typed
 abbrev pub TypedTask : Place → Task → Type 0
 TypedTask p (Do s env) = (env ≡ p.env) × TypedStatement p s
 TypedTask p (WhileTest now e s env) = (env ≡ p.env) × TypedTest p now × TypedTest p e × TypedStatement p s
@@ -34,6 +34,6 @@ pub record TypedCall (p : Place) (u : UserCall) : Type 0 where
   pub function : IsFunction u.callee.routine
   pub arguments : TypedExpressions p u.arguments
 
--- the answer of the call is of this base
+-- the result of the call is of this base
 abbrev pub Answers : Place → UserCall → BaseType → Type 0
 Answers p u b = answer_type p.env.globals u.callee.routine.result ≡ full_range b

@@ -1,4 +1,5 @@
--- Where variables lie, and which constants names are: what the meaning of a name says of its declaration.
+-- Where variables lie, and which constants names are: what the meaning of a name says about its
+-- declaration.
 use Rattle.std.specs.Prelude.{◌≡◌, List, [], ◌∷◌, Option, None, Some, ℤ}
 use Rattle.cp_model.specs.Abstract.{BaseType, Name}
 use Rattle.cp_model.specs.Names.{lookup}

@@ -16,7 +16,8 @@ use Rattle.cp_typing.specs.Needs.{WordsFit}
 
 -- ---- Where statements stand
 
--- Statements of a component, wherever it lies; and those of an activation of routine k of it, whoever owns that.
+-- The place of statements in the body of a component, wherever it lies, and of those in an
+-- activation of its routine k, whoever owns the activation.
 abbrev pub body_place : GlobalScope → List System → System → Location → Place
 body_place g before s at = record {
   env = record { globals = g; system = s; component = at; frame = None };
@@ -37,7 +38,7 @@ routine_place g before s k r at o = record {
 abbrev pub NoClock : List (Name × Variable) → Type 0
 NoClock vs = (x : Name) (v : Variable) → lookup x vs ≡ Some v → is_clock x ≡ false
 
--- Routine k of a system type. No name of its own is one of the component's.
+-- Routine k of a system type. None of its own names is a name of the component.
 pub record TypedRoutine (g : GlobalScope) (before : List System) (s : System) (k : ℕ) (r : Routine) : Type 0 where
   pub found : routine_named r.name s ≡ Some r
   pub alone : (j : ℕ) (q : Routine) → slice_get s.routines j ≡ Some q → q.name ≡ r.name → j ≡ k
@@ -56,7 +57,7 @@ pub record TypedBodies (g : GlobalScope) (before : List System) (s : System) : T
   pub routines : (k : ℕ) (r : Routine) → slice_get s.routines k ≡ Some r → TypedRoutine g before s k r
   pub body : (at : Location) → TypedStatement (body_place g before s at) s.body
 
--- a system type, where these were defined before
+-- a system type, after the system types that were defined before it
 pub record TypedSystem (g : GlobalScope) (before : List System) (s : System) : Type 0 where
   pub parameters : Each (SystemParameter g before s.sort) (declarations g s.parameters)
   pub variables : Each (SystemVariable g before s.sort) (declarations g s.variables)
@@ -64,13 +65,14 @@ pub record TypedSystem (g : GlobalScope) (before : List System) (s : System) : T
 
 -- ---- Definitions in text order
 
--- a scope that defines more: what is found in the first is found in the second
+-- a scope that defines more: what is found in g is also found in h
 pub record Later (g h : GlobalScope) : Type 0 where
   pub constants : (x : Name) (v : BaseType × ℤ) → lookup x g.constants ≡ Some v → lookup x h.constants ≡ Some v
   pub types : (x : Name) (r : ResolvedType) → lookup x g.types ≡ Some r → lookup x h.types ≡ Some r
 
--- What is found in the scope before the definition of a system type, the scope g of the text has, and that the name is the system
--- type's; which is typed in the scope before, too.
+-- The scope g of the text has everything that is found in the scope before the definition of a
+-- system type, and g has the system type by its name. The system type is also typed in the scope
+-- before.
 abbrev pub TypedInOrder : GlobalScope → GlobalScope → List System → List Definition → Type 0
 TypedInOrder g h before [] = Unit {0}
 TypedInOrder g h before (SystemDef x s ∷ ds) =
@@ -85,7 +87,7 @@ TypedInOrder g h before (ConstantDef x c ∷ ds) = TypedInOrder g (define h (Con
 abbrev pub text_systems : Setup → List System
 text_systems setup = systems_of setup.tree.definitions
 
--- The initial process is counted among the processes.
+-- The initial process is one of the processes that are counted.
 pub record WellTyped (setup : Setup) : Type 0 where
   pub systems : (i : ℕ) (s : System) → slice_get (text_systems setup) i ≡ Some s
       → TypedSystem (globals setup.tree) (take i (text_systems setup)) s

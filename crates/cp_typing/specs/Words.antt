@@ -1,4 +1,4 @@
--- Words: what a variable takes of its owner.
+-- Words: what a variable takes from its owner.
 use Rattle.std.specs.Prelude.{ℕ, ◌+◌, ◌*◌, List, [], ◌∷◌, length, filter}
 use Rattle.cp_model.specs.Abstract.{Class, Name, Sort, System}
 use Rattle.cp_model.specs.Types.{ArrayOf, ComponentOf, GlobalScope, Members, MoreMembers, NoMembers, NoType, Queue, RecordOf, ResolvedType, Simple}
@@ -10,7 +10,7 @@ abbrev pub component_words : Sort → ℕ → ℕ
 component_words Class n = n
 component_words _ n = 0
 
--- so many of its parameters are rights to components
+-- the number of parameters that are rights to components
 abbrev pub rights_in : GlobalScope → System → ℕ
 rights_in g s = length (filter (λ v. is_component v.1.type) (declarations g s.parameters))
 

@@ -1,9 +1,11 @@
-//! The laws, as functions without a body: a caller has a law as a fact once it calls the function. Their statements stand in `specs/Laws.antt`.
+//! The laws, as functions with empty bodies: a caller obtains a law as a fact by calling its
+//! function. Their statements are in `specs/Laws.antt`.
 
 ghost use Rattle.cp_typing.specs.Laws.{AcceptedTextsAreWellTyped, BoundsAreAsWritten, CalleesAreDefinedBefore, ConstantsAreGlobal, LowerBoundsAreAsWritten, MonitorsAreNumbered, PlacesHaveStaticTypes, ProcessesAreNumbered, ResultsAreAssignedAlone, StructuredValuesAreVariables, TasksStayTyped, ValuesHaveStaticTypes, VariablesHaveStartValues, VariablesLieWhereDeclared};
 
-/// An accepted text is well typed (`specs/WellTyped.antt`): its declarations, all statements of all bodies over the environments of
-/// the meaning, its counts of processes and monitors, and its words with the needs of calls.
+/// An accepted text is well typed (`specs/WellTyped.antt`): its declarations, all statements of all
+/// bodies over the environments of the meaning, its numbers of processes and monitors, and its
+/// words including the needs of calls.
 pub fn accepted_texts_are_well_typed()
     ensures { AcceptedTextsAreWellTyped }
 {}
@@ -14,28 +16,31 @@ pub fn static_types()
     ensures values { ValuesHaveStaticTypes }
 {}
 
-/// The next call of a typed task may be made and fits, and a task stays typed when its call gets its value.
+/// The next call of a typed task may be made and fits, and a task stays typed when its call is
+/// replaced by its value.
 pub fn tasks_stay_typed()
     ensures { TasksStayTyped }
 {}
 
-/// A component whose routine may be called is a monitor or a class, of a system type that was defined before.
+/// A component whose routine may be called is a monitor or a class, and its system type was defined
+/// before.
 pub fn callees_are_defined_before()
     ensures { CalleesAreDefinedBefore }
 {}
 
-/// The name of a function means its result on the left of an assignment alone.
+/// The name of a function means its result only on the left of an assignment.
 pub fn results_are_assigned_alone()
     ensures { ResultsAreAssignedAlone }
 {}
 
-/// A variable lies where it is declared: in the activation or else in the component. A constant is hidden by no variable.
+/// A variable lies where it is declared: in the activation, or else in the component. No variable
+/// hides a constant.
 pub fn names_mean_declarations()
     ensures variables { VariablesLieWhereDeclared }
     ensures constants { ConstantsAreGlobal }
 {}
 
-/// A value of an array or record type is that of a variable or of a part of one.
+/// A value of an array or record type is the value of a variable or of a part of one.
 pub fn structured_values_are_variables()
     ensures { StructuredValuesAreVariables }
 {}
@@ -51,8 +56,8 @@ pub fn variables_have_start_values()
     ensures { VariablesHaveStartValues }
 {}
 
-/// Bounds and ordinals of types are as small as the numbers that are written, and 32768; and lower bounds as small as the numbers behind
-/// a minus.
+/// The bounds and ordinals of types are at most as large as the numbers that are written, or 32768,
+/// and lower bounds are no further below 0 than the numbers after a minus, or 32768.
 pub fn bounds_are_as_written()
     ensures bounds { BoundsAreAsWritten }
     ensures lower { LowerBoundsAreAsWritten }

@@ -3,7 +3,7 @@ use Rattle.cp_model.specs.Erase as erase
 use Rattle.cp_typing.specs.Magnitudes.{AreNegativesWithin}
 use Rattle.cp_code.proofs.numbers.read_constants.Given as goal
 
--- all are within, once those that are left are
+-- all are within the bound, once the remaining ones are
 abbrev pub invariant-loop-d : goal.invariant-loop-d
 invariant-loop-d l =
     AreNegativesWithin 65535 (map erase.constant_definition (drop l.d-index l.definitions))
