@@ -1,4 +1,5 @@
--- The seat that closes a board has the whole allowance, so its draws and calls are all that there are.
+-- The seat that closes a board has the whole allowance, so its draws and calls are all that there
+-- were.
 use Rattle.std.proofs.Common.{◌≡◌, ℕ, ◌<◌, Bool, true, false, List, length, slice_index, sym, refl, ap, ◌∙◌, subst, arith, lt_of_not-le}
 use mathlib.Core.Logic.{dite}
 use mathlib.Core.Option.{some}
@@ -29,7 +30,7 @@ IsClosing p v = (v.allowance ≡ FULL_ALLOWANCE) × (v.shape ≡ p)
 
 module _ (p : Shape) (s : BoardState) (r : KeepsRule p s) (some_stripe : 0 < p.stripes)
     (id : ℕ) (v : View) (at : get_elem? s.views id ≡ some v) (closing : IsClosing p v) where
-  -- f of this seat is f of all
+  -- f of this seat is the sum of f over all seats
   alone : (f : View → ℕ) → ((u : View) → FitsWords p s.words u → u.allowance ≡ 0 → f u ≡ 0) → total f s.views ≡ f v
   alone f idle = total_alone (λ (u : View). u.allowance) f s.views id v (λ k u e none. idle u (r.each k u e) none) at (r.allowance ∙ sym closing.0)
 
@@ -68,7 +69,7 @@ module _ (p : Shape) (s : BoardState) (r : KeepsRule p s) (some_stripe : 0 < p.s
     called = calls_seen;
   }
 
--- the same of the words that a closed table gives, where the board and the seat go by other names
+-- the same for the words of a closed table, with other names for the board and the seat
 pub closed : (p q : Shape) (v u : View) (words : List ℕ) (slots : List (Unit {0})) (id : ℕ) → Final (Seen (KeepsRule p) id v) words slots
     → p ≡ q → v ≡ u → 0 < q.stripes → u.allowance ≡ FULL_ALLOWANCE → u.shape ≡ q → KnowsAll q u
 closed p q v u words slots id final same_shape same_view some_stripe whole of_board =

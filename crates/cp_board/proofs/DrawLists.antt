@@ -1,11 +1,12 @@
--- From how often each number stands in a list of draws to what the list is, and to its length.
+-- From the number of times that each number is in a list of draws to properties of the list, and to
+-- its length.
 use Rattle.std.proofs.Common.{◌≡◌, ◌≢◌, ℕ, zero, suc, ◌+◌, ◌<◌, ◌≤◌, Bool, true, false, cond, eqb, List, [], ◌∷◌, ◌++◌, length, get_or, sym, refl, ap, ◌∙◌, arith, eq-eqb, eqb-true, ne_eqb, lt_of_not-le}
 use mathlib.Core.Logic.{dite}
 use native.Mathlib.Decide.{ℕ_discrete, dec_le}
 use Rattle.std.specs.Prelude.{Contains}
 use Rattle.cp_board.specs.Draws.{IsSound, times}
 
--- no number stands twice, and none from n on stands at all
+-- no number is in the list twice, and none from n on is in it at all
 pub record AreCounted (n : ℕ) (draws : List ℕ) : Type 0 where
   pub once : (x : ℕ) → times x draws ≤ 1
   pub beyond : (x : ℕ) → n ≤ x → times x draws ≡ 0
@@ -59,7 +60,7 @@ contains_counted x (y ∷ ys) some = dite (ℕ_discrete x y)
     let rest = contains_counted x ys (omega arith) in
     (suc rest.0, omega arith, rest.2))
 
--- the list with no m
+-- the list without m
 without : ℕ → List ℕ → List ℕ
 without m [] = []
 without m (y ∷ ys) = cond (eqb m y) (without m ys) (y ∷ without m ys)
@@ -105,7 +106,7 @@ times_gone m (y ∷ ys) = by_head (eqb m y) refl (times_gone m ys)
     by_head true is rest = rest
     by_head false is rest = let none : cond {A = ℕ} (eqb m y) 1 0 ≡ 0 = ap (λ (b : Bool). cond {A = ℕ} b 1 0) is in omega arith
 
--- such a list is at most n long
+-- such a list has at most n elements
 pub length-counted : (n : ℕ) (ys : List ℕ) → AreCounted n ys → length ys ≤ n
 length-counted zero [] c = omega arith
 length-counted zero (y ∷ ys) c =
@@ -123,7 +124,7 @@ length-counted (suc n) ys c =
     let one = c.once n in
     omega arith
 
--- a list with every number below n is at least n long
+-- a list with every number below n has at least n elements
 pub length-whole : (n : ℕ) (ys : List ℕ) → ((x : ℕ) → x < n → 0 < times x ys) → n ≤ length ys
 length-whole zero ys whole = omega arith
 length-whole (suc n) ys whole =

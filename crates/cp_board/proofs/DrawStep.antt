@@ -19,7 +19,7 @@ use Rattle.cp_board.proofs.DrawLists.{times-append, times_one, times_other}
 use Rattle.cp_board.proofs.StripeNumbers.{number_of-parts, stripe_of-number_of, ticket_of-number_of, number_of-le, ticket_le}
 use Rattle.cp_board.proofs.States.{BoardState, KeepsRuleWith, times_drawn, sound_of, few_of, total_same, each_set, length-at}
 
--- the facts of a seat stay once ticket words have grown
+-- what holds of a seat still holds after ticket words have grown
 fits_grown : (p : Shape) (ws us : List ℕ) (v : View) → slice_index us p.stripes ≡ slice_index ws p.stripes
     → ((j : ℕ) → j < p.stripes → slice_index ws j ≤ slice_index us j) → FitsWords p ws v → FitsWords p us v
 fits_grown p ws us v same more fits = record {
@@ -32,7 +32,7 @@ fits_grown p ws us v same more fits = record {
       omega arith;
 }
 
--- the word of the stripe j grows by 1, and the view v of the seat id becomes another
+-- the word of the stripe j grows by 1, and the view v of the seat id changes
 module _ (p : Shape) (s : BoardState) (r : KeepsRule p s) (id : ℕ) (v : View) (at : get_elem? s.views id ≡ some v) (live : 0 < v.allowance)
     (j : ℕ) (in_stripes : j < p.stripes) where
   abbrev ticket : ℕ
@@ -91,7 +91,7 @@ module _ (p : Shape) (s : BoardState) (r : KeepsRule p s) (id : ℕ) (v : View) 
   total_other : (x : ℕ) → x ≢ drawn → total (times_drawn x) (set s.views id (with_draw v drawn)) ≡ total (times_drawn x) s.views
   total_other x ne = let more = total_drawn x in let none = times_other x drawn ne in omega arith
 
-  -- behind the step the ticket of the number drawn is gone
+  -- after the step, the ticket of the number that was drawn is gone
   drawn_word : (x : ℕ) → x ≡ drawn → slice_index grown (stripe_of p x) ≡ ticket + 1
   drawn_word x e = ap (λ (k : ℕ). slice_index grown k) (ap (stripe_of p) e ∙ stripe_of-number_of p j ticket in_stripes) ∙ grown_here
 

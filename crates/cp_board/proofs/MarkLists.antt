@@ -1,4 +1,4 @@
--- The marks of two seats, put together: who found each stripe used up stays so.
+-- The marks of two seats, combined: a stripe that either seat has found used up stays used up.
 use Rattle.std.proofs.Common.{◌≡◌, ℕ, zero, suc, ◌<◌, ◌≤◌, Bool, true, false, ◌||◌, List, [], ◌∷◌, length, get_or, refl, sym, ap, ◌∙◌, subst, arith}
 use Rattle.cp_board.specs.declared.view.Shape.{Shape}
 use Rattle.cp_board.specs.declared.view.View.{View}

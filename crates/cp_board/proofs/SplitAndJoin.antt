@@ -1,4 +1,4 @@
--- To cut a view in two, and to put two together, keeps the rule.
+-- Splitting a view in two and joining two views keeps the rule.
 use Rattle.std.proofs.Common.{◌≡◌, ℕ, ◌+◌, ◌-◌, ◌/◌, ◌<◌, ◌≤◌, ⊎_elim, min, Bool, true, false, cond, ◌||◌, List, set, get_or, sym, refl, ap, ◌∙◌, subst, arith}
 use mathlib.Core.Option.{some}
 use lib.ListN.{get_elem?}
@@ -13,7 +13,7 @@ use Rattle.cp_board.proofs.DrawLists.{times-append}
 use Rattle.cp_board.proofs.MarkLists.{get_or-or_each}
 use Rattle.cp_board.proofs.States.{times_drawn, each_set, length-at}
 
--- each half of a view fits the words, as it knows no more
+-- each half of a view fits the words, because it knows nothing more
 half_fits : (p : Shape) (words : List ℕ) (v half : View) → FitsWords p words v → v.shape ≡ p → half.shape ≡ v.shape → half.seen_stop ≡ v.seen_stop
     → half.used_up ≡ v.used_up → 0 < half.allowance → FitsWords p words half
 half_fits p words v half old of_board shape seen marks live = record {
@@ -51,7 +51,7 @@ splits p id v of_board two s r at =
     half_marks n true = omega arith
     half_marks n false = omega arith
 
--- a stripe that either marked, both mark with all their allowance
+-- a stripe that either seat has marked is marked by both with all their allowance
 joined_marks : (v w : View) (j : ℕ) → marked_allowance j v + marked_allowance j w ≤ marked_allowance j (joined v w)
 joined_marks v w j = subst (λ (b : Bool). marked_allowance j v + marked_allowance j w ≤ cond b (v.allowance + w.allowance) 0)
     (sym (get_or-or_each v.used_up w.used_up j))

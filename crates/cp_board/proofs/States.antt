@@ -21,7 +21,7 @@ BoardState = State (Unit {0}) View
 abbrev pub KeepsRuleWith : Shape → BoardState → List ℕ → List View → Type 0
 KeepsRuleWith p s words views = KeepsRule p (record { words = words; homes = s.homes; views = views })
 
--- how often the seat drew x
+-- how many times the seat drew x
 unfoldable pub times_drawn : ℕ → View → ℕ
 times_drawn x v = times x v.draws
 
@@ -44,7 +44,7 @@ sound_of p s r id v at = sound_from_counted p.numbers v.draws (counted_of p s r 
 pub few_of : (p : Shape) (s : BoardState) → KeepsRule p s → (id : ℕ) (v : View) → get_elem? s.views id ≡ some v → length v.draws ≤ p.numbers
 few_of p s r id v at = length-counted p.numbers v.draws (counted_of p s r id v at)
 
--- where a seat's new view has as much of f as its old one, all views have
+-- if a seat's new view has as much of f as its old one, so do all views together
 pub total_same : (f : View → ℕ) (views : List View) (id : ℕ) (v w : View) → get_elem? views id ≡ some v → f w ≡ f v
     → total f (set views id w) ≡ total f views
 total_same f views id v w at same = let changed = total_set f views id v w at in omega arith
@@ -54,7 +54,7 @@ length-at [] i x at = absurd (some-ne-none x (sym at))
 length-at (y ∷ ys) zero x at = omega arith
 length-at (y ∷ ys) (suc i) x at = let rest = length-at ys i x at in omega arith
 
--- what holds of each view, and of one that takes the place of another, holds of each still
+-- if something holds of each view and of one that replaces another, it still holds of each view
 pub each_set : (P : View → Type 0) (views : List View) (id : ℕ) (w : View) → P w → ((k : ℕ) (u : View) → get_elem? views k ≡ some u → P u)
     → (k : ℕ) (u : View) → get_elem? (set views id w) k ≡ some u → P u
 each_set P views id w new old k u at = ⊎_elim

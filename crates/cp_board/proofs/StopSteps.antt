@@ -1,4 +1,5 @@
--- The steps on the stop word keep the rule: to ask whether a stop was called, to call it, and to learn that joined draws are sound.
+-- The steps on the stop word keep the rule. They check whether a stop was called, call it, and
+-- learn that joined draws are sound.
 use Rattle.std.proofs.Common.{◌≡◌, ℕ, ◌<◌, ◌≤◌, min, Bool, true, false, bit_or, List, length, set, slice_index, sym, refl, ap, ◌∙◌, subst, arith, length-set, get_or-set_same, get_or-set_other}
 use Rattle.std.proofs.lemmas.List.{set-get_or}
 use mathlib.Core.Logic.{dite}
@@ -28,7 +29,7 @@ unchanged : (p : Shape) (s : BoardState) (i id : ℕ) (v : View) → get_elem? s
 unchanged p s i id v at r =
     subst (KeepsRuleWith p s (set s.words i (slice_index s.words i))) (sym (set_again s.views id v at)) (loaded p s i s.views r)
 
--- a seat sees the stop that there is
+-- a seat sees that the stop was called
 sight_keeps : (p : Shape) (s : BoardState) → KeepsRule p s → (id : ℕ) (v : View) → get_elem? s.views id ≡ some v
     → slice_index s.words p.stripes ≡ 1 → KeepsRuleWith p s s.words (set s.views id (with_seen_stop v))
 unfolding times_drawn
@@ -96,7 +97,8 @@ learns p slots id me of_board s r homes at fits =
       },
     )
 
--- the stop word is set, and the view v of the seat id becomes one that called it
+-- the stop word is set, and the view v of the seat id becomes that of a seat that has called the
+-- stop
 module _ (p : Shape) (s : BoardState) (r : KeepsRule p s) (some_stripe : 0 < p.stripes)
     (id : ℕ) (v : View) (at : get_elem? s.views id ≡ some v) (live : 0 < v.allowance) where
   abbrev stopped : List ℕ

@@ -19,11 +19,11 @@ module _ {A : Type 0} (f : A → ℕ) where
   total_le (x ∷ xs) zero v at = let is : f x ≡ f v = ap f (some-injective x v at) in omega arith
   total_le (x ∷ xs) (suc i) v at = let rest = total_le xs i v at in omega arith
 
-  -- one cut in two, of which the second is added at the end
+  -- an element is split in two, and the second is added at the end
   pub total_split : (l : List A) (i : ℕ) (v w u : A) → get_elem? l i ≡ some v → f w + f u ≡ f v → total f (set l i w ++ u ∷ []) ≡ total f l
   total_split l i v w u at parts = let changed = total_set l i v w at in let longer = total_snoc (set l i w) u in omega arith
 
-  -- two put together, of which the second is spent
+  -- two elements are joined, and the second is spent
   pub total_join : (l : List A) (i j : ℕ) (v w both spent : A) → get_elem? l i ≡ some v → get_elem? (set l i both) j ≡ some w → f spent ≡ 0
       → total f (set (set l i both) j spent) + (f v + f w) ≡ total f l + f both
   total_join l i j v w both spent at at_other nothing =
@@ -31,7 +31,7 @@ module _ {A : Type 0} (f : A → ℕ) where
       let second = total_set (set l i both) j w spent at_other in
       omega arith
 
--- where one with no part adds nothing to f, one with all parts has all of f
+-- if an element without parts adds nothing to f, an element with all parts has all of f
 module _ {A : Type 0} (parts f : A → ℕ) where
   abbrev IdleAddNothing : List A → Type 0
   IdleAddNothing l = (k : ℕ) (u : A) → get_elem? l k ≡ some u → parts u ≡ 0 → f u ≡ 0

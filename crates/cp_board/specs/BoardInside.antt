@@ -1,4 +1,4 @@
--- What the fields of a `Board` have to do with its table.
+-- How the fields of a `Board` relate to its table.
 use Rattle.std.specs.Prelude.{◌≡◌, ◌+◌, ◌<◌, ◌≤◌}
 use Rattle.cp_board.specs.Models.{BoardModel}
 use Rattle.cp_board.specs.declared.board.Board.TheInside as board

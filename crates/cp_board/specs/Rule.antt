@@ -1,5 +1,7 @@
--- The rule of a board, over its words and the views of all its seats. It holds between any two atomic steps.
--- The first words are the tickets, one for each stripe: the next ticket to be drawn there. The last word is the stop.
+-- The rule of a board, over its words and the views of all its seats. It holds between any two
+-- atomic steps.
+-- The first words are the tickets: for each stripe, the next ticket to be drawn there. The last word
+-- is the stop.
 use Rattle.std.specs.Prelude.{◌≡◌, ℕ, ◌+◌, ◌<◌, ◌≤◌, min, Bool, true, false, if◌then◌else◌, List, [], ◌∷◌, length, slice_index}
 use mathlib.Core.Option.{some}
 use lib.ListN.{get_elem?}
@@ -11,7 +13,7 @@ use Rattle.cp_board.specs.Draws.{times}
 use Rattle.cp_board.specs.Stripes.{number_of, stripe_of, ticket_of}
 use Rattle.cp_board.specs.Views.{is_used_up}
 
--- f of each, added up
+-- the sum of f over the list
 abbrev pub total : {A : Type 0} → (A → ℕ) → List A → ℕ
 total f [] = 0
 total f (x ∷ xs) = f x + total f xs
@@ -19,12 +21,13 @@ total f (x ∷ xs) = f x + total f xs
 abbrev pub weight : Bool → ℕ
 weight b = if b then 1 else 0
 
--- the allowance of a seat that found the stripe used up
+-- the allowance of a seat that has found the stripe used up, and otherwise 0
 abbrev pub marked_allowance : ℕ → View → ℕ
 marked_allowance stripe v = if is_used_up v stripe then v.allowance else 0
 
--- What holds of each seat. One that a join has spent has no allowance: its shape says nothing, and it has drawn and called nothing.
--- A seat that has seen a stop was not told wrong, and no ticket below n is left in a stripe that it found used up.
+-- What holds of each seat. A seat that a join has spent has no allowance: its shape means nothing,
+-- and it has drawn and called nothing. If a seat has seen a stop, there was one, and no ticket
+-- below n is left in a stripe that it has found used up.
 pub record FitsWords (shape : Shape) (words : List ℕ) (v : View) : Type 0 where
   pub of_board : 0 < v.allowance → v.shape ≡ shape
   pub idle : v.allowance ≡ 0 → (v.draws ≡ []) × (v.called_stop ≡ false)
@@ -34,13 +37,14 @@ pub record FitsWords (shape : Shape) (words : List ℕ) (v : View) : Type 0 wher
 -- What holds of all seats and words.
 pub record KeepsRule (shape : Shape) (s : State (Unit {0}) View) : Type 0 where
   pub width : length s.words ≡ shape.stripes + 1
-  -- the stop word is 1 exactly where a seat called stop, else 0
+  -- the stop word is 1 if a seat has called the stop, and 0 otherwise
   pub stop : slice_index s.words shape.stripes ≡ min 1 (total (λ v. weight v.called_stop) s.views)
   pub allowance : total (λ v. v.allowance) s.views ≡ FULL_ALLOWANCE
   -- a number whose ticket is gone was drawn once, and no other number was drawn
   pub gone : (x : ℕ) → x < shape.numbers → ticket_of shape x < slice_index s.words (stripe_of shape x) → total (λ v. times x v.draws) s.views ≡ 1
   pub left : (x : ℕ) → x < shape.numbers → slice_index s.words (stripe_of shape x) ≤ ticket_of shape x → total (λ v. times x v.draws) s.views ≡ 0
   pub beyond : (x : ℕ) → shape.numbers ≤ x → total (λ v. times x v.draws) s.views ≡ 0
-  -- a seat that draws past the end of a stripe marks it, and draws there no more: so no word grows far past its end, and none wraps
+  -- a seat that draws past the end of a stripe marks it and draws no more there, so no word grows
+  -- far past its end, and none wraps
   pub small : (j : ℕ) → j < shape.stripes → slice_index s.words j ≤ shape.numbers + total (marked_allowance j) s.views
   pub each : (id : ℕ) (v : View) → get_elem? s.views id ≡ some v → FitsWords shape s.words v

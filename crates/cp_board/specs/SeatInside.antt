@@ -1,4 +1,4 @@
--- What the fields of a `Seat` have to do with its view.
+-- How the fields of a `Seat` relate to its view.
 use Rattle.std.specs.Prelude.{◌≡◌, ◌<◌, ◌≤◌, [], length}
 use Rattle.cp_board.specs.Draws.{IsSound}
 use Rattle.cp_board.specs.Models.{SeatModel}
@@ -8,7 +8,7 @@ use Rattle.cp_board.specs.declared.view.TheConstants.{FULL_ALLOWANCE}
 abbrev pub seat_model : seat.Inside → SeatModel
 seat_model s = record { table = s.pass.table_id; view = s.pass.me.0 }
 
--- the allowance, the count and the marks are those of the view, whose draws are sound
+-- the allowance, the count and the marks are those of the view, and its draws are sound
 pub record IsValidSeat (s : seat.Inside) : Type 0 where
   pub slots : s.pass.me.1 ≡ []
   pub allowance : s.allowance ≡ s.pass.me.0.allowance

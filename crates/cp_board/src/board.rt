@@ -1,16 +1,16 @@
-//! The board and its calls. What contracts see of a board stands in `specs/Models.antt`, and what
-//! its fields have to do with its table in `specs/BoardInside.antt`.
+//! The board and its calls. `specs/Models.antt` defines what contracts see of a board, and
+//! `specs/BoardInside.antt` how its fields relate to its table.
 //!
-//! There are three kinds of steps on shared words: `fetch_add` of 1 on a ticket word, load of the
-//! stop word, and `fetch_or` of 1 on it. A ticket that is past the end of its stripe is no number:
-//! the seat then marks the stripe. `join` makes one load beside those with which `atomic_table`
-//! cuts and joins views.
+//! There are three kinds of steps on shared words: `fetch_add` of 1 on a ticket word, a load of the
+//! stop word, and `fetch_or` of 1 on the stop word. A ticket past the end of its stripe is not a
+//! number, so the seat then marks the stripe. `join` makes one load besides the steps with which
+//! `atomic_table` splits and joins views.
 //!
-//! No clause says the following of `claim`, but reading it shows it: it touches no word of a stripe
-//! that its seat marked, makes at most as many atomic steps as there are stripes, and tries no step
-//! twice.
+//! No clause states the following of `claim`, but its code shows it: it touches no word of a stripe
+//! that its seat has marked, makes at most as many atomic steps as there are stripes, and tries no
+//! step twice.
 //!
-//! No call but `Board::new` takes memory, and none waits.
+//! No call except `Board::new` takes memory, and none waits.
 ghost use Rattle.std.specs.Prelude.{◌≡◌, ◌<◌, ◌≤◌, ◌++◌, ◌∷◌, [], true, length, IfOk, IsErr, IfErr, IfSome, None, IsNone, IfNone, IsTrue, ◌↔◌};
 ghost use Rattle.cp_board.specs.Draws.{IsSound, IsWhole};
 ghost use Rattle.cp_board.specs.Models.{IsSeatOf, ChangesOnlyDraws};
@@ -28,7 +28,7 @@ use std::marker::Model;
 /// and its shape.
 #[derive(Drop)]
 pub struct Board {
-    // The ticket words, one for each stripe, and then the stop word.
+    // The ticket words, one for each stripe, followed by the stop word.
     table: Table<(), View, Shape, BoardRule, Global>,
     shape: Shape,
 }
@@ -46,8 +46,8 @@ impl Model for Board {
 }
 
 impl Board {
-    /// A board of the numbers below n over so many stripes, and its first seat, which has the whole
-    /// allowance, no draws and no marks. `Err` where memory was refused.
+    /// Returns a board of the numbers below `n` over `stripes` stripes, and its first seat, which
+    /// has the whole allowance, no draws and no marks. Returns `Err` if memory runs out.
     pub fn new(alloc: Global, n: usize, stripes: usize) -> Result<(Board, Seat), AllocError>
         requires numbers { n ≤ MOST_NUMBERS }
         requires some { 0 < stripes }
@@ -74,8 +74,8 @@ impl Board {
         Ok((board, seat))
     }
 
-    // Draws the next ticket of the stripe. `None` where the seat has marked the stripe, or finds it
-    // used up and marks it.
+    // Draws the next ticket of the stripe. Returns `None` if the seat has marked the stripe, or if
+    // it finds the stripe used up and marks it.
     fn draw_from(&self, seat: &mut Seat, stripe: usize) -> Option<usize>
         requires of { IsSeatOf self.now seat.old }
         requires stripe { stripe < self.now.shape.stripes }
@@ -106,20 +106,20 @@ impl Board {
         }
     }
 
-    /// A number below n that nobody else draws. `None` where all were drawn, and from then on
-    /// whenever this seat asks.
+    /// Returns a number below n that nobody else draws. Returns `None` if all numbers have been
+    /// drawn, and from then on whenever this seat asks.
     pub fn claim(&self, seat: &mut Seat) -> Option<usize>
         requires { IsSeatOf self.now seat.old }
         ensures rest { ChangesOnlyDraws seat.old seat.new }
 
-        // The answer, and nothing else, is added to the draws.
+        // The returned number, and nothing else, is added to the draws.
         ensures below { IfSome result (λ x. x < self.now.shape.numbers) }
         ensures some { IfSome result (λ x. seat.new.view.draws ≡ seat.old.view.draws ++ x ∷ []) }
         ensures none { IfNone result (seat.new.view.draws ≡ seat.old.view.draws) }
         ensures sound { IsSound self.now.shape.numbers seat.new.view.draws }
         ensures few { length seat.new.view.draws ≤ self.now.shape.numbers }
 
-        // None is that each stripe is marked, and marks stay.
+        // `None` means that every stripe is marked, and marks never go away.
         ensures done { IsNone result ↔ IsDone seat.new.view }
         ensures kept { KeepsMarks seat.old.view seat.new.view }
         ensures again { IsDone seat.old.view → result ≡ None }
@@ -139,7 +139,7 @@ impl Board {
         None
     }
 
-    /// Calls the stop, for all seats of the board. This one has then called it and seen it.
+    /// Calls the stop for all seats of the board. This seat has then called it and seen it.
     pub fn stop(&self, seat: &mut Seat)
         requires { IsSeatOf self.now seat.old }
         ensures table { seat.new.table ≡ seat.old.table }
@@ -152,8 +152,8 @@ impl Board {
         seat.seen_stop = true;
     }
 
-    /// Whether a stop was called: true only after one, and always for a seat that has seen one.
-    /// That a seat sees a stop that another called is shown by tests alone.
+    /// Whether a stop has been called: true only after a stop, and always true for a seat that has
+    /// seen one. Only tests show that a seat sees a stop that another seat called.
     pub fn is_stopped(&self, seat: &mut Seat) -> bool
         requires { IsSeatOf self.now seat.old }
         ensures table { seat.new.table ≡ seat.old.table }
@@ -171,9 +171,9 @@ impl Board {
         stopped
     }
 
-    /// Two seats of one: the allowance is halved, and the first keeps the larger half, the draws
-    /// and the calls of stop. Both keep what was seen. The seat comes back just where its allowance
-    /// is 1.
+    /// Splits a seat into two. The allowance is halved, and the first seat keeps the larger half,
+    /// the draws and the calls of the stop. Both seats keep what has been seen. The seat comes back
+    /// if its allowance is 1, and only then.
     pub fn split(&self, seat: Seat) -> Result<(Seat, Seat), Seat>
         requires { IsSeatOf self.now seat }
         ensures tables { IfOk result (λ r. (r.0.table ≡ seat.table) × (r.1.table ≡ seat.table)) }
@@ -217,11 +217,11 @@ impl Board {
         Ok((first, second))
     }
 
-    /// One seat of two: the allowances are added, and draws, calls of stop and what was seen are
-    /// put together.
+    /// Joins two seats into one. The allowances are added, and the draws, the calls of the stop and
+    /// what has been seen are combined.
     ///
-    /// The load at the end changes nothing. By it the seat learns that the draws of both are sound
-    /// together.
+    /// The load at the end changes nothing. From it the seat learns that the draws of both seats
+    /// are sound together.
     pub fn join(&self, first: Seat, second: Seat) -> Seat
         requires first { IsSeatOf self.now first }
         requires second { IsSeatOf self.now second }
@@ -230,7 +230,7 @@ impl Board {
         ensures sound { IsSound self.now.shape.numbers result.view.draws }
         ensures few { length result.view.draws ≤ self.now.shape.numbers }
 
-        // Who was answered None stays so.
+        // A seat for which `claim` returned `None` stays done.
         ensures first_done { IsDone first.view → IsDone result.view }
         ensures second_done { IsDone second.view → IsDone result.view }
     {
@@ -257,7 +257,7 @@ impl Board {
         }
     }
 
-    /// Ends the board, and gives the number of draws. The seat has to be the only one left, with
+    /// Ends the board and returns the number of draws. The seat has to be the only one left, with
     /// the whole allowance.
     pub fn close(self, seat: Seat) -> usize
         requires of { IsSeatOf self seat }
@@ -265,11 +265,11 @@ impl Board {
         ensures count { result ≡ length seat.view.draws }
         ensures sound { IsSound self.shape.numbers seat.view.draws }
 
-        // A seat that was ever answered None knows that every number was drawn.
+        // A seat for which `claim` ever returned `None` knows that every number was drawn.
         ensures done { IsDone seat.view → IsWhole self.shape.numbers seat.view.draws }
         ensures all { IsDone seat.view → result ≡ self.shape.numbers }
 
-        // No stop is seen that was not called.
+        // A stop is seen only if it was called.
         ensures stop { seat.view.seen_stop ≡ true → seat.view.called_stop ≡ true }
     {
         let Board { table, shape: _ } = self;

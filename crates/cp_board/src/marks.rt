@@ -1,13 +1,13 @@
-//! The marks of the stripes that a seat found used up.
+//! The marks of the stripes that a seat has found used up.
 ghost use Rattle.std.specs.Prelude.{◌≡◌};
 ghost use Rattle.cp_board.specs.Views.{or_each};
 
 use crate::view::MOST_STRIPES;
 
-/// One for each stripe. A board with fewer stripes leaves the rest unmarked.
+/// One mark for each stripe. A board with fewer stripes leaves the rest unmarked.
 pub(crate) type Marks = [bool; MOST_STRIPES];
 
-/// The stripes that either seat found used up.
+/// Returns the stripes that either seat has found used up.
 pub(crate) fn either(first: &Marks, second: &Marks) -> Marks
     ensures { result ≡ or_each first.now second.now }
 {

@@ -1,17 +1,17 @@
-//! The right of one thread to draw from a board. What its fields have to do with its view stands in
-//! `specs/SeatInside.antt`.
+//! The right of one thread to draw from a board. `specs/SeatInside.antt` defines how the fields of
+//! a seat relate to its view.
 use crate::marks::Marks;
 use crate::view::View;
 use std::marker::Model;
 
-/// A contract sees which board the seat is of, and its view.
+/// A seat of a board. A contract sees which board the seat belongs to, and its view.
 #[derive(Drop)]
 pub struct Seat {
     pub(crate) pass: atomic_table::Seat<(), View>,
-    // The stripe from which the seat draws first. Nothing is promised of it.
+    // The stripe from which the seat draws first. Nothing is promised about it.
     pub(crate) stripe: usize,
     pub(crate) allowance: usize,
-    // How many numbers the seat drew.
+    // How many numbers the seat has drawn.
     pub(crate) count: usize,
     pub(crate) used_up: Marks,
     pub(crate) seen_stop: bool,

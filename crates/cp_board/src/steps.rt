@@ -1,6 +1,5 @@
-//! The rule of a board's table, and the kinds of its atomic steps. The rule stands in
-//! `specs/Rule.antt`, and what each kind of step tells the seat that makes it in
-//! `specs/Steps.antt`.
+//! The rule of a board's table, and the kinds of its atomic steps. The rule is in
+//! `specs/Rule.antt`, and what a seat learns from each kind of step is in `specs/Steps.antt`.
 ghost use Rattle.cp_board.specs.Rule.{KeepsRule};
 ghost use Rattle.cp_board.specs.Steps.{DrawsTicket, ReadsStop, CallsStop, LearnsDraws};
 ghost use Rattle.cp_board.specs.Views.{first_view, first_half, second_half, joined, spent_view};
@@ -24,7 +23,7 @@ impl Play<(), View> for DrawTicket {
     ghost then = { DrawsTicket };
 }
 
-/// Load of the stop word, to ask whether a stop was called.
+/// A load of the stop word, to check whether a stop was called.
 pub(crate) struct ReadStop;
 
 impl Play<(), View> for ReadStop {
@@ -38,7 +37,7 @@ impl Play<(), View> for CallStop {
     ghost then = { CallsStop };
 }
 
-/// Load of the stop word behind a join. It changes no view: by it the seat learns from the rule
+/// A load of the stop word after a join. It changes no view. From it the seat learns, by the rule,
 /// that its draws are sound.
 pub(crate) struct LearnDraws;
 
@@ -46,7 +45,7 @@ impl Play<(), View> for LearnDraws {
     ghost then = { LearnsDraws };
 }
 
-/// How a view is cut in two, and two are put together.
+/// How a view is split in two, and how two views are joined.
 pub(crate) struct Halves;
 
 impl Split<View> for Halves {

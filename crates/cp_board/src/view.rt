@@ -1,36 +1,35 @@
-//! What a board is told when it is made, and what a seat knows. The functions on views stand in
-//! `specs/Views.antt`.
+//! The shape of a board, and what a seat knows. The functions on views are in `specs/Views.antt`.
 use std::collections::LinkedList;
 
-/// The most numbers that a board may have.
+/// The largest number of numbers that a board may have.
 pub const MOST_NUMBERS: usize = 255;
 
-/// The most stripes over which a board may spread its numbers.
+/// The largest number of stripes over which a board may spread its numbers.
 pub const MOST_STRIPES: usize = 64;
 
-/// The allowance of a board's first seat: into so many seats it may be split.
+/// The allowance of a board's first seat, which is the number of seats that it may be split into.
 pub const FULL_ALLOWANCE: usize = 64;
 
-/// How many numbers a board has, and over how many ticket words they are spread.
+/// How many numbers a board has, and how many ticket words they are spread over.
 #[derive(Clone, Copy)]
 pub struct Shape {
     pub numbers: usize,
     pub stripes: usize,
 }
 
-/// What a seat knows. It stands in clauses alone: no value of it is ever made.
+/// What a seat knows. It is used only in clauses: no value of this type is ever made.
 pub struct View {
-    /// Of the seat's board.
+    /// The shape of the seat's board.
     pub shape: Shape,
-    /// Into how many seats this one may be split. The allowances of a board's seats add up to
-    /// `FULL_ALLOWANCE`.
+    /// The number of seats that this one may be split into. The allowances of a board's seats add
+    /// up to `FULL_ALLOWANCE`.
     pub allowance: usize,
-    /// The numbers that the seat drew, the latest last.
+    /// The numbers that the seat has drawn, with the latest last.
     pub draws: LinkedList<usize>,
-    /// For each stripe, whether the seat found it used up.
+    /// For each stripe, whether the seat has found it used up.
     pub used_up: LinkedList<bool>,
-    /// Whether the seat called `Board::stop`.
+    /// Whether the seat has called `Board::stop`.
     pub called_stop: bool,
-    /// Whether the seat called `Board::stop`, or `Board::is_stopped` told it true.
+    /// Whether the seat has called `Board::stop`, or `Board::is_stopped` has returned true.
     pub seen_stop: bool,
 }

@@ -1,5 +1,5 @@
-//! Tests of the ticket board: how numbers are spread over stripes, that seats in many threads draw them all, and that a seat sees the
-//! stop that another called.
+//! Tests of the ticket board: how numbers are spread over stripes, that seats on many threads draw
+//! them all, and that a seat sees a stop that another seat called.
 #![tactic(auto)]
 
 #[cfg(test)]

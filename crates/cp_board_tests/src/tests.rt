@@ -1,5 +1,5 @@
-//! What no clause says: how the numbers are spread over stripes, that seats in many threads draw
-//! them all, and that a seat sees the stop that another called.
+//! What no clause says: how the numbers are spread over stripes, that seats on many threads draw
+//! them all, and that a seat sees a stop that another seat called.
 ghost use Rattle.std.specs.Prelude.{◌≡◌, ◌<◌, ◌≤◌};
 ghost use Rattle.std.specs.Thread.{IsSync};
 ghost use Rattle.cp_board.specs.Models.{IsSeatOf};
@@ -11,7 +11,7 @@ use std::test::Fail;
 use std::thread;
 use std::thread::{Threads, join};
 
-// Draws until the seat is answered that no number is left.
+// Draws until no number is left for the seat.
 fn draw_all(alloc: Global, board: &Board, mut seat: Seat) -> (Seat, Result<Vec<usize>, AllocError>)
     requires { IsSeatOf board.now seat }
     ensures of { IsSeatOf board.now result.0 }
@@ -26,15 +26,15 @@ fn draw_all(alloc: Global, board: &Board, mut seat: Seat) -> (Seat, Result<Vec<u
     (seat, Ok(drawn))
 }
 
-// Whether these are the numbers below n, each once.
+// Whether `drawn` has each number below `n` exactly once.
 fn is_each_once(alloc: Global, mut drawn: Vec<usize>, n: usize) -> Result<bool, AllocError> {
     drawn.sort()?;
     let want: Vec<usize> = (0..n).collect(alloc)?;
     Ok(drawn.as_slice() == want.as_slice())
 }
 
-// Whether one seat draws each number once and is then answered None again, and the close counts
-// them.
+// Whether one seat draws each number once and then gets `None` again, and the board counts the
+// draws when it is closed.
 fn draws_alone(alloc: Global, n: usize, stripes: usize) -> Result<bool, AllocError>
     requires numbers { n ≤ MOST_NUMBERS }
     requires some { 0 < stripes }
@@ -89,16 +89,16 @@ fn two_threads_draw_each_number_once(rt: HostRuntime) -> Result<(), Fail> {
     Ok(())
 }
 
-// Where threads wait for one another, so that they draw at once.
+// A gate where threads wait for one another, so that they draw at the same time.
 #[derive(Drop)]
 struct Gate {
     arrived: AtomicU64,
-    // How many have seen that all arrived.
+    // How many threads have seen that all have arrived.
     together: AtomicU64,
 }
 
 impl Gate {
-    // Waits for so many, but not for ever.
+    // Waits for `all` threads, but not forever.
     fn arrive(&self, all: u64) {
         self.arrived.fetch_add(1, Ordering::SeqCst);
         for _ in 0..10_000_000 {
@@ -111,7 +111,7 @@ impl Gate {
     }
 }
 
-// Splits the seat as far as it goes, and has each part draw in a thread of its own.
+// Splits the seat as far as possible, and has each part draw on a thread of its own.
 fn draw_apart<R: Threads + Sync>(
     rt: &R,
     alloc: Global,
@@ -144,7 +144,7 @@ fn draw_apart<R: Threads + Sync>(
     (board.join(first, second), both(some, others))
 }
 
-// All of both.
+// Returns the elements of both lists.
 fn both(
     some: Result<Vec<usize>, AllocError>,
     others: Result<Vec<usize>, AllocError>,
@@ -189,7 +189,7 @@ fn a_stop_is_seen_on_the_same_thread(rt: HostRuntime) -> Result<(), Fail> {
     Ok(())
 }
 
-// Calls the stop, and gives the seat back.
+// Calls the stop and returns the seat.
 fn stop_with(board: &Board, mut seat: Seat) -> Seat
     requires { IsSeatOf board.now seat }
     ensures of { IsSeatOf board.now result }
@@ -199,7 +199,7 @@ fn stop_with(board: &Board, mut seat: Seat) -> Seat
     seat
 }
 
-// Asks for the stop, and gives the seat back.
+// Checks for the stop and returns the seat.
 fn ask_with(board: &Board, mut seat: Seat) -> (Seat, bool)
     requires { IsSeatOf board.now seat }
     ensures of { IsSeatOf board.now result.0 }

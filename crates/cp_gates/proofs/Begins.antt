@@ -1,4 +1,4 @@
--- What begins, and that it keeps its number.
+-- What begins keeps its number.
 use Rattle.std.proofs.Common.{◌≡◌, ◌-◌, Option, None, Some, slice_get, suc, refl}
 use Rattle.cp_code.specs.Programs as code
 use Rattle.cp_code.specs.Programs.{Program}

@@ -1,4 +1,4 @@
--- Lists of which the first so many items have been changed.
+-- Lists whose first items have been changed.
 use Rattle.std.proofs.Common.{◌≡◌, ◌+◌, ℕ, zero, suc, List, [], ◌∷◌, Option, Some, None, slice_get, slice_set, length, map, refl, ap, ◌∙◌, sym, arith}
 use Rattle.std.specs.Prelude.{option_map, slice_index_or}
 use Rattle.cp_process.specs.States.{private_of}
@@ -29,7 +29,7 @@ module _ {A : Type 0} (f : A → A) where
   all_changed [] = refl
   all_changed (x ∷ xs) = ap (λ ys. f x ∷ ys) (all_changed xs)
 
--- Where what is set looks the same, so do all.
+-- If the item that is set looks the same, so do all items.
 pub same_at : {A B : Type 0} (f : A → B) (xs : List A) (i : ℕ) (d y : A) → f y ≡ f (slice_index_or xs i d) → map f (slice_set xs i y) ≡ map f xs
 same_at f [] i d y same = refl
 same_at f (x ∷ xs) zero d y same = ap (λ z. z ∷ map f xs) same

@@ -11,7 +11,7 @@ module _ {A B : Type 0} (f : A → B) where
   first_more (x ∷ xs) zero d below = refl
   first_more (x ∷ xs) (suc i) d below = ap (λ (l : List B). f x ∷ l) (first_more xs i d (Prim.omega (arith, below)))
 
-  -- One more is copied.
+  -- One more item is copied.
   pub copied_more : (xs ys : List A) (i : ℕ) (x y : A) → i < length xs → x ≡ get_or xs i x → f y ≡ f x → map f ys ≡ map f (take i xs)
       → map f (ys ++ y ∷ []) ≡ map f (take (i + 1) xs)
   copied_more xs ys i x y below here same was =

@@ -1,4 +1,4 @@
--- Private and shared words are parted again after a step.
+-- Private and shared words are separated again after a step.
 use Rattle.std.proofs.Common.{◌≡◌, ◌++◌, ℕ, zero, suc, ℤ, List, length, take, drop, true, refl, ap, sym, ◌∙◌}
 use Rattle.std.specs.Prelude.{map, option_map}
 use Rattle.std.proofs.Math.Seq.{drop-append_seam, take-append_seam}
@@ -48,7 +48,7 @@ pub lent : {X : Type 0} (ys xs : List X) (n : ℕ) → length ys ≡ length xs �
 lent ys xs n same all =
     ap (λ k. take k (ys ++ drop (length ys) xs)) (all ∙ sym same) ∙ take-append_seam ys (drop (length ys) xs)
 
--- What is told of gates and stages is what the kernel knows.
+-- What a step reads of gates and stages is what the kernel knows.
 set_by : (g : Option Gate) → plain.is_set (states.holder_or_none g) ≡ plain.is_set (gate_or_unset (option_map states.gate g)).holder
 set_by None = refl
 set_by (Some g) = refl

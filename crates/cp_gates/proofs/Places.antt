@@ -1,4 +1,4 @@
--- Gates and stages by number, and what changes where one of them is set.
+-- Gates and stages by number, and what changes when one of them is set.
 use Rattle.std.proofs.Common.{◌≡◌, ◌≤◌, ◌<◌, ◌-◌, ℕ, zero, suc, List, [], ◌∷◌, Option, None, Some, slice_get, slice_set, map, length, false, refl, ap, sym, ◌∙◌, arith}
 use Rattle.std.specs.Prelude.{option_map, remove, slice_index_or}
 use Rattle.std.proofs.lemmas.Option.{slice_get-get_or, slice_get-map, slice_get_past}
@@ -69,7 +69,7 @@ gates_set k gs m g h askers held asked =
     (map-set states.gate gs (m - 1) g
     ∙ (λ i. slice_set (map states.gate gs) (m - 1) (record { holder = held i; askers = asked i })))
 
--- A gate that a process holds is there.
+-- A gate that a process holds exists.
 pub held_first : (gs : List model.Gate) (m q : ℕ) → (plain.gate_of gs m).holder ≡ model.HeldBy q → 1 ≤ m
 held_first gs zero q h = absurd (cc)
 held_first gs (suc m) q h = omega arith
@@ -113,7 +113,7 @@ stage_at gs p g first below is =
 pub stage_past : (gs : List Stage) (p : ℕ) → length gs ≤ p - 1 → plain.stage_of (map states.stage gs) p ≡ plain.Begun
 stage_past gs p past = stage_missing gs p (slice_get_past gs (p - 1) past)
 
--- Where the same gate is set, nothing changes.
+-- Setting the same gate again changes nothing.
 pub gates_same : (gs : List Gate) (i : ℕ) (g : Gate) → g ≡ slice_index_or gs i g → slice_set gs i g ≡ gs
 gates_same [] i g is = refl
 gates_same (x ∷ gs) zero g is = ap (λ y. y ∷ gs) is

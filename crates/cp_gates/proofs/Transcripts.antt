@@ -1,4 +1,4 @@
--- Transcripts by number, and what changes where one of them grows.
+-- Transcripts by number, and what changes when one of them grows.
 use Rattle.std.proofs.Common.{◌≡◌, ◌≢◌, ◌≤◌, ◌+◌, ◌-◌, ◌++◌, ℕ, zero, suc, List, [], ◌∷◌, Option, None, Some, slice_get, slice_set, map, length, vec_len, vec_capacity, refl, ap, sym, subst, ◌∙◌, arith}
 use Rattle.std.specs.Prelude.{option_map}
 use Rattle.std.proofs.lemmas.Option.{slice_get-map}
@@ -50,7 +50,7 @@ got_same [] i y x e = absurd (cc)
 got_same (z ∷ xs) zero y x e = some_is y x e
 got_same (z ∷ xs) (suc i) y x e = got_same xs i y x e
 
--- What is moved is the same where the transcripts before are.
+-- What is moved is the same if the transcripts before are the same.
 pub moved_from : (k mid after : Kernel) (p : ℕ) (written : List ℕ) → mid.transcripts ≡ k.transcripts → Moves mid after p written → Moves k after p written
 moved_from k mid after p written same M = record {
   transcripts =

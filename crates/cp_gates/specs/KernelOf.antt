@@ -1,4 +1,5 @@
--- The code's kernel, and it beside the private state of the process whose turn it is, as the plain data of the definitions.
+-- The code's kernel, alone and together with the private state of the process whose turn it is, as
+-- the plain data of the definitions.
 use Rattle.std.specs.Prelude.{◌≡◌, ℕ, ◌+◌, ◌-◌, ◌≤◌, true, length, List, [], Some, Vec, map, slice_get, All, vec_len, vec_capacity}
 use Rattle.std.specs.Global.{Global}
 use Rattle.cp_model.specs.States as model
@@ -21,7 +22,7 @@ kernel_of k = record {
 abbrev pub turning : Kernel → Private → List ℕ → plain.Turning
 turning k x input = record { kernel = kernel_of k; own = private_of x input }
 
--- Nobody holds the gate of a monitor that isn't initialised, or asks for it.
+-- Nobody holds or asks for the gate of a monitor that isn't initialised.
 abbrev pub unset_gate : model.Gate
 unset_gate = record { holder = model.Unset; askers = [] }
 
@@ -30,27 +31,27 @@ unset_gate = record { holder = model.Unset; askers = [] }
 abbrev pub Bytes : Type 0
 Bytes = Vec ℕ Global
 
--- By number: without the output that private states still hold.
+-- The transcripts by number, without the output that private states still hold.
 abbrev pub transcripts_of : Kernel → List (List ℕ)
 transcripts_of k = map (λ (v : Bytes). v.items) k.transcripts.items
 
 -- ---- Room
 
--- There is room for so many more askers of a gate.
+-- There is room for n more askers of a gate.
 abbrev pub HasRoomToAsk : ℕ → Gate → Type 0
 HasRoomToAsk n g = vec_len g.askers + n ≤ vec_capacity g.askers
 
--- The same of each gate.
+-- There is room for n more askers of each gate.
 abbrev pub HasRoomForAskers : Kernel → ℕ → Type 0
 HasRoomForAskers k n = All (HasRoomToAsk n) k.gates.items
 
--- There is room for so many more bytes in the transcript of process p.
+-- There is room for n more bytes in the transcript of process p.
 abbrev pub HasRoomForBytes : Kernel → ℕ → ℕ → Type 0
 HasRoomForBytes k p n = (v : Bytes) → slice_get k.transcripts.items (p - 1) ≡ Some v → vec_len v + n ≤ vec_capacity v
 
 -- ---- Processes
 
--- There is a process of this number.
+-- There is a process with this number.
 pub record IsAmong (k : Kernel) (p : ℕ) : Type 0 where
   pub first : 1 ≤ p
   pub last : p ≤ length k.stages.items

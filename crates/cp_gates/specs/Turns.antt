@@ -1,4 +1,4 @@
--- What a kernel turn and the end of a round make of the kernel and of private states.
+-- What a kernel turn and the end of a round make of the kernel and the private states.
 use Rattle.std.specs.Prelude.{◌≡◌, ◌≢◌, ◌-◌, ◌++◌, ℕ, suc, List, [], ◌∷◌, slice_set}
 use Rattle.cp_code.specs.Programs.{Program}
 use Rattle.cp_steps.specs.KernelSteps as plain
@@ -9,12 +9,12 @@ use Rattle.cp_process.specs.declared.private.Private.{Private}
 use Rattle.cp_gates.specs.declared.kernel.Kernel.{Kernel}
 use Rattle.cp_gates.specs.KernelOf.{HasRoomForBytes, kernel_of, transcripts_of, turning}
 
--- What the process wrote stands in its transcript.
+-- What process p wrote is at the end of its transcript, and no other transcript has changed.
 pub record Moves (k after : Kernel) (p : ℕ) (written : List ℕ) : Type 0 where
   pub transcripts : transcripts_of after ≡ slice_set (transcripts_of k) (p - 1) (transcript_of (transcripts_of k) p ++ written)
   pub others : (q n : ℕ) → q - 1 ≢ p - 1 → HasRoomForBytes k q n → HasRoomForBytes after q n
 
--- The kernel, the private state and its transcript after a kernel turn, which is at most so many steps.
+-- The kernel, the private state and its transcript after a kernel turn of at most n steps.
 pub record IsTurned (program : Program) (clock n : ℕ) (k after : Kernel) (x y : Private) (input : List ℕ) : Type 0 where
   pub kernel : kernel_of after ≡ (plain.kernel_steps program clock n (turning k x input)).kernel
   pub own : private_of y input ≡ record (plain.kernel_steps program clock n (turning k x input)).own { output = [] }

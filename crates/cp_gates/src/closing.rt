@@ -13,7 +13,7 @@ use cp_process::outside::Stage;
 use cp_process::private::Private;
 use cp_threaded::program::Program;
 
-// Begins, if it is fresh.
+// Begins the process if it is fresh.
 fn begin(program: &Program, kernel: &Kernel, private: &mut Private)
     ensures begun { (input : List ℕ) → private_of private.new input ≡ plain.begin_one
         (view.program program.now) (kernel_of kernel.now) (private_of private.old input) }
@@ -54,8 +54,8 @@ fn close_stages(stages: &mut [Stage])
     }
 }
 
-/// The end of a round: each process that was started in it begins, with the parameters that wait for it. The private states are those of
-/// all processes. It takes no memory.
+/// Ends the round: each process that was started in it begins, with the parameters that wait for
+/// it. `privates` has the private states of all processes. It takes no memory.
 pub fn end_round(program: &Program, kernel: &mut Kernel, privates: &mut [Private])
     ensures kernel { let k = kernel_of kernel.old in kernel_of kernel.new
         ≡ record k { stages = map plain.next_stage k.stages } }

@@ -1,4 +1,4 @@
-//! Kernels of the same content, and one of nothing.
+//! Kernels with the same content, and an empty kernel.
 
 ghost use Rattle.std.specs.Prelude.{◌≡◌, IfOk, length, map};
 ghost use Rattle.cp_process.specs.States as states;
@@ -35,11 +35,11 @@ fn copy_transcripts(alloc: Global, transcripts: &[Vec<u8>]) -> Result<Vec<Vec<u8
 }
 
 impl Kernel {
-    /// A kernel of the same content.
+    /// Returns a kernel with the same content.
     ///
     /// # Errors
     ///
-    /// `AllocError` where memory runs out.
+    /// `AllocError` if memory runs out.
     pub fn copy(&self, alloc: Global) -> Result<Kernel, AllocError>
         ensures same { IfOk result (λ k. kernel_of k ≡ kernel_of self.now) }
         ensures transcripts { IfOk result (λ k. transcripts_of k ≡ transcripts_of self.now) }
@@ -52,7 +52,7 @@ impl Kernel {
         })
     }
 
-    /// The kernel of no program. It takes no memory.
+    /// Returns the kernel of no program. It takes no memory.
     pub fn empty(alloc: Global) -> Kernel
         ensures stages { length result.stages.items ≡ 0 }
     {

@@ -1,6 +1,7 @@
-//! What a step leaves to the kernel: who holds gates, who asks for them, and which processes are started, delayed and resumed.
+//! What a step leaves to the kernel: which processes hold gates and ask for them, and which
+//! processes are started, delayed and resumed.
 //!
-//! None of it takes memory.
+//! None of these changes takes memory.
 
 ghost use Rattle.std.specs.Prelude.{◌≡◌, ◌+◌, ◌-◌, ◌∷◌, ◌++◌, [], ℕ, List, MatchOption};
 ghost use Rattle.cp_code.specs.Layout as layout;
@@ -13,7 +14,7 @@ use crate::kernel::Kernel;
 use cp_process::effect::Effect;
 use cp_process::outside::{Holder, Stage};
 
-// The place of what has this number. The number 0 is read as 1.
+// Returns the index of the monitor or process with this number. The number 0 is read as 1.
 fn index(number: u32) -> usize
     ensures { result ≡ number - 1 }
 {
@@ -49,7 +50,7 @@ impl Kernel {
         self.set_stage(r, resumed_stage(self.stage(r)));
     }
 
-    // Nobody asks any more.
+    // Sets the holder of a gate and removes its askers.
     fn set_gate(&mut self, m: u32, holder: Holder)
         ensures step { kernel_of self.new ≡ plain.set_gate m
             (holder_view holder) [] (kernel_of self.old) }
@@ -62,7 +63,7 @@ impl Kernel {
         }
     }
 
-    // The askers stay.
+    // Gives the gate to process p. The askers stay.
     fn hold(&mut self, m: u32, p: u32)
         ensures step { let k = kernel_of self.old in
             kernel_of self.new ≡ plain.set_gate m (model.HeldBy p) (plain.gate_of k.gates m).askers
@@ -79,7 +80,7 @@ impl Kernel {
         }
     }
 
-    // The gate goes to the asker who came first, if there is one: that one is answered.
+    // Gives the gate to the asker that came first, if there is one, and returns that asker.
     fn grant(&mut self, m: u32) -> Option<u32>
         ensures step { let k = kernel_of self.old in MatchOption result
             ((plain.gate_of k.gates m).askers ≡ [] × (kernel_of self.new ≡ k))
@@ -100,7 +101,7 @@ impl Kernel {
         Some(r)
     }
 
-    // The gate goes to the asker who came first, or is free.
+    // Gives the gate to the asker that came first, or frees it.
     fn pass_on(&mut self, m: u32)
         ensures step { kernel_of self.new ≡ plain.pass_on m (kernel_of self.old) }
         ensures room { (n : ℕ) → HasRoomForAskers self.old n → HasRoomForAskers self.new n }
@@ -112,7 +113,7 @@ impl Kernel {
         }
     }
 
-    // Process p asks last.
+    // Process p asks for the gate, after all other askers.
     fn ask(&mut self, p: u32, m: u32, q: u32)
         requires room { HasRoomForAskers self.old 1 }
         requires held { (plain.gate_of (kernel_of self.old).gates m).holder ≡ model.HeldBy q }
@@ -127,7 +128,7 @@ impl Kernel {
         }
     }
 
-    // Process p holds the gate, or asks for it.
+    // Process p gets the gate, or asks for it.
     fn enter(&mut self, p: u32, m: u32)
         requires { HasRoomForAskers self.old 1 }
         ensures step { let k = kernel_of self.old in kernel_of self.new ≡ plain.enter_gate p m
@@ -147,7 +148,8 @@ impl Kernel {
         }
     }
 
-    // The process that stood in a queue goes on in the monitor, if there was one.
+    // Resumes the process that waited in a queue, inside the monitor. If there was none, the gate
+    // is passed on.
     fn resume(&mut self, m: u32, stood: i32)
         ensures step { kernel_of self.new ≡ plain.resume m (layout.natural stood)
             (kernel_of self.old) }
@@ -174,7 +176,7 @@ impl Kernel {
         }
     }
 
-    /// What a step of process p leaves, which has so many words of its own.
+    /// Applies the effect of a step of process p, which has `own` words of its own.
     pub(crate) fn apply(&mut self, own: usize, p: u32, effect: Effect)
         requires { HasRoomForAskers self.old 1 }
         ensures step { kernel_of self.new ≡ plain.apply_effect own p (effect_view effect)

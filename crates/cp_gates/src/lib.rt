@@ -1,14 +1,14 @@
 //! The kernel of the whole language: gates, stages of processes, shared words and transcripts.
 //!
-//! For any program and any state its calls are the functions on plain data that cp_steps defines (`specs/KernelOf.antt` says of what
-//! data). No effect of a step takes memory.
+//! For any program and any state, the kernel's calls are the functions on plain data that cp_steps
+//! defines (`specs/KernelOf.antt` defines the plain data). No effect of a step takes memory.
 //!
 //! - `kernel`, `starting`: the kernel, and how it starts.
-//! - `reading`: what is read of it.
+//! - `reading`: what can be read of it.
 //! - `effects`: what a step leaves to the kernel.
 //! - `step`, `turns`: one step of the kernel, and kernel turns.
 //! - `closing`: the end of a round.
-//! - `copying`: kernels of the same content.
+//! - `copying`: kernels with the same content.
 //! - `room`: room for what kernel turns add.
 #![tactic(auto)]
 

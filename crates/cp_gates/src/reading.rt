@@ -1,4 +1,4 @@
-//! What is read of the kernel.
+//! What can be read of the kernel.
 
 ghost use Rattle.std.specs.Prelude.{◌≡◌};
 ghost use Rattle.cp_code.specs.Starts.{word};
@@ -11,7 +11,7 @@ use crate::kernel::Kernel;
 use cp_process::outside::{Holder, Stage};
 
 impl Kernel {
-    /// Who holds the gate of monitor m. That of one that isn't there is unset.
+    /// Returns the holder of monitor m's gate. A missing monitor is unset.
     pub fn holder(&self, m: u32) -> Holder
         ensures { holder_view result ≡ (plain.gate_of (kernel_of self.now).gates m).holder }
     {
@@ -24,7 +24,7 @@ impl Kernel {
         }
     }
 
-    /// Who asks for the gate of monitor m, in the order in which they asked.
+    /// Returns the processes that ask for the gate of monitor m, in the order in which they asked.
     pub fn askers(&self, m: u32) -> &[u32]
         ensures { result.now ≡ (plain.gate_of (kernel_of self.now).gates m).askers }
     {
@@ -37,7 +37,7 @@ impl Kernel {
         }
     }
 
-    /// How far process p is. One that isn't there has begun.
+    /// Returns the stage of process p. A missing process has begun.
     pub fn stage(&self, p: u32) -> Stage
         ensures { stage_view result ≡ plain.stage_of (kernel_of self.now).stages p }
     {
@@ -57,7 +57,7 @@ impl Kernel {
         matches!(self.stage(p), Stage::Begun)
     }
 
-    /// The shared word at a place. A missing one reads as 0.
+    /// Returns the shared word at a location. A missing word reads as 0.
     pub fn word(&self, at: usize) -> i32
         ensures { result ≡ word (kernel_of self.now).shared at }
     {
@@ -67,7 +67,7 @@ impl Kernel {
         }
     }
 
-    /// The transcript of process p, without the output that its private state still holds.
+    /// Returns the transcript of process p, without the output that its private state still holds.
     pub fn transcript(&self, p: usize) -> &[u8]
         ensures { result.now ≡ transcript_of (transcripts_of self.now) p }
     {

@@ -1,4 +1,5 @@
-//! Room for what kernel turns add: askers of gates, and bytes of transcripts. What is there stays as it is.
+//! Room for what kernel turns add: askers of gates, and bytes of transcripts. The content stays as
+//! it is.
 
 ghost use Rattle.std.specs.Prelude.{◌≡◌, ◌≢◌, ◌-◌, ℕ, IfOk};
 ghost use Rattle.cp_gates.specs.KernelOf.{HasRoomForAskers, HasRoomForBytes, kernel_of, transcripts_of};
@@ -7,11 +8,11 @@ use crate::kernel::Kernel;
 use std::alloc::AllocError;
 
 impl Kernel {
-    /// Makes room for so many more askers of each gate.
+    /// Reserves room for `count` more askers of each gate.
     ///
     /// # Errors
     ///
-    /// `AllocError` where memory runs out.
+    /// `AllocError` if memory runs out.
     pub fn reserve_askers(&mut self, count: usize) -> Result<(), AllocError>
         ensures same { kernel_of self.new ≡ kernel_of self.old }
         ensures transcripts { self.new.transcripts ≡ self.old.transcripts }
@@ -23,11 +24,11 @@ impl Kernel {
         Ok(())
     }
 
-    /// Makes room for so many more bytes in the transcript of process p.
+    /// Reserves room for `count` more bytes in the transcript of process p.
     ///
     /// # Errors
     ///
-    /// `AllocError` where memory runs out.
+    /// `AllocError` if memory runs out.
     pub fn reserve_bytes(&mut self, p: usize, count: usize) -> Result<(), AllocError>
         ensures same { kernel_of self.new ≡ kernel_of self.old }
         ensures gates { self.new.gates ≡ self.old.gates }

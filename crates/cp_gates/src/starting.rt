@@ -16,7 +16,7 @@ use std::alloc::{AllocError, Global};
 /// There are fewer shared words than this.
 const TOO_MANY: usize = 1 << 30;
 
-// The words of the monitor of this number start as its plan says.
+// Makes the words of the monitor with this number start as its plan says.
 fn start_monitor(program: &Program, number: usize, words: &mut [i32])
     requires { length words.old < 2 ^ 30 }
     ensures words { (rest : List code.Monitor) (m : code.Monitor)
@@ -32,7 +32,7 @@ fn start_monitor(program: &Program, number: usize, words: &mut [i32])
     }
 }
 
-// The words of all monitors start as their plans say.
+// Makes the words of all monitors start as their plans say.
 fn start_monitors(program: &Program, words: &mut [i32])
     requires { length words.old < 2 ^ 30 }
     ensures words { words.new ≡ plain.first_shared (view.program program.now).monitors words.old }
@@ -57,7 +57,7 @@ fn first_shared_words(alloc: Global, program: &Program) -> Result<Vec<i32>, Allo
     Ok(words)
 }
 
-// So many gates of monitors that aren't initialised.
+// Returns `count` gates of monitors that aren't initialised.
 fn unset_gates(alloc: Global, count: usize) -> Result<Vec<Gate>, AllocError>
     ensures { IfOk result (λ all. map states.gate all.items ≡ replicate count unset_gate) }
 {
@@ -71,7 +71,7 @@ fn unset_gates(alloc: Global, count: usize) -> Result<Vec<Gate>, AllocError>
     Ok(all)
 }
 
-// The initial process, which is the first of so many, has begun.
+// Returns the stages of `count` processes, of which only the first, the initial process, has begun.
 fn first_stages(alloc: Global, count: usize) -> Result<Vec<Stage>, AllocError>
     ensures stages { IfOk result (λ all. (processes : List code.Process) → length processes ≡ count
         → map states.stage all.items ≡ plain.first_stages processes) }
@@ -96,11 +96,12 @@ fn empty_transcripts(alloc: Global, count: usize) -> Result<Vec<Vec<u8>>, AllocE
 }
 
 impl Kernel {
-    /// The kernel at the start: no monitor is initialised, and of the processes only the initial one has begun.
+    /// Returns the kernel at the start: no monitor is initialised, and only the initial process has
+    /// begun.
     ///
     /// # Errors
     ///
-    /// `AllocError` where memory runs out, or where there are 2^30 shared words.
+    /// `AllocError` if memory runs out, or if there are 2^30 shared words or more.
     pub fn new(alloc: Global, program: &Program) -> Result<Kernel, AllocError>
         ensures start { IfOk result (λ k. (tick : ℕ) (inputs : ℕ → List ℕ)
             → kernel_of k ≡ (plain.first_machine (view.program program.now) tick inputs).kernel) }

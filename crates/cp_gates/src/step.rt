@@ -1,4 +1,5 @@
-//! One step of the kernel: in a monitor, or one that enters or initialises a monitor or starts a process.
+//! One step of the kernel: a step inside a monitor, or one that enters or initialises a monitor or
+//! starts a process.
 
 ghost use Rattle.std.specs.Prelude.{◌≡◌, ◌≢◌, ◌≤◌, ◌+◌, ◌-◌, ◌*◌, ◌++◌, true, ℕ, List, length};
 ghost use Rattle.cp_process.specs.Rooms.{HasRoomFor, KeepsRoom};
@@ -24,7 +25,7 @@ fn is_kernel(kind: Kind) -> bool
     matches!(kind, Kind::Kernel)
 }
 
-// Whether the next step is the kernel's, and may be made.
+// Whether the next step is the kernel's and may be made.
 pub(crate) fn is_due(program: &Program, kernel: &Kernel, private: &Private) -> bool
     ensures due { (input : List ℕ) → result ≡ plain.is_due (view.program program.now)
         (turning kernel.now private.now input) }
@@ -36,7 +37,7 @@ pub(crate) fn is_due(program: &Program, kernel: &Kernel, private: &Private) -> b
     is_kernel(next_kind(program, private))
 }
 
-// One step of the process, before its effect.
+// Makes one step of the process, without its effect on the kernel.
 fn act(
     program: &Program,
     kernel: &mut Kernel,
@@ -64,7 +65,7 @@ fn act(
     step(program, private, &mut kernel.shared, &outside)
 }
 
-// One step, which is due.
+// Makes one step that is due.
 pub(crate) fn kernel_step(
     program: &Program,
     kernel: &mut Kernel,

@@ -1,4 +1,4 @@
-//! Kernel turns: the kernel's steps of a process, and its output, which goes into its transcript.
+//! Kernel turns: the kernel's steps of a process, and the move of its output to its transcript.
 
 ghost use Rattle.std.specs.Prelude.{◌≡◌, ◌≤◌, ◌+◌, ◌*◌, ℕ, List, [], length, vec_capacity, vec_len};
 ghost use Rattle.cp_process.specs.Rooms.{HasRoomFor};
@@ -14,7 +14,7 @@ use cp_process::private::Private;
 use cp_process::turn::Turn;
 use cp_threaded::program::Program;
 
-// At most so many steps, while the next one is due.
+// Makes at most `count` steps, as long as the next one is due.
 fn take_steps(
     program: &Program,
     kernel: &mut Kernel,
@@ -43,7 +43,7 @@ fn take_steps(
 }
 
 impl Kernel {
-    // Adds bytes to the transcript of process p.
+    // Appends bytes to the transcript of process p.
     fn append(&mut self, p: usize, bytes: &[u8])
         requires room { HasRoomForBytes self.old p (length bytes.now) }
         ensures kernel { kernel_of self.new ≡ kernel_of self.old }
@@ -58,7 +58,7 @@ impl Kernel {
     }
 }
 
-// What the process wrote goes into its transcript.
+// Moves what the process wrote to its transcript.
 fn move_output(kernel: &mut Kernel, private: &mut Private)
     requires room { HasRoomForBytes kernel.old private.old.number (vec_len private.old.output) }
     ensures kernel { kernel_of kernel.new ≡ kernel_of kernel.old }
@@ -74,9 +74,10 @@ fn move_output(kernel: &mut Kernel, private: &mut Private)
     private.clear_output();
 }
 
-/// The kernel turn of a process: at most as many steps as the turn has, while the next one is the kernel's; then its output, also that
-/// of its private turn, goes into its transcript. It takes no memory: `reserve_askers` and `reserve_bytes` make the room. A step
-/// writes at most 11 bytes, and the turn asks for one gate at most.
+/// Makes the kernel turn of a process: at most as many steps as the turn has, as long as the next
+/// one is the kernel's. Then the output of the process, including that of its private turn, moves
+/// to its transcript. It takes no memory: `reserve_askers` and `reserve_bytes` reserve the room. A
+/// step writes at most 11 bytes, and the turn asks for at most one gate.
 pub fn kernel_turn(
     program: &Program,
     kernel: &mut Kernel,

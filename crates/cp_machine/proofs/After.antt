@@ -1,4 +1,4 @@
--- Rounds of a machine after others.
+-- Rounds of a machine after other rounds.
 use Rattle.std.specs.Prelude.{refl, ℕ, ◌+◌}
 use Rattle.std.proofs.Common.{sym, ◌∙◌, arith}
 use Rattle.cp_model.specs.States.{numbers_from}
@@ -10,7 +10,7 @@ use Rattle.cp_machine.proofs.Rounds.{rounds_after}
 pub after_none : (t : ℕ) (a : Machine) → IsAfter t 0 a a
 after_none t a = record { made = refl; processes = refl; rounds = Prim.omega arith }
 
--- First m rounds, and then n.
+-- First m rounds, and then n more.
 pub after_more : (t m n : ℕ) (a b c : Machine) → IsAfter t m a b → IsAfter t n b c → IsAfter t (m + n) a c
 after_more t m n a b c first then = record {
   made = then.made

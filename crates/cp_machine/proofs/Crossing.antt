@@ -1,4 +1,5 @@
--- What the threads of a run share may be shared: also operations, of which there are too many kinds to be searched through at each thread.
+-- What the threads of a run share may be shared. This includes operations, which have too many
+-- kinds to be searched through at each thread.
 use denote.Param.Send.{IsSync, sendable}
 use denote.Param.SendFields.{declared_sync, variants_sync}
 use Rattle.std.proofs.Crossing.{crosses}

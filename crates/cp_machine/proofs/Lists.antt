@@ -1,4 +1,4 @@
--- What stands in a list that has grown by one, or has another item at one place.
+-- The items of a list that has grown by one, or that has another item in one place.
 use Rattle.std.specs.Prelude.{◌≡◌, ◌≢◌, refl, ℕ, zero, suc, ◌<◌, List, [], ◌∷◌, ◌++◌, length, Some, None, slice_get}
 use Rattle.std.proofs.Common.{sym, ap, subst, arith, ◌⊎◌, inl, inr, ⊎_elim, set, get_or}
 
@@ -17,7 +17,7 @@ module _ {X : Type 0} where
   got_snoc (x ∷ ys) b (suc i) y e =
       ⊎_elim (λ (h : slice_get ys i ≡ Some y). inl h) (λ (h : (i ≡ length ys) × (b ≡ y)). inr (ap suc h.0, h.1)) (got_snoc ys b i y e)
 
-  -- What holds of each item, holds of each with one more.
+  -- What holds of each item also holds with one more item, if it holds of that item.
   pub each_more : (P : ℕ → X → Type 0) (ys : List X) (b : X)
       → ((i : ℕ) (y : X) → slice_get ys i ≡ Some y → P i y) → P (length ys) b
       → (i : ℕ) (y : X) → slice_get (ys ++ b ∷ []) i ≡ Some y → P i y

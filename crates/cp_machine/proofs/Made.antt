@@ -55,7 +55,7 @@ module _ (inputs : ℕ → List ℕ) where
 input_there : (inputs : List Bytes) (i : ℕ) → input_of inputs (1 + i) ≡ input_at inputs i
 input_there inputs i = let at : (1 + i) - 1 ≡ i = Prim.omega arith in ap (input_at inputs) at
 
--- What stands at an index of the parts of a machine.
+-- The item at an index of the parts of a machine.
 pub part_at : (inputs : List Bytes) (i : ℕ) (xs : List Private) (x : Private) → slice_get xs i ≡ Some x
     → slice_get (parts_of (input_of inputs) 1 xs) i ≡ Some (private_of x (input_at inputs i))
 part_at inputs i xs x e = part_got (input_of inputs) 1 i xs x e ∙ ap (λ (l : List ℕ). Some (private_of x l)) (input_there inputs i)
@@ -72,12 +72,12 @@ module _ (t : ℕ) (m : Machine) (inputs : List Bytes) where
   pub none_made : (k : Kernel) → kernel_of k ≡ m.kernel → transcripts_of k ≡ m.transcripts → TurnsMade t m inputs 0 [] k
   none_made k e f = record { kernel = e; transcripts = f; parts = λ i y g. absurd (none_some y g) }
 
-  -- Another kernel of the same content.
+  -- Another kernel with the same content.
   pub kept_made : (i : ℕ) (ys : List Private) (k k' : Kernel) → kernel_of k' ≡ kernel_of k → transcripts_of k' ≡ transcripts_of k
       → TurnsMade t m inputs i ys k → TurnsMade t m inputs i ys k'
   kept_made i ys k k' e f was = record { kernel = e ∙ was.kernel; transcripts = f ∙ was.transcripts; parts = was.parts }
 
-  -- Private turns more.
+  -- With more private turns made.
   pub more_made : (i : ℕ) (ys zs : List Private) (k : Kernel)
       → ((j : ℕ) (z : Private) → slice_get zs j ≡ Some z
       → (slice_get ys j ≡ Some z) ⊎ ((i ≤ j) × (slice_get m.parts j ≡ Some (private_of z (input_at inputs j)))))
@@ -90,7 +90,7 @@ module _ (t : ℕ) (m : Machine) (inputs : List Bytes) where
         (each j z e);
   }
 
--- The kernel turn of the process at an index more.
+-- With the kernel turn of the process at an index made as well.
 turn_stands : (t : ℕ) (m : Machine) (inputs : List Bytes) (i : ℕ) (ys zs : List Private) (y z : Private) (k k' : Kernel)
     → slice_get m.parts i ≡ Some (private_of y (input_at inputs i)) → y.number ≡ suc i
     → IsTurned m.program (clock m) t k k' y z (input_at inputs i)
@@ -147,7 +147,7 @@ mapped_get f [] i x e = absurd (none_some x e)
 mapped_get {Y = Y} f (z ∷ xs) zero x e = ap (λ y. Some (f y)) (some_is z x e)
 mapped_get f (z ∷ xs) (suc i) x e = mapped_get f xs i x e
 
--- What stands at an index once the private turns are made.
+-- The item at an index once the private turns are made.
 pub turned_at : (g : Setting) (t rounds i : ℕ) (xs : List Private) (k : Kernel) (x y : Private) → slice_get xs i ≡ Some x
     → private_of y (input_at g.inputs.items i)
     ≡ turned (view.program g.program) t (moment_of g.tick.rounds rounds) (private_of x (input_at g.inputs.items i))
@@ -253,7 +253,7 @@ same_start g t rounds xs k k1 ys k' e f made =
     subst (λ (m : Machine). TurnsMade t (with_turned t m) g.inputs.items (length ys) ys k')
     (same_machine (machine_with g rounds xs k1) (machine_with g rounds xs k) refl refl e refl f refl) made
 
--- A round made after other room was.
+-- A round made after more room was reserved.
 pub one_round_made : (g : Setting) (t rounds : ℕ) (xs : List Private) (k : Kernel) (ys : List Private) (k1 : Kernel) (zs : List Private) (k2 : Kernel)
     (ws : List Private) (k' : Kernel)
     → AreSame xs k ys k1 → length zs ≡ length ys → TurnsTaken g t rounds ys k1 zs k2 → RoundEnds g zs k2 ws k'

@@ -1,4 +1,4 @@
--- What a clause says of an answer whose kind is known.
+-- What a clause says of a result whose kind is known.
 use Rattle.std.specs.Prelude.{◌≡◌, true, false}
 use Rattle.std.proofs.Common.{arith, Result, Ok, Err, IfErr, IfOk}
 use Rattle.std.specs.Result.{is_err}

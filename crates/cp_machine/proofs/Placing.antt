@@ -25,15 +25,15 @@ pub got_same : {X : Type 0} (xs : List X) (i k : ℕ) (y : X) → k ≢ i → sl
 got_same xs i k y ne = set_apart xs i k y ne
 
 module _ {X : Type 0} (w : Wave) (all : List (ℕ × X)) where
-  -- what is left to be placed is of all results
+  -- everything left to be placed is one of the results
   abbrev pub Inside : List (ℕ × X) → Type 0
   Inside rs = (m : ℕ) (r : ℕ × X) → slice_get rs m ≡ Some r → (w.first ≤ r.0) × (r.0 < w.end) × ((n : ℕ) × (slice_get all n ≡ Some r))
 
-  -- what stands in a place is a result of its index
+  -- the item in a place is a result of its index
   abbrev pub Right : List (Option X) → Type 0
   Right places = (j : ℕ) (x : X) → slice_get places j ≡ Some (Some x) → (n : ℕ) × (slice_get all n ≡ Some (w.first + j, x))
 
-  -- each place is filled, or its result is left
+  -- each place is filled, or its result is left to be placed
   abbrev pub Todo : List (Option X) → List (ℕ × X) → Type 0
   Todo places rs = (i : ℕ) → w.first ≤ i → i < w.end → ((x : X) × (slice_get places (i - w.first) ≡ Some (Some x))) ⊎ HasResult rs i
 

@@ -26,7 +26,7 @@ module _ {X : Type 0} where
       let e : length (z ∷ xs) + i ≡ suc (length xs + i) = Prim.omega arith in
       ap (λ (n : ℕ). slice_get (z ∷ (xs ++ ys)) n) e ∙ got_right xs ys i
 
-  -- what holds of each of two lists, holds of each of both together
+  -- what holds of each item of two lists holds of each item of both together
   each_of_both : (P : X → Type 0) (xs ys : List X) → ((i : ℕ) (x : X) → slice_get xs i ≡ Some x → P x) → ((i : ℕ) (y : X) → slice_get ys i ≡ Some y → P y)
       → (i : ℕ) (z : X) → slice_get (xs ++ ys) i ≡ Some z → P z
   each_of_both P [] ys f g i z e = g i z e
@@ -46,7 +46,7 @@ module _ {X : Type 0} (f : ℕ → X → Type 0) (w : Wave) where
   pub results_more : (rs : List (ℕ × X)) (r : ℕ × X) → AreResults f w rs → IsResult f w r → AreResults f w (rs ++ r ∷ [])
   results_more rs r was is = each_more (λ _ z. IsResult f w z) rs r was is
 
-  -- the processes of a chunk, where they have all been seen to
+  -- the processes of a chunk, once all have been worked on
   pub of_chunk : (k from j : ℕ) → 0 < w.chunk → from ≡ k * w.chunk → j / w.chunk ≡ k → (from ≤ j) × (j < from + w.chunk)
   of_chunk k from j some is of =
       let le = div-mul-le_self j w.chunk in
@@ -88,7 +88,7 @@ module _ {X : Type 0} (f : ℕ → X → Type 0) (w : Wave) where
       no_item : (k : ℕ) → Contains [] k → ⊥
       no_item k c = let below = c.1 in omega arith
 
-  -- What a worker answers, where it answers Ok.
+  -- What a worker returns if it returns `Ok`.
   abbrev pub Works : {V : Type 0} → (V → List (ℕ × X)) → List ℕ → View → V → Type 0
   Works items before after rs = IsDone after × IsWork f w before after.draws (items rs)
 
@@ -108,7 +108,7 @@ module _ {X : Type 0} (f : ℕ → X → Type 0) (w : Wave) where
   gathers items before none mine theirs all (Ok a) (Err x) (Ok r) is draws done h k e = absurd e.2
   gathers items before none mine theirs all a b (Err x) is draws done h k e = tt
 
-  -- Where every chunk was drawn, the results are those of the whole wave.
+  -- If every chunk was drawn, the results are those of the whole wave.
   whole : (n : ℕ) (before after : List ℕ) (rs : List (ℕ × X)) → before ≡ [] → ((j : ℕ) → j < w.end - w.first → j / w.chunk < n) → d.IsWhole n after
       → IsWork f w before after rs → IsWholeWave f w rs
   whole n before after rs none chunks drawn was = record {

@@ -1,4 +1,4 @@
--- Room for fewer, and numbers of private states that change one by one.
+-- Room for fewer askers, and the numbers of private states that change one by one.
 use Rattle.std.specs.Prelude.{◌≡◌, ◌≢◌, ◌≤◌, ◌-◌, refl, ℕ, zero, suc, List, [], ◌∷◌, ◌++◌, Some, length, map, slice_get, slice_set}
 use Rattle.std.proofs.Common.{sym, ap, ◌∙◌, arith, ⊎_elim}
 use Rattle.cp_gates.specs.KernelOf.{Bytes, HasRoomForAskers, kernel_of, transcripts_of}

@@ -1,5 +1,5 @@
--- Rounds of the machine as plain data: its private turns are one map over the parts, and the kernel turn of a process touches the kernel and
--- its own part alone.
+-- Rounds of the machine as plain data: the private turns of a round are one map over the parts, and
+-- the kernel turn of a process touches only the kernel and the process's own part.
 use Rattle.std.specs.Prelude.{◌≡◌, ◌≢◌, ◌≤◌, ◌<◌, refl, ℕ, zero, suc, ◌+◌, ◌-◌, ◌%◌, Bool, true, false, if◌then◌else◌, List, [], ◌∷◌, ◌++◌, length, map, nat_eq, Option, Some, None, slice_get, slice_set}
 use Rattle.std.proofs.Common.{sym, ◌∙◌, ap, subst, arith}
 use Rattle.cp_model.specs.States.{numbers_from}

@@ -39,7 +39,7 @@ module _ (g : Setting) (t : ℕ) (w : Moment) (xs : List Private) (k : Kernel) w
         asking = subst (λ (n : ℕ). HasRoomForAskers k n) none asking;
       }
 
-  -- The kernel turns of all that ys has.
+  -- The kernel turns of all processes in ys.
   pub turns_made : (from : ℕ) (ys zs : List Private) (k1 k2 : Kernel) → WavesMade g t w xs k from ys k1
       → MakesTurns g t w from ys zs k1 k2
       → ((rounds : ℕ) → w ≡ moment_of g.tick.rounds rounds → TurnsTaken g t rounds xs k zs k2)
@@ -47,7 +47,8 @@ module _ (g : Setting) (t : ℕ) (w : Moment) (xs : List Private) (k : Kernel) w
       subst (λ (n : ℕ). TurnsMade t (with_turned t (machine_with g rounds xs k)) g.inputs.items n zs k2) (sym turns.count)
       (turns.turns (with_turned t (machine_with g rounds xs k)) refl time (was.made rounds time))
 
-  -- The kernel turns of all that ys has, the private turns of a wave more, and room for their kernel turns.
+  -- The kernel turns of all processes in ys, the private turns of one more wave, and room for their
+  -- kernel turns.
   pub wave_made : (v : Wave) (from : ℕ) (ys zs next : List Private) (rs : List (ℕ × Private)) (k1 k2 k3 : Kernel) → length zs ≡ v.first → v.end ≤ length xs
       → AreNumbered xs → WavesMade g t w xs k from ys k1 → MakesTurns g t w from ys zs k1 k2
       → AreResults (AfterPrivateTurn g t w xs) v rs → Appends v rs zs next

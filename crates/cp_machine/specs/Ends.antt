@@ -1,4 +1,4 @@
--- What the end of a round makes of private states and of the kernel.
+-- What the end of a round makes of the private states and the kernel.
 use Rattle.std.specs.Prelude.{◌≡◌, ℕ, List, length, map}
 use Rattle.cp_gates.specs.KernelOf.{kernel_of, transcripts_of}
 use Rattle.cp_gates.specs.Turns.{parts_of}

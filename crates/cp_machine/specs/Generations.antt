@@ -1,4 +1,4 @@
--- Kernel turns of a wave, beside the private turns of the next one.
+-- Kernel turns of a wave, made beside the private turns of the next one.
 use Rattle.std.specs.Prelude.{◌≡◌, ◌≤◌, ◌+◌, ◌-◌, ◌*◌, ℕ, suc, List, Some, length, slice_get, vec_len}
 use Rattle.cp_gates.specs.KernelOf.{HasRoomForAskers, HasRoomForBytes}
 use Rattle.cp_gates.specs.declared.kernel.Kernel.{Kernel}
@@ -13,12 +13,13 @@ use Rattle.cp_machine.specs.Turned.{moment_of, with_turned}
 use Rattle.cp_machine.specs.declared.moment.Moment.{Moment}
 use Rattle.cp_machine.specs.declared.setting.Setting.{Setting}
 
--- There is room for the kernel turn of a process at an index: for what it writes, in its private state and in its transcript.
+-- There is room for the kernel turn of the process at index i: for what it writes, in its private
+-- state and in its transcript.
 pub record HasRoomAt (t i : ℕ) (x : Private) (k : Kernel) : Type 0 where
   pub output : HasRoomFor x t
   pub transcript : HasRoomForBytes k (suc i) (vec_len x.output + 11 * t)
 
--- The kernel turns of the processes from an index on can be made.
+-- The kernel turns of the processes from index `from` on can be made.
 pub record IsReadyFrom (t from : ℕ) (xs : List Private) (k : Kernel) : Type 0 where
   pub bound : from ≤ length xs
   pub numbers : AreNumbered xs
@@ -26,7 +27,8 @@ pub record IsReadyFrom (t from : ℕ) (xs : List Private) (k : Kernel) : Type 0 
   pub asking : HasRoomForAskers k (length xs - from)
   pub room : (i : ℕ) (x : Private) → from ≤ i → slice_get xs i ≡ Some x → HasRoomAt t i x k
 
--- The kernel turns of the processes from an index up to the end of a list of private states, at this time.
+-- The kernel turns of the processes from index `from` to the end of the list xs are made, at this
+-- time.
 pub record MakesTurns (g : Setting) (t : ℕ) (w : Moment) (from : ℕ) (xs ys : List Private) (k k' : Kernel) : Type 0 where
   pub turns : (m : Machine) → m.program ≡ view.program g.program → w ≡ moment_of m.tick m.rounds
       → TurnsMade t m g.inputs.items from xs k → TurnsMade t m g.inputs.items (length xs) ys k'
@@ -35,13 +37,13 @@ pub record MakesTurns (g : Setting) (t : ℕ) (w : Moment) (from : ℕ) (xs ys :
   pub stages : length k'.stages.items ≡ length k.stages.items
   pub asking : (n : ℕ) → HasRoomForAskers k (n + (length xs - from)) → HasRoomForAskers k' n
 
--- The private turns of all processes of xs are made at this time.
+-- The private turns of all processes of xs are made, at this time.
 pub record AreTurned (g : Setting) (t : ℕ) (w : Moment) (xs ys : List Private) : Type 0 where
   pub count : length ys ≡ length xs
   pub each : (i : ℕ) (y : Private) → slice_get ys i ≡ Some y → AfterPrivateTurn g t w xs i y
 
--- From xs and k, in the round at this time, the private turns of as many processes as ys has are made, and the kernel turns of those below
--- an index. All others can be made.
+-- In the round at this time that starts from xs and k, the private turns of as many processes as ys
+-- has are made, and the kernel turns of those below index `from`. All other turns can be made.
 pub record WavesMade (g : Setting) (t : ℕ) (w : Moment) (xs : List Private) (k : Kernel) (from : ℕ) (ys : List Private) (k' : Kernel) : Type 0 where
   pub made : (rounds : ℕ) → w ≡ moment_of g.tick.rounds rounds
       → TurnsMade t (with_turned t (machine_with g rounds xs k)) g.inputs.items from ys k'

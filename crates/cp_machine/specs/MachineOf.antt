@@ -12,7 +12,7 @@ abbrev pub bytes_or_none : Option Bytes → List ℕ
 bytes_or_none None = []
 bytes_or_none (Some v) = v.items
 
--- The input at an index. Process 1 has that at 0.
+-- The input at an index. The input of process 1 is at index 0.
 abbrev pub input_at : List Bytes → ℕ → List ℕ
 input_at inputs i = bytes_or_none (slice_get inputs i)
 
@@ -20,7 +20,7 @@ input_at inputs i = bytes_or_none (slice_get inputs i)
 abbrev pub input_of : List Bytes → ℕ → List ℕ
 input_of inputs p = input_at inputs (p - 1)
 
--- The machine of this setting after so many rounds, with these private states by number, from 1.
+-- The machine with this setting after `rounds` rounds, with these private states by number, from 1.
 abbrev pub machine_with : Setting → ℕ → List Private → Kernel → plain.Machine
 machine_with g rounds xs k = record {
   program = view.program g.program;

@@ -2,6 +2,6 @@
 use Rattle.std.specs.Prelude.{◌≡◌, ℕ, suc, List, Some, slice_get}
 use Rattle.cp_process.specs.declared.private.Private.{Private}
 
--- Private states stand by number, and process 1 comes first.
+-- The private states are in order of number, and process 1 comes first.
 abbrev pub AreNumbered : List Private → Type 0
 AreNumbered xs = (i : ℕ) (x : Private) → slice_get xs i ≡ Some x → x.number ≡ suc i

@@ -9,14 +9,14 @@ IsTurn n = (1 ≤ n) × (n ≤ 10000)
 abbrev pub AreWorkers : ℕ → Type 0
 AreWorkers n = (1 ≤ n) × (n ≤ 64)
 
--- A chunk, or a wave.
+-- The number of processes in a chunk or a wave.
 abbrev pub ArePart : ℕ → Type 0
 ArePart n = (1 ≤ n) × (n ≤ 255)
 
 abbrev pub AreInRange : ℕ → ℕ → ℕ → ℕ → Type 0
 AreInRange turn workers chunk wave = IsTurn turn × AreWorkers workers × ArePart chunk × ArePart wave
 
--- The field is out of range, and none before it.
+-- The field is out of range, and no field before it is.
 abbrev pub IsFirstOut : ℕ → ℕ → ℕ → ℕ → OutOfRange → Type 0
 IsFirstOut turn workers chunk wave field.Turn = IsTurn turn → ⊥
 IsFirstOut turn workers chunk wave field.Workers = IsTurn turn × (AreWorkers workers → ⊥)

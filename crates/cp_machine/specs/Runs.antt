@@ -1,4 +1,4 @@
--- Rounds of a run, as far as they change the private states and the kernel.
+-- The rounds of a run, as far as they change the private states and the kernel.
 use Rattle.std.specs.Prelude.{◌≡◌, ◌+◌, ℕ, List, Option, None, Some, length, slice_get}
 use Rattle.std.specs.Sync.OnceLock.{Named}
 use Rattle.cp_gates.specs.KernelOf.{kernel_of, transcripts_of}
@@ -18,12 +18,12 @@ use Rattle.cp_machine.specs.declared.setting.Setting.{Setting}
 
 -- ---- Room
 
--- A private state with other room.
+-- The private states differ at most in their room.
 pub record IsSame (x y : Private) : Type 0 where
   pub content : (input : List ℕ) → private_of y input ≡ private_of x input
   pub number : y.number ≡ x.number
 
--- Private states and a kernel with other room.
+-- The private states and the kernels differ at most in their room.
 pub record AreSame (xs : List Private) (k : Kernel) (ys : List Private) (k' : Kernel) : Type 0 where
   pub parts : (inputs : ℕ → List ℕ) → parts_of inputs 1 ys ≡ parts_of inputs 1 xs
   pub kernel : kernel_of k' ≡ kernel_of k
@@ -33,11 +33,12 @@ pub record AreSame (xs : List Private) (k : Kernel) (ys : List Private) (k' : Ke
 
 -- ---- Rounds
 
--- In the round after so many, the processes of ys have made both turns. xs and k are those of the round's start.
+-- In the round after the first `rounds` rounds, the processes of ys have made both turns. xs and k
+-- are those at the start of the round.
 abbrev pub TurnsTaken : Setting → ℕ → ℕ → List Private → Kernel → List Private → Kernel → Type 0
 TurnsTaken g t rounds xs k ys k' = TurnsMade t (with_turned t (machine_with g rounds xs k)) g.inputs.items (length ys) ys k'
 
--- After so many rounds, n more are made.
+-- n more rounds are made after the first `rounds` rounds.
 abbrev pub RoundsMade : Setting → ℕ → ℕ → ℕ → List Private → Kernel → List Private → Kernel → Type 0
 RoundsMade g t rounds n xs k ys k' =
     machine_with g (rounds + n) ys k' ≡ phased_rounds t (numbers_from 1 (length xs)) n (machine_with g rounds xs k)
@@ -52,10 +53,10 @@ abbrev pub name_of : Option Named → ℕ
 name_of None = 0
 name_of (Some c) = c.id
 
--- The cell of each round has the name that the run picks for it.
+-- The cell of each round has the name that the run chooses for it.
 abbrev pub AreNamed : (ℕ → ℕ) → List Named → Type 0
 AreNamed cell cells = (i : ℕ) → cell i ≡ name_of (slice_get cells i)
 
--- The times of the rounds after so many.
+-- The times of the rounds after the first `rounds` rounds.
 abbrev pub AreTimes : (ℕ → Moment) → Setting → ℕ → Type 0
 AreTimes moment g rounds = (i : ℕ) → moment i ≡ moment_of g.tick.rounds (rounds + i)

@@ -8,7 +8,7 @@ use Rattle.cp_process.specs.States.{private_of}
 use Rattle.cp_process.specs.declared.private.Private.{Private}
 use Rattle.cp_steps.specs.Machines.{first_machine, first_part}
 
--- Each private state is that of its process.
+-- Each private state is the first one of its process.
 abbrev pub AreFirst : Program → List Private → Type 0
 AreFirst program xs =
     (i : ℕ) (x : Private) (row : code.Process) → slice_get xs i ≡ Some x → slice_get program.processes i ≡ Some row

@@ -1,4 +1,4 @@
--- What a private state comes of, while its private turn is made by any thread.
+-- What a private state comes from, while any thread may make its private turn.
 use Rattle.std.specs.Prelude.{◌≡◌, ◌≤◌, ◌+◌, ◌*◌, ℕ, Bool, true, false, List, Some, slice_get, vec_len, vec_capacity}
 use Rattle.cp_process.specs.States.{private_of}
 use Rattle.cp_process.specs.declared.private.Private.{Private}
@@ -9,40 +9,42 @@ use Rattle.cp_machine.specs.Turned as plain
 use Rattle.cp_machine.specs.declared.moment.Moment.{Moment}
 use Rattle.cp_machine.specs.declared.setting.Setting.{Setting}
 
--- What a private state holds once its turn is made, and before.
+-- The content of a private state after its turn is made, and before.
 abbrev pub after_turn : (PrivateState → PrivateState) → Bool → PrivateState → PrivateState
 after_turn turned true o = turned o
 after_turn turned false o = o
 
--- How many bytes a private turn of so many has written, once it is made.
+-- How many bytes a private turn has written at most, if a turn writes at most `most` bytes.
 abbrev pub written : ℕ → Bool → ℕ
 written most true = most
 written most false = 0
 
--- How many bytes are still to be written in a round of two turns of so many each, the private and then the kernel turn.
+-- How many bytes a process may still write in a round of two turns, the private turn and then the
+-- kernel turn, of at most `most` bytes each.
 abbrev pub unwritten : ℕ → Bool → ℕ
 unwritten most true = most
 unwritten most false = most + most
 
--- y holds what comes of the private state at an index.
+-- y holds what comes from the private state at index i.
 abbrev pub ComesOf : (PrivateState → PrivateState) → List ℕ → List Private → ℕ → Bool → Private → Type 0
 ComesOf turned input xs i made y =
     (x : Private) → slice_get xs i ≡ Some x → private_of y input ≡ after_turn turned made (private_of x input)
 
--- It has written so many bytes at most.
+-- Its turn has written at most `most` bytes.
 abbrev pub IsShort : ℕ → List Private → ℕ → Bool → Private → Type 0
 IsShort most xs i made y = (x : Private) → slice_get xs i ≡ Some x → vec_len y.output ≤ vec_len x.output + written most made
 
--- There is room for what it still writes.
+-- There is room for all that it may still write.
 abbrev pub HasRoomLeft : ℕ → Bool → Private → Type 0
 HasRoomLeft most made y = vec_len y.output + unwritten most made ≤ vec_capacity y.output
 
--- `turned` is the turn of so many steps in this setting, which writes so many bytes at most, and `input` the input at each index.
+-- `turned` is the turn of t steps in this setting, which writes at most `most` bytes, and `input`
+-- is the input at each index.
 pub record IsCourseOf (turned : Moment → PrivateState → PrivateState) (input : ℕ → List ℕ) (most : ℕ) (g : Setting) (t : ℕ) : Type 0 where
   pub steps : (w : Moment) (o : PrivateState) → turned w o ≡ plain.turned (view.program g.program) t w o
   pub inputs : (i : ℕ) → input i ≡ input_at g.inputs.items i
   pub bytes : most ≡ 11 * t
 
--- In each private state there is room for what a round writes.
+-- Each private state has room for what a round writes.
 abbrev pub AllFree : ℕ → List Private → Type 0
 AllFree most xs = (i : ℕ) (x : Private) → slice_get xs i ≡ Some x → HasRoomLeft most false x

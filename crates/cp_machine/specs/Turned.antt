@@ -6,7 +6,7 @@ use Rattle.cp_steps.specs.PrivateStates.{PrivateState}
 use Rattle.cp_steps.specs.Steps.{private_steps}
 use Rattle.cp_machine.specs.declared.moment.Moment.{Moment}
 
--- The time of the round after so many.
+-- The time of the round after the first `rounds` rounds.
 abbrev pub moment_of : ℕ → ℕ → Moment
 moment_of tick rounds = record { clock = suc rounds / tick; wakes = nat_eq (suc rounds % tick) 0 }
 
@@ -17,6 +17,6 @@ woken wakes o = if wakes then wake_one o else o
 abbrev pub turned : Program → ℕ → Moment → PrivateState → PrivateState
 turned program t w o = private_steps program w.clock t (woken w.wakes o)
 
--- All private turns of a round are made.
+-- The machine after all private turns of a round.
 abbrev pub with_turned : ℕ → Machine → Machine
 with_turned t m = record m { parts = map (turned m.program t (moment_of m.tick m.rounds)) m.parts }

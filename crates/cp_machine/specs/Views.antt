@@ -12,17 +12,17 @@ machine_of m = machine_with m.setting m.rounds m.parts.privates.items m.parts.ke
 abbrev pub processes_of : Machine → ℕ
 processes_of m = length m.parts.privates.items
 
--- The machine after so many rounds more, of turns of at most t steps.
+-- The machine after n more rounds with turns of at most t steps.
 pub record IsAfter (t n : ℕ) (before after : Machine) : Type 0 where
   pub made : machine_of after ≡ plain.phased_rounds t (numbers_from 1 (processes_of before)) n (machine_of before)
   pub processes : processes_of after ≡ processes_of before
   pub rounds : after.rounds ≡ before.rounds + n
 
--- ---- What is read of a process. One that isn't there has no words, and wrote nothing.
+-- ---- What is read of a process. A missing process has no words and has written nothing.
 
 abbrev pub words_of : plain.Machine → ℕ → List ℤ
 words_of m p = elim (slice_get m.parts (p - 1)) [ None ↦ [] | Some o ↦ o.words ]
 
--- The output that isn't yet in its transcript.
+-- The output that isn't in its transcript yet.
 abbrev pub output_of : plain.Machine → ℕ → List ℕ
 output_of m p = elim (slice_get m.parts (p - 1)) [ None ↦ [] | Some o ↦ o.output ]

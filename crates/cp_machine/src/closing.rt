@@ -7,7 +7,7 @@ use cp_gates::closing::end_round;
 use cp_gates::kernel::Kernel;
 use cp_process::private::Private;
 
-/// Those begin that were started in the round.
+/// Ends a round: the processes that were started in it begin.
 pub(crate) fn close_round(setting: &Setting, privates: &mut Vec<Private>, kernel: &mut Kernel)
     ensures { RoundEnds setting.now privates.old.items kernel.old privates.new.items kernel.new }
 {

@@ -1,4 +1,5 @@
-//! What the threads of a run share: a place for the turn of each process, and how far the places are open and drawn.
+//! What the threads of a run share: a place for each process's turn, and how far the places are
+//! open and drawn.
 
 ghost use Rattle.std.specs.Prelude.{◌≡◌, ◌<◌, ◌≤◌, ◌-◌, IfOk, length, true, vec_capacity};
 ghost use Rattle.cp_machine.specs.Numbers.{AreNumbered};
@@ -15,13 +16,14 @@ use std::hint;
 use std::sync::atomic::{AtomicU64, Ordering};
 use std::sync::{Mutex, OnceToken, Wait};
 
-// How often a thread looks for places before it sleeps.
+// How many times a thread looks for places before it sleeps.
 const LOOKS: u32 = 2_000;
 
-// All places are open, and none are left to draw: the end.
+// The end: all places are open, and none is left to draw.
 const END: u64 = u64::MAX;
 
-/// The tasks of a round by process, and how far the places are open and drawn: they are counted on from round to round.
+/// The tasks of a round by process, and the numbers of the places that are open and drawn. These
+/// numbers go on counting from round to round.
 #[derive(Drop)]
 pub struct Desk<'a, C: Course> {
     tasks: Vec<Mutex<Option<Task<'a, C>>>>,
@@ -35,17 +37,17 @@ pub struct Desk<'a, C: Course> {
 #[derive(Clone, Copy)]
 enum Draw {
     Places { from: u64, to: u64 },
-    // No place is open beyond these.
+    // No place from `open` on is open.
     Nothing { open: u64 },
     End,
 }
 
 impl<'a, C: Course> Desk<'a, C> {
-    /// A desk for so many processes, where no place is open.
+    /// Returns a desk for `processes` processes, with no place open.
     ///
     /// # Errors
     ///
-    /// `AllocError` where memory runs out.
+    /// `AllocError` if memory runs out.
     pub fn new(alloc: Global, processes: usize) -> Result<Desk<'a, C>, AllocError>
         ensures { IfOk result (λ desk. length desk.tasks.items ≡ processes) }
     {
@@ -62,21 +64,21 @@ impl<'a, C: Course> Desk<'a, C> {
         })
     }
 
-    /// How many processes it is for.
+    /// Returns the number of processes that the desk is for.
     pub fn processes(&self) -> usize
         ensures { result ≡ length self.now.tasks.items }
     {
         self.tasks.len()
     }
 
-    /// Opens the places of the processes of a round whose indices are below `end`.
+    /// Opens the places of a round's processes whose indices are below `end`.
     pub fn open(&self, round: usize, end: usize) {
         let processes = self.tasks.len();
         let before = (round as u64).saturating_mul(processes as u64);
         self.open_below(before.saturating_add(end.min(processes) as u64));
     }
 
-    // Opens the places below a number, and wakes who sleeps.
+    // Opens the places below `below`, and wakes the threads that sleep.
     fn open_below(&self, below: u64) {
         if self.open.swap(below, Ordering::SeqCst) == below {
             return;
@@ -86,20 +88,21 @@ impl<'a, C: Course> Desk<'a, C> {
         }
     }
 
-    /// So many threads are to serve from now on; those with higher numbers sleep.
+    /// From now on, the threads with numbers up to `threads` serve, and those with higher numbers
+    /// sleep.
     pub fn want(&self, threads: u64) {
         if self.wanted.swap(threads, Ordering::SeqCst) != threads {
             self.wanted.wake_all();
         }
     }
 
-    /// Sends all threads home that serve at the desk.
+    /// Makes all threads that serve at the desk return.
     pub fn close(&self) {
         self.open_below(END);
         self.want(END);
     }
 
-    // Draws at most so many of the open places.
+    // Draws at most `most` of the open places.
     fn draw<R: Wait>(&self, rt: &R, most: u64) -> Draw {
         for _ in rt.forever() {
             let from = self.drawn.load(Ordering::SeqCst);
@@ -122,7 +125,7 @@ impl<'a, C: Course> Desk<'a, C> {
         Draw::End
     }
 
-    // Makes the turns at these places.
+    // Makes the turns at the places from `from` to `to`.
     fn make_turns<R: Wait, G: TurnGate>(
         &self,
         rt: &R,
@@ -140,7 +143,8 @@ impl<'a, C: Course> Desk<'a, C> {
         }
         for place in from..to {
             let mut shared = self.tasks[(place % processes as u64) as usize].lock(rt);
-            // Turned apart from its neighbours, so that threads don't write to one cache line.
+            // The turn is made on a task taken out of its place, so that threads don't write to the
+            // same cache line.
             if let Some(mut task) = shared.take() {
                 task.make(setting, turn, gate);
                 *shared = Some(task);
@@ -167,7 +171,7 @@ impl<'a, C: Course> Desk<'a, C> {
         }
     }
 
-    /// Makes turns until the desk is closed, whenever so many threads are wanted as its number says.
+    /// Makes turns until the desk is closed, whenever at least `number` threads are wanted.
     pub fn serve<R: Wait, G: TurnGate>(
         &self,
         rt: &R,
@@ -200,7 +204,7 @@ impl<'a, C: Course> Desk<'a, C> {
         }
     }
 
-    // Waits for more places: for a moment, or asleep once it has looked often enough.
+    // Waits for more places: spins for a moment, or sleeps once it has looked `LOOKS` times.
     fn rest<R: Wait>(&self, rt: &R, open: u64, looks: u32) {
         if looks < LOOKS {
             hint::spin_loop();
@@ -246,7 +250,8 @@ impl<'a, C: Course> Desk<'a, C> {
         }
     }
 
-    /// The private state of a process after its turn in a round: waits for it, or makes the turn.
+    /// Returns the private state of a process after its turn in a round. Waits for the turn, or
+    /// makes it.
     pub fn take<R: Wait, G: TurnGate>(
         &self,
         rt: &R,

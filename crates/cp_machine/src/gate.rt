@@ -1,12 +1,13 @@
-//! Gates of turns, which are called just before each turn.
+//! Turn gates, which are called just before each turn.
 
-/// Is called before each turn, with the number of its process, from 1.
+/// Called before each turn with the number of its process, from 1.
 pub trait TurnGate: Sync {
-    /// It is called once for each process in each round, just before its private turn, also where that turn has no step.
+    /// Called once for each process in each round, just before its private turn, even if that turn
+    /// has no step.
     fn begin(&self, p: usize);
 
-    /// It is called by the calling thread once for each process in each round, just before its kernel turn, also where that turn has
-    /// no step.
+    /// Called by the calling thread once for each process in each round, just before its kernel
+    /// turn, even if that turn has no step.
     fn kernel(&self, _p: usize) {}
 }
 

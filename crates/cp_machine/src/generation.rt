@@ -1,4 +1,5 @@
-//! The next generation of a round, as far as it is made: kernel turns follow the private turns.
+//! The next generation of a round, as far as it has been made. The kernel turns follow the private
+//! turns.
 
 ghost use Rattle.std.specs.Prelude.{◌≡◌, ◌≤◌, length};
 ghost use Rattle.cp_machine.specs.Generations.{IsReadyFrom, MakesTurns};
@@ -12,7 +13,8 @@ use cp_gates::turns::kernel_turn;
 use cp_process::private::Private;
 use cp_process::turn::Turn;
 
-/// The private states of the first processes after their private turns, and the kernel, after the kernel turns of those below an index.
+/// The private states of the first processes after their private turns, and the kernel after the
+/// kernel turns of the processes below index `from`.
 #[derive(Drop)]
 pub struct Generation<'a> {
     pub(crate) setting: &'a Setting,
@@ -47,7 +49,7 @@ impl<'a> Aside for Generation<'a> {
     }
 }
 
-/// Makes the kernel turns of the processes from an index on.
+/// Makes the kernel turns of the processes from index `from` on.
 pub fn kernel_turns<G: TurnGate>(
     setting: &Setting,
     kernel: Kernel,

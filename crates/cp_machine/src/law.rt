@@ -1,4 +1,4 @@
-//! A law as a fact: a caller has it by the call.
+//! A law as a fact: a caller learns it by calling the function.
 
 ghost use denote.Param.Send.{IsSync};
 ghost use Rattle.cp_machine.specs.contracts.setting.Setting as setting;

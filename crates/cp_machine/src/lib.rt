@@ -1,16 +1,20 @@
-//! The machine of the whole language: rounds and runs by threads, and what is read of it between them.
+//! The machine of the whole language: rounds and runs by threads, and what can be read of the
+//! machine between them.
 //!
-//! A round or a run makes of the machine what the definitions of cp_steps make of it as plain data (`specs/Views.antt` says of what data),
-//! for every plan, by threads in any schedule. By the laws of cp_steps it is then in the state of the meaning that follows
+//! A round or a run makes of the machine what the definitions of cp_steps make of it as plain data,
+//! for every plan and any schedule of the threads (`specs/Views.antt` defines the plain data). By
+//! the laws of cp_steps, the machine is then in the next state of the meaning
 //! (`specs/InStates.antt`).
 //!
 //! - `machine`, `reading`: the public calls. `starting`: how a machine starts.
-//! - `setting`, `parts`, `moment`: what no round changes, what rounds change, and when a round is made.
+//! - `setting`, `parts`, `moment`: what no round changes, what rounds change, and the time of a
+//!   round.
 //! - `plan`, `tick`, `gate`: how rounds are made, and what is called before each turn.
 //! - `turns`, `closing`: private turns, and the end of a round.
-//! - `waves`, `generation`, `whole`, `team`, `worker`, `wave`: one round by threads of its own, which draw chunks from a board and make
-//!   new private states.
-//! - `run`, `round`, `desk`, `task`: many rounds by threads that are kept, which make turns in place.
+//! - `waves`, `generation`, `whole`, `team`, `worker`, `wave`: one round by threads of its own,
+//!   which draw chunks from a board and make new private states.
+//! - `run`, `round`, `desk`, `task`: many rounds by threads that are kept, which make turns in
+//!   place.
 #![tactic(auto)]
 
 mod closing;

@@ -1,4 +1,5 @@
-//! The machine: a program, the private states of its processes, the kernel, and the count of rounds.
+//! The machine: a program, the private states of its processes, the kernel, and the number of
+//! rounds made.
 
 ghost use Rattle.std.specs.Prelude.{◌≡◌, ◌<◌, ◌≤◌, ◌+◌, ◌-◌, ◌^◌, length, IfErr, IfOk};
 ghost use Rattle.cp_model.specs.States.{numbers_from};
@@ -24,30 +25,31 @@ use std::mem;
 use std::sync::Wait;
 use std::thread::Threads;
 
-// So many rounds share their threads: each round takes a cell.
+// How many rounds share their threads. Each of these rounds takes a cell.
 const ROUNDS_AT_ONCE: u32 = 4_096;
 
-/// A machine. `reading` has the calls that read it.
+/// A machine. The module `reading` has the calls that read it.
 #[derive(Drop)]
 pub struct Machine {
-    /// Where rounds take their memory.
+    /// The allocator from which rounds take their memory.
     pub(crate) alloc: Global,
     pub(crate) setting: Setting,
     pub(crate) parts: Parts,
-    /// How many rounds were made.
+    /// The number of rounds made so far.
     pub(crate) rounds: u64,
 }
 
-/// Memory ran out in this round of a run, counted from 1. The rounds before it were made, and nothing of it.
+/// The round of a run, counted from 1, in which memory ran out or a thread could not be started.
+/// The rounds before it were made, and nothing of this one.
 #[derive(Clone, Copy, Debug, PartialEq, Eq)]
 pub struct MemoryAt(pub u32);
 
 impl Machine {
-    /// The machine at the start, with an input for each process by number.
+    /// Returns the machine at its start, with an input for each process by number.
     ///
     /// # Errors
     ///
-    /// `AllocError` where memory runs out, or where a process or the monitors have 2^30 words.
+    /// `AllocError` if memory runs out, or if a process or the monitors have 2^30 words or more.
     pub fn new(
         alloc: Global,
         program: Program,
@@ -74,13 +76,15 @@ impl Machine {
         })
     }
 
-    /// One round. Workers make the private turns, wave by wave; the calling thread makes the kernel turns of a wave beside the private
-    /// turns of the next, by number, and is one of the workers between. Then those begin that were started in the round. The gate is
-    /// called before each turn.
+    /// Makes one round. Workers make the private turns, wave by wave. The calling thread is one of
+    /// them, but it first makes the kernel turns of the wave before, in order of process number,
+    /// while the others work. At the end, the processes that were started in the round begin. The
+    /// gate is called before each turn.
     ///
     /// # Errors
     ///
-    /// `AllocError` where memory runs out or a thread could not be started. The machine is then as it was.
+    /// `AllocError` if memory runs out or a thread could not be started. The machine is then as it
+    /// was.
     pub fn round<R: Threads + Wait + Sync, G: TurnGate>(
         &mut self,
         rt: &R,
@@ -114,7 +118,7 @@ impl Machine {
         Ok(())
     }
 
-    // So many rounds, by threads that are started once. At Err, so many were made.
+    // Makes `rounds` rounds, by threads that are started once. `Err` has the number of rounds made.
     fn make_rounds<R: Threads + Wait + Sync, G: TurnGate>(
         &mut self,
         rt: &R,
@@ -153,11 +157,11 @@ impl Machine {
         }
     }
 
-    /// So many rounds.
+    /// Makes `rounds` rounds.
     ///
     /// # Errors
     ///
-    /// `MemoryAt` the first round for which memory ran out or a thread could not be started.
+    /// `MemoryAt` with the first round for which memory ran out or a thread could not be started.
     pub fn run<R: Threads + Wait + Sync, G: TurnGate>(
         &mut self,
         rt: &R,

@@ -1,10 +1,10 @@
-//! When a round is made.
+//! The time at which a round is made.
 
-/// What of the time a round sees.
+/// What a round sees of the time.
 #[derive(Clone, Copy, Debug, PartialEq, Eq)]
 pub struct Moment {
     /// The seconds since the start.
     pub(crate) clock: u64,
-    /// Whether those who wait for the clock go on.
+    /// Whether the processes that wait for the clock go on.
     pub(crate) wakes: bool,
 }

@@ -1,4 +1,4 @@
-//! Plans: how long a turn is, and how a round is cut among workers.
+//! Plans: how long a turn is, and how a round is divided among workers.
 
 ghost use Rattle.std.specs.Prelude.{◌≡◌, ◌<◌, ◌≤◌, ◌-◌, ◌↔◌, IfErr, IfOk, IsOk, IsTrue};
 ghost use Rattle.cp_machine.specs.Plans.{AreInRange, IsFirstOut};
@@ -6,15 +6,16 @@ ghost use Rattle.cp_machine.specs.Plans.{AreInRange, IsFirstOut};
 use crate::wave::Wave;
 use cp_process::turn::Turn;
 
-/// How a round is made: a turn has at most so many steps; so many workers draw chunks of consecutive processes, wave by wave.
+/// How a round is made: a turn has at most `turn` steps, and `workers` workers draw chunks of
+/// consecutive processes, wave by wave.
 #[derive(Clone, Copy, Debug, PartialEq, Eq)]
 pub struct Plan {
     pub turn: Turn,
-    /// 1 to 64.
+    /// From 1 to 64.
     pub workers: u32,
-    /// 1 to 255 processes.
+    /// The processes of a chunk, from 1 to 255.
     pub chunk: u32,
-    /// 1 to 255 processes.
+    /// The processes of a wave, from 1 to 255.
     pub wave: u32,
     ghost workers_in_range: { (1 ≤ workers) × (workers ≤ 64) },
     ghost chunk_in_range: { (1 ≤ chunk) × (chunk ≤ 255) },
@@ -37,11 +38,11 @@ fn is_within(number: u32, most: u32) -> bool
 }
 
 impl Plan {
-    /// The plan of these numbers.
+    /// Returns the plan with these numbers.
     ///
     /// # Errors
     ///
-    /// The first field out of range, in the order turn, workers, chunk, wave.
+    /// The first field that is out of range, in the order turn, workers, chunk, wave.
     pub fn new(turn: u32, workers: u32, chunk: u32, wave: u32) -> Result<Plan, OutOfRange>
         ensures range { IsOk result ↔ AreInRange turn workers chunk wave }
         ensures turn { IfOk result (λ plan. plan.turn.steps ≡ turn) }
@@ -71,7 +72,7 @@ impl Plan {
         })
     }
 
-    /// The wave that begins at an index, of so many processes.
+    /// Returns the wave of `processes` processes that begins at index `first`.
     pub fn wave_from(&self, first: usize, processes: usize) -> Wave
         requires first { first < processes }
         ensures first { result.first ≡ first }
@@ -81,8 +82,9 @@ impl Plan {
         Wave::next(first, processes, self.wave as usize, self.chunk as usize)
     }
 
-    /// How many threads make the rounds of so many processes: no more than there are chunks to draw at once, and the calling thread
-    /// where it makes the kernel turns of a wave beside the next one.
+    /// Returns how many threads make the rounds of `processes` processes: at most one for each
+    /// chunk of a wave, and one more if there are several waves, because the calling thread makes
+    /// the kernel turns of a wave beside the next one.
     pub fn threads(&self, processes: usize) -> usize
         ensures { result ≤ self.now.workers }
     {

@@ -1,6 +1,7 @@
-//! What is read of a machine.
+//! What can be read of a machine.
 //!
-//! Nothing here takes memory or changes the machine. Processes and monitors are numbered from 1; the number 0 is read as 1.
+//! Nothing here takes memory or changes the machine. Processes and monitors are numbered from 1;
+//! the number 0 is read as 1.
 
 ghost use Rattle.std.specs.Prelude.{◌≡◌, ◌-◌, length, option_map, slice_get};
 ghost use Rattle.cp_code.specs.Starts.{word};
@@ -17,21 +18,21 @@ use cp_process::private::Private;
 use cp_threaded::program::Program;
 
 impl Machine {
-    /// The program that it runs.
+    /// Returns the program that the machine runs.
     pub fn program(&self) -> &Program
         ensures { view.program result.now ≡ (machine_of self.now).program }
     {
         &self.setting.program
     }
 
-    /// How many rounds were made.
+    /// Returns the number of rounds made so far.
     pub fn rounds(&self) -> u64
         ensures { result ≡ (machine_of self.now).rounds }
     {
         self.rounds
     }
 
-    /// How many processes there are.
+    /// Returns the number of processes.
     pub fn processes(&self) -> usize
         ensures count { result ≡ processes_of self.now }
         ensures parts { result ≡ length (machine_of self.now).parts }
@@ -39,14 +40,14 @@ impl Machine {
         self.parts.privates.len()
     }
 
-    /// How many monitors there are.
+    /// Returns the number of monitors.
     pub fn monitors(&self) -> usize
         ensures { result ≡ length (machine_of self.now).program.monitors }
     {
         self.setting.program.monitors()
     }
 
-    /// The private state of process p, if there is one.
+    /// Returns the private state of process p, if there is one.
     pub fn private(&self, p: usize) -> Option<&Private>
         ensures { option_map
             (λ x. private_of x.now (input_of self.now.setting.inputs.items p)) result
@@ -58,7 +59,7 @@ impl Machine {
         }
     }
 
-    /// The kernel.
+    /// Returns the kernel.
     pub fn kernel(&self) -> &Kernel
         ensures kernel { kernel_of result.now ≡ (machine_of self.now).kernel }
         ensures transcripts { transcripts_of result.now ≡ (machine_of self.now).transcripts }
@@ -66,8 +67,9 @@ impl Machine {
         &self.parts.kernel
     }
 
-    /// The transcript of process p in two parts: what the kernel has, and the output after it that its private state still holds. That of
-    /// one that isn't there is empty.
+    /// Returns the transcript of process p in two parts: the part that the kernel has, and the
+    /// output after it that the process's private state still holds. If there is no such process,
+    /// both parts are empty.
     pub fn transcript(&self, p: usize) -> (&[u8], &[u8])
         ensures kernel { result.0.now ≡ plain.transcript_of (machine_of self.now).transcripts p }
         ensures output { result.1.now ≡ output_of (machine_of self.now) p }
@@ -79,7 +81,7 @@ impl Machine {
         }
     }
 
-    /// The word at a place of process p. A missing one reads as 0.
+    /// Returns the word at location `at` of process p. A missing word reads as 0.
     pub fn value(&self, p: usize, at: usize) -> i32
         ensures { result ≡ word (words_of (machine_of self.now) p) at }
     {

@@ -1,7 +1,8 @@
 //! A round by threads that draw from a desk.
 //!
-//! Whatever can be refused comes before the first turn of a round: room for all output, and for all who ask. The turns are then made in
-//! place, so a round costs what happens in it, and no state is copied.
+//! Everything that can fail comes before the first turn of a round: reserving room for all output
+//! and for all askers. The turns are then made in place, so the cost of a round is that of what
+//! happens in it, and no state is copied.
 
 ghost use Rattle.std.specs.Prelude.{◌≡◌, ◌≢◌, ◌≤◌, ◌<◌, ◌+◌, ◌-◌, ◌*◌, ◌^◌, ℕ, false, IfErr, IfOk, length, vec_len, vec_capacity};
 ghost use Rattle.cp_gates.specs.KernelOf.{HasRoomForBytes, kernel_of, transcripts_of};
@@ -28,7 +29,7 @@ use std::alloc::AllocError;
 use std::snapshot::Snapshot;
 use std::sync::{OnceLock, OnceToken, Wait};
 
-// Room for what a process writes in a round: in its private state, and in its transcript.
+// Reserves room for what a process writes in a round, in its private state and in its transcript.
 fn reserve_output(
     private: &mut Private,
     kernel: &mut Kernel,
@@ -51,7 +52,8 @@ fn reserve_output(
     Ok(())
 }
 
-// Room for what all processes write in a round, and for as many askers of each gate.
+// Reserves room for what all processes write in a round, and for all of them as askers of each
+// gate.
 fn reserve_room(
     privates: &mut Vec<Private>,
     kernel: &mut Kernel,
@@ -71,7 +73,7 @@ fn reserve_room(
     Ok(())
 }
 
-// Takes the next private state after its turn, and makes its kernel turn.
+// Takes the next private state after its private turn, and makes its kernel turn.
 fn finish_next<'a, C: Course, R: Wait, G: TurnGate>(
     rt: &R,
     desk: &Desk<'a, C>,
@@ -120,7 +122,8 @@ fn finish_next<'a, C: Course, R: Wait, G: TurnGate>(
     }
 }
 
-// At the first process of a wave: makes the turns of the wave that are not drawn, and opens the next one.
+// At the first process of a wave: makes the turns of the wave that are not yet drawn, and opens the
+// next wave.
 fn begin_wave<'a, C: Course, R: Wait, G: TurnGate>(
     rt: &R,
     desk: &Desk<'a, C>,
@@ -140,7 +143,8 @@ fn begin_wave<'a, C: Course, R: Wait, G: TurnGate>(
     desk.open(round, first.saturating_add(2 * wave));
 }
 
-// All turns of a round that stand at the desk: the kernel turns of a wave beside the private turns of the next one.
+// Makes all turns of a round whose tasks are at the desk: the kernel turns of a wave beside the
+// private turns of the next one.
 fn finish_all<'a, C: Course, R: Wait, G: TurnGate>(
     rt: &R,
     desk: &Desk<'a, C>,
@@ -176,10 +180,11 @@ fn finish_all<'a, C: Course, R: Wait, G: TurnGate>(
     }
 }
 
-// A thread is worth its waking for so many steps.
+// How many steps make it worth waking a thread.
 const STEPS_A_THREAD: u64 = 5_000;
 
-// How many threads are worth their waking beside the calling one: none where no process has a step to make, and else at least one.
+// Returns how many threads, besides the calling one, are worth waking: none if no process has a
+// step to make, and otherwise at least one.
 fn helpers(privates: &[Private], turn: Turn) -> u64 {
     let running = privates
         .iter()
@@ -192,12 +197,13 @@ fn helpers(privates: &[Private], turn: Turn) -> u64 {
     (steps / STEPS_A_THREAD).max(1)
 }
 
-/// The round after so many, at the desk: room for all output, the private turns by whoever draws them, the kernel turns by number, the
-/// end of the round.
+/// Makes the round after the first `rounds` rounds at the desk: room for all output, the private
+/// turns by whichever thread draws them, the kernel turns in order of number, and the end of the
+/// round.
 ///
 /// # Errors
 ///
-/// Memory ran out. Nothing is changed but room.
+/// `AllocError` if memory runs out. Nothing but reserved room has then changed.
 pub fn make_round<'a, C: Course, R: Wait, G: TurnGate>(
     rt: &R,
     desk: &Desk<'a, C>,

@@ -1,4 +1,4 @@
-//! Rounds by threads that are kept from one round to the next (`round` makes each).
+//! Rounds by threads that are kept from one round to the next. The module `round` makes each round.
 
 ghost use Rattle.std.specs.Prelude.{◌≡◌, ◌<◌, ◌+◌, ◌-◌, ◌*◌, ◌^◌, IfErr, IfOk, length};
 ghost use Rattle.cp_machine.specs.Runs.{AreNamed, AreTimes, PartsAfter};
@@ -19,7 +19,7 @@ use std::sync::{OnceLock, Wait};
 use std::thread;
 use std::thread::{Scope, Threads};
 
-// A round for each cell. At Err, so many were made.
+// Makes a round for each cell. `Err` has the number of rounds made.
 fn make_rounds<'a, C: Course, R: Wait, G: TurnGate>(
     rt: &R,
     desk: &Desk<'a, C>,
@@ -53,7 +53,7 @@ fn make_rounds<'a, C: Course, R: Wait, G: TurnGate>(
     Ok(())
 }
 
-// Starts the threads of a plan but the calling one.
+// Starts the threads of a plan, except the calling one.
 fn start_threads<'s, 'a, E, C: Course + Send + Sync, R: Threads + Wait + Sync, G: TurnGate>(
     rt: &'s R,
     scope: &'s Scope<'s, E>,
@@ -77,7 +77,8 @@ fn start_threads<'s, 'a, E, C: Course + Send + Sync, R: Threads + Wait + Sync, G
     Ok(())
 }
 
-// A round for each cell by the threads of a plan. All have ended when it returns.
+// Makes a round for each cell by the threads of a plan. The desk is closed when it returns, so that
+// all threads end.
 fn make_rounds_at<'s, 'a, E, C: Course + Send + Sync, R: Threads + Wait + Sync, G: TurnGate>(
     rt: &'s R,
     scope: &'s Scope<'s, E>,
@@ -111,9 +112,10 @@ fn make_rounds_at<'s, 'a, E, C: Course + Send + Sync, R: Threads + Wait + Sync, 
     (parts, made)
 }
 
-/// What holds the parts of a machine while its rounds are made.
+/// Holds the parts of a machine while its rounds are made.
 ///
-/// What a scope promises of its result is known outside where the type of the result is a parameter.
+/// What a scope promises about its result is known outside the scope if the type of the result is a
+/// parameter.
 pub trait Holder: Drop {
     ghost holds: { Self → Parts };
 
@@ -136,7 +138,7 @@ impl Holder for Parts {
     }
 }
 
-// A round for each cell, by threads that are kept through all of them.
+// Makes a round for each cell, by threads that are kept through all rounds.
 fn make_rounds_kept<
     'x,
     'a,
@@ -197,7 +199,7 @@ fn make_rounds_kept<
     )
 }
 
-// A round for each cell, at a desk of their own.
+// Makes a round for each cell, at a desk made for these rounds.
 fn make_rounds_by_threads<C: Course + Send + Sync, R: Threads + Wait + Sync, G: TurnGate>(
     rt: &R,
     alloc: Global,
@@ -226,7 +228,7 @@ fn make_rounds_by_threads<C: Course + Send + Sync, R: Threads + Wait + Sync, G: 
     make_rounds_kept(rt, &desk, cells, setting, done, plan, gate, parts)
 }
 
-// A cell for each round, none of them written.
+// Returns a cell for each round, none of them written.
 fn empty_cells(alloc: Global, rounds: usize) -> Result<Vec<OnceLock<Start>>, AllocError>
     ensures { IfOk result (λ cells. length cells.items ≡ rounds) }
 {
@@ -237,11 +239,12 @@ fn empty_cells(alloc: Global, rounds: usize) -> Result<Vec<OnceLock<Start>>, All
     Ok(cells)
 }
 
-/// After so many rounds, so many more by the threads of a plan, which are started once. All threads have ended when it returns.
+/// Makes `rounds` more rounds after the first `done`, by the threads of a plan, which are started
+/// once. All threads have ended when it returns.
 ///
 /// # Errors
 ///
-/// How many rounds were made, where memory ran out in the next one or a thread could not be started.
+/// The number of rounds made, if memory ran out in the next one or a thread could not be started.
 pub fn make_rounds_of<R: Threads + Wait + Sync, G: TurnGate>(
     rt: &R,
     alloc: Global,

@@ -17,7 +17,7 @@ pub struct Setting {
 }
 
 impl Setting {
-    /// The input of process p, from 1: nothing where it has none.
+    /// Returns the input of process p, from 1, or nothing if it has none.
     pub(crate) fn input(&self, p: usize) -> &[u8]
         ensures { result.now ≡ input_at self.now.inputs.items (p - 1) }
     {
@@ -27,7 +27,7 @@ impl Setting {
         }
     }
 
-    /// The time of the round after so many.
+    /// Returns the time of the round after the first `rounds` rounds.
     pub(crate) fn moment(&self, rounds: u64) -> Moment
         requires { rounds < 2 ^ 64 - 1 }
         ensures { result ≡ moment_of self.now.tick.rounds rounds }

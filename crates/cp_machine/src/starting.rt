@@ -11,7 +11,7 @@ use cp_process::private::Private;
 use cp_threaded::program::Program;
 use std::alloc::{AllocError, Global};
 
-// The private states of all processes at the start.
+// Returns the private states of all processes at the start.
 fn first_privates(alloc: Global, program: &Program) -> Result<Vec<Private>, AllocError>
     ensures first { IfOk result (λ xs. AreFirst (view.program program.now) xs.items) }
     ensures count { IfOk result
@@ -25,11 +25,11 @@ fn first_privates(alloc: Global, program: &Program) -> Result<Vec<Private>, Allo
     Ok(privates)
 }
 
-/// The private states of all processes, and the kernel, at the start.
+/// Returns the private states of all processes and the kernel at the start.
 ///
 /// # Errors
 ///
-/// `AllocError` where memory runs out, or where a process or the monitors have 2^30 words.
+/// `AllocError` if memory runs out, or if a process or the monitors have 2^30 words or more.
 pub fn first_parts(alloc: Global, program: &Program) -> Result<Parts, AllocError>
     ensures { IfOk result (λ parts. IsStart (view.program program.now) parts.privates.items
         parts.kernel) }

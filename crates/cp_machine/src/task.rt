@@ -1,7 +1,8 @@
 //! Private turns on their way between threads.
 //!
-//! Of what comes out of a lock only its type is known. So the type of a task says what its private state comes of: of the one at its
-//! index at the start of its round. Which start that was, the cell of the round tells, which is written once.
+//! All that is known of a value taken out of a lock is its type. So the type of a task says what
+//! its private state comes from: the private state at its index at the start of its round. The cell
+//! of the round, which is written once, says which start that was.
 
 ghost use Rattle.std.specs.Prelude.{◌≡◌, ◌-◌, ℕ, List, [], IfSome, Some, false, true, slice_get};
 ghost use Rattle.cp_steps.specs.PrivateStates.{PrivateState};
@@ -18,12 +19,12 @@ use std::marker::{Brand, PhantomData};
 use std::snapshot::Snapshot;
 use std::sync::OnceToken;
 
-/// The private states at the start of a round, for proofs alone.
+/// The private states at the start of a round, for proofs only.
 pub type Start = Snapshot<Vec<Private>>;
 
-/// What is the same in all rounds of a run. Who begins the run picks it.
+/// What is the same in all rounds of a run. Whoever begins the run chooses it.
 pub trait Course {
-    /// What a turn makes of what a private state holds, at the time of a round.
+    /// What a turn makes of the content of a private state, at the time of a round.
     ghost turned: { declared.Moment → PrivateState → PrivateState };
 
     /// The time of a round.
@@ -32,10 +33,10 @@ pub trait Course {
     /// The input of the process at an index.
     ghost input: { ℕ → List ℕ };
 
-    /// How many bytes a turn writes at most.
+    /// The largest number of bytes that a turn writes.
     ghost most: { ℕ };
 
-    /// The cell in which the start of a round stands.
+    /// The name of the cell that holds the start of a round.
     ghost cell: { ℕ → ℕ };
 }
 
@@ -51,7 +52,7 @@ impl Course for Brand {
     ghost cell = { λ _. 0 };
 }
 
-/// The private turn of a process in a round, which is made or still to be made.
+/// The private turn of a process in a round, made or still to be made.
 #[derive(Drop)]
 pub struct Task<'a, C: Course> {
     round: usize,
@@ -71,7 +72,7 @@ pub struct Task<'a, C: Course> {
 }
 
 impl<'a, C: Course> Task<'a, C> {
-    /// The turn of a process, which is still to be made.
+    /// Returns the turn of a process, which is still to be made.
     pub fn new(
         start: &OnceToken<'a, Start>,
         round: usize,
@@ -96,7 +97,7 @@ impl<'a, C: Course> Task<'a, C> {
         }
     }
 
-    /// Makes the turn, unless it is made.
+    /// Makes the turn, unless it has been made.
     pub fn make<G: TurnGate>(&mut self, setting: &Setting, turn: Turn, gate: &G)
         requires turn { IsCourseOf C.turned C.input C.most setting.now turn.steps }
         ensures made { self.new.made ≡ true }
@@ -109,7 +110,8 @@ impl<'a, C: Course> Task<'a, C> {
         self.made = true;
     }
 
-    /// The private state, if the turn is made and is that of this process in this round.
+    /// Returns the private state, if the turn has been made and is the turn of this process in this
+    /// round.
     pub fn finish(
         self,
         start: &OnceToken<'a, Start>,

@@ -1,4 +1,5 @@
-//! A team of workers in one scope. A seat is split by halves, so each thread has one of its own; the thread that asks is one of the workers.
+//! A team of workers in one scope. Seats are split in halves, so that each thread has a seat of its
+//! own. The thread that calls is one of the workers.
 
 ghost use Rattle.std.specs.Prelude.{◌≡◌, ◌≤◌, ◌<◌, ◌++◌, IfOk, IfErr, length};
 ghost use Rattle.std.specs.Thread.{IsSync};
@@ -15,7 +16,8 @@ use std::alloc::{AllocError, Global};
 use std::snapshot::Snapshot;
 use std::thread::{Promise, Scope, Threads};
 
-/// What the workers of a seat promise: it comes back with the same allowance, and with it the results of what was drawn.
+/// What the workers of a seat promise: the seat comes back with the same allowance, together with
+/// the results of all that was drawn.
 #[derive(Drop)]
 pub struct Works<J> {
     board: Snapshot<Board>,
@@ -48,7 +50,7 @@ impl<J> Works<J> {
     }
 }
 
-// The results of two teams.
+// Returns the results of two teams as one list.
 fn both<X: Drop>(
     all: Result<Vec<(usize, X)>, AllocError>,
     rest: Result<Vec<(usize, X)>, AllocError>,
@@ -63,8 +65,8 @@ fn both<X: Drop>(
     Ok(all)
 }
 
-/// The results of so many workers, each with a seat of its own. The seats come back as one. `Err` also where a thread could not be
-/// started.
+/// Returns the results of `workers` workers, each with a seat of its own. The seats come back as
+/// one. Also returns `Err` if a thread could not be started.
 pub fn team<'s, E, R: Threads + Sync, J: Job + Sync, G: TurnGate>(
     rt: &'s R,
     scope: &'s Scope<'s, E>,
@@ -123,7 +125,7 @@ where
     }
 }
 
-/// What the calling thread does beside the workers.
+/// What the calling thread does besides the workers' job.
 pub trait Aside: Drop {
     ghost can: { Self → Type 0 };
 
@@ -134,7 +136,7 @@ pub trait Aside: Drop {
         ensures does { does self.old self.new };
 }
 
-/// Nothing beside the workers.
+/// Does nothing besides the workers' job.
 #[derive(Clone, Copy, Debug)]
 pub struct Idle;
 
@@ -146,7 +148,8 @@ impl Aside for Idle {
     fn turn<G: TurnGate>(&mut self, _gate: &G) {}
 }
 
-/// As `team`, and the calling thread does something else before it draws, while the others work.
+/// Does the same as `team`, except that the calling thread does something else before it draws,
+/// while the others work.
 pub fn crew<'s, E, R: Threads + Sync, J: Job + Sync, G: TurnGate, A: Aside>(
     rt: &'s R,
     scope: &'s Scope<'s, E>,

@@ -1,4 +1,4 @@
-//! Private turns: one in its place, and those of a round as the work of workers.
+//! Private turns: a single one in place, and those of a round as a job for workers.
 
 ghost use Rattle.std.specs.Prelude.{◌≡◌, ◌<◌, ◌≤◌, ◌+◌, ◌-◌, ◌*◌, ℕ, List, IfOk, length, vec_capacity, vec_len};
 ghost use Rattle.cp_process.specs.Rooms.{HasRoomFor};
@@ -17,7 +17,7 @@ use cp_process::turn::Turn;
 use cp_process::turns::private_turn;
 use std::alloc::{AllocError, Global};
 
-/// The private turn of process p in a round. It takes no memory.
+/// Makes the private turn of process p in a round. It takes no memory.
 pub(crate) fn turn_in_place(
     setting: &Setting,
     private: &mut Private,
@@ -40,7 +40,7 @@ pub(crate) fn turn_in_place(
     private_turn(&setting.program, private, input, moment.clock, turn);
 }
 
-// A copy, with room for what a round writes.
+// Returns a copy with room for what a round writes.
 fn copy_with_room(alloc: Global, private: &Private, turn: Turn) -> Result<Private, AllocError>
     ensures same { IfOk result
         (λ x. (input : List ℕ) → private_of x input ≡ private_of private.now input) }
@@ -52,7 +52,7 @@ fn copy_with_room(alloc: Global, private: &Private, turn: Turn) -> Result<Privat
     Ok(next)
 }
 
-/// The private turns of a round: the states at its start are read, and new ones made.
+/// The private turns of a round as a job, which reads the states at its start and makes new ones.
 #[derive(Drop)]
 pub struct Turns<'a> {
     pub(crate) setting: &'a Setting,

@@ -1,8 +1,9 @@
-//! Waves: which places of a list are seen to together, and how workers share them.
+//! Waves: which places of a list are worked on together, and how workers share them.
 
 ghost use Rattle.std.specs.Prelude.{◌≡◌, ◌≤◌, ◌<◌, ◌+◌, ◌-◌, ◌/◌, ℕ};
 
-/// The indices from one up to another, in chunks. The last chunk may be shorter.
+/// The indices from `first` up to but not including `end`, in chunks. The last chunk may be
+/// shorter.
 #[derive(Clone, Copy)]
 pub struct Wave {
     pub first: usize,
@@ -15,7 +16,7 @@ pub struct Wave {
 }
 
 impl Wave {
-    /// The wave that begins at an index, of a list of so many.
+    /// Returns the wave that begins at index `first` of a list with `all` elements.
     pub fn next(first: usize, all: usize, size: usize, chunk: usize) -> Wave
         requires first { first < all }
         requires size { (0 < size) × (size ≤ 255) }
@@ -32,7 +33,7 @@ impl Wave {
         }
     }
 
-    /// How many chunks it has.
+    /// Returns the number of chunks.
     pub fn chunks(&self) -> usize
         ensures most { result ≤ 255 }
         ensures each { (j : ℕ) → j < self.now.end - self.now.first → j / self.now.chunk < result }

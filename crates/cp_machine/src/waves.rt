@@ -1,6 +1,7 @@
 //! The turns of one round, by threads of its own.
 //!
-//! Workers make new private states of the old ones, wave by wave; so a refusal leaves the machine as it was.
+//! Workers make new private states from the old ones, wave by wave, so a failure leaves the machine
+//! as it was.
 
 ghost use Rattle.std.specs.Prelude.{◌≡◌, ◌≤◌, ◌+◌, ◌*◌, ℕ, suc, Some, IfErr, IfOk, length, slice_get, vec_len};
 ghost use Rattle.cp_gates.specs.KernelOf.{HasRoomForAskers, HasRoomForBytes, kernel_of, transcripts_of};
@@ -28,7 +29,7 @@ use std::mem;
 use std::sync::Wait;
 use std::thread::Threads;
 
-// Room in the transcripts for the kernel turns from an index on.
+// Reserves room in the transcripts for the kernel turns from index `from` on.
 fn reserve_from(
     kernel: &mut Kernel,
     privates: &[Private],
@@ -49,7 +50,8 @@ fn reserve_from(
     Ok(())
 }
 
-// All turns of a round, wave by wave: the kernel turns of a wave beside the private turns of the next one.
+// Makes all turns of a round, wave by wave: the kernel turns of a wave beside the private turns of
+// the next one.
 fn all_waves<'x, R: Threads + Wait + Sync, G: TurnGate>(
     rt: &R,
     alloc: Global,
@@ -101,7 +103,8 @@ fn all_waves<'x, R: Threads + Wait + Sync, G: TurnGate>(
     Ok(kernel_turns(setting, kernel, next, from, moment, plan.turn, gate))
 }
 
-// The private turns of a round in one wave. The kernel is not touched, so a refusal leaves nothing to go back from.
+// Makes the private turns of a round in one wave. The kernel is not touched, so there is nothing to
+// undo after a failure.
 fn one_wave<R: Threads + Wait + Sync, G: TurnGate>(
     rt: &R,
     alloc: Global,
@@ -133,7 +136,7 @@ fn one_wave<R: Threads + Wait + Sync, G: TurnGate>(
     Ok(next)
 }
 
-// All turns of a round of several waves, on a copy of the kernel.
+// Makes all turns of a round of several waves, on a copy of the kernel.
 fn turns_in_waves<R: Threads + Wait + Sync, G: TurnGate>(
     rt: &R,
     alloc: Global,
@@ -168,7 +171,7 @@ fn turns_in_waves<R: Threads + Wait + Sync, G: TurnGate>(
     Ok(())
 }
 
-// The private turns of a round of one wave, and room for its kernel turns.
+// Makes the private turns of a round of one wave, and reserves room for its kernel turns.
 fn ready_at_once<R: Threads + Wait + Sync, G: TurnGate>(
     rt: &R,
     alloc: Global,
@@ -191,7 +194,7 @@ fn ready_at_once<R: Threads + Wait + Sync, G: TurnGate>(
     Ok(next)
 }
 
-// All turns of a round of one wave.
+// Makes all turns of a round of one wave.
 fn turns_at_once<R: Threads + Wait + Sync, G: TurnGate>(
     rt: &R,
     alloc: Global,
@@ -218,12 +221,14 @@ fn turns_at_once<R: Threads + Wait + Sync, G: TurnGate>(
     Ok(())
 }
 
-/// All turns of a round at this time, with copies of the private states. A round of several waves makes kernel turns before the last
-/// private turns, so it works on a copy of the kernel too, to go back to what was where memory is refused.
+/// Makes all turns of a round at this time, on copies of the private states. A round of several
+/// waves makes kernel turns before the last private turns, so it works on a copy of the kernel too,
+/// and can return to the old state if memory runs out.
 ///
 /// # Errors
 ///
-/// `AllocError` where memory runs out or a thread could not be started. Nothing is changed but room.
+/// `AllocError` if memory runs out or a thread could not be started. Nothing but reserved room has
+/// then changed.
 pub fn make_turns<R: Threads + Wait + Sync, G: TurnGate>(
     rt: &R,
     alloc: Global,

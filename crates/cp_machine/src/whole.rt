@@ -17,11 +17,12 @@ use std::sync::Wait;
 use std::thread;
 use std::thread::Threads;
 
-/// The results of a wave by so many workers, of whom the calling thread is one, once it has had its turn aside.
+/// Returns the results of a wave by `workers` workers. The calling thread is one of them, once it
+/// has had its turn aside.
 ///
 /// # Errors
 ///
-/// `AllocError` where memory runs out or a thread could not be started.
+/// `AllocError` if memory runs out or a thread could not be started.
 pub fn whole_wave<R: Threads + Wait + Sync, J: Job + Sync, G: TurnGate, A: Aside>(
     rt: &R,
     alloc: Global,
@@ -70,11 +71,11 @@ where
     Ok((done?, aside))
 }
 
-/// Puts the results of a wave after what there is, in order.
+/// Appends the results of a wave to `next`, in order of index.
 ///
 /// # Errors
 ///
-/// `AllocError` where memory runs out.
+/// `AllocError` if memory runs out.
 pub fn append<X: Drop>(
     alloc: Global,
     wave: Wave,

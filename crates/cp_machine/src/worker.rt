@@ -1,4 +1,4 @@
-//! One worker: it draws chunks of a wave, and works on each of their indices.
+//! One worker, which draws chunks of a wave and works on each of their indices.
 
 ghost use Rattle.std.specs.Prelude.{◌≡◌, ◌≤◌, ◌<◌, ℕ, IfOk, length};
 ghost use Rattle.cp_board.specs.Models.{IsSeatOf};
@@ -10,11 +10,11 @@ use crate::wave::Wave;
 use cp_board::{Board, Seat};
 use std::alloc::{AllocError, Global};
 
-/// What workers do at an index. They share the job, and tell the gate of each turn.
+/// What workers do at an index. They share the job, and call the gate before each turn.
 pub trait Job {
     type Out;
 
-    /// There is something to work on at an index.
+    /// Whether there is something to work on at an index.
     ghost within: { Self → ℕ → Type 0 };
 
     /// What the result at an index is.
@@ -30,7 +30,7 @@ pub trait Job {
         ensures given { IfOk result (gives self.now index) };
 }
 
-// The work on a chunk, added to what is done.
+// Does the work on chunk `k`, and adds its results to `done`.
 fn work_on<J: Job, G: TurnGate>(
     alloc: Global,
     wave: Wave,
@@ -55,8 +55,8 @@ where
     Ok(())
 }
 
-/// Draws chunks until none is left or a stop is seen, and works on them. It calls the stop where memory runs out. The seat comes back
-/// either way.
+/// Draws chunks and works on them until none is left or a stop is seen. Calls the stop if memory
+/// runs out. The seat comes back in either case.
 pub fn work<J: Job, G: TurnGate>(
     alloc: Global,
     board: &Board,

@@ -7,7 +7,7 @@ use cp_process::outside::Holder;
 use cp_process::private::Activity;
 use std::test::Fail;
 
-// A class `c` adds to 100 what it is told, times k; one of class `d` has a right to it.
+// A class `c` adds k times what it is given to 100. An object of class `d` has a right to it.
 const SUMS: &str = "type c = class(k: integer); var n: integer;
       procedure entry add(e: integer); begin n := n + e * k end;
       function entry sum: integer; begin sum := n end;
@@ -18,8 +18,8 @@ const SUMS: &str = "type c = class(k: integer); var n: integer;
     var a, b: p;
     begin init a(3), b(-4) end.";
 
-// The words of a process here: its mark, j, and of `u` the mark, k and n. The sum with 3 is
-// 100 + 1 * 3 + 2 * 3 = 109, and with -4 it is 100 - 4 - 8 = 88.
+// The words of a process here are its mark, j, and the mark, k and n of `u`. With 3 the sum is 100
+// + 1 * 3 + 2 * 3 = 109, and with -4 it is 100 - 4 - 8 = 88.
 #[test]
 fn processes_have_classes_of_their_own(rt: HostRuntime) -> Result<(), Fail> {
     for way in ways() {
@@ -39,14 +39,15 @@ fn processes_have_classes_of_their_own(rt: HostRuntime) -> Result<(), Fail> {
     Ok(())
 }
 
-// Three steps make the three assignments, and then the kernel turn those of the entry.
+// Three steps make the three assignments, and then the kernel turn makes the steps of the entry.
 const NINE: &str =
     "type m = monitor; var x: integer; procedure entry e; begin x := 9 end; begin end;
     n = monitor(a: m); var y: integer; begin a.e; y := 8 end;
     p = process(a: m); var v: integer; begin v := 1; v := 2; v := 3; a.e end;
     var g: m; h: n; b: p; begin init g, b(g) end.";
 
-// The shared words: of `g` the mark and x, and behind them of `h` the mark, the right to `g` and y.
+// The shared words are the mark and x of `g`, and after them the mark, the right to `g` and y of
+// `h`.
 #[test]
 fn a_monitor_keeps_its_words(rt: HostRuntime) -> Result<(), Fail> {
     for way in ways() {

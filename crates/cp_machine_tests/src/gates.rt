@@ -1,9 +1,9 @@
-//! Gates at which turns on several threads wait for each other, but not for ever.
+//! Gates at which turns on several threads wait for each other, but not forever.
 
 use cp_machine::gate::TurnGate;
 use std::sync::atomic::{AtomicU64, Ordering};
 
-// A count that others read.
+// A counter that others read.
 #[derive(Drop)]
 pub(crate) struct Counter(AtomicU64);
 
@@ -12,7 +12,7 @@ impl Counter {
         Counter(AtomicU64::new(0))
     }
 
-    // Counts a call: how many there were before.
+    // Counts a call and returns how many calls there were before.
     fn count(&self) -> u64 {
         self.0.fetch_add(1, Ordering::SeqCst)
     }
@@ -21,7 +21,7 @@ impl Counter {
         self.0.load(Ordering::SeqCst)
     }
 
-    // Reads until it is above a number, or a million times.
+    // Reads until the count is above `number`, at most a million times.
     fn passes(&self, number: u64) -> bool {
         for _ in 0..1_000_000 {
             if self.get() > number {
@@ -32,7 +32,7 @@ impl Counter {
     }
 }
 
-// Two turns that are made once a round, and how often each has seen the other begin.
+// Two turns that are made once a round, and how many times each has seen the other begin.
 #[derive(Drop)]
 pub(crate) struct Meeting {
     begun: [Counter; 2],
@@ -96,7 +96,7 @@ impl TurnGate for WavesMeet {
     }
 }
 
-// In each round another one of processes 2 to 5 waits until all four have begun.
+// In each round, a different one of processes 2 to 5 waits until all four have begun.
 #[derive(Drop)]
 pub(crate) struct EachWaits {
     begun: [Counter; 4],
@@ -138,7 +138,8 @@ impl TurnGate for EachWaits {
     }
 }
 
-// How often each of the first four numbers was called for a private and for a kernel turn.
+// How many times the gate was called for a private and for a kernel turn of each number from 0 to
+// 3.
 #[derive(Drop)]
 pub(crate) struct Counting {
     private: [Counter; 4],

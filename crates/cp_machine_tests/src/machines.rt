@@ -1,4 +1,4 @@
-//! Machines of texts, and what is read of them.
+//! Machines of texts, and what can be read of them.
 
 ghost use Rattle.std.specs.Prelude.{◌≡◌, IfOk, length};
 ghost use Rattle.cp_threaded.specs.View as view;
@@ -11,7 +11,7 @@ use cp_threaded::program::Program;
 use std::alloc::Global;
 use std::test::Fail;
 
-// The inputs of all processes, where those of the first are these.
+// Returns the inputs of all processes, of which the first ones are given.
 pub(crate) fn inputs_for(
     alloc: Global,
     program: &Program,
@@ -33,7 +33,7 @@ pub(crate) fn inputs_for(
     Ok(all)
 }
 
-// The machine of a text, with the inputs of its first processes.
+// Returns the machine of a text, with the inputs of its first processes.
 pub(crate) fn machine_with(
     alloc: Global,
     text: &str,
@@ -45,7 +45,7 @@ pub(crate) fn machine_with(
     Ok(Machine::new(alloc, program, inputs, Tick::new(tick)?)?)
 }
 
-// The machine of a text, at a tick of one round and without input.
+// Returns the machine of a text, with a tick of one round and without input.
 pub(crate) fn machine_of(alloc: Global, text: &str) -> Result<Machine, Fail> {
     machine_with(alloc, text, 1, &[])
 }
@@ -55,13 +55,13 @@ pub(crate) fn activity(machine: &Machine, p: usize) -> Result<Activity, Fail> {
     Ok(private.activity())
 }
 
-// Whether this is the transcript of process p, all of it moved to the kernel.
+// Whether `text` is the transcript of process p, with all of it moved to the kernel.
 pub(crate) fn has_written(machine: &Machine, p: usize, text: &[u8]) -> bool {
     let (moved, held) = machine.transcript(p);
     moved == text && held.is_empty()
 }
 
-// All that is read of a machine.
+// Describes everything that can be read of a machine.
 pub(crate) fn describe(alloc: Global, machine: &Machine) -> Result<String, Fail> {
     let mut text = format!(in alloc; "{} {:?}", machine.rounds(), machine.kernel())?;
     for p in 1..=machine.processes() {

@@ -1,5 +1,5 @@
-//! Gates of monitors, who holds them and who asks for them, and queues. Process 1 is the initial
-//! one, monitor 1 the first declared.
+//! Gates of monitors, the processes that hold and ask for them, and queues. Process 1 is the
+//! initial one, and monitor 1 is the first one declared.
 
 use crate::machines::{activity, has_written, machine_of};
 use crate::ways::{Way, ways};
@@ -11,7 +11,7 @@ use cp_process::private::Activity;
 use std::process::Abort;
 use std::test::Fail;
 
-// Who holds the gate of a monitor, and who asks for it.
+// Expects a holder and askers of a monitor's gate.
 fn expect_gate(
     rt: &impl Abort,
     machine: &Machine,
@@ -27,7 +27,7 @@ fn expect_gate(
     );
 }
 
-// Those who ask or are delayed aren't begun.
+// Expects a stage of a process. Processes that ask or are delayed aren't begun.
 fn expect_stage(rt: &impl Abort, machine: &Machine, p: u32, stage: Stage, way: Way) {
     assert_eq!(rt; machine.kernel().stage(p), stage, "process {p}, {way:?}");
     assert_eq!(rt;
@@ -37,7 +37,7 @@ fn expect_stage(rt: &impl Abort, machine: &Machine, p: u32, stage: Stage, way: W
     );
 }
 
-// `h` is the inner monitor and has the shared words 0 and 1, its mark and its queue.
+// `h` is the inner monitor. It has the shared words 0 and 1, its mark and its queue.
 const NESTED: &str =
     "type n = monitor; var q: queue; procedure entry w; begin delay(q) end; begin end;
     m = monitor(i: n); procedure entry e; begin i.w end; begin end;
@@ -73,7 +73,8 @@ const RESUMED: &str = "type m = monitor; var q: queue;
     ps = process(a: m); begin a.s; display(3) end;
     var g: m; b: pw; c: ps; begin init g, b(g), c(g) end.";
 
-// In round 2 process 2 is delayed and then resumed by process 3, in round 3 it leaves the monitor.
+// In round 2, process 2 is delayed and then resumed by process 3. In round 3, it leaves the
+// monitor.
 #[test]
 fn a_continue_hands_the_gate_to_the_delayed_process(rt: HostRuntime) -> Result<(), Fail> {
     for way in ways() {

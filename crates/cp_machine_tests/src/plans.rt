@@ -1,5 +1,5 @@
-//! Plans and ticks: their ranges, how a plan shares processes out, and that each gives the same
-//! machine.
+//! Plans and ticks: their ranges, how a plan divides processes among workers, and that all plans
+//! make the same machine.
 
 use crate::machines::{activity, has_written, machine_of};
 use crate::ways::Way;
@@ -32,7 +32,7 @@ fn plans_and_ticks_have_ranges(rt: HostRuntime) {
     assert!(rt; Tick::new(1_000_001) == Err(NoTick));
 }
 
-// A thread for each chunk of a wave, and one for the kernel turns where there are several waves.
+// One thread for each chunk of a wave, and one for the kernel turns if there are several waves.
 #[test]
 fn a_plan_has_no_idle_threads(rt: HostRuntime) -> Result<(), Fail> {
     for (chunk, wave, threads) in [(1, 255, 4), (8, 255, 3), (20, 255, 1), (8, 8, 2), (1, 1, 2)] {
@@ -72,7 +72,7 @@ fn squarers(alloc: Global) -> Result<String, AllocError> {
     )
 }
 
-// Whether this process has squared its number, displayed it and ended. Its words are its mark, its
+// Whether process p has squared 6, displayed the square and ended. Its words are its mark, its
 // right and x.
 fn has_squared(machine: &Machine, p: usize) -> Result<bool, Fail> {
     Ok(
@@ -82,7 +82,7 @@ fn has_squared(machine: &Machine, p: usize) -> Result<bool, Fail> {
     )
 }
 
-// Whether all have ended as they should after three rounds.
+// Whether all processes have ended as they should after three rounds.
 fn all_have_squared(machine: &Machine) -> Result<bool, Fail> {
     for p in 2..255 {
         if !has_squared(machine, p)? {

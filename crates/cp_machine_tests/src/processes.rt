@@ -10,7 +10,7 @@ use std::test::Fail;
 
 const SQUARES: &str = "var x: integer; begin x := 2; cycle display(x); x := x * x end end.";
 
-// Each time the cycle takes three steps: the cycle, the display and the assignment.
+// Each pass through the cycle takes three steps: the cycle, the display and the assignment.
 #[test]
 fn six_steps_display_two_squares(rt: HostRuntime) -> Result<(), Fail> {
     for way in ways() {
@@ -68,7 +68,7 @@ fn a_process_is_started_once(rt: HostRuntime) -> Result<(), Fail> {
     Ok(())
 }
 
-// At the end of an input the character 25 is read.
+// At the end of an input, the character 25 is read.
 #[test]
 fn each_process_reads_its_own_input(rt: HostRuntime) -> Result<(), Fail> {
     let text =
@@ -86,7 +86,7 @@ fn each_process_reads_its_own_input(rt: HostRuntime) -> Result<(), Fail> {
     Ok(())
 }
 
-// At a tick of 2 those who wait go on in rounds 2 and 4, where the clock is 1 and 2.
+// With a tick of 2, the processes that wait go on in rounds 2 and 4, when the clock is 1 and 2.
 #[test]
 fn a_process_waits_for_each_second_round(rt: HostRuntime) -> Result<(), Fail> {
     let text = "begin display(realtime); wait; display(realtime); wait; display(realtime) end.";

@@ -1,8 +1,8 @@
-//! What a machine is after a refusal of memory or of a thread.
+//! The state of a machine after memory or a thread was refused.
 //!
 //! A program that is too large is always refused. Allocations and thread starts succeed in a plain
-//! run. Where one is made to fail, as by a library that is loaded before the C library, the last
-//! three tests say so, and look at the machine.
+//! run. If one is made to fail, for example by a library that is loaded before the C library, the
+//! last three tests report it and look at the machine.
 
 use crate::machines::{activity, describe, has_written, inputs_for, machine_of};
 use crate::texts;
@@ -21,7 +21,8 @@ use std::sync::Wait;
 use std::test::Fail;
 use std::thread::Threads;
 
-// A program that ends at once, with so many words for its process and so many that are shared.
+// Returns a program that ends at once, with `words` words for its process and `shared` shared
+// words.
 fn ending_program(alloc: Global, words: u32, shared: u32) -> Result<Program, Fail> {
     let mut operations = Vec::new(alloc);
     operations.push(Operation::End)?;
@@ -49,7 +50,8 @@ fn ending_program(alloc: Global, words: u32, shared: u32) -> Result<Program, Fai
     Ok(Program::new(operations, units, monitors, processes, plans, shared))
 }
 
-// What the process of such a program does in a round, unless the machine is refused.
+// Returns the activity of the process of such a program after a round, unless the machine is
+// refused.
 fn activity_after_round<R: Threads + Wait + Sync>(
     rt: &R,
     alloc: Global,
@@ -89,7 +91,7 @@ const ROUNDS: u32 = 9;
 
 const COUNTED: &[u8] = b"12345678";
 
-// What the rules say of the counters after nine rounds of three steps a turn.
+// Whether the counters are as the rules say after nine rounds with three steps a turn.
 fn have_counted(machine: &Machine) -> Result<bool, Fail> {
     let kernel = machine.kernel();
     let delayed = Stage::Delayed {

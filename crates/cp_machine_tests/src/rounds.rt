@@ -1,4 +1,4 @@
-//! Rounds of machines, and what is read between them.
+//! Rounds of machines, and what can be read between them.
 
 use crate::machines::{activity, has_written, machine_of};
 use crate::ways::{Way, ways};
@@ -35,8 +35,8 @@ fn started_processes_run_a_round_later(rt: HostRuntime) -> Result<(), Fail> {
     Ok(())
 }
 
-// In a round of two steps a turn the initial process starts the other, which displays 5 in the
-// next. Word 0 of a process is its mark, and then come its variables.
+// In a round with two steps a turn, the initial process starts the other one, which displays 5 in
+// the next round. Word 0 of a process is its mark, and its variables follow.
 #[test]
 fn a_machine_is_read_between_rounds(rt: HostRuntime) -> Result<(), Fail> {
     for way in ways() {

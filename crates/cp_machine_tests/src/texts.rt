@@ -7,7 +7,7 @@ use cp_threaded::program::Program;
 use std::alloc::Global;
 use std::test::Fail;
 
-/// The program of an accepted text.
+/// Returns the program of an accepted text.
 pub fn program(alloc: Global, text: &str) -> Result<Program, Fail> {
     let tokens = scan(alloc, text.as_bytes()).map_err(|_| "the text has no tokens")?;
     let tree = parse(alloc, tokens.as_slice(), text.len()).map_err(|_| "the text has no tree")?;

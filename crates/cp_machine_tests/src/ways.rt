@@ -10,7 +10,8 @@ use std::sync::Wait;
 use std::test::Fail;
 use std::thread::Threads;
 
-// Threads are kept from one round of a run to the next. Else each round has threads of its own.
+// Whether it is one run, whose rounds share their threads, or rounds that each have threads of
+// their own.
 #[derive(Clone, Copy, Debug)]
 pub(crate) struct Way {
     pub(crate) is_run: bool,
@@ -19,7 +20,8 @@ pub(crate) struct Way {
     pub(crate) wave: u32,
 }
 
-// One worker and several, all processes at once and each alone.
+// Returns ways with one worker and with several, with all processes in one wave and with one
+// process a wave.
 pub(crate) fn ways() -> [Way; 6] {
     [
         Way::new(true, 1, 1, 255),
@@ -31,7 +33,7 @@ pub(crate) fn ways() -> [Way; 6] {
     ]
 }
 
-// A machine has room for many more rounds.
+// Fails unless a machine has room for many more rounds.
 pub(crate) fn is_young(machine: &Machine) -> Result<(), Fail>
     ensures { IfOk result (λ _. (machine_of machine.now).rounds < 2 ^ 63) }
 {
@@ -51,7 +53,7 @@ impl Way {
         }
     }
 
-    // Makes so many rounds, of turns of so many steps.
+    // Makes `rounds` rounds, with turns of `turn` steps.
     pub(crate) fn make<R: Threads + Wait + Sync, G: TurnGate>(
         self,
         rt: &R,

@@ -1,4 +1,4 @@
-//! Rounds by several threads: which turns are made at once, and what the gate is called for.
+//! Rounds by several threads: which turns are made at the same time, and when the gate is called.
 
 use crate::gates::{Counting, EachWaits, Meeting, PrivateTurnsMeet, WavesMeet};
 use crate::machines::machine_of;
@@ -6,7 +6,7 @@ use crate::rounds::SEVENS;
 use crate::ways::Way;
 use std::test::Fail;
 
-// Processes that always have a step to make: threads sleep while none has.
+// Processes that always have a step to make, because threads sleep while no process has one.
 const TWO: &str =
     "type p = process; begin cycle begin end end end; var a, b: p; begin init a, b end.";
 
@@ -55,7 +55,8 @@ fn no_process_is_kept_for_one_worker(rt: HostRuntime) -> Result<(), Fail> {
     Ok(())
 }
 
-// Also for turns without a step: the processes are unstarted in round 1, and ended from round 4 on.
+// The gate is called for turns without a step too: the processes are unstarted in round 1, and
+// ended from round 4 on.
 #[test]
 fn the_gate_is_called_once_for_each_turn(rt: HostRuntime) -> Result<(), Fail> {
     for is_run in [true, false] {

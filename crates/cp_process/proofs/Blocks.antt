@@ -1,4 +1,4 @@
--- Words written one by one, and blocks of them.
+-- Words written one by one, and blocks of words.
 use Rattle.std.proofs.Common.{◌≡◌, true, false, inl, inr, ℕ, zero, suc, ◌+◌, ◌-◌, ◌≤◌, ◌<◌, ◌^◌, ℤ, pos, List, [], ◌∷◌, ◌++◌, length, slice_set, refl, to_z, of_z, ap, sym, ◌∙◌, arith}
 use Rattle.std.specs.Prelude.{◌⊎◌, min, nat_le as leb, FitsSigned}
 use Rattle.std.proofs.lemmas.Bool.Decides.{leb_tells}
@@ -23,7 +23,7 @@ pub set_neither : (own shared : List ℤ) (at : ℕ) (n : ℤ) → length own �
     → own ++ shared ≡ slice_set (own ++ shared) at n
 set_neither own shared at n h k = sym (set_past (own ++ shared) at n (omega (arith, length-append own shared)))
 
--- A place that is told as the greatest number is no place of a word.
+-- A location that is capped to the largest number is not the location of a word.
 pub set_capped : (ws : List ℤ) (place at : ℕ) (n : ℤ) → length ws < 2 ^ 32 → capped place ≡ at → slice_set ws at n ≡ slice_set ws place n
 set_capped ws place at n small is = by (leb_tells (2 ^ 32) place)
   where
@@ -49,7 +49,7 @@ fill_beyond : (k at : ℕ) (n : ℤ) (ws : List ℤ) → length ws ≤ at → fi
 fill_beyond zero at n ws h = refl
 fill_beyond (suc k) at n ws h = ap (fill (suc at) k n) (set_past ws at n h) ∙ fill_beyond k (suc at) n ws (omega arith)
 
--- What is left of a fill is nothing, or lies beyond all words.
+-- What is left of a fill is empty, or lies beyond all words.
 pub fill_ends : (ws : List ℤ) (at i count : ℕ) (n : ℤ) → (i < min count (length ws - at) → ⊥) → fill (at + i) (count - i) n ws ≡ ws
 fill_ends ws at i count n h = by (leb_tells count i)
   where
@@ -77,7 +77,7 @@ block_set (suc k) from at x ws h =
     next (inl h) = inl (omega arith)
     next (inr h) = inr (omega arith)
 
--- One word more is copied from the first on.
+-- One more word is copied, from the first on.
 pub copied_down : (ws : List ℤ) (to from i count : ℕ) → i < count → to ≤ from
     → paste (to + (i + 1)) (block (slice_set ws (to + i) (word ws (from + i))) (from + (i + 1)) (count - (i + 1))) (slice_set ws (to + i) (word ws (from + i)))
     ≡ paste (to + i) (block ws (from + i) (count - i)) ws
@@ -115,7 +115,7 @@ length-block : (k from : ℕ) (ws : List ℤ) → length (block ws from k) ≡ k
 length-block zero from ws = refl
 length-block (suc k) from ws = ap suc (length-block k (suc from) ws)
 
--- The last word of a block may come first.
+-- The last word of a block may be written first.
 paste_last : (k to from : ℕ) (ws us : List ℤ)
     → paste to (block ws from (suc k)) us ≡ paste to (block ws from k) (slice_set us (to + k) (word ws (from + k)))
 paste_last zero to from ws us =
@@ -129,7 +129,7 @@ paste_last (suc k) to from ws us =
     ∙ (λ i. paste (suc to) (block ws (suc from) k) (slice_set (slice_set us to (word ws from)) (a i) (word ws (b i))))
     ∙ ap (paste (suc to) (block ws (suc from) k)) (set_comm us to (to + suc k) (word ws from) (word ws (from + suc k)) (λ e. omega arith))
 
--- One word more is copied from the last on.
+-- One more word is copied, from the last on.
 pub copied_up : (ws : List ℤ) (to from i : ℕ) → from ≤ to
     → paste to (block (slice_set ws (to + i) (word ws (from + i))) from i) (slice_set ws (to + i) (word ws (from + i)))
     ≡ paste to (block ws from (i + 1)) ws
@@ -152,7 +152,7 @@ clip (suc n) zero to from ws us h k = absurd (omega arith)
 clip (suc n) (suc m) to from ws us h k =
     clip n m (suc to) (suc from) ws (slice_set us to (word ws from)) (omega arith) (omega (arith, length-set us to (word ws from)))
 
--- Only what is there is copied.
+-- Only words that exist are copied.
 pub copied_there : (ws : List ℤ) (to from count there : ℕ) → there ≡ min count (length ws - to)
     → paste to (block ws from there) ws ≡ paste to (block ws from count) ws
 copied_there ws to from count there is = by (leb_tells count there)
@@ -167,7 +167,7 @@ copied_there ws to from count there is = by (leb_tells count there)
         let lt : there < count = e.1 in
         sym (clip there count to from ws ws (omega arith) (omega arith))
 
--- One word more is copied from elsewhere.
+-- One more word is copied from elsewhere.
 pub brought_more : (source ws : List ℤ) (to from i count : ℕ) → i < count
     → paste (to + (i + 1)) (block source (from + (i + 1)) (count - (i + 1))) (slice_set ws (to + i) (word source (from + i)))
     ≡ paste (to + i) (block source (from + i) (count - i)) ws
@@ -192,7 +192,7 @@ brought_all source ws to from i count h = by (leb_tells count i)
         let lt : i < count = e.1 in
         paste_beyond (block source (from + i) (count - i)) (to + i) ws (omega arith)
 
--- Places that are told as the greatest number are no places of words.
+-- Locations that are capped to the largest number are not locations of words.
 pub copied_capped : (ws : List ℤ) (to from i j count : ℕ) → length ws < 2 ^ 32 → capped i ≡ to → capped j ≡ from
     → paste to (block ws from count) ws ≡ paste i (block ws j count) ws
 copied_capped ws to from i j count small toward away =

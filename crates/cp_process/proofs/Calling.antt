@@ -1,4 +1,4 @@
--- Calls and `init`, once it is known what is called and that the unit is there.
+-- Calls and `init`, once the component is known and its unit is known to exist.
 use Rattle.std.proofs.Common.{◌≡◌, ℕ, ◌+◌, None, Some, true, false, length, ap, ◌∙◌}
 use Rattle.std.specs.Prelude.{if◌then◌else◌, not, pos, slice_get}
 use Rattle.cp_model.specs.Integers.{same_integer}

@@ -6,7 +6,7 @@ use Rattle.std.proofs.Math.Seq.{take-append_seam}
 use Rattle.cp_process.specs.States.{frame, frame_or_none, frames_in}
 use Rattle.cp_process.specs.declared.private.Frame.{Frame}
 
--- What stands in an unused place.
+-- The frame in an unused place.
 abbrev pub blank : Frame
 blank = record { place = 0; base = 0; temp = 0; component = 0; into = 0; gate = 0; held = 0 }
 
@@ -35,7 +35,7 @@ frames_below : (m : ℕ) (fs : List Frame) (n : ℕ) (f : Frame) → m ≤ n →
 frames_below zero fs n f h = refl
 frames_below (suc m) fs n f h = λ i. frame_or_none (get_other fs n m f (omega arith) i) ∷ frames_below m fs n f (omega arith) i
 
--- One frame more.
+-- One more frame.
 pub frames_more : (fs : List Frame) (n : ℕ) (f : Frame) → n < length fs
     → frames_in (suc n) (slice_set fs n f) ≡ frame f ∷ frames_in n fs
 frames_more fs n f h = λ i. frame_or_none (get_set fs n f h i) ∷ frames_below n fs n f (omega arith) i

@@ -1,4 +1,4 @@
--- What stays as it is where words are written: registers, temps and frames.
+-- What stays the same when words are written: registers, temps and frames.
 use Rattle.std.proofs.Common.{◌≡◌, ℕ, ℤ, ◌+◌, List, [], ◌∷◌, Option, None, Some, Result, Ok, Err, Bool, true, false, length, refl, ap, sym, ◌∙◌}
 use Rattle.std.specs.Prelude.{if◌then◌else◌}
 use Rattle.cp_model.specs.Places.{within}
@@ -12,7 +12,7 @@ use Rattle.cp_process.specs.States.{joined}
 use Rattle.cp_process.specs.declared.private.Private.{Private}
 use Rattle.cp_process.proofs.InUse.{length-frames}
 
--- The other state but for its words.
+-- The states differ at most in their words.
 abbrev pub KeepsAllButWords : PrivateState → PrivateState → Type 0
 KeepsAllButWords o p = p ≡ record o { words = p.words }
 
@@ -52,7 +52,7 @@ all_kept (x ∷ xs) w to home o = by (pass_one w to home o x) (one_kept w to hom
         go None = more p.own ∙ ap (λ (q : PrivateState). record q { words = (pass_all w to home xs p.own).own.words }) h
         go (Some g) = h
 
--- In the code's private state.
+-- The same for the code's private state.
 pub record SameRegisters (x y : Private) : Type 0 where
   pub base : y.memory.base ≡ x.memory.base
   pub temp : y.memory.temp ≡ x.memory.temp

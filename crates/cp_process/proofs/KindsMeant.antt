@@ -1,4 +1,4 @@
--- The kind of the next step is the meaning's.
+-- The kind of the next step is the one in the meaning.
 use Rattle.std.proofs.Common.{◌≡◌, ℕ, List, [], ◌∷◌, Bool, true, false, None, Some, refl, ap, sym, subst, ◌∙◌}
 use Rattle.std.specs.Prelude.{◌||◌, if◌then◌else◌, not}
 use Rattle.std.proofs.lemmas.Bool.{true≢false}
@@ -33,7 +33,7 @@ use Rattle.cp_process.specs.Promises.{meant}
 use Rattle.cp_process.specs.declared.kind.Kind.{Kind}
 use Rattle.cp_process.specs.declared.kind.Kind.TheVariants as kind
 
--- Only what the process owns is in its reach.
+-- Only what the process owns is within its reach.
 reach_own : (p : ℕ) (o : Owner) → in_reach p [] o ≡ true → is_own p o ≡ true
 reach_own p (OfProcess q) h = h
 reach_own p (OfActivation q d) h = h
@@ -56,7 +56,7 @@ module _ (program : Program) (setup : Setup) (F : StandsFor program setup) (p ow
   on : s.status p ≡ stage.Ready → RunsOn G s.store o (s.continuation p)
   on is = part.runs_on (subst GoesOn (sym (running is)) tt)
 
-  -- What the machine tells of a process that runs.
+  -- What the machine says of a process that runs.
   abbrev told : Bool → Bool → Kind
   told held of_kernel = if (if held then false else not of_kernel) then kind.Private else (if (if held then true else of_kernel) then kind.Kernel else kind.None)
 
@@ -82,7 +82,7 @@ module _ (program : Program) (setup : Setup) (F : StandsFor program setup) (p ow
       by true = refl
       by false = refl
 
-  -- It holds one.
+  -- It holds a gate.
   ready_held : (is : s.status p ≡ stage.Ready) (m : ℕ) (ms : List ℕ) → marked_monitors (s.continuation p) ≡ m ∷ ms → meaning.kind s p ≡ meant (kind_of program o)
   ready_held is m ms marks =
       let held : steps.is_held o.gate ≡ true = gate_is_held G s.store o (s.continuation p) m ms (on is) marks in

@@ -4,12 +4,12 @@ use Rattle.cp_code.specs.Programs.{Program}
 use Rattle.cp_steps.specs.PrivateStates.{PrivateState}
 use Rattle.cp_steps.specs.Steps.{private_step, private_steps}
 
--- Where the next step isn't private, a turn is nothing.
+-- If the next step isn't private, a turn does nothing.
 pub steps_rest : (program : Program) (clock n : ℕ) (o : PrivateState) → private_step program clock o ≡ o → private_steps program clock n o ≡ o
 steps_rest program clock zero o h = refl
 steps_rest program clock (suc n) o h = ap (private_steps program clock n) h ∙ steps_rest program clock n o h
 
--- A turn of one step more.
+-- A turn with one more step.
 pub steps_more : (program : Program) (clock m n : ℕ) (o : PrivateState) → m ≡ suc n
     → private_steps program clock m o ≡ private_steps program clock n (private_step program clock o)
 steps_more program clock m n o h = ap (λ k. private_steps program clock k o) h

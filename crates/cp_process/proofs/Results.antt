@@ -1,10 +1,10 @@
--- What is known of a place that was found, or of the fault, and of gates.
+-- What is known of a location that was found, of a fault, and of gates.
 use Rattle.std.proofs.Common.{◌≡◌, ℕ, zero, suc, true, false, Result, Ok, Err, refl, ap, sym}
 use Rattle.cp_model.specs.declared.state.Fault.{Fault}
 use Rattle.cp_steps.specs.Steps.{is_held}
 use Rattle.cp_threaded.specs.Reaches.{capped, capped_result}
 
--- A place may be told as the greatest number.
+-- A location may be capped to the largest number.
 pub placed : (r : Result ℕ Fault) (at : ℕ) → Ok at ≡ capped_result r → (n : ℕ) × (r ≡ Ok n) × (capped n ≡ at)
 placed (Ok n) at is = (n, (λ i. Ok n), (cc))
 placed (Err f) at is = absurd (cc)

@@ -31,7 +31,7 @@ module _ (o changed : PrivateState) (f : Frame) (fs : List Frame) (e : Effect) w
       by true h = let same : x ≡ fault.NoResult = cc in ap (fault_in o) (sym same)
       by false h = absurd (cc)
 
--- A word may be written before or after.
+-- A word may be written before or after the return.
 pub written_after : (o : PrivateState) (f : Frame) (fs : List Frame) (at : ℕ) (n : ℤ) (v : Option ℤ)
     → set_word (leave (returning o f v) f fs) at n ≡ leave (returning (set_word o at n) f v) f fs
 written_after o f fs at n None = refl

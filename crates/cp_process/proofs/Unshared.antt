@@ -1,4 +1,4 @@
--- Private steps: without shared words, and nothing of the kernel is told.
+-- Private steps have no shared words and read nothing of the kernel.
 use Rattle.std.proofs.Common.{◌≡◌, ℕ, zero, suc, List, [], true, false, Some, length, refl, ap, sym, ◌∙◌}
 use Rattle.std.specs.Prelude.{Option, if◌then◌else◌}
 use Rattle.std.proofs.lemmas.List.{append-nil}

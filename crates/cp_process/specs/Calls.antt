@@ -1,4 +1,4 @@
--- What a call finds, what it returns, and what is known once arguments were passed.
+-- What a call finds, what it returns, and what is known once arguments have been passed.
 use Rattle.std.specs.Prelude.{◌≤◌, ◌<◌, ℕ, Bool, true, false, ◌+◌, ℤ, List, length, Option, None, Some, Result, Ok, Err, if◌then◌else◌}
 use Rattle.cp_model.specs.Integers.{same_integer}
 use Rattle.cp_model.specs.declared.state.Fault.{Fault}
@@ -20,7 +20,7 @@ called c = record { component = c.component; is_set = c.is_set; gate = c.gate }
 abbrev pub back : Back → calling.Back
 back b = record { place = b.place; into = b.into }
 
--- The state with what the step of passing answered that led to it.
+-- The state, with the result of the passing step that led to it.
 abbrev pub passed : PrivateState → Result (Unit {0}) Fault → passing.Passing
 passed o (Ok u) = record { own = o; fault = None }
 passed o (Err f) = record { own = o; fault = Some f }
@@ -31,12 +31,12 @@ value_to_return o false = Ok None
 value_to_return o true =
     if same_integer (word o.words o.base) unset then Err fault.NoResult else Ok (Some (word o.words o.base))
 
--- The state in which the caller gets the value.
+-- The state in which the caller has received the value.
 abbrev pub returning : PrivateState → states.Frame → Option ℤ → PrivateState
 returning o f None = o
 returning o f (Some n) = set_temp o (f.temp + f.into) n
 
--- What is left for a unit that is called.
+-- The room that is left for a unit that is called.
 pub record HasRoom (x : Private) (shared : List ℤ) (call : Call) (u : CodeUnit) (place : ℕ) : Type 0 where
   pub frames : x.depth < length x.frames.items
   pub words : x.memory.base + call.words + u.words ≤ length x.memory.words.items

@@ -1,4 +1,4 @@
--- The kind of the next step of a process.
+-- The kind of a process's next step.
 use Rattle.std.specs.Prelude.{if◌then◌else◌}
 use Rattle.cp_code.specs.Programs.{Program}
 use Rattle.cp_steps.specs.KernelSteps.{needs_kernel}

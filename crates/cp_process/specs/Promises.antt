@@ -1,4 +1,5 @@
--- What private steps and turns, and the kind of the next step, promise, for each state of which a private state is the part.
+-- What private steps and turns promise, and what the kind of the next step promises, for each state
+-- of which a private state is a part.
 use Rattle.std.specs.Prelude.{◌≡◌, ℕ, List}
 use Rattle.cp_model.specs.Invariant.{Invariant, IsBlocked}
 use Rattle.cp_model.specs.Operators.{realtime}
@@ -14,7 +15,7 @@ use Rattle.cp_process.specs.declared.kind.Kind.{Kind}
 use Rattle.cp_process.specs.declared.kind.Kind.TheVariants as kind
 use Rattle.cp_process.specs.declared.private.Private.{Private}
 
--- y is the part of the process after its private step, whatever the state of which x is the part.
+-- y is the part of the process after its private step, for every state of which x is the part.
 abbrev pub MakesStep : Program → Private → Private → List ℕ → ℕ → Type 0
 MakesStep program x y input clock =
     (setup : Setup) (F : StandsFor (view.program program) setup) (p own : ℕ) (s : State) (before : List ℕ)
@@ -22,7 +23,7 @@ MakesStep program x y input clock =
     Invariant s → clock ≡ realtime (running_clock setup s) → PartOf G s before (private_of x input)
     → PartOf G (meaning.private_step setup s p) before (private_of y input)
 
--- The same of a turn.
+-- The same for a turn.
 abbrev pub MakesTurn : Program → ℕ → Private → Private → List ℕ → ℕ → Type 0
 MakesTurn program n x y input clock =
     (setup : Setup) (F : StandsFor (view.program program) setup) (p own : ℕ) (s : State) (before : List ℕ)
@@ -30,14 +31,14 @@ MakesTurn program n x y input clock =
     Invariant s → clock ≡ realtime (running_clock setup s) → PartOf G s before (private_of x input)
     → PartOf G (meaning.private_turn setup n s p) before (private_of y input)
 
--- The kind of step that is meant.
+-- The kind of step in the meaning.
 abbrev pub meant : Kind → meaning.Kind
 meant kind.Private = meaning.Private
 meant kind.Kernel = meaning.Kernel
 meant kind.None = meaning.NoStep
 
--- It is the kind of the next step of the process in each state of which x is the part, unless the process asks or is delayed: only the kernel
--- knows of that.
+-- k is the kind of the process's next step in each state of which x is the part, unless the process
+-- asks or is delayed, which only the kernel knows.
 abbrev pub TellsKind : Program → Private → List ℕ → Kind → Type 0
 TellsKind program x input k =
     (setup : Setup) (F : StandsFor (view.program program) setup) (p own : ℕ) (s : State) (before : List ℕ)

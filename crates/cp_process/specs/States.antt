@@ -1,4 +1,5 @@
--- The code's private state, and what a step reads beside and leaves, as the plain data of the definitions.
+-- The code's private state, what else a step reads, and what it leaves to the kernel, as the plain
+-- data of the definitions.
 use Rattle.std.specs.Prelude.{◌≡◌, ℕ, zero, suc, ℤ, List, [], ◌∷◌, ◌++◌, true, Option, None, Some, Result, Ok, Err, length, slice_get}
 use Rattle.cp_model.specs.States as model
 use Rattle.cp_model.specs.declared.state.Fault.{Fault}
@@ -45,12 +46,12 @@ abbrev pub frame_or_none : Option Frame → plain.Frame
 frame_or_none None = no_frame
 frame_or_none (Some f) = frame f
 
--- The frames in use, of which there are so many, the innermost first.
+-- The frames in use, given their number, with the innermost first.
 abbrev pub frames_in : ℕ → List Frame → List plain.Frame
 frames_in zero fs = []
 frames_in (suc n) fs = frame_or_none (slice_get fs n) ∷ frames_in n fs
 
--- A private state, and words that follow behind its own.
+-- A private state, with more words after its own.
 abbrev pub joined : Private → List ℕ → List ℤ → PrivateState
 joined x input shared = record {
   number = x.number;
@@ -89,7 +90,8 @@ stage stage_case.Begun = kernel.Begun
 stage (stage_case.Asking m) = kernel.Asking m
 stage (stage_case.Delayed monitor queue) = kernel.Delayed monitor queue
 
--- Monitors and processes are numbered from 1. One that isn't there is unset, or has begun.
+-- Monitors and processes are numbered from 1. A missing monitor is unset, and a missing process has
+-- begun.
 abbrev pub holder_or_none : Option Gate → model.Holder
 holder_or_none None = model.Unset
 holder_or_none (Some g) = holder g.holder
@@ -114,12 +116,12 @@ outside_of w own = record {
   is_started = λ r. kernel.is_started (stage_of w.stages.now r);
 }
 
--- Nothing of the kernel is told.
+-- Nothing of the kernel is read.
 pub record IsAlone (w : Outside) : Type 0 where
   pub gates : w.gates.now ≡ []
   pub stages : w.stages.now ≡ []
 
--- It runs and holds no gate: its next step may be private.
+-- The process runs and holds no gate, so its next step may be private.
 pub record IsReady (x : Private) : Type 0 where
   pub running : is_running (activity x.activity) ≡ true
   pub free : x.gate ≡ 0
@@ -135,12 +137,13 @@ effect (effect_case.Starts r) = plain.Starts r
 effect (effect_case.Delays monitor queue) = plain.Delays monitor queue
 effect (effect_case.Continues monitor resumed) = plain.Continues monitor resumed
 
--- A state, and what the step answered that led to it. A fault changes the activity alone.
+-- A state, with the result of the step that led to it. A fault changes only the activity.
 abbrev pub outcome : PrivateState → Result Effect Fault → Acting
 outcome o (Ok e) = (o, effect e)
 outcome o (Err f) = fault_in o f
 
--- The step leads from one state and its shared words to the other as the function of what is outside and of the state says.
+-- The step leads from one state and its shared words to the other, as the function `go` of the
+-- outside and the state says.
 abbrev pub IsStep : Private → List ℤ → Outside → Private → List ℤ → Result Effect Fault → (plain.Outside → PrivateState → Acting) → Type 0
 IsStep x shared w y after result go =
     outcome (joined y w.input.now after) result ≡ go (outside_of w (length x.memory.words.items)) (joined x w.input.now shared)

@@ -1,4 +1,4 @@
-//! What a private step reads beside: nothing of the kernel.
+//! What a private step reads besides its process's state: nothing of the kernel.
 
 ghost use Rattle.std.specs.Prelude.{◌≡◌};
 ghost use Rattle.cp_process.specs.States.{IsAlone};

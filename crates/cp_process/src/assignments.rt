@@ -1,4 +1,4 @@
-//! Assignments, and what chooses the operation that comes next.
+//! Assignments, and the operations that choose which operation comes next.
 
 ghost use Rattle.std.specs.Prelude.{◌≡◌, ◌<◌, ◌^◌, ℕ, pos, List, if◌then◌else◌, length};
 ghost use Rattle.cp_code.specs.Tables.{place_in};
@@ -17,7 +17,7 @@ use cp_model::state::Fault;
 use cp_threaded::operation::Table;
 use cp_threaded::term::{Spot, Term};
 
-/// The bounds of what may be assigned.
+/// The bounds of the values that may be assigned.
 #[derive(Clone, Copy)]
 pub(crate) struct Bounds {
     pub(crate) low: i32,
@@ -42,7 +42,7 @@ impl Bounds {
 }
 
 impl Private {
-    // The place may be told as the greatest number.
+    // The location may be capped to the largest `usize`.
     #[inline(always)]
     fn set_within(
         &mut self,
@@ -70,7 +70,8 @@ impl Private {
         Ok(Effect::None)
     }
 
-    // The bounds and the next place are read when the value is there, so that they aren't kept while it is found.
+    // The bounds and the next place are read once the value is known, so that they needn't be kept
+    // while it is evaluated.
     #[inline(always)]
     pub(crate) fn set(
         &mut self,
@@ -195,7 +196,7 @@ impl Private {
         }
     }
 
-    /// Leads to the operation at a place.
+    /// Goes on with the operation at `place`.
     #[inline(always)]
     pub(crate) fn go_to(
         &mut self,

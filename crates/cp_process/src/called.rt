@@ -1,23 +1,23 @@
-//! What a call finds, and where it leads back.
+//! What a call finds, and where it returns to.
 
 ghost use Rattle.std.specs.Prelude.{◌≡◌};
 
-/// The component that is called.
+/// The component whose routine is called.
 #[derive(Clone, Copy)]
 pub(crate) struct Called {
-    /// Its first word.
+    /// The location of its first word.
     pub(crate) component: usize,
-    /// Whether it was initialised.
+    /// Whether it has been initialised.
     pub(crate) is_set: bool,
     /// The monitor that is entered, or 0.
     pub(crate) gate: u32,
 }
 
-/// Where a call leads back.
+/// Where a call returns to.
 #[derive(Clone, Copy)]
 pub(crate) struct Back {
     pub(crate) place: u32,
-    /// The temp of the caller that takes the value.
+    /// The temp of the caller that receives the value.
     pub(crate) into: u32,
 }
 

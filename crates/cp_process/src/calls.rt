@@ -18,7 +18,7 @@ use cp_model::state::Fault;
 use cp_threaded::operation::Call;
 use cp_threaded::program::{CodeUnit, Program};
 
-// Whether so many are there from the first on, behind so many.
+// Whether there are `count` elements after the `before` elements that begin at `first`.
 fn fits(first: u32, before: u32, count: u32, all: usize) -> bool
     ensures { result ≡ nat_le (first + before + count) all }
 {
@@ -26,7 +26,7 @@ fn fits(first: u32, before: u32, count: u32, all: usize) -> bool
 }
 
 impl Private {
-    // Whether own words, temps and a frame are left for the unit, and its component is there.
+    // Whether own words, temps and a frame are left for the unit, and its component exists.
     fn has_room(&self, shared: &[i32], call: &Call, unit: &CodeUnit, component: usize) -> bool
         requires { length shared.now < 2 ^ 30 }
         ensures value { (w : states.Outside) (input : List ℕ)
@@ -57,7 +57,7 @@ impl Private {
         component <= self.memory.words.len() + shared.len()
     }
 
-    /// The unit of a call, if there is one and room for it.
+    /// Returns the unit of a call, if it exists and there is room for it.
     pub(crate) fn unit_with_room<'a>(
         &self,
         program: &'a Program,

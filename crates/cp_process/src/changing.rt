@@ -12,7 +12,7 @@ use crate::words;
 use cp_threaded::program::Start;
 
 impl Private {
-    /// Writes the word at a place, which may be told as the greatest number.
+    /// Writes the word at a location, which may be capped to the largest `usize`.
     #[inline(always)]
     pub(crate) fn set_word(&mut self, shared: &mut [i32], at: usize, n: i32)
         requires { length shared.old < 2 ^ 30 }
@@ -28,7 +28,7 @@ impl Private {
         words::write(&mut self.memory.words, shared, at, n);
     }
 
-    /// Writes the temp at a place. Nothing is written where it is missing.
+    /// Writes the temp at a place. Writes nothing if there is no such temp.
     pub(crate) fn set_temp(&mut self, at: usize, n: i32)
         ensures step { (input : List ℕ) (shared : List ℤ)
             → joined self.new input shared ≡ plain.set_temp
@@ -42,7 +42,7 @@ impl Private {
         }
     }
 
-    /// Copies so many words. The places may be told as the greatest number.
+    /// Copies `count` words. The locations may be capped to the largest `usize`.
     pub(crate) fn move_words(&mut self, shared: &mut [i32], to: usize, from: usize, count: usize)
         requires { length shared.old < 2 ^ 30 }
         ensures step { (input : List ℕ) (i j : ℕ) → capped i ≡ to → capped j ≡ from
@@ -56,7 +56,8 @@ impl Private {
         words::copy(&mut self.memory.words, shared, to, from, count);
     }
 
-    /// Makes words start as a plan says, which counts from a base. That of a function without variables marks its result alone.
+    /// Makes words start as a plan says. The plan counts from location `base`. The plan of a
+    /// function without variables marks only its result.
     #[inline(always)]
     pub(crate) fn start_words(&mut self, shared: &mut [i32], base: usize, plan: &[Start])
         requires shared { length shared.old < 2 ^ 30 }

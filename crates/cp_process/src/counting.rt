@@ -17,7 +17,7 @@ use cp_threaded::operation::Counting;
 use cp_threaded::term::Term;
 
 impl Private {
-    // The temp at a place, or 0 where it is missing.
+    // Returns the temp at a place, or 0 if it is missing.
     fn temp_at(&self, at: usize) -> i32
         ensures { result ≡ word self.now.memory.temps.items at }
     {
@@ -27,7 +27,7 @@ impl Private {
         }
     }
 
-    // Begins the body with the counter n.
+    // Begins the body with the counter `n`.
     fn count_to(
         &mut self,
         shared: &mut [i32],
@@ -60,7 +60,7 @@ impl Private {
         Ok(Effect::None)
     }
 
-    /// Begins a `for`, or passes it where nothing is counted.
+    /// Begins a `for`, or passes it if there is nothing to count.
     pub(crate) fn count_from(
         &mut self,
         shared: &mut [i32],
@@ -88,7 +88,7 @@ impl Private {
         self.count_to(shared, outside, counting, n, last)
     }
 
-    /// Counts one further, or passes the `for` after its last value.
+    /// Goes on to the next counter, or passes the `for` after its last value.
     pub(crate) fn count_on(
         &mut self,
         shared: &mut [i32],
@@ -124,7 +124,7 @@ fn is_past(down: bool, n: i32, last: i32) -> bool
     if down { n < last } else { last < n }
 }
 
-// The next number, if it has 32 bits.
+// Returns the next counter, if it fits in 32 bits.
 fn next_counter(down: bool, n: i32) -> Option<i32>
     ensures { MatchOption result (FitsSigned w32 (statements.next_counter down n) → ⊥)
         (λ m. m ≡ statements.next_counter down n) }

@@ -1,4 +1,4 @@
-//! Frames: what is kept of callers, and the registers of what runs.
+//! Frames: what is kept for callers, and the registers of the running activation.
 
 ghost use Rattle.std.specs.Prelude.{◌≡◌, ◌+◌, ◌-◌, ◌<◌, ◌^◌, ℕ, ℤ, suc, [], ◌∷◌, List, MatchOption, length};
 ghost use Rattle.cp_code.specs.Starts as starts;
@@ -16,10 +16,10 @@ use cp_model::state::Fault;
 use cp_threaded::operation::Call;
 use cp_threaded::program::CodeUnit;
 
-/// The word of a result that was never set.
+/// The word of a result that has not been set.
 const UNSET: i32 = i32::MIN;
 
-/// 0 is no monitor.
+/// Returns the effect of entering a monitor. The number 0 stands for no monitor.
 pub(crate) fn enters(gate: u32) -> Effect
     ensures { effect result ≡ plain.gate_effect gate Enters }
 {
@@ -47,7 +47,7 @@ fn innermost_gate(entered: u32, held: u32) -> u32
 }
 
 impl Private {
-    /// The frame of the innermost call, if one is made.
+    /// Returns the frame of the innermost call, if there is one.
     pub(crate) fn innermost(&self) -> Option<Frame>
         ensures { MatchOption result (self.now.depth ≡ 0) (λ f. (depth : ℕ)
             × (self.now.depth ≡ suc depth)
@@ -74,7 +74,8 @@ impl Private {
         self.depth = depth + 1;
     }
 
-    /// The unit runs in the component that is called, and its frame keeps what the caller needs.
+    /// Enters the unit in the component whose routine is called. A frame keeps what the caller
+    /// needs.
     pub(crate) fn enter(&mut self, callee: Called, unit: &CodeUnit, call: &Call, link: Back)
         requires frame { self.old.depth < length self.old.frames.items }
         requires base { self.old.memory.base + call.now.words < 2 ^ 32 }
@@ -105,7 +106,7 @@ impl Private {
         self.keep(frame);
     }
 
-    /// The value that the running routine returns, if it is a function.
+    /// Returns the value that the running routine returns, if it is a function.
     pub(crate) fn value_to_return(
         &self,
         shared: &[i32],
@@ -125,7 +126,7 @@ impl Private {
         Ok(Some(value))
     }
 
-    /// Back in the caller, which gets the value.
+    /// Returns to the caller, which receives the value.
     pub(crate) fn return_to(&mut self, caller: Frame, value: Option<i32>)
         requires { 0 < self.old.depth }
         ensures step { (input : List ℕ) (shared : List ℤ)

@@ -15,7 +15,7 @@ use cp_model::state::Fault;
 use cp_threaded::operation::{Argument, Call};
 use cp_threaded::program::Program;
 
-// Where the parameters of the process wait among the shared words.
+// Returns where the parameters of the process wait among the shared words.
 fn parameters_start(program: &Program, process: u32) -> u32
     ensures { result ≡ plain.parameters_start (view.program program.now) process }
 {
@@ -26,7 +26,7 @@ fn parameters_start(program: &Program, process: u32) -> u32
 }
 
 impl Private {
-    // Copies the arguments to where they belong, behind the mark of the component.
+    // Copies the arguments to where they belong, after the mark of the component.
     fn settle(&mut self, shared: &mut [i32], from: usize, to: usize, count: usize)
         requires shared { length shared.old < 2 ^ 30 }
         requires from { from < 2 ^ 35 }

@@ -1,4 +1,4 @@
-//! Whose the next step of a process is.
+//! The kind of a process's next step.
 
 ghost use Rattle.std.specs.Prelude.{◌≡◌, ℕ, List};
 ghost use Rattle.cp_process.specs.Kinds.{kind_of};
@@ -10,12 +10,12 @@ use crate::private::{Activity, Private};
 use crate::step::needs_kernel;
 use cp_threaded::program::Program;
 
-/// Whose the next step of a process is.
+/// Whether the next step of a process is private or the kernel's.
 #[derive(Clone, Copy, Debug, PartialEq, Eq)]
 pub enum Kind {
     Private,
     Kernel,
-    /// There is none.
+    /// There is no next step.
     None,
 }
 
@@ -36,7 +36,8 @@ fn kind_at_place(program: &Program, private: &Private) -> Kind
     }
 }
 
-/// Whose the next step is: the kernel's in a monitor, and where a monitor or process is called or initialised.
+/// Returns the kind of the next step. It is the kernel's inside a monitor, and if it calls a
+/// monitor or initialises a monitor or a process.
 pub fn next_kind(program: &Program, private: &Private) -> Kind
     ensures kind { (input : List ℕ) → result ≡ kind_of (view.program program.now)
         (private_of private.now input) }

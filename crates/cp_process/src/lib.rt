@@ -1,14 +1,17 @@
 //! The private state of a process of the whole language, and its steps.
 //!
-//! For any program and any private state a step is the function on plain data that cp_steps defines (`specs/States.antt` says of what
-//! data), over the process's own words and the shared ones after them, so that private and kernel steps are one function. Over the
-//! law of cp_steps, private steps and turns are the meaning's (`specs/Promises.antt`).
+//! For any program and any private state, a step is the function on plain data that cp_steps
+//! defines (`specs/States.antt` defines the plain data). It works on the process's own words and
+//! the shared words after them, so that private and kernel steps are one function. By the law of
+//! cp_steps, private steps and turns are those of the meaning (`specs/Promises.antt`).
 //!
-//! - `private`, `making`: the private state; how it is made, copied and read.
-//! - `outside`, `effect`: what a step reads beside, and what it leaves to the kernel.
+//! - `private`, `making`: the private state, and how it is made, copied and read.
+//! - `outside`, `effect`: what else a step reads, and what it leaves to the kernel.
 //! - `words`, `changing`, `reading`, `frames`, `starting`: words, temps and frames.
-//! - `assignments`, `counting`, `standards`, `targets`, `passing`, `calls`, `returns`, `initialisation`: the steps of operations.
-//! - `step`, `turns`, `kind`: a step of any operation, turns, and whose the next step is.
+//! - `assignments`, `counting`, `standards`, `targets`, `passing`, `calls`, `returns`,
+//!   `initialisation`: the steps of operations.
+//! - `step`, `turns`, `kind`: a step of any operation, turns, and whether the next step is private
+//!   or the kernel's.
 #![tactic(auto)]
 
 mod alone;

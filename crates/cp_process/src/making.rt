@@ -1,4 +1,4 @@
-//! How private states are made, copied and read, and what the kernel and rounds change of them.
+//! How private states are made, copied and read, and how the kernel and rounds change them.
 
 ghost use Rattle.std.specs.Prelude.{◌≡◌, ◌<◌, ◌≤◌, ◌-◌, ◌*◌, ◌^◌, ℕ, List, [], IfOk, OnOk, Some, pos, replicate, length, slice_get, vec_capacity, vec_len};
 ghost use Rattle.cp_code.specs.Programs as code;
@@ -17,13 +17,14 @@ use cp_threaded::reach::Memory;
 use smallvec::SmallVec;
 use std::alloc::{AllocError, Global};
 
-/// A process has fewer words and temps than this.
+/// A process has fewer words, and fewer temps, than this.
 const TOO_MANY: usize = 1 << 30;
 
-// So many words are left free behind those of a process: no cache line then holds words of two processes, which may run at once.
+// The number of words that are left free after those of a process, so that no cache line holds
+// words of two processes, which may run at the same time.
 const WORDS_APART: usize = 16;
 
-// What a process needs for its body and all that it calls.
+// What a process needs for its body and everything that it calls.
 #[derive(Clone, Copy)]
 struct Needs {
     start: u32,
@@ -54,7 +55,7 @@ fn needs_of(program: &Program, body: u32) -> Needs
     }
 }
 
-// The words of a process at the start.
+// Returns the words of a process at the start.
 fn first_words(
     alloc: Global,
     program: &Program,
@@ -74,11 +75,12 @@ fn first_words(
 }
 
 impl Private {
-    /// The private state of process p at the start.
+    /// Returns the private state of process p at the start.
     ///
     /// # Errors
     ///
-    /// `AllocError` where memory runs out, or where the process has 2^30 words or temps, or its number has 31 bits.
+    /// `AllocError` if memory runs out, if the process has 2^30 or more words or temps, or if its
+    /// number is 2^30 or more.
     pub fn new(alloc: Global, program: &Program, p: usize) -> Result<Private, AllocError>
         requires first { 1 ≤ p }
         requires last { p ≤ length (view.program program.now).processes }
@@ -118,11 +120,11 @@ impl Private {
         })
     }
 
-    /// A private state of the same content.
+    /// Returns a private state with the same content.
     ///
     /// # Errors
     ///
-    /// `AllocError` where memory runs out.
+    /// `AllocError` if memory runs out.
     pub fn copy(&self, alloc: Global) -> Result<Private, AllocError>
         ensures { IfOk result
             (λ x. (input : List ℕ) → private_of x input ≡ private_of self.now input) }
@@ -146,11 +148,11 @@ impl Private {
         })
     }
 
-    /// Makes room for the output of a turn. The content stays as it is.
+    /// Reserves room for the output of a turn. The content stays as it is.
     ///
     /// # Errors
     ///
-    /// `AllocError` where memory runs out.
+    /// `AllocError` if memory runs out.
     pub fn reserve(&mut self, turn: Turn) -> Result<(), AllocError>
         ensures room { OnOk result (HasRoomFor self.new turn.steps) }
         ensures content { (input : List ℕ) → private_of self.new input ≡ private_of self.old input }
@@ -158,11 +160,12 @@ impl Private {
         self.output.reserve(11 * turn.steps() as usize)
     }
 
-    /// Makes room for the output of a round: of a private turn, and then of a kernel turn. The content stays as it is.
+    /// Reserves room for the output of a round, which is a private turn and then a kernel turn. The
+    /// content stays as it is.
     ///
     /// # Errors
     ///
-    /// `AllocError` where memory runs out.
+    /// `AllocError` if memory runs out.
     pub fn reserve_round(&mut self, turn: Turn) -> Result<(), AllocError>
         ensures room { OnOk result (HasRoomFor self.new (2 * turn.steps)) }
         ensures number { self.new.number ≡ self.old.number }
@@ -171,7 +174,7 @@ impl Private {
         self.output.reserve(22 * turn.steps() as usize)
     }
 
-    /// Its number, from 1.
+    /// Returns the number of the process, from 1.
     pub fn number(&self) -> usize
         ensures number { (input : List ℕ) → result ≡ (private_of self.now input).number }
         ensures small { result < 2 ^ 31 }
@@ -179,7 +182,7 @@ impl Private {
         self.number
     }
 
-    /// How many words it has of its own.
+    /// Returns how many words of its own the process has.
     pub fn words(&self) -> usize
         ensures words { (input : List ℕ) → result ≡ length (private_of self.now input).words }
         ensures few { result < 2 ^ 30 }
@@ -187,28 +190,28 @@ impl Private {
         self.memory.words.len()
     }
 
-    /// Whether it runs.
+    /// Returns whether the process runs, waits, has ended or has faulted.
     pub fn activity(&self) -> Activity
         ensures { (input : List ℕ) → activity result ≡ (private_of self.now input).activity }
     {
         self.activity
     }
 
-    /// The word at a place. A missing one reads as 0.
+    /// Returns the word at a location. A missing word reads as 0.
     pub fn value(&self, at: usize) -> i32
         ensures { (input : List ℕ) → result ≡ word (private_of self.now input).words at }
     {
         words::read(&self.memory.words, &[], at)
     }
 
-    /// Its output that isn't yet in its transcript.
+    /// Returns the output that isn't in the transcript yet.
     pub fn output(&self) -> &[u8]
         ensures { (input : List ℕ) → result.now ≡ (private_of self.now input).output }
     {
         &self.output
     }
 
-    /// Takes away its output, once that is in its transcript. The room for it stays.
+    /// Clears the output, once it is in the transcript. The room for it stays.
     pub fn clear_output(&mut self)
         ensures content { (input : List ℕ) → private_of self.new input
             ≡ record (private_of self.old input) { output = [] } }
@@ -218,7 +221,7 @@ impl Private {
         self.output.clear();
     }
 
-    /// Runs again, if it waits for the clock.
+    /// Lets the process run again if it waits for the clock.
     pub fn wake(&mut self)
         ensures content { (input : List ℕ) → private_of self.new input ≡ plain.wake_one
             (private_of self.old input) }
@@ -230,7 +233,7 @@ impl Private {
         }
     }
 
-    /// Begins, with the parameters that wait for it among the shared words.
+    /// Begins the process, with its parameters, which wait among the shared words.
     pub fn begin(&mut self, program: &Program, shared: &[i32])
         ensures { (input : List ℕ) (k : Kernel) → k.shared ≡ shared.now → private_of self.new input
             ≡ plain.begin_from (view.program program.now) k (private_of self.old input) }

@@ -1,4 +1,4 @@
-//! What a step reads beside the words and the private state of its process.
+//! What a step reads besides the words and the private state of its process.
 
 /// Who holds the gate of a monitor.
 #[derive(Clone, Copy, Debug, PartialEq, Eq)]
@@ -6,11 +6,12 @@ pub enum Holder {
     /// The monitor isn't initialised.
     Unset,
     Free,
-    /// The process of this number.
+    /// The process with this number.
     Process(u32),
 }
 
-/// The gate of a monitor: who holds it, and by their numbers who asks for it, in the order in which they asked.
+/// The gate of a monitor: its holder, and the numbers of its askers, in the order in which they
+/// asked.
 #[derive(Debug, Drop)]
 pub struct Gate {
     pub holder: Holder,
@@ -21,23 +22,23 @@ pub struct Gate {
 #[derive(Clone, Copy, Debug, PartialEq, Eq)]
 pub enum Stage {
     Unstarted,
-    /// Started in the running round.
+    /// Started in the current round.
     Fresh,
     Begun,
-    /// It waits for the gate of this monitor.
+    /// Waiting for the gate of this monitor.
     Asking(u32),
-    /// It stands in a queue of this monitor, which is this one of the shared words.
+    /// Waiting in a queue of this monitor, whose word is shared word `queue`.
     Delayed { monitor: u32, queue: u32 },
 }
 
-/// What a step reads beside: the clock, the input of the process, and what the kernel tells.
+/// What else a step reads: the clock, the input of the process, and what the kernel knows.
 #[derive(Clone, Copy)]
 pub struct Outside<'a> {
     /// The seconds since the start.
     pub clock: u64,
     pub input: &'a [u8],
-    /// By number, from 1: the gates of monitors.
+    /// The gates of monitors by number, from 1.
     pub gates: &'a [Gate],
-    /// By number, from 1: what is known of processes.
+    /// What the kernel knows of processes, by number, from 1.
     pub stages: &'a [Stage],
 }

@@ -16,7 +16,8 @@ use cp_model::state::Fault;
 use cp_threaded::operation::{Argument, Target};
 use cp_threaded::term::{Spot, Term};
 
-/// Where arguments are put: their first word, and the first word of the activation or component that they are of in the end.
+/// Where arguments are put: the location of the first word there, and the location of the first
+/// word of the activation or component that they belong to in the end.
 #[derive(Clone, Copy)]
 pub(crate) struct Destination {
     pub(crate) to: usize,
@@ -25,7 +26,8 @@ pub(crate) struct Destination {
 }
 
 impl Private {
-    // The bounds are read when the value is there, so that they aren't kept while it is found.
+    // The bounds are read once the value is known, so that they needn't be kept while it is
+    // evaluated.
     fn pass_value(
         &mut self,
         shared: &mut [i32],
@@ -78,7 +80,7 @@ impl Private {
         Ok(())
     }
 
-    // A place as a word. One beyond all words is told by 0.
+    // Returns a location as a word, or 0 if it lies beyond all words.
     fn reference_word(&self, shared: &[i32], at: usize) -> i32
         requires { length shared.now < 2 ^ 30 }
         ensures { (input : List ℕ) (place : ℕ) → capped place ≡ at → result ≡ plain.reference_word
@@ -168,7 +170,8 @@ impl Private {
         }
     }
 
-    /// Passes arguments from the first on. One that faults ends it, and the words of those before it stay.
+    /// Passes arguments from the first one on. A fault ends the passing, and the words passed
+    /// before it stay.
     pub(crate) fn pass_all(
         &mut self,
         shared: &mut [i32],

@@ -1,4 +1,4 @@
-//! What evaluation reads of a private state, and the values and places that it finds.
+//! What evaluation reads of a private state, and the values and locations that it finds.
 
 ghost use Rattle.std.specs.Prelude.{◌≡◌, ◌<◌, ◌^◌, ℕ, List, length};
 ghost use Rattle.cp_code.specs.Starts.{word};
@@ -16,7 +16,7 @@ use cp_threaded::reach::Reach;
 use cp_threaded::term::{Spot, Term};
 
 impl Private {
-    /// What evaluation reads.
+    /// Returns what evaluation reads.
     #[inline(always)]
     pub(crate) fn reach<'a>(&'a self, shared: &'a [i32], outside: &Outside) -> Reach<'a>
         requires { length shared.now < 2 ^ 30 }
@@ -30,7 +30,7 @@ impl Private {
         }
     }
 
-    /// The word at a place, which may be told as the greatest number.
+    /// Returns the word at a location, which may be capped to the largest `usize`.
     #[inline(always)]
     pub(crate) fn word(&self, shared: &[i32], at: usize) -> i32
         requires { length shared.now < 2 ^ 30 }
@@ -40,7 +40,7 @@ impl Private {
         words::read(&self.memory.words, shared, at)
     }
 
-    /// The value of a term.
+    /// Returns the value of a term.
     #[inline(always)]
     pub(crate) fn evaluate(
         &self,
@@ -56,7 +56,7 @@ impl Private {
         term.value(&self.reach(shared, outside))
     }
 
-    /// The same value, found without a call where the operands are numbers and words.
+    /// Returns the same value as `evaluate`, without a call if the operands are numbers and words.
     #[inline(always)]
     pub(crate) fn evaluate_here(
         &self,
@@ -72,7 +72,8 @@ impl Private {
         term.value_here(&self.reach(shared, outside))
     }
 
-    /// The place of a spot. One beyond all words is told as the greatest number.
+    /// Returns the location of a spot. A location beyond all words may be capped to the largest
+    /// `usize`.
     #[inline(always)]
     pub(crate) fn place(
         &self,

@@ -15,7 +15,7 @@ use cp_model::state::Fault;
 use cp_threaded::term::Spot;
 
 impl Private {
-    /// Returns from the running routine. A function that has set no result is a fault.
+    /// Returns from the running routine. It is a fault if a function has set no result.
     pub(crate) fn give_back(
         &mut self,
         shared: &[i32],
@@ -57,7 +57,8 @@ impl Private {
         Ok(leaves(frame.gate))
     }
 
-    /// Lets go whoever stands in a queue, and returns. Where the running routine has entered no monitor, nothing is done.
+    /// Resumes the process that waits in a queue, if there is one, and returns from the running
+    /// routine. Does nothing if that routine has entered no monitor.
     pub(crate) fn let_go(
         &mut self,
         shared: &mut [i32],

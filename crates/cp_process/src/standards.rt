@@ -18,14 +18,14 @@ use cp_model::state::Fault;
 use cp_threaded::term::{Spot, Term};
 use itoa::Buffer;
 
-// A character as its byte.
+// Returns a character as its byte.
 fn byte(n: i32) -> u8
     ensures { result ≡ standard.byte n }
 {
     if n < 0 { 0 } else { (n % 256) as u8 }
 }
 
-// The number that comes next in the input. At its end that is 25.
+// Returns the number of the next character of the input, or 25 at its end.
 fn next_input(input: &[u8], consumed: usize) -> i32
     ensures { result ≡ standard.next_input input.now consumed }
 {
@@ -35,7 +35,7 @@ fn next_input(input: &[u8], consumed: usize) -> i32
     }
 }
 
-// The place behind it. At the end nothing is taken.
+// Returns the position after that character. At the end of the input it stays the same.
 fn next_place(input: &[u8], consumed: usize) -> usize
     ensures { result ≡ standard.next_place input.now consumed }
 {
@@ -153,7 +153,7 @@ impl Private {
         })
     }
 
-    /// Waits for the clock.
+    /// Makes the process wait for the clock.
     pub(crate) fn wait(
         &mut self,
         shared: &[i32],
@@ -171,7 +171,7 @@ impl Private {
         Ok(Effect::None)
     }
 
-    /// Has no more to do.
+    /// Ends the process.
     pub(crate) fn end(&mut self, shared: &[i32], outside: &Outside) -> Result<Effect, Fault>
         ensures step { IsStep self.old shared.now outside.now self.new shared.now result
             (λ w o. private_outcome (record o { activity = states.Ended })) }

@@ -19,7 +19,8 @@ use cp_threaded::program::Program;
 use cp_threaded::term::{Spot, Term};
 
 impl Private {
-    // The step of an operation. Where it faults, no more than what was passed to a call has changed.
+    // Makes the step of an operation. If it faults, nothing has changed except what was passed to a
+    // call.
     #[inline(always)]
     fn act(
         &mut self,
@@ -135,8 +136,9 @@ impl Private {
         }
     }
 
-    // Makes a private step that assigns a value: the most common one, so it takes no way through all operations. Tells whether the
-    // process is ready as before: a fault has ended it if not.
+    // Makes a private step that assigns a value. This is the most common step, so it is found
+    // before all other operations. Returns whether the process is as ready as before: if not, a
+    // fault has ended it.
     #[inline(always)]
     fn assign(
         &mut self,
@@ -164,7 +166,7 @@ impl Private {
         true
     }
 
-    /// Whether it runs and holds no gate, so that its next step may be private.
+    /// Whether the process runs and holds no gate, so that its next step may be private.
     #[inline(always)]
     pub(crate) fn is_ready(&self) -> bool
         ensures ready { result ≡ true → IsReady self.now }
@@ -175,7 +177,8 @@ impl Private {
         matches!(self.activity, Activity::Running) && self.gate == 0
     }
 
-    /// Takes the next step of a process that is ready, if it is private. Tells whether one more may be.
+    /// Makes the next step of a process that is ready, if the step is private. Returns whether one
+    /// more step may be private.
     #[inline(always)]
     pub(crate) fn take_step(&mut self, program: &Program, outside: &Outside) -> bool
         requires alone { IsAlone outside.now }
@@ -218,12 +221,12 @@ fn is_monitor(target: Target) -> bool
     matches!(target, Target::Monitor(_) | Target::MonitorRight(_))
 }
 
-/// Whether the step of an operation is the kernel's wherever it is made.
+/// Whether the step of an operation is always the kernel's.
 #[inline(always)]
 pub(crate) fn needs_kernel(operation: &Operation) -> bool
     ensures { result ≡ plain.is_kernel_operation (view.operation operation.now) }
 {
-    // One test tells most operations apart.
+    // One test singles out most operations.
     if !matches!(
         operation,
         Operation::Procedure { .. }

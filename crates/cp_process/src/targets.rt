@@ -1,4 +1,4 @@
-//! The components that calls and rights name.
+//! The components that calls and rights refer to.
 
 ghost use Rattle.std.specs.Prelude.{◌≡◌, ◌+◌, ◌<◌, ◌^◌, ◌+ℤ◌, ℕ, pos, List, length};
 ghost use Rattle.cp_code.specs.Layout as layout;
@@ -16,7 +16,7 @@ use cp_threaded::operation::Target;
 use cp_threaded::program::Program;
 
 impl<'a> Outside<'a> {
-    // Whether the monitor was initialised.
+    // Whether the monitor has been initialised.
     fn is_set(&self, monitor: u32) -> bool
         ensures { result ≡ kernel.is_set (holder_of self.now.gates.now monitor) }
     {
@@ -29,7 +29,7 @@ impl<'a> Outside<'a> {
         }
     }
 
-    /// Whether the process was initialised.
+    /// Whether the process has been initialised.
     pub(crate) fn is_started(&self, process: u32) -> bool
         ensures { result ≡ kernel.is_started (stage_of self.now.stages.now process) }
     {
@@ -43,14 +43,14 @@ impl<'a> Outside<'a> {
     }
 }
 
-// A word as a number that can't be negative.
+// Returns a word as a natural number, or 0 if it is negative.
 fn natural(n: i32) -> u32
     ensures { result ≡ layout.natural n }
 {
     if n < 0 { 0 } else { n as u32 }
 }
 
-// The place so far away.
+// Returns the location at the distance `far` from `place`.
 fn displace(place: usize, far: i32) -> usize
     requires { place < 2 ^ 34 }
     ensures place { result ≡ layout.natural (pos place +ℤ far) }
@@ -63,7 +63,7 @@ fn displace(place: usize, far: i32) -> usize
     }
 }
 
-// Where the words of the monitor begin among the shared ones.
+// Returns where the words of the monitor begin among the shared words.
 fn monitor_start(program: &Program, monitor: u32) -> u32
     ensures { result ≡ plain.monitor_start (view.program program.now) monitor }
 {
@@ -81,7 +81,7 @@ impl Private {
         self.memory.component as usize + at as usize
     }
 
-    // The place of the class to which a word of the component holds a right.
+    // Returns the location of the class to which a word of the component holds a right.
     fn class_right(&self, shared: &[i32], at: u32) -> usize
         requires { length shared.now < 2 ^ 30 }
         ensures place { (input : List ℕ) → result ≡ plain.class_right
@@ -120,7 +120,7 @@ impl Private {
         }
     }
 
-    /// The component that a target names.
+    /// Returns the component that a target refers to.
     #[inline(always)]
     pub(crate) fn callee(
         &self,
@@ -150,7 +150,8 @@ impl Private {
         }
     }
 
-    // How far a class at the one place lies from the word at the other. A place that isn't there is told by 0.
+    // Returns the distance from the word at `from` to the class at `at`, or 0 if either location is
+    // missing.
     fn distance_word(&self, shared: &[i32], at: usize, from: usize) -> i32
         requires { length shared.now < 2 ^ 30 }
         ensures { (input : List ℕ) → result ≡ plain.distance_word
@@ -164,7 +165,7 @@ impl Private {
         }
     }
 
-    /// A right as it is handed on, to lie in the word `to`.
+    /// Returns a right as it is passed on, to be stored in the word at `to`.
     pub(crate) fn right_word(&self, shared: &[i32], to: usize, target: Target) -> i32
         requires { length shared.now < 2 ^ 30 }
         ensures { (input : List ℕ) → result ≡ plain.right_word (joined self.now input shared.now) to
@@ -182,7 +183,7 @@ impl Private {
     }
 }
 
-// The number of a monitor, if it has 31 bits.
+// Returns the number of a monitor as a word, or 0 if it doesn't fit in 31 bits.
 fn monitor_word(monitor: u32) -> i32
     ensures { result ≡ plain.monitor_word monitor }
 {

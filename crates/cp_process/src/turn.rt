@@ -9,16 +9,16 @@ pub struct Turn {
     ghost in_range: { (1 ≤ steps) × (steps ≤ 10000) },
 }
 
-/// A number that is no turn: 0, or more than 10,000.
+/// A number that is not a turn: 0, or more than 10,000.
 #[derive(Clone, Copy, Debug, PartialEq, Eq)]
 pub struct NoTurn;
 
 impl Turn {
-    /// A turn of so many steps.
+    /// Returns a turn of `steps` steps.
     ///
     /// # Errors
     ///
-    /// `NoTurn` where the number isn't within 1..=10,000.
+    /// `NoTurn` if the number isn't within 1..=10,000.
     pub fn new(steps: u32) -> Result<Turn, NoTurn>
         ensures range { IsOk result ↔ ((1 ≤ steps) × (steps ≤ 10000)) }
         ensures steps { IfOk result (λ turn. turn.steps ≡ steps) }
@@ -30,7 +30,7 @@ impl Turn {
         }
     }
 
-    /// How many steps it has.
+    /// Returns the number of steps.
     pub fn steps(&self) -> u32
         ensures steps { result ≡ self.now.steps }
         ensures range { (1 ≤ result) × (result ≤ 10000) }

@@ -14,7 +14,7 @@ use crate::turn::Turn;
 use cp_steps::law;
 use cp_threaded::program::Program;
 
-// So many steps, while the next one is private.
+// Makes `count` steps, as long as the next one is private.
 fn take_steps(program: &Program, private: &mut Private, outside: &Outside, count: u32)
     requires alone { IsAlone outside.now }
     requires room { HasRoomFor private.old count }
@@ -35,7 +35,7 @@ fn take_steps(program: &Program, private: &mut Private, outside: &Outside, count
     }
 }
 
-/// One step, if the next one is private; else nothing. It takes no memory.
+/// Makes one step if the next one is private, and otherwise does nothing. It takes no memory.
 pub fn private_step(program: &Program, private: &mut Private, input: &[u8], clock: u64)
     requires room { HasRoomFor private.old 1 }
     ensures step { private_of private.new input.now ≡ plain.private_step (view.program program.now)
@@ -48,8 +48,8 @@ pub fn private_step(program: &Program, private: &mut Private, input: &[u8], cloc
     law::private_steps();
 }
 
-/// As many steps as the turn has, while the next one is private. It takes no memory: `Private::reserve` makes the room. A step
-/// writes at most 11 bytes.
+/// Makes as many steps as the turn has, as long as the next one is private. It takes no memory:
+/// `Private::reserve` reserves the room. A step writes at most 11 bytes.
 pub fn private_turn(program: &Program, private: &mut Private, input: &[u8], clock: u64, turn: Turn)
     requires room { HasRoomFor private.old turn.steps }
     ensures steps { private_of private.new input.now ≡ plain.private_steps
@@ -68,7 +68,8 @@ pub fn private_turn(program: &Program, private: &mut Private, input: &[u8], cloc
     law::private_steps();
 }
 
-/// One step of a running process, of any kind: what it leaves to the kernel is answered. It takes no memory.
+/// Makes one step of a running process, of any kind, and returns what it leaves to the kernel. It
+/// takes no memory.
 pub fn step(
     program: &Program,
     private: &mut Private,

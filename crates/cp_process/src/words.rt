@@ -1,6 +1,7 @@
-//! The words that a step reads and writes: the process's own, and the shared ones, which follow behind them.
+//! The words that a step reads and writes: the process's own words, and the shared words after
+//! them.
 //!
-//! A word that is missing reads as 0, and nothing is written there.
+//! A missing word reads as 0, and writing it does nothing.
 
 ghost use Rattle.std.specs.Prelude.{◌≡◌, ◌+◌, ◌-◌, ◌≤◌, ◌<◌, ◌^◌, ◌++◌, ℕ, length, map, slice_set};
 ghost use Rattle.cp_code.specs.Starts as plain;
@@ -19,7 +20,7 @@ fn word(words: &[i32], at: usize) -> i32
     }
 }
 
-/// The word at a place.
+/// Returns the word at a location.
 #[inline(always)]
 pub(crate) fn read(own: &[i32], shared: &[i32], at: usize) -> i32
     requires { length own.now + length shared.now < 2 ^ 32 }
@@ -33,7 +34,7 @@ pub(crate) fn read(own: &[i32], shared: &[i32], at: usize) -> i32
     }
 }
 
-/// Writes the word at a place.
+/// Writes the word at a location.
 #[inline(always)]
 #[tactic(auto, using(crate::proofs::Blocks::set_own, crate::proofs::Blocks::set_shared, crate::proofs::Blocks::set_neither))]
 pub(crate) fn write(own: &mut [i32], shared: &mut [i32], at: usize, n: i32)
@@ -55,7 +56,7 @@ pub(crate) fn write(own: &mut [i32], shared: &mut [i32], at: usize, n: i32)
     }
 }
 
-/// Sets so many words to one value.
+/// Sets `count` words to the value `n`.
 pub(crate) fn fill(own: &mut [i32], shared: &mut [i32], at: usize, count: usize, n: i32)
     requires { length own.old + length shared.old < 2 ^ 32 }
     ensures words { own.new ++ shared.new ≡ plain.fill at count n (own.old ++ shared.old) }
@@ -69,7 +70,7 @@ pub(crate) fn fill(own: &mut [i32], shared: &mut [i32], at: usize, count: usize,
     }
 }
 
-// From the first word on, which is right where they move down.
+// Copies from the first word on, which is right if the words move down.
 fn copy_down(own: &mut [i32], shared: &mut [i32], to: usize, from: usize, count: usize)
     requires words { length own.old + length shared.old < 2 ^ 32 }
     requires there { to + count ≤ length own.old + length shared.old }
@@ -85,7 +86,7 @@ fn copy_down(own: &mut [i32], shared: &mut [i32], to: usize, from: usize, count:
     }
 }
 
-// From the last word on, which is right where they move up.
+// Copies from the last word on, which is right if the words move up.
 fn copy_up(own: &mut [i32], shared: &mut [i32], to: usize, from: usize, count: usize)
     requires words { length own.old + length shared.old < 2 ^ 32 }
     requires there { to + count ≤ length own.old + length shared.old }
@@ -101,7 +102,7 @@ fn copy_up(own: &mut [i32], shared: &mut [i32], to: usize, from: usize, count: u
     }
 }
 
-/// Copies so many words, which are all read before the first one is written.
+/// Copies `count` words, as if all were read before the first one is written.
 pub(crate) fn copy(own: &mut [i32], shared: &mut [i32], to: usize, from: usize, count: usize)
     requires { length own.old + length shared.old < 2 ^ 32 }
     ensures words { own.new ++ shared.new ≡ plain.paste to
@@ -121,7 +122,7 @@ pub(crate) fn copy(own: &mut [i32], shared: &mut [i32], to: usize, from: usize, 
     }
 }
 
-// So many more blocks like the one of this size.
+// Repeats the block of `size` words at location `at` `count` more times after it.
 fn repeat(own: &mut [i32], shared: &mut [i32], at: usize, size: usize, count: usize)
     requires words { length own.old + length shared.old < 2 ^ 32 }
     requires at { at < 2 ^ 34 }
@@ -163,7 +164,7 @@ fn start_by(own: &mut [i32], shared: &mut [i32], base: usize, start: Start)
     }
 }
 
-/// Makes words start as a plan says, which counts from a base.
+/// Makes words start as a plan says. The plan counts from location `base`.
 pub(crate) fn start(own: &mut [i32], shared: &mut [i32], base: usize, plan: &[Start])
     requires words { length own.old + length shared.old < 2 ^ 32 }
     requires base { base < 2 ^ 33 }
@@ -177,7 +178,7 @@ pub(crate) fn start(own: &mut [i32], shared: &mut [i32], base: usize, plan: &[St
     }
 }
 
-/// Copies so many words from elsewhere.
+/// Copies `count` words from `source` into the process's own words.
 pub(crate) fn bring(own: &mut [i32], to: usize, source: &[i32], from: usize, count: usize)
     requires { from < 2 ^ 33 }
     ensures { own.new ≡ plain.paste to (plain.block source.now from count) own.old }

@@ -1,4 +1,4 @@
--- Decimal digits of 64 bits: those of the standard library are those of the definitions.
+-- Decimal digits of 64 bits: the standard library's are those of the definitions.
 use Rattle.std.proofs.Common.{◌≡◌, suc, ◌^◌, ◌<◌, ℤ, pos, negsuc, ◌∷◌, ap, arith}
 use Rattle.std.specs.Fmt.{signed_decimal}
 use Rattle.std.specs.Int.Signed.{mag}

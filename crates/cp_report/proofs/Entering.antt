@@ -60,7 +60,7 @@ module _ (tables : Tables) (v : Visit) (n : ℕ) (old new : Walk) (out : Text) w
   Heads k head =
       (g : GlobalScope) (y : Bor System) → ScopeStands tables.names tables.types g → system_at tables.types k ≡ Some y → HeadIs g (erase.system (view.system y.now)) head
 
-  -- A class, whose members come behind its head.
+  -- A class, whose members come after its head.
   pub class_enters : (k head : ℕ) (members : Vec Field Global) → row_at tables.types n ≡ Some (row.Component k members) → Heads k (Some head)
       → new.stack.items ≡ old.stack.items ++ cursor n 0 (length old.path.items) ∷ [] → new.path.items ≡ old.path.items → new.at ≡ old.at + head → Enters tables v n old new out out
   class_enters k head members there heads stack path at g t p rest scope stands named text was =

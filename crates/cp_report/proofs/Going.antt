@@ -1,4 +1,4 @@
--- A walk goes on: what was told and what is left keep coming to the same text.
+-- As a walk goes on, the text reported and what is left keep making up the same text.
 use Rattle.std.proofs.Common.{◌≡◌, ℕ, zero, suc, ◌+◌, ◌*◌, ◌≤◌, ◌<◌, ℤ, pos, negsuc, List, [], ◌∷◌, ◌++◌, drop, length, map, take, Option, Some, None, refl, ap, sym, subst, ◌∙◌, arith}
 use Rattle.std.specs.Prelude.{◌+ℤ◌, codes, reverse, slice_get}
 use Rattle.std.proofs.lemmas.Int.{ints}
@@ -44,7 +44,7 @@ opened g v types old new n left rest out after whole head end stack path at same
 
 -- ---- the next part
 
--- The rest of a variable stands on the stack, and the path of a part in the buffer.
+-- The rest of a variable is on the stack, and the path of a part is in the buffer.
 pub rest_stands : (types : Types) (old mid : Walk) (c d : Cursor) (left later : Left) (rest : List Left) (step : Text) → mid.path.items ≡ take c.path old.path.items ++ step
     → mid.stack.items ≡ old.stack.items ++ d ∷ [] → d.path ≡ c.path → PartsStand types d later → path_of later ≡ path_of left
     → AllStand types old.path.items (c ∷ reverse old.stack.items) (left ∷ rest) → WalkStands types mid (later ∷ rest)
@@ -75,7 +75,7 @@ Goes tables v c old new out after g rest l =
     AllStand tables.types old.path.items (c ∷ reverse old.stack.items) (l ∷ rest)
     → GoesOn g v tables.types new after (out ++ left_text g v (l ∷ rest) old.at) (old.at + left_words g (l ∷ rest))
 
--- A member, and then the others.
+-- A member, and then the other members.
 pub member_goes : (tables : Tables) (v : Visit) (c : Cursor) (old mid new : Walk) (out after : Text) (es : List (Name × ℕ)) (x : Name) (of : ℕ)
     → Enters tables v of mid new out after → mid.path.items ≡ take c.path old.path.items ++ (codes "." ++ x) → mid.stack.items ≡ old.stack.items ++ cursor c.row (c.next + 1) c.path ∷ [] → mid.at ≡ old.at
     → members_in (row_at tables.types c.row) ≡ Some es → drop c.next es ≡ (x, of) ∷ drop (c.next + 1) es → Continues tables v c old new out after
@@ -155,12 +155,12 @@ pub length_counted : (n : ℕ) (low : ℤ) → length (integers_from low n) ≡ 
 length_counted zero low = refl
 length_counted (suc n) low = ap length (counted_on low n) ∙ ap suc (length_counted n (following low))
 
--- What a row of an array says of the elements that are left.
+-- What a row of an array says about the elements that are left.
 ElementsOf : Types → Cursor → List ℤ → ResolvedType → TypeRow → Type 0
 ElementsOf types c is t (row.Array low high e) = Stands types e t × (is ≡ drop c.next (integers_from low (count_between low high)))
 ElementsOf types c is t _ = Unit {0}
 
--- An element, and then the others.
+-- An element, and then the other elements.
 pub element_goes : (tables : Tables) (v : Visit) (c : Cursor) (old mid new : Walk) (out after : Text) (low high : ℤ) (of : ℕ)
     → Enters tables v of mid new out after → mid.path.items ≡ take c.path old.path.items ++ (codes "[" ++ (decimal (low +ℤ pos c.next) ++ codes "]"))
     → mid.stack.items ≡ old.stack.items ++ cursor c.row (c.next + 1) c.path ∷ [] → mid.at ≡ old.at
@@ -212,7 +212,7 @@ element_goes tables v c old mid new out after low high of enters path stack at t
         let of_it = subst (ElementsOf tables.types c is t) same (S.0.parts.4, S.0.parts.5) in
         with_elements p is t of_it.0 (of_it.1 ∙ next) S
 
--- Where no element is left.
+-- If no element is left.
 pub no_element : (tables : Tables) (v : Visit) (c : Cursor) (old : Walk) (out : Text) (low high : ℤ) (of : ℕ)
     → row_at tables.types c.row ≡ Some (row.Array low high of) → count_between low high ≤ c.next → Continues tables v c old old out out
 unfolding ElementsOf
@@ -240,7 +240,7 @@ no_element tables v c old out low high of there past g left rest scope S = by le
         none_more : (a w b : ℕ) → a + b ≡ a + (0 * w + b)
         none_more a w b = Prim.grind arith
 
--- What stands at a place comes first of what is left from there.
+-- The item at an index comes first in what is left from there.
 pub drop_got : {A B : Type 0} (f : A → B) (xs : List A) (i : ℕ) (x : A) → slice_get xs i ≡ Some x → drop i (map f xs) ≡ f x ∷ drop (suc i) (map f xs)
 drop_got f [] i x h = absurd (cc)
 drop_got f (y ∷ xs) zero x h = ap (λ z. f z ∷ map f xs) (same_list y x h)

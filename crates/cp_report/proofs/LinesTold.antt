@@ -1,4 +1,4 @@
--- The lines of listed components are told one after another, by number.
+-- The lines of listed components are reported one after another, by number.
 use Rattle.std.proofs.Common.{◌≡◌, ◌++◌, ℕ, suc, List, [], ◌∷◌, ap, sym, ◌∙◌}
 use Rattle.std.proofs.lemmas.List.{append_assoc}
 use Rattle.cp_model.specs.Abstract.{Name}
@@ -11,7 +11,8 @@ use Rattle.cp_report.specs.Lists.{AreListed}
 abbrev pub Lines : Type 0
 Lines = ℕ → List (Name × Variable) → Text
 
--- Components are left that these entries stand for, and with their lines a text is whole.
+-- These entries stand for the components that are left, and with the lines of those components the
+-- text is whole.
 pub record LinesToTell (types : Types) (all : Lines) (n : ℕ) (es : List (Name × ℕ)) (out text : Text) : Type 0 where
   pub left : List (Name × Variable)
   pub listed : AreListed types es left

@@ -9,7 +9,7 @@ use Rattle.cp_scope.specs.Variables.{AreDeclared, Entry}
 use Rattle.cp_scope.specs.declared.types.Types.{Types}
 use Rattle.cp_report.specs.Lists.{AreListed, Picks}
 
--- Some are listed, and variables are left of which the others are picked.
+-- Some components are listed, and the others are picked from the variables that are left.
 pub record Listing (types : Types) (z : Sort) (left : List Entry) (es : List (Name × ℕ)) (whole : List (Name × Variable)) : Type 0 where
   pub done : List (Name × Variable)
   pub rest : List (Name × Variable)

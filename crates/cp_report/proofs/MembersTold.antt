@@ -1,4 +1,4 @@
--- Members of a component are told one after another.
+-- Members of a component are reported one after another.
 use Rattle.std.proofs.Common.{◌≡◌, ℕ, zero, suc, ◌+◌, ◌<◌, ◌++◌, List, [], ◌∷◌, drop, length, map, refl, ◌∙◌, arith}
 use Rattle.std.specs.Prelude.{slice_index_or}
 use Rattle.std.proofs.lemmas.List.{append_assoc}
@@ -13,7 +13,7 @@ use Rattle.cp_scope.specs.declared.tables.Tables.{Tables}
 use Rattle.cp_scope.specs.declared.types.Types.{Types}
 use Rattle.cp_report.specs.Walks.{Visits}
 
--- Members are left that these entries stand for, and with them a text is whole.
+-- These entries stand for the members that are left, and with those members the text is whole.
 pub record MembersToTell (g : GlobalScope) (v : Visit) (types : Types) (es : List (Name × ℕ)) (at : ℕ) (out text : Text) : Type 0 where
   pub left : Members
   pub stand : AreMembers types es left
@@ -36,7 +36,7 @@ one_told g v tables x n es at end out after text scope M visits = by M.left M.st
               ∙ ((λ i. out ++ (visit_type g v (ByName (h.0 i) ∷ []) at t ++ visit_members g v [] (at + words g t) ms)) ∙ e));
         }
 
--- What stands at a place comes first of what is left from there.
+-- The item at an index comes first in what is left from there.
 pub drop_first : {A B : Type 0} (f : A → B) (xs : List A) (i : ℕ) (d : A) → i < length xs → map f (drop i xs) ≡ f (slice_index_or xs i d) ∷ map f (drop (suc i) xs)
 drop_first f [] i d h = absurd (omega (arith, h))
 drop_first f (x ∷ xs) zero d h = refl

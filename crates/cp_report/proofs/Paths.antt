@@ -1,4 +1,4 @@
--- Texts of paths that grow, and what stands in front of them.
+-- Texts of paths that grow, and what comes before them.
 use Rattle.std.proofs.Common.{◌≡◌, ℕ, zero, suc, ◌≤◌, ℤ, List, [], ◌∷◌, ◌++◌, length, take, refl, ap, sym, ◌∙◌, arith}
 use Rattle.std.specs.Prelude.{codes, reverse}
 use Rattle.std.proofs.lemmas.List.{append-nil, append_assoc, reverse-append}

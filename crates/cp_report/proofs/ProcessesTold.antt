@@ -24,7 +24,7 @@ headed p x status out =
     (append_assoc (natural p) (codes " " ++ (x ++ codes " ")) status
     ∙ ap (λ z. natural p ++ z) (append_assoc (codes " ") (x ++ codes " ") status ∙ ap (λ z. codes " " ++ z) (append_assoc x (codes " ") status)))))
 
--- The two lines in front, one after the other.
+-- The two lines before the variables, one after the other.
 pub front_told : (p : ℕ) (x : Name) (status last out titled stood ended after : Text) → titled ≡ out ++ title p x → stood ≡ titled ++ status → ended ≡ stood ++ 10 ∷ []
     → after ≡ ended ++ transcript_line last → after ≡ out ++ (head_line p x status ++ transcript_line last)
 front_told p x status last out titled stood ended after a b d e =

@@ -14,7 +14,7 @@ use Rattle.cp_scope.specs.declared.types.Types.{Types}
 use Rattle.cp_report.specs.Lists.{AreListed}
 use Rattle.cp_report.specs.Walks.{TellsComponent}
 
--- Monitors are left that these entries stand for, and with them a text is whole.
+-- These entries stand for the monitors that are left, and with those monitors the text is whole.
 pub record QueuesToTell (g : GlobalScope) (program : Program) (place : ℕ) (types : Types) (n : ℕ) (es : List (Name × ℕ)) (out text : Text) : Type 0 where
   pub left : List (Name × Variable)
   pub listed : AreListed types es left

@@ -1,4 +1,4 @@
--- What the types are that rows stand for.
+-- The types that rows stand for.
 use Rattle.std.proofs.Common.{◌≡◌, ℕ, ℤ, List, map, Some, None, refl, ap, sym, subst, ◌∙◌}
 use Rattle.std.specs.Prelude.{Vec}
 use Rattle.std.specs.Borrow.{Bor}

@@ -1,4 +1,4 @@
--- What stands on the stack of a walk where its buffer changes, or the stack grows.
+-- What the stack of a walk stands for when its buffer changes or the stack grows.
 use Rattle.std.proofs.Common.{ℕ, ◌≤◌, List, [], ◌∷◌, ◌++◌, length, take, ap, sym, ◌∙◌, arith}
 use Rattle.cp_model.specs.Report.{Text}
 use Rattle.cp_scope.specs.declared.types.Types.{Types}
@@ -19,7 +19,7 @@ module _ (types : Types) where
     long = C.long;
   }
 
-  -- Behind the path of the innermost variable anything may stand.
+  -- Any text may follow the path of the innermost variable.
   pub all_kept : (n : ℕ) (buffer more : Text) (cs : List Cursor) (rest : List Left) → IsDeepest n cs → AllStand types buffer cs rest → AllStand types (take n buffer ++ more) cs rest
   all_kept n buffer more [] [] deep S = tt
   all_kept n buffer more [] (left ∷ rest) deep S = absurd S

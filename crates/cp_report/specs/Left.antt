@@ -1,4 +1,4 @@
--- What is left of a walk over variables, and the text that it will tell.
+-- What is left of a walk over variables, and the text that it will report.
 use Rattle.std.specs.Prelude.{ℕ, ◌+◌, ◌*◌, ◌++◌, ℤ, List, [], ◌∷◌, length}
 use Rattle.cp_model.specs.Locations.{Path}
 use Rattle.cp_model.specs.Report.{Text}
@@ -6,7 +6,8 @@ use Rattle.cp_model.specs.Types.{GlobalScope, Members, ResolvedType}
 use Rattle.cp_typing.specs.Words.{words, words_of_members}
 use Rattle.cp_steps.specs.Reports.{Visit, visit_elements, visit_members, visit_type}
 
--- The members of a record or component that are left, or the elements of an array by their indices.
+-- The members of a record or component that are left, or the elements of an array that are left, by
+-- their indices.
 pub data Left : Type 0 where
   MembersLeft : (path : Path) (ms : Members) → Left
   ElementsLeft : (path : Path) (is : List ℤ) (of : ResolvedType) → Left
@@ -15,7 +16,7 @@ abbrev pub path_of : Left → Path
 path_of (MembersLeft path ms) = path
 path_of (ElementsLeft path is t) = path
 
--- The innermost comes first, and lies at the place.
+-- The text of what is left. The innermost variable comes first, and begins at location `at`.
 abbrev pub left_text : GlobalScope → Visit → List Left → ℕ → Text
 left_text g v [] at = []
 left_text g v (MembersLeft path ms ∷ rest) at =
@@ -23,7 +24,7 @@ left_text g v (MembersLeft path ms ∷ rest) at =
 left_text g v (ElementsLeft path is t ∷ rest) at =
     visit_elements (λ p a. visit_type g v p a t) (words g t) path at is ++ left_text g v rest (at + length is * words g t)
 
--- How many words they have.
+-- The number of words in what is left.
 abbrev pub left_words : GlobalScope → List Left → ℕ
 left_words g [] = 0
 left_words g (MembersLeft path ms ∷ rest) = words_of_members g ms + left_words g rest

@@ -1,4 +1,4 @@
--- The text of lines, and what comes before others.
+-- The text of lines, and of what comes before other text.
 use Rattle.std.specs.Prelude.{◌++◌, ℕ, List, codes}
 use Rattle.cp_model.specs.Abstract.{Name}
 use Rattle.cp_model.specs.Decimal.{natural}
@@ -13,11 +13,11 @@ use Rattle.cp_steps.specs.Reports.{head_line, stage_text, transcript_line}
 abbrev pub rounds_line : ℕ → Text
 rounds_line n = line (codes "rounds " ++ natural n)
 
--- What comes before where a process stands.
+-- The text before the status of a process.
 abbrev pub title : ℕ → Name → Text
 title p x = codes "process " ++ (natural p ++ (codes " " ++ (x ++ codes " ")))
 
--- What comes before the variables of a process.
+-- The lines before the variables of a process.
 abbrev pub front_lines : Setup → plain.Machine → ℕ → Name → Activity → Text → Text
 front_lines setup m p x a output =
     head_line p x (stage_text setup m.program (stage_of m.kernel.stages p) a) ++ transcript_line (transcript_of m.transcripts p ++ output)
@@ -25,7 +25,7 @@ front_lines setup m p x a output =
 abbrev pub number_text : ℕ → Text
 number_text n = codes " " ++ natural n
 
--- The line of a gate that is held so, and for which these processes ask.
+-- The line of a gate with this holder and these askers.
 abbrev pub gate_line_of : Name → Holder → List ℕ → Text
 gate_line_of x holder askers =
     line (codes "monitor " ++ (x ++ (codes " " ++ (gate_text holder ++ (codes " askers" ++ askers_text askers)))))

@@ -9,18 +9,18 @@ use Rattle.cp_scope.specs.Variables.{AreDeclared, Entry}
 use Rattle.cp_scope.specs.declared.types.Types.{Types}
 use Rattle.cp_scope.specs.declared.variables.Declared.{Declared}
 
--- Names and numbers of types stand for variables, one by one.
+-- Each name with the number of a type stands for one of the variables, in order.
 abbrev pub AreListed : Types → List (Name × ℕ) → List (Name × Variable) → Type 0
 AreListed types [] [] = Unit {0}
 AreListed types (e ∷ es) (v ∷ vs) = (e.0 ≡ v.0) × Stands types e.1 v.1.type × AreListed types es vs
 AreListed types _ _ = ⊥
 
--- A variable is added, if it is a component of the sort.
+-- A variable is added if it is a component of the sort.
 abbrev pub Picks : Types → Sort → Entry → List (Name × ℕ) → List (Name × ℕ) → Type 0
 Picks types z d before after =
     (t : ResolvedType) → Stands types d.1.1 t → after ≡ (if is_component_of z t then before ++ (d.0, d.1.1) ∷ [] else before)
 
--- Those of the sort among the variables that are declared.
+-- The list has the components of the sort among the declared variables.
 abbrev pub Lists : Types → Sort → List Entry → List (Name × ℕ) → Type 0
 Lists types z ds es = (vs : List (Name × Variable)) → AreDeclared types ds vs → AreListed types es (filter (λ v. is_component_of z v.1.type) vs)
 

@@ -1,4 +1,4 @@
--- What is told of the processes and monitors of a machine.
+-- What is reported of the processes and monitors of a machine.
 use Rattle.std.specs.Prelude.{◌≡◌, ◌++◌, ℕ, List, [], codes, map}
 use Rattle.cp_model.specs.Abstract.{Monitor, Name, Process}
 use Rattle.cp_model.specs.Declarations.{Variable, globals, reported_members}
@@ -25,7 +25,7 @@ use Rattle.cp_report.specs.declared.subject.Subject.{Subject}
 abbrev pub machine_in : Subject → plain.Machine
 machine_in s = machine_of s.machine.now
 
--- The tables are those of a text, and the monitors are its monitors.
+-- The tables are those of a text, and the monitors are those of the text.
 abbrev pub IsOf : Subject → Setup → Type 0
 IsOf s setup =
     ScopeStands s.tables.now.names s.tables.now.types (globals setup.tree)
@@ -33,18 +33,18 @@ IsOf s setup =
 
 -- ---- Processes
 
--- It is told where a process stands that does this.
+-- The status of process p, with this activity, is added.
 abbrev pub TellsStatus : Subject → ℕ → Activity → Text → Text → Type 0
 TellsStatus s p a out after =
     (setup : Setup) → IsOf s setup → after ≡ out ++ stage_text setup (machine_in s).program (stage_of (machine_in s).kernel.stages p) a
 
--- What comes before the variables of a process.
+-- The lines before the variables of a process are added.
 abbrev pub TellsFront : Subject → ℕ → Name → Private → Text → Text → Type 0
 TellsFront s p x private out after =
     (setup : Setup) → IsOf s setup
     → after ≡ out ++ front_lines setup (machine_in s) p x (private_of private []).activity (private_of private []).output
 
--- The process of this number, name and number of a type.
+-- The lines of the process with this number, this name and this type number are added.
 abbrev pub TellsProcess : Subject → ℕ → Name → ℕ → Text → Text → Type 0
 TellsProcess s p x n out after =
     (setup : Setup) (t : ResolvedType) → IsOf s setup → Stands s.tables.now.types n t

@@ -1,4 +1,4 @@
--- What is told of a simple part or a queue.
+-- What is reported of a simple part or a queue.
 use Rattle.std.specs.Prelude.{ℕ, ℤ, List, [], ◌++◌, codes}
 use Rattle.cp_model.specs.Decimal.{decimal}
 use Rattle.cp_model.specs.Locations.{Path}
@@ -26,7 +26,7 @@ abbrev pub told : Visit → Leaf → Path → ℕ → Text
 told v leaf.Simple path at = v.simple path at
 told v leaf.Queue path at = v.queue path at
 
--- The lines of a value and of a queue, by the text of the path.
+-- The lines of a value and of a queue, given the text of the path.
 abbrev pub value_line_of : Text → ℤ → Text
 value_line_of path n = line (codes "var " ++ (path ++ (codes " = " ++ decimal n)))
 

@@ -1,4 +1,4 @@
--- When a walk stands for what is left to visit.
+-- When a walk stands for what is left to be visited.
 use Rattle.std.specs.Prelude.{◌≡◌, ◌≤◌, ◌+◌, ◌++◌, ℕ, ℤ, List, [], ◌∷◌, Option, None, Some, drop, length, map, reverse, take}
 use Rattle.cp_model.specs.Abstract.{Class, Name, Sort, System}
 use Rattle.cp_model.specs.Integers.{count_between}
@@ -32,14 +32,14 @@ PartsStand types c (ElementsLeft path is t) =
     (low high : ℤ) × (e : ℕ) × (row_at types c.row ≡ Some (row.Array low high e)) × Stands types e t
     × (is ≡ drop c.next (integers_from low (count_between low high)))
 
--- The path of the variable stands in front in the buffer.
+-- The buffer begins with the path of the variable.
 pub record CursorStands (types : Types) (buffer : Text) (c : Cursor) (left : Left) : Type 0 where
   pub parts : PartsStand types c left
   pub named : IsNamed (path_of left)
   pub front : take c.path buffer ≡ path_text (path_of left)
   pub long : c.path ≡ length (path_text (path_of left))
 
--- The paths of the variables around it are no longer.
+-- The paths of the variables around it are not longer than n.
 abbrev pub IsDeepest : ℕ → List Cursor → Type 0
 IsDeepest n [] = Unit {0}
 IsDeepest n (c ∷ cs) = c.path ≤ n
@@ -49,11 +49,12 @@ AllStand types buffer [] [] = Unit {0}
 AllStand types buffer (c ∷ cs) (left ∷ rest) = CursorStands types buffer c left × IsDeepest c.path cs × AllStand types buffer cs rest
 AllStand types buffer _ _ = ⊥
 
--- The innermost variable stands last on the stack.
+-- The innermost variable comes last on the stack.
 abbrev pub WalkStands : Types → Walk → List Left → Type 0
 WalkStands types w rest = AllStand types w.path.items (reverse w.stack.items) rest
 
--- The walk goes on: with what was told and is left, a text and so many words come to the same.
+-- The walk goes on: the text reported so far followed by what is left is `text`, and the words that
+-- are left end at `end`.
 pub record GoesOn (g : GlobalScope) (v : Visit) (types : Types) (w : Walk) (out text : Text) (end : ℕ) : Type 0 where
   pub left : List Left
   pub stands : WalkStands types w left
@@ -65,7 +66,7 @@ cursor n next path = record { row = n; next = next; path = path }
 
 -- ---- Steps of a walk
 
--- Of a class there are so many words before its members.
+-- A class has this many words before its members.
 abbrev pub HeadOf : GlobalScope → System → Sort → Option ℕ → Type 0
 HeadOf g s Class head = head ≡ Some (head_words g s)
 HeadOf g s _ head = head ≡ None
@@ -73,7 +74,7 @@ HeadOf g s _ head = head ≡ None
 abbrev pub HeadIs : GlobalScope → System → Option ℕ → Type 0
 HeadIs g s head = HeadOf g s s.sort head
 
--- From the variable whose path stands in the buffer, and then what was left.
+-- First comes the variable whose path is in the buffer, and then what was left.
 abbrev pub Enters : Tables → Visit → ℕ → Walk → Walk → Text → Text → Type 0
 Enters tables v n old new out after =
     (g : GlobalScope) (t : ResolvedType) (p : Path) (rest : List Left) → ScopeStands tables.names tables.types g → Stands tables.types n t
@@ -81,20 +82,20 @@ Enters tables v n old new out after =
     → GoesOn g v tables.types new after (out ++ (visit_type g v p old.at t ++ left_text g v rest (old.at + words g t)))
     (old.at + words g t + left_words g rest)
 
--- From the parts of a variable that are left, and then what was left around it.
+-- First come the parts of a variable that are left, and then what was left around it.
 abbrev pub Continues : Tables → Visit → Cursor → Walk → Walk → Text → Text → Type 0
 Continues tables v c old new out after =
     (g : GlobalScope) (left : Left) (rest : List Left) → ScopeStands tables.names tables.types g
     → AllStand tables.types old.path.items (c ∷ reverse old.stack.items) (left ∷ rest)
     → GoesOn g v tables.types new after (out ++ left_text g v (left ∷ rest) old.at) (old.at + left_words g (left ∷ rest))
 
--- All that is left is told.
+-- Everything that is left is reported.
 abbrev pub Finishes : Tables → Visit → Walk → Walk → Text → Text → Type 0
 Finishes tables v old new out after =
     (g : GlobalScope) (rest : List Left) → ScopeStands tables.names tables.types g → WalkStands tables.types old rest
     → (after ≡ out ++ left_text g v rest old.at) × (new.at ≡ old.at + left_words g rest)
 
--- A whole variable of this name and type is told.
+-- A whole variable with this name and type is reported.
 abbrev pub Visits : Tables → Visit → Name → ℕ → ℕ → ℕ → Text → Text → Type 0
 Visits tables v x n at end out after =
     (g : GlobalScope) (t : ResolvedType) → ScopeStands tables.names tables.types g → Stands tables.types n t
@@ -102,13 +103,13 @@ Visits tables v x n at end out after =
 
 -- ---- Whole components
 
--- All members of these names and types are told.
+-- All members with these names and types are reported.
 abbrev pub TellsMembers : Tables → Visit → List (Name × ℕ) → ℕ → Text → Text → Type 0
 TellsMembers tables v es at out after =
     (g : GlobalScope) (ms : Members) → ScopeStands tables.names tables.types g → AreMembers tables.types es ms
     → after ≡ out ++ visit_members g v [] at ms
 
--- All variables of the component are told, whose words begin there.
+-- All variables of the component are reported. Its words begin at `start`.
 abbrev pub TellsComponent : Tables → Visit → ℕ → ℕ → Text → Text → Type 0
 TellsComponent tables v n start out after =
     (g : GlobalScope) (t : ResolvedType) → ScopeStands tables.names tables.types g → Stands tables.types n t

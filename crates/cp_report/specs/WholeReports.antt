@@ -11,7 +11,7 @@ use Rattle.cp_steps.specs.Reports.{machine_report}
 use Rattle.cp_scope.specs.Texts.{TablesStand}
 use Rattle.cp_scope.specs.declared.tables.Tables.{Tables}
 
--- The bytes are the report that is read off the machine, of a text that has these tables.
+-- The bytes are the report that is read off the machine, for a text that has these tables.
 abbrev pub IsReport : Tables → plain.Machine → Text → Type 0
 IsReport tables m bytes =
     (setup : Setup) (text : tree.Tree) → setup.tree ≡ erase.abstract (view.tree text) → TablesStand (globals setup.tree) tables text

@@ -13,7 +13,7 @@ use cp_scope::{Declared, Field, Tables, TypeRow};
 use std::alloc::AllocError;
 
 impl Walk {
-    /// Tells members of a component, one after another, from the next place on.
+    /// Reports members of a component, one after another, from the next location on.
     pub(crate) fn members(
         &mut self,
         tables: &Tables,
@@ -30,11 +30,12 @@ impl Walk {
         Ok(())
     }
 
-    /// Tells the variables of a component, whose words begin at a place, and whose type has this number.
+    /// Reports the variables of a component whose words begin at `start` and whose type has the
+    /// number `row`.
     ///
     /// # Errors
     ///
-    /// `AllocError` where memory runs out.
+    /// `AllocError` if memory runs out.
     pub fn component(
         &mut self,
         tables: &Tables,
@@ -54,7 +55,7 @@ impl Walk {
         self.members(tables, telling, out, members)
     }
 
-    // Tells variables of the initial process, one after another, from the next place on.
+    // Reports variables of the initial process, one after another, from the next location on.
     fn variables(
         &mut self,
         tables: &Tables,
@@ -71,7 +72,7 @@ impl Walk {
         Ok(())
     }
 
-    /// Tells the variables of the initial process, whose words begin with its mark.
+    /// Reports the variables of the initial process, whose words begin with its mark.
     pub(crate) fn initial(
         &mut self,
         tables: &Tables,

@@ -1,4 +1,4 @@
-//! The line of the gate of a monitor.
+//! The line of a monitor's gate.
 
 ghost use Rattle.std.specs.Prelude.{◌≡◌, ◌++◌, OnOk, flat_map};
 ghost use Rattle.cp_model.specs.Report.{askers_text, gate_text};
@@ -48,7 +48,7 @@ fn push_askers(out: &mut Vec<u8>, askers: &[u32]) -> Result<(), AllocError>
     }
 }
 
-/// Adds the line of the gate of a monitor: who holds it, and who asks for it, in their order.
+/// Adds the line of a monitor's gate: its holder, and its askers in the order in which they asked.
 pub(crate) fn push_gate_line(
     out: &mut Vec<u8>,
     name: &[u8],

@@ -14,7 +14,7 @@ use cp_model::tree::Sort;
 use cp_scope::Tables;
 use std::alloc::AllocError;
 
-/// How many words the mark and the rights of a component of this system type take.
+/// Returns how many words the mark and the rights of a component of this system type take.
 pub(crate) fn head_words(tables: &Tables, number: usize) -> Result<usize, AllocError>
     ensures { IfOk result (λ head. (g : GlobalScope) (y : Bor System)
         → ScopeStands tables.now.names tables.now.types g
@@ -30,7 +30,7 @@ pub(crate) fn head_words(tables: &Tables, number: usize) -> Result<usize, AllocE
     }
 }
 
-/// The same of a class. A process or monitor has its words elsewhere.
+/// Returns the same for a class, and `None` for a process or a monitor, whose words are elsewhere.
 pub(crate) fn class_head(tables: &Tables, number: usize) -> Result<Option<usize>, AllocError>
     ensures { IfOk result (λ head. (g : GlobalScope) (y : Bor System)
         → ScopeStands tables.now.names tables.now.types g

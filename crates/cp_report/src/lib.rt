@@ -1,11 +1,12 @@
-//! The report of a machine: its bytes are what cp_steps' `specs/Reports.antt` reads off the words of the machine as plain data.
+//! The report of a machine. Its bytes are those that cp_steps' `specs/Reports.antt` reads off the
+//! machine's words as plain data.
 //!
 //! - `text`: numbers and bytes as text.
-//! - `telling`, `walk`: what is told of a part of a variable, and the walk over all parts.
+//! - `telling`, `walk`: what is reported of a part of a variable, and the walk over all parts.
 //! - `heads`, `components`: the lines of whole components.
-//! - `listing`, `status`: the processes or monitors by number, and where a process stands.
-//! - `lines`, `gates`: single lines, and those of the gates of monitors.
-//! - `subject`, `processes`, `monitors`: what a report tells of, and the lines of its processes
+//! - `listing`, `status`: the processes or monitors by number, and the status of a process.
+//! - `lines`, `gates`: single lines, and the lines of the gates of monitors.
+//! - `subject`, `processes`, `monitors`: what a report describes, and the lines of its processes
 //!   and monitors.
 //! - `report`: the whole report.
 #![tactic(auto)]

@@ -1,4 +1,4 @@
-//! Single lines, and what comes before others.
+//! Single lines, and the text at the start of other lines.
 
 ghost use Rattle.std.specs.Prelude.{◌≡◌, ◌++◌, OnOk};
 ghost use Rattle.cp_steps.specs.Reports.{transcript_line};
@@ -7,7 +7,7 @@ ghost use Rattle.cp_report.specs.Lines.{rounds_line, title};
 use crate::text::{push_all_escaped, push_natural};
 use std::alloc::AllocError;
 
-/// Adds the first line, which says how many rounds were made.
+/// Adds the first line, with the number of rounds made.
 pub(crate) fn push_rounds(out: &mut Vec<u8>, rounds: u64) -> Result<(), AllocError>
     ensures { OnOk result (out.new.items ≡ out.old.items ++ rounds_line rounds) }
 {
@@ -16,7 +16,7 @@ pub(crate) fn push_rounds(out: &mut Vec<u8>, rounds: u64) -> Result<(), AllocErr
     out.extend_from_slice(b"\n")
 }
 
-/// Adds the number and the name of a process, which come before where it stands.
+/// Adds the number and the name of a process, which come before its status.
 pub(crate) fn push_title(out: &mut Vec<u8>, number: u32, name: &[u8]) -> Result<(), AllocError>
     ensures { OnOk result (out.new.items ≡ out.old.items ++ title number name.now) }
 {
@@ -27,7 +27,7 @@ pub(crate) fn push_title(out: &mut Vec<u8>, number: u32, name: &[u8]) -> Result<
     out.extend_from_slice(b" ")
 }
 
-/// Adds the line of what a process wrote, which comes in two parts.
+/// Adds the line with the output of a process, which is given in two parts.
 pub(crate) fn push_transcript_line(
     out: &mut Vec<u8>,
     first: &[u8],

@@ -1,4 +1,5 @@
-//! The components that a report tells of: the component variables of the initial process, in text order.
+//! The components that a report describes: the component variables of the initial process, in text
+//! order.
 
 ghost use Rattle.std.specs.Prelude.{◌≡◌, IfOk, filter, map};
 ghost use Rattle.cp_model.specs.Components.{is_component_of, same_sort};
@@ -22,7 +23,7 @@ fn is_same_sort(a: Sort, b: Sort) -> bool
     }
 }
 
-// Whether the type of this number is that of components of a sort.
+// Whether the type with this number is a component type of the sort.
 fn is_of_sort(tables: &Tables, row: usize, sort: Sort) -> bool
     ensures { (t : ResolvedType) → Stands tables.now.types row t
         → result ≡ is_component_of (erase.sort_of sort) t }
@@ -36,7 +37,7 @@ fn is_of_sort(tables: &Tables, row: usize, sort: Sort) -> bool
     }
 }
 
-// Adds a variable, if it is a component of the sort.
+// Adds a variable if it is a component of the sort.
 fn pick<'t>(
     tables: &Tables<'t>,
     sort: Sort,
@@ -55,11 +56,11 @@ fn pick<'t>(
     Ok(())
 }
 
-/// The processes but the initial one, or the monitors, by number.
+/// Returns the processes without the initial one, or the monitors, by number.
 ///
 /// # Errors
 ///
-/// `AllocError` where memory runs out.
+/// `AllocError` if memory runs out.
 pub fn components<'t>(
     alloc: Global,
     tables: &Tables<'t>,

@@ -11,7 +11,7 @@ use crate::walk::Walk;
 use std::alloc::AllocError;
 
 impl<'r, 't> Subject<'r, 't> {
-    // Tells of a monitor by its number: its gate and its variables.
+    // Reports a monitor by its number: its gate and its variables.
     fn push_monitor(
         &self,
         walk: &mut Walk,
@@ -30,7 +30,7 @@ impl<'r, 't> Subject<'r, 't> {
         walk.component(self.tables, &lines, out, row, start)
     }
 
-    /// Tells of all monitors by number.
+    /// Reports all monitors by number.
     pub(crate) fn push_monitors(&self, walk: &mut Walk, out: &mut Vec<u8>) -> Result<(), AllocError>
         ensures { OnOk result (TellsMonitors self.now out.old.items out.new.items) }
     {

@@ -16,7 +16,7 @@ use cp_scope::Field;
 use std::alloc::AllocError;
 
 impl<'r, 't> Subject<'r, 't> {
-    // Adds where a process stands that does this.
+    // Adds the status of a process with this activity.
     fn push_status(
         &self,
         walk: &mut Walk,
@@ -40,7 +40,7 @@ impl<'r, 't> Subject<'r, 't> {
         )
     }
 
-    // Adds the two lines in front of the variables of a process.
+    // Adds the two lines before the variables of a process.
     fn push_front(
         &self,
         walk: &mut Walk,
@@ -59,7 +59,7 @@ impl<'r, 't> Subject<'r, 't> {
         push_transcript_line(out, transcript, private.output())
     }
 
-    // Tells of a process by its number: where it stands, what it wrote, and its variables.
+    // Reports a process by its number: its status, its output and its variables.
     fn push_process(
         &self,
         walk: &mut Walk,
@@ -79,7 +79,7 @@ impl<'r, 't> Subject<'r, 't> {
         walk.component(self.tables, &lines, out, row, 0)
     }
 
-    /// Tells of the initial process, whose number is 1.
+    /// Reports the initial process, whose number is 1.
     pub(crate) fn push_initial(&self, walk: &mut Walk, out: &mut Vec<u8>) -> Result<(), AllocError>
         ensures { OnOk result (TellsInitial self.now out.old.items out.new.items) }
     {
@@ -91,7 +91,7 @@ impl<'r, 't> Subject<'r, 't> {
         walk.initial(self.tables, &lines, out)
     }
 
-    /// Tells of the other processes, by number.
+    /// Reports the other processes, by number.
     pub(crate) fn push_processes(
         &self,
         walk: &mut Walk,

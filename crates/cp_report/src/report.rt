@@ -16,7 +16,7 @@ use cp_scope::{Field, Tables};
 use std::alloc::{AllocError, Global};
 
 impl<'r, 't> Subject<'r, 't> {
-    // Tells of everything. The processes are all but the initial one.
+    // Reports everything. `processes` are all processes except the initial one.
     fn push_all(
         &self,
         walk: &mut Walk,
@@ -33,11 +33,11 @@ impl<'r, 't> Subject<'r, 't> {
     }
 }
 
-/// The bytes of the report of a machine that runs the program of a text with these tables.
+/// Returns the report, as bytes, of a machine that runs the program of a text with these tables.
 ///
 /// # Errors
 ///
-/// `AllocError` where memory runs out.
+/// `AllocError` if memory runs out.
 pub fn report(alloc: Global, tables: &Tables, machine: &Machine) -> Result<Vec<u8>, AllocError>
     ensures { IfOk result (λ bytes. IsReport tables.now (machine_of machine.now) bytes.items) }
 {

@@ -1,4 +1,4 @@
-//! Where a process stands, as text.
+//! The status of a process, as text.
 
 ghost use Rattle.std.specs.Prelude.{◌≡◌, ◌++◌, ◌-◌, OnOk, map, option_map, slice_get};
 ghost use Rattle.cp_model.specs.StateViews as state;
@@ -19,7 +19,7 @@ use cp_scope::{Field, Tables};
 use cp_threaded::program::Program;
 use std::alloc::AllocError;
 
-/// Where the words of a monitor begin.
+/// Returns where the words of a monitor begin among the shared words.
 pub(crate) fn monitor_start(program: &Program, number: usize) -> usize
     ensures { result ≡ plain.monitor_start (view.program program.now) number }
 {
@@ -29,7 +29,7 @@ pub(crate) fn monitor_start(program: &Program, number: usize) -> usize
     }
 }
 
-// Adds the path of the queue that lies at a place of the shared words.
+// Adds the path of the queue at a location of the shared words.
 fn push_queue(
     walk: &mut Walk,
     tables: &Tables,
@@ -49,14 +49,14 @@ fn push_queue(
     Ok(())
 }
 
-// The monitor of this number, from 1. The number 0 is read as 1.
+// Returns the monitor with this number, from 1. The number 0 is read as 1.
 fn monitor_at<'m, 't>(monitors: &'m [Field<'t>], number: u32) -> Option<&'m Field<'t>>
     ensures { option_map (λ f. f.now) result ≡ slice_get monitors.now (number - 1) }
 {
     monitors.get((number as usize).saturating_sub(1))
 }
 
-// Adds the name of the monitor of this number, from 1. The number 0 is read as 1.
+// Adds the name of the monitor with this number, from 1. The number 0 is read as 1.
 fn push_monitor(out: &mut Vec<u8>, monitors: &[Field], number: u32) -> Result<(), AllocError>
     ensures { OnOk result (NamesMonitor (map entry monitors.now) number
         out.old.items out.new.items) }
@@ -99,11 +99,12 @@ fn push_activity(out: &mut Vec<u8>, activity: Activity) -> Result<(), AllocError
     }
 }
 
-/// Adds where a process stands: what the kernel knows of it, or else whether it runs.
+/// Adds the status of a process: the stage that the kernel knows or, if the process has begun, its
+/// activity.
 ///
 /// # Errors
 ///
-/// `AllocError` where memory runs out.
+/// `AllocError` if memory runs out.
 pub fn push_stage(
     walk: &mut Walk,
     tables: &Tables,

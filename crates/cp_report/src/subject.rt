@@ -1,4 +1,4 @@
-//! What a report tells of.
+//! What a report describes.
 
 ghost use Rattle.std.specs.Prelude.{◌≡◌, IfOk};
 
@@ -15,7 +15,7 @@ pub(crate) struct Subject<'r, 't> {
     pub(crate) monitors: &'r [Field<'t>],
 }
 
-/// The number of a process or monitor. It has 32 bits, as machines number them.
+/// Returns the number of a process or monitor in 32 bits, as machines number them.
 pub(crate) fn small_number(n: usize) -> Result<u32, AllocError>
     ensures { IfOk result (λ m. m ≡ n) }
 {

@@ -1,4 +1,4 @@
-//! What is told of a simple part or a queue that is visited.
+//! What is reported of a simple part or a queue that is visited.
 
 ghost use Rattle.std.specs.Prelude.{◌≡◌, ◌++◌, [], OnOk, if◌then◌else◌};
 ghost use Rattle.cp_code.specs.Starts.{word};
@@ -18,17 +18,17 @@ pub enum Leaf {
     Queue,
 }
 
-/// Words that are read by their places.
+/// Words that are read by their locations.
 #[derive(Clone, Copy)]
 pub enum Words<'w> {
-    /// Those of a process.
+    /// The words of a process.
     Own(&'w Private),
-    /// Those of the monitors.
+    /// The shared words.
     Shared(&'w Kernel),
 }
 
 impl<'w> Words<'w> {
-    // The word at a place. A missing one reads as 0.
+    // Returns the word at a location. A missing word reads as 0.
     fn at(&self, place: usize) -> i32
         ensures { result ≡ word (words_in self.now) place }
     {
@@ -39,12 +39,12 @@ impl<'w> Words<'w> {
     }
 }
 
-/// What a walk tells.
+/// What a walk reports.
 #[derive(Clone, Copy)]
 pub enum Telling<'w> {
-    /// A line with the value of each, which is in these words.
+    /// A line for each part, with its value, which is in these words.
     Lines(Words<'w>),
-    /// The path of the queue that lies at this place.
+    /// The path of the queue at this location.
     PathOf(usize),
 }
 
@@ -69,7 +69,8 @@ fn push_queue_line(out: &mut Vec<u8>, path: &[u8], n: i32) -> Result<(), AllocEr
 }
 
 impl<'w> Telling<'w> {
-    /// Adds what is told of a simple part or a queue at a place. The path is told by its text.
+    /// Adds what is reported of a simple part or a queue at a location. `path` is the text of its
+    /// path.
     pub fn tell(
         &self,
         out: &mut Vec<u8>,

@@ -24,7 +24,7 @@ pub(crate) fn push_integer(out: &mut Vec<u8>, n: i64) -> Result<(), AllocError>
     out.extend_from_slice(buffer.format(n).as_bytes())
 }
 
-/// Adds the number of the process that stands in a queue, or a dash.
+/// Adds the number of the process that waits in a queue, or a dash.
 pub(crate) fn push_occupant(out: &mut Vec<u8>, n: i32) -> Result<(), AllocError>
     ensures { OnOk result (out.new.items ≡ out.old.items ++ occupant_text (queued n)) }
 {
@@ -35,7 +35,7 @@ pub(crate) fn push_occupant(out: &mut Vec<u8>, n: i32) -> Result<(), AllocError>
     }
 }
 
-/// A hexadecimal digit, in lower case.
+/// Returns a hexadecimal digit, in lower case.
 pub fn hex(n: u8) -> u8
     requires { n < 16 }
     ensures { result ≡ hex_digit n }
@@ -43,7 +43,7 @@ pub fn hex(n: u8) -> u8
     if n < 10 { b'0' + n } else { b'a' - 10 + n }
 }
 
-// A byte of a transcript, or its escape.
+// Adds a byte of a transcript, or its escape.
 fn push_escaped(out: &mut Vec<u8>, byte: u8) -> Result<(), AllocError>
     ensures { OnOk result (out.new.items ≡ out.old.items ++ escaped byte) }
 {

@@ -1,7 +1,8 @@
-//! The simple parts and queues of a variable, one after another, with their paths and the places of their words.
+//! The simple parts and queues of a variable, one after another, with their paths and the locations
+//! of their words.
 //!
-//! A chain of named types may be very long, so the variables around a part stand on a stack. Parts lie in the order in which they are
-//! visited, so the place of the next word only grows.
+//! A chain of named types may be very long, so the variables around a part are kept on a stack.
+//! Parts lie in the order in which they are visited, so the location of the next word only grows.
 
 ghost use Rattle.std.specs.Prelude.{◌≡◌, ◌+◌, ◌+ℤ◌, ◌++◌, ◌∷◌, ◌<◌, ◌^◌, pos, [], Some, OnOk, IfOk, codes, length, map, take};
 ghost use Rattle.std.specs.Borrow.{Bor};
@@ -23,31 +24,32 @@ use crate::text::push_integer;
 use cp_scope::{Field, Tables, TypeRow, count_between};
 use std::alloc::{AllocError, Global};
 
-/// More parts than any report of this memory has.
+/// More parts than any report that fits in memory can have.
 const MOST_VISITS: u64 = 1 << 48;
 
-/// A record, component or array, by the number of its type, some of whose parts were visited.
+/// A record, component or array, by the number of its type, with some of its parts visited.
 #[derive(Clone, Copy, Debug)]
 pub(crate) struct Cursor {
     pub(crate) row: usize,
-    /// How many of its parts were visited.
+    /// How many of its parts have been visited.
     pub(crate) next: usize,
-    /// How long the text of its path is.
+    /// The length of the text of its path.
     pub(crate) path: usize,
 }
 
 /// A walk over the variables of one component.
 #[derive(Drop)]
 pub struct Walk {
-    /// What is left of the variables around, the innermost last.
+    /// What is left of the variables around the part, with the innermost last.
     pub(crate) stack: Vec<Cursor>,
-    /// The text of the path of the part that is visited. It may be followed by that of another.
+    /// The text of the path of the part that is visited. It may be followed by text of another
+    /// path.
     pub(crate) path: Vec<u8>,
-    /// The place of the next word.
+    /// The location of the next word.
     pub(crate) at: usize,
 }
 
-// The index of an element of an array.
+// Returns the index of an element of an array.
 fn index_at(low: i32, next: usize) -> i64
     requires { next < 2 ^ 62 }
     ensures { result ≡ low +ℤ pos next }
@@ -56,7 +58,7 @@ fn index_at(low: i32, next: usize) -> i64
 }
 
 impl Walk {
-    /// A walk that begins at a place.
+    /// Returns a walk that begins at a location.
     pub fn new(alloc: Global, at: usize) -> Walk
         ensures { result.at ≡ at }
     {
@@ -67,7 +69,7 @@ impl Walk {
         }
     }
 
-    // So many words come before the next one.
+    // Passes `count` words.
     fn pass(&mut self, count: usize) -> Result<(), AllocError>
         ensures place { OnOk result (self.new.at ≡ self.old.at + count) }
         ensures stack { self.new.stack ≡ self.old.stack }
@@ -77,7 +79,7 @@ impl Walk {
         Ok(())
     }
 
-    // The parts of the variable whose path stands in the buffer come next.
+    // Puts the variable whose path is in the buffer on the stack, so that its parts come next.
     fn open(&mut self, row: usize) -> Result<(), AllocError>
         ensures stack { OnOk result (self.new.stack.items ≡ self.old.stack.items ++
             cursor_of row 0 (length self.old.path.items) ∷ []) }
@@ -89,7 +91,7 @@ impl Walk {
         Ok(())
     }
 
-    // Tells a simple part or a queue, which has one word.
+    // Reports a simple part or a queue, which has one word.
     fn tell(&mut self, telling: &Telling, out: &mut Vec<u8>, leaf: Leaf) -> Result<(), AllocError>
         ensures told { OnOk result ((p : Path) → path_text p ≡ self.old.path.items
             → out.new.items ≡ out.old.items ++ told (visit_of telling.now) leaf p self.old.at) }
@@ -101,7 +103,8 @@ impl Walk {
         self.pass(1)
     }
 
-    // Tells a variable whose path stands in the buffer, if it is simple or a queue. Of any other its parts come next.
+    // Reports the variable whose path is in the buffer, if it is simple or a queue. The parts of
+    // any other variable come next.
     fn enter(
         &mut self,
         tables: &Tables,
@@ -129,7 +132,7 @@ impl Walk {
         }
     }
 
-    // The path becomes that of a member of the variable.
+    // Makes the path that of a member of the variable.
     fn name_member(&mut self, cursor: Cursor, name: &[u8]) -> Result<(), AllocError>
         ensures path { OnOk result (self.new.path.items
             ≡ take cursor.path self.old.path.items ++ (codes "." ++ name.now)) }
@@ -141,7 +144,7 @@ impl Walk {
         self.path.extend_from_slice(name)
     }
 
-    // The path becomes that of an element of the variable.
+    // Makes the path that of an element of the variable.
     fn name_element(&mut self, cursor: Cursor, index: i64) -> Result<(), AllocError>
         ensures path { OnOk result (self.new.path.items ≡ take cursor.path self.old.path.items ++
             (codes "[" ++ (decimal index ++ codes "]"))) }
@@ -154,7 +157,7 @@ impl Walk {
         self.path.extend_from_slice(b"]")
     }
 
-    // The parts of the variable behind the next one come later.
+    // Leaves the parts of the variable after the next one for later.
     fn leave_rest(&mut self, cursor: Cursor) -> Result<(), AllocError>
         requires { cursor.next < 2 ^ 63 }
         ensures stack { OnOk result (self.new.stack.items ≡ self.old.stack.items ++
@@ -169,7 +172,7 @@ impl Walk {
         Ok(())
     }
 
-    // The next member of a record or component, if one is left.
+    // Enters the next member of a record or component, if one is left.
     fn member(
         &mut self,
         tables: &Tables,
@@ -191,7 +194,7 @@ impl Walk {
         self.enter(tables, telling, out, member.of)
     }
 
-    // The next element of an array, if one is left.
+    // Enters the next element of an array, if one is left.
     fn element(
         &mut self,
         tables: &Tables,
@@ -214,7 +217,7 @@ impl Walk {
         self.enter(tables, telling, out, element)
     }
 
-    // The next part of a variable that was taken from the stack, if one is left.
+    // Enters the next part of a variable that was taken from the stack, if one is left.
     fn go_on(
         &mut self,
         tables: &Tables,
@@ -240,7 +243,7 @@ impl Walk {
         }
     }
 
-    // What is left of the walk.
+    // Makes the rest of the walk.
     fn finish(
         &mut self,
         tables: &Tables,
@@ -259,11 +262,11 @@ impl Walk {
         Err(AllocError)
     }
 
-    /// Tells all parts of a variable of a type, which lies at the next place.
+    /// Reports all parts of a variable with this name and type, which lies at the next location.
     ///
     /// # Errors
     ///
-    /// `AllocError` where memory runs out.
+    /// `AllocError` if memory runs out.
     pub fn variable(
         &mut self,
         tables: &Tables,

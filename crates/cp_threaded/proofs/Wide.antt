@@ -1,4 +1,4 @@
--- What the code computes in 32 or 64 bits of operands of 32 bits is exact.
+-- What the code computes in 32 or 64 bits from operands of 32 bits is exact.
 use Rattle.std.proofs.Common.{◌≡◌, ℕ, zero, suc, ◌+◌, ◌-◌, ◌*◌, ◌/◌, ◌^◌, ◌<◌, ◌≤◌, ℤ, pos, negsuc, ◌-ℤ◌, ◌*ℤ◌, Result, Err, false, refl, ap, sym, ◌∙◌, arith}
 use Rattle.std.specs.Prelude.{FitsSigned, if◌then◌else◌, int_div, int_rem, neg_ℤ, unsigned_abs}
 use Rattle.std.specs.Int.{w32, w64, cast_signed, cast_unsigned}
@@ -76,6 +76,6 @@ apart (negsuc n) h = refl
 pub unless_zero_passed : (d : ℤ) (r : Result ℤ Fault) → same_integer d (pos 0) ≡ false → r ≡ unless_zero d r
 unless_zero_passed d r h = λ i. if sym h i then Err fault.DivisionByZero else r
 
--- A bound that was widened where it was compared.
+-- A bound that was widened to be compared.
 pub bounds_wide : {A : Type 0} (P : ℤ → ℤ → ℤ → A) (low high n x y z : ℤ) → x ≡ low → y ≡ high → z ≡ n → P x y z ≡ P low high n
 bounds_wide P low high n x y z p q r = λ i. P (p i) (q i) (r i)

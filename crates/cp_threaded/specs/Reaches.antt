@@ -1,4 +1,4 @@
--- What evaluation reads, as the view of the definitions, and how far its answers are told.
+-- What evaluation reads, as the view of the definitions, and how its locations are capped.
 use Rattle.std.specs.Prelude.{ℕ, ◌++◌, ◌-◌, ◌^◌, min, List, [], ◌∷◌, Result, Ok, Err, ℤ, ◌+◌, ◌*◌}
 use Rattle.cp_model.specs.declared.state.Fault.{Fault}
 use Rattle.cp_model.specs.declared.state.Fault.TheVariants as fault
@@ -19,7 +19,7 @@ view_of r = record {
   clock = r.clock;
 }
 
--- A place beyond all words is told as the greatest number.
+-- A location beyond all words is capped to the largest number of 64 bits.
 abbrev pub capped : ℕ → ℕ
 capped n = min n (2 ^ 64 - 1)
 
@@ -27,7 +27,7 @@ abbrev pub capped_result : Result ℕ Fault → Result ℕ Fault
 capped_result (Ok n) = Ok (capped n)
 capped_result (Err f) = Err f
 
--- The value of an operator between a left operand of this value and its right operand.
+-- The value of an operator with this left operand and its own right operand.
 abbrev pub applied : View → ℤ → PlainApplication → Result ℤ Fault
 applied v x o = bind (value_of v o.operand) (λ y. apply o.operator x y)
 
@@ -36,11 +36,11 @@ abbrev pub chain_value : View → ℤ → List PlainApplication → Result ℤ F
 chain_value v x [] = Ok x
 chain_value v x (o ∷ os) = bind (applied v x o) (λ z. chain_value v z os)
 
--- How far a value of an index leads, in words.
+-- How many words an index with this value leads further.
 abbrev pub offset_of : PlainIndex → ℤ → Result ℕ Fault
 offset_of i n = unless (within i.low i.high n) fault.Index (distance i.low n * i.size + i.plus)
 
--- The place to which indices lead from this one.
+-- The location to which indices lead from this one.
 abbrev pub elements_place : View → ℕ → List PlainIndex → Result ℕ Fault
 elements_place v at [] = Ok at
 elements_place v at (i ∷ is) =

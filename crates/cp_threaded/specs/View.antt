@@ -1,5 +1,5 @@
--- Threaded code as the plain data of the definitions: chains of operands as terms that group to the left, indices as elements of
--- elements, and with each component the plan that it shares.
+-- Threaded code as the plain data of the definitions: chains of operands as terms that group to the
+-- left, indices as elements of elements, and with each component the plan that it shares.
 use Rattle.std.specs.Prelude.{ℕ, ℤ, List, [], ◌∷◌, Option, Some, None, map, slice_get}
 use Rattle.cp_model.specs.Abstract as a
 use Rattle.cp_model.specs.Erase.{operator_of}
@@ -190,7 +190,7 @@ code_unit u = record {
   frames = u.frames;
 }
 
--- The plan of this number; without one no word is written.
+-- The plan with this number. If there is none, no word is written.
 abbrev pub plan_or_none : Option Plan → List code.Start
 plan_or_none None = []
 plan_or_none (Some p) = map start p.starts.items

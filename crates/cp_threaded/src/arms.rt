@@ -1,4 +1,4 @@
-//! The labels of a `case` where they lie far apart.
+//! The labels of a `case` that lie far apart.
 
 ghost use Rattle.std.specs.Prelude.{◌≡◌, ℤ};
 ghost use Rattle.std.specs.BTreeMap as tree;
@@ -8,7 +8,7 @@ ghost use Rattle.cp_threaded.specs.Labels.{place_of_label};
 use crate::arm::Arm;
 use std::collections::BTreeMap;
 
-/// Arms in the order of the text, and the place of the first one with each label.
+/// Arms in the order of the text, and the place of the first arm with each label.
 #[derive(Debug, Drop)]
 pub struct Arms {
     pub(crate) arms: Vec<Arm>,

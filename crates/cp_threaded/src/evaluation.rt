@@ -1,6 +1,7 @@
-//! The values of terms, and the places of spots, over words.
+//! The values of terms and the locations of spots, over words.
 //!
-//! Words have 32 bits: an ordinal of a long enumeration and an address need them. The results of arithmetic are within -32768..32767.
+//! Words have 32 bits, because the ordinals of a long enumeration and addresses need them. The
+//! results of arithmetic are within -32768..=32767.
 
 ghost use Rattle.std.specs.Prelude.{◌≡◌, ℕ, ◌+◌, ◌*◌, ◌<◌, ◌^◌, ◌++◌, length, map};
 ghost use Rattle.cp_code.specs.Functions as functions;
@@ -60,7 +61,8 @@ fn remainder(a: i32, b: i32) -> Result<i32, Fault>
     in_range(i64::from(a % b))
 }
 
-// `div` cuts toward zero, and `mod` is the rest of it.
+// Applies an operator to two values. `div` truncates toward zero, and `mod` gives the matching
+// remainder.
 #[inline(always)]
 fn apply(operator: Operator, a: i32, b: i32) -> Result<i32, Fault>
     ensures { result ≡ values.apply (operator_of operator) a b }
@@ -82,7 +84,7 @@ fn apply(operator: Operator, a: i32, b: i32) -> Result<i32, Fault>
     }
 }
 
-// A number within bounds.
+// Returns a number if it is within the bounds.
 fn check_range(n: i64, low: i32, high: i32) -> Result<i32, Fault>
     ensures { result ≡ functions.unless (within low high n) fault.Range n }
 {
@@ -113,7 +115,7 @@ fn standard(function: Function, n: i32) -> Result<i32, Fault>
     }
 }
 
-// A word, or 0 where it is missing.
+// Returns a word, or 0 if it is missing.
 #[inline(always)]
 fn word(words: &[i32], at: usize) -> i32
     ensures { result ≡ starts.word words.now at }
@@ -124,7 +126,7 @@ fn word(words: &[i32], at: usize) -> i32
     }
 }
 
-// A word as a number that can't be negative.
+// Returns a word as a natural number, or 0 if it is negative.
 fn natural(n: i32) -> usize
     ensures natural { result ≡ layout.natural n }
     ensures small { result < 2 ^ 32 }
@@ -133,7 +135,8 @@ fn natural(n: i32) -> usize
 }
 
 impl<'a> Reach<'a> {
-    // The word at a place, or 0 where it is missing. The place may be told as the greatest number.
+    // Returns the word at a location, or 0 if it is missing. The location may be capped to the
+    // largest `usize`.
     #[inline(always)]
     fn word(&self, at: usize) -> i32
         ensures word { result
@@ -163,7 +166,7 @@ impl<'a> Reach<'a> {
         self.memory.component as usize + at as usize
     }
 
-    // The temp of this number.
+    // Returns the temp with this number.
     #[inline(always)]
     fn temp(&self, temp: u32) -> i32
         ensures { result ≡ starts.word self.now.memory.now.temps.items
@@ -183,7 +186,7 @@ impl<'a> Reach<'a> {
         natural(self.word(self.local(parameter))) + plus as usize
     }
 
-    /// Where a variable begins.
+    /// Returns the location where a variable begins.
     pub fn root_place(&self, root: Root) -> usize
         ensures place { result ≡ values.root_place (view_of self.now) (view.root root) }
         ensures small { result < 2 ^ 33 }
@@ -195,7 +198,7 @@ impl<'a> Reach<'a> {
         }
     }
 
-    // The number of seconds since the start, where it is an integer.
+    // Returns the number of seconds since the start, if it fits in an integer.
     fn realtime(&self) -> Result<i32, Fault>
         ensures { result ≡ values.value_of (view_of self.now) terms.Realtime }
     {
@@ -208,7 +211,8 @@ impl<'a> Reach<'a> {
 }
 
 impl Operand {
-    // The value of an operand that isn't read where it stands. Most are values of calls and elements, which are told apart first.
+    // Returns the value of an operand that can't be read directly. Most of these are values of
+    // calls and elements, which are tested first.
     #[cycle(value)]
     #[inline(never)]
     fn deep_value(&self, reach: &Reach) -> Result<i32, Fault>
@@ -244,7 +248,8 @@ impl Operand {
         }
     }
 
-    /// The value of an operand. A number and a variable's word are the first to be told apart, since they are the most common.
+    /// Returns the value of an operand. Numbers and the words of variables are tested first, since
+    /// they are the most common.
     #[cycle(value)]
     #[inline(always)]
     pub fn value(&self, reach: &Reach) -> Result<i32, Fault>
@@ -271,7 +276,7 @@ impl Operand {
 }
 
 impl Application {
-    // The value with a left operand of this value.
+    // Returns the value of the application to a left operand with the value `left`.
     #[cycle(value)]
     #[inline(always)]
     fn value_after(&self, left: i32, reach: &Reach) -> Result<i32, Fault>
@@ -287,7 +292,7 @@ impl Application {
     }
 }
 
-// The value of a chain whose first operands have this value.
+// Returns the value of a chain whose first operands have the value `first`.
 #[cycle(value)]
 #[inline(always)]
 fn value_of_chain(first: i32, rest: &[Application], reach: &Reach) -> Result<i32, Fault>
@@ -301,11 +306,11 @@ fn value_of_chain(first: i32, rest: &[Application], reach: &Reach) -> Result<i32
 }
 
 impl Term {
-    /// The value of a term.
+    /// Returns the value of a term.
     ///
     /// # Errors
     ///
-    /// The first fault that is met from left to right.
+    /// The first fault from left to right.
     #[cycle(value)]
     pub fn value(&self, reach: &Reach) -> Result<i32, Fault>
         ensures { result ≡ values.value_of (view_of reach.now) (view.term self.now) }
@@ -313,11 +318,12 @@ impl Term {
         self.value_here(reach)
     }
 
-    /// The same value, found without a call where the operands are numbers and words: for the operations that are most common.
+    /// Returns the same value as `value`, without a call if the operands are numbers and words. It
+    /// is meant for the most common operations.
     ///
     /// # Errors
     ///
-    /// The first fault that is met from left to right.
+    /// The first fault from left to right.
     #[cycle(value)]
     #[inline(always)]
     pub fn value_here(&self, reach: &Reach) -> Result<i32, Fault>
@@ -328,7 +334,7 @@ impl Term {
     }
 }
 
-// How far an index is from the lowest, in words.
+// Returns how many words an index leads away from the start of its array.
 fn offset(i: &Index, n: i32) -> Result<usize, Fault>
     ensures { result ≡ offset_of (view.index i.now) n }
 {
@@ -339,7 +345,7 @@ fn offset(i: &Index, n: i32) -> Result<usize, Fault>
     Ok(distance * i.size as usize + i.plus as usize)
 }
 
-// The place to which indices lead from this one.
+// Returns the location to which indices lead from the location `from`.
 #[cycle(value)]
 fn place_of_element(from: usize, indices: &[Index], reach: &Reach) -> Result<usize, Fault>
     ensures { result ≡ capped_result
@@ -354,11 +360,12 @@ fn place_of_element(from: usize, indices: &[Index], reach: &Reach) -> Result<usi
 }
 
 impl Spot {
-    /// The place of a variable, or of a part of one. One beyond all words is told as the greatest number.
+    /// Returns the location of a variable or of a part of one. A location beyond all words may be
+    /// capped to the largest `usize`.
     ///
     /// # Errors
     ///
-    /// The first fault that is met from left to right.
+    /// The first fault from left to right.
     #[cycle(value)]
     #[inline(always)]
     pub fn place(&self, reach: &Reach) -> Result<usize, Fault>
@@ -372,7 +379,7 @@ impl Spot {
         place_of_element(from, &self.indices, reach)
     }
 
-    // The word at the place.
+    // Returns the word at the spot.
     #[cycle(value)]
     #[inline(never)]
     fn word(&self, reach: &Reach) -> Result<i32, Fault>

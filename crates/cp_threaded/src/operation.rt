@@ -1,4 +1,5 @@
-//! Operations: one is one step, and names the place to which it leads. A place is an index of the program's operations.
+//! Operations. An operation is one step, and names the place to which it leads. A place is an index
+//! into the program's operations.
 
 use crate::arms::Arms;
 use crate::term::{Root, Spot, Term};
@@ -6,19 +7,20 @@ use crate::term::{Root, Spot, Term};
 /// The component whose routine is called.
 #[derive(Clone, Copy, Debug, PartialEq, Eq)]
 pub enum Target {
-    /// The running one.
+    /// The running component.
     Own,
-    /// A class that is a variable of the running one, so many words from its first.
+    /// A class that is a variable of the running component, at this number of words from its first
+    /// word.
     Class(u32),
-    /// A class to which this word of the running one holds a right.
+    /// A class to which this word of the running component holds a right.
     ClassRight(u32),
-    /// The monitor of this number.
+    /// The monitor with this number.
     Monitor(u32),
-    /// The monitor whose number this word of the running one holds.
+    /// The monitor whose number is held by this word of the running component.
     MonitorRight(u32),
 }
 
-/// What is passed to the parameter that lies so many words from the first.
+/// What is passed to the parameter that lies `at` words from the first one.
 #[derive(Debug, Drop)]
 pub enum Argument {
     /// A value within bounds.
@@ -28,7 +30,7 @@ pub enum Argument {
         high: i32,
         term: Term,
     },
-    /// So many words.
+    /// A copy of `size` words.
     Copy {
         at: u32,
         size: u32,
@@ -44,8 +46,8 @@ pub enum Argument {
     },
 }
 
-/// A call of a unit. The new activation lies `words` words after the caller's first, where the arguments are put; its temps lie after
-/// the caller's first `temps`.
+/// A call of a unit. The new activation begins `words` words after the caller's first word, and the
+/// arguments are put there. Its temps begin `temps` temps after the caller's first temp.
 #[derive(Debug, Drop)]
 pub struct Call {
     /// The number of the unit.
@@ -56,14 +58,14 @@ pub struct Call {
     pub temps: u32,
 }
 
-/// Where a `case` leads: the place of each number from the lowest label on, or of each label.
+/// Where a `case` leads: the place for each number from the lowest label on, or for each label.
 #[derive(Debug, Drop)]
 pub enum Table {
     Dense { low: i32, places: Vec<Option<u32>> },
     Sparse(Arms),
 }
 
-/// A `for`. Its counter is in the temp of this number, and its last value in the one after it.
+/// A `for`. Its counter is in the temp `temp`, and its last value is in the next temp.
 #[derive(Clone, Copy, Debug, PartialEq, Eq)]
 pub struct Counting {
     pub variable: Root,
@@ -75,7 +77,7 @@ pub struct Counting {
     pub next: u32,
 }
 
-/// One step's work. Bounds are those of the type of the variable that is written.
+/// The work of one step. Bounds are those of the type of the variable that is written.
 #[derive(Debug, Drop)]
 pub enum Operation {
     Set {

@@ -6,15 +6,17 @@ ghost use Rattle.cp_threaded.specs.View.{plans_of};
 
 use crate::operation::Operation;
 
-/// How words start: so many of one value, or so many blocks like the first one of this size.
+/// How words start: `count` words with one value, or `count` blocks that are all like the first
+/// one, of `size` words.
 #[derive(Clone, Copy, Debug, PartialEq, Eq)]
 pub enum Start {
     Fill { at: u32, count: u32, value: i32 },
     Repeat { at: u32, size: u32, count: u32 },
 }
 
-/// The code of a routine, or of the body of a system type: the place of its first operation, how the words of an activation start, and
-/// how many words, temps and frames one needs with all that it calls.
+/// The code of a routine or of the body of a system type: the place of its first operation, how the
+/// words of an activation start, and how many words, temps and frames the activation and all its
+/// calls need.
 #[derive(Debug, Drop)]
 pub struct CodeUnit {
     pub start: u32,
@@ -24,17 +26,19 @@ pub struct CodeUnit {
     pub frames: u32,
 }
 
-/// A monitor. Its words lie among the shared ones, from `start` on. The plan says how they start, by its number among the program's.
+/// A monitor. Its words lie among the shared words, from `start` on. `plan` is the number of the
+/// plan by which they start.
 #[derive(Clone, Copy, Debug, PartialEq, Eq)]
 pub struct Monitor {
     pub start: u32,
-    /// The number of the unit of its body.
+    /// The number of the body's unit.
     pub body: u32,
     pub words: u32,
     pub plan: u32,
 }
 
-/// A process. It has words of its own. What is passed to it waits among the shared words, from `parameters` on.
+/// A process, which has words of its own. Its arguments wait among the shared words, from
+/// `parameters` on.
 #[derive(Clone, Copy, Debug, PartialEq, Eq)]
 pub struct Process {
     pub body: u32,
@@ -50,7 +54,7 @@ pub struct Plan {
     pub starts: Vec<Start>,
 }
 
-/// A program. Monitors are numbered from 1 and processes from 1, the initial one first.
+/// A program. Monitors and processes are each numbered from 1, and the initial process comes first.
 #[derive(Debug, Drop)]
 pub struct Program {
     operations: Vec<Operation>,
@@ -62,7 +66,7 @@ pub struct Program {
 }
 
 impl Program {
-    /// A program of these parts. Plans are named by their numbers, from 0.
+    /// Returns a program with these parts. Plans are referred to by their numbers, from 0.
     pub fn new(
         operations: Vec<Operation>,
         units: Vec<CodeUnit>,
@@ -90,7 +94,7 @@ impl Program {
         }
     }
 
-    /// The operation at a place, if there is one.
+    /// Returns the operation at a place, if there is one.
     #[inline(always)]
     pub fn operation(&self, place: u32) -> Option<&Operation>
         ensures { option_map (λ o. view.operation o.now) result ≡ slice_get
@@ -99,7 +103,7 @@ impl Program {
         self.operations.get(place as usize)
     }
 
-    /// The unit of this number, from 0, if there is one.
+    /// Returns the unit with this number, from 0, if there is one.
     pub fn unit(&self, number: u32) -> Option<&CodeUnit>
         ensures { option_map (λ u. view.code_unit u.now) result ≡ slice_get
             (view.program self.now).units number }
@@ -107,7 +111,7 @@ impl Program {
         self.units.get(number as usize)
     }
 
-    /// The monitor of this number, from 1, if there is one. The number 0 is read as 1.
+    /// Returns the monitor with this number, from 1, if there is one. The number 0 is read as 1.
     pub fn monitor(&self, number: usize) -> Option<&Monitor>
         ensures { option_map (λ m. view.monitor (plans_of self.now) m.now) result ≡ slice_get
             (view.program self.now).monitors (number - 1) }
@@ -115,7 +119,7 @@ impl Program {
         self.monitors.get(number.saturating_sub(1))
     }
 
-    /// The process of this number, from 1, if there is one. The number 0 is read as 1.
+    /// Returns the process with this number, from 1, if there is one. The number 0 is read as 1.
     pub fn process(&self, number: usize) -> Option<&Process>
         ensures { option_map (λ p. view.process (plans_of self.now) p.now) result ≡ slice_get
             (view.program self.now).processes (number - 1) }
@@ -123,7 +127,8 @@ impl Program {
         self.processes.get(number.saturating_sub(1))
     }
 
-    /// How the words of a component with the plan of this number start: by nothing, if there is no such plan.
+    /// Returns how the words of a component with this plan start, or nothing if there is no such
+    /// plan.
     pub fn starts(&self, plan: u32) -> &[Start]
         ensures { map view.start result.now ≡ view.plan_at (plans_of self.now) plan }
     {
@@ -133,21 +138,21 @@ impl Program {
         }
     }
 
-    /// How many monitors there are. They have the numbers from 1.
+    /// Returns the number of monitors. They are numbered from 1.
     pub fn monitors(&self) -> usize
         ensures { result ≡ length (view.program self.now).monitors }
     {
         self.monitors.len()
     }
 
-    /// How many processes there are. They have the numbers from 1.
+    /// Returns the number of processes. They are numbered from 1.
     pub fn processes(&self) -> usize
         ensures { result ≡ length (view.program self.now).processes }
     {
         self.processes.len()
     }
 
-    /// How many words the monitors and the parameters that wait take.
+    /// Returns how many words the monitors and the waiting parameters take.
     pub fn shared_words(&self) -> u32
         ensures { result ≡ (view.program self.now).shared }
     {

@@ -1,4 +1,5 @@
-//! Where a `case` leads, as a step looks it up: in a time that grows as the logarithm of the number of labels, at most.
+//! Where a `case` leads, as a step looks it up. The time is at most logarithmic in the number of
+//! labels.
 
 ghost use Rattle.std.specs.Prelude.{◌≡◌, IfOk, map};
 ghost use Rattle.cp_code.specs.Programs as code;
@@ -13,7 +14,8 @@ use std::alloc::{AllocError, Global};
 use std::collections::BTreeMap;
 
 impl Arms {
-    /// Arms in the order of the text, of which the first with a label is the one that counts.
+    /// Returns arms that are given in the order of the text. If several arms have the same label,
+    /// the first one counts.
     pub fn new(alloc: Global, arms: Vec<Arm>) -> Result<Arms, AllocError>
         ensures { IfOk result (λ x. x.arms.items ≡ arms.items) }
     {
@@ -25,7 +27,7 @@ impl Arms {
         Ok(Arms { arms, places })
     }
 
-    /// The place of the first arm with a label, if there is one.
+    /// Returns the place of the first arm with a label, if there is one.
     pub fn place(&self, label: i32) -> Option<u32>
         ensures { result ≡ place_of_label self.now.arms.items label }
     {
@@ -34,7 +36,7 @@ impl Arms {
 }
 
 impl Table {
-    /// Where a number leads, if a label matches it.
+    /// Returns the place to which a number leads, if a label matches it.
     pub fn place(&self, n: i32) -> Option<u32>
         ensures { result ≡ place_in (view.table self.now) n }
     {
@@ -45,7 +47,7 @@ impl Table {
     }
 }
 
-// The place of a number among those from the lowest label on.
+// Returns the place of a number in a dense table, whose places begin with the lowest label.
 fn dense_place(low: i32, places: &[Option<u32>], n: i32) -> Option<u32>
     ensures { result ≡ place_in (code.Dense low places.now) n }
 {

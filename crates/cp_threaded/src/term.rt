@@ -1,7 +1,8 @@
-//! Expressions and places of variables, over words.
+//! Expressions and the locations of variables, over words.
 //!
-//! A term is a chain: a first operand, and operators with their right operands, which group to the left. An operand that is itself a
-//! term is in a box of its own; a number, a word and a temp are read where they stand.
+//! A term is a chain: a first operand, and then operators with their right operands, which group to
+//! the left. An operand that is itself a term has a box of its own. A number, a word and a temp are
+//! read directly.
 
 ghost use Rattle.std.specs.Prelude.{◌≡◌, IfOk, IfSome};
 ghost use Rattle.cp_code.specs.Terms as plain;
@@ -15,15 +16,17 @@ use std::alloc::{AllocError, Global};
 /// Where a variable begins.
 #[derive(Clone, Copy, Debug, PartialEq, Eq)]
 pub enum Root {
-    /// So many words from the first of the running activation.
+    /// At this number of words from the first word of the running activation.
     Local(u32),
-    /// So many words from the first of the running component.
+    /// At this number of words from the first word of the running component.
     Member(u32),
-    /// Where the reference points that this word of the activation holds, and so many words on.
+    /// At `plus` words from the location to which a reference points. The reference is in the word
+    /// `parameter` of the activation.
     Through { parameter: u32, plus: u32 },
 }
 
-/// A standard function of one simple value. `Shift` is `succ` and `pred`, within the bounds of a base type.
+/// A standard function of one simple value. `Shift` stands for `succ` and `pred`, within the bounds
+/// of a base type.
 #[derive(Clone, Copy, Debug, PartialEq, Eq)]
 pub enum Function {
     Abs,
@@ -37,15 +40,16 @@ pub enum Function {
 #[derive(Debug, Drop)]
 pub enum Operand {
     Number(i32),
-    /// The word of the activation.
+    /// This word of the activation.
     Local(u32),
-    /// The word of the component.
+    /// This word of the component.
     Member(u32),
-    /// The value of a call, in the temp of this number.
+    /// The value of a call, in the temp with this number.
     Made(u32),
-    /// The word so many after the one to which a reference points, which this word of the activation holds.
+    /// The word `plus` words after the location to which a reference points. The reference is in
+    /// the word `parameter` of the activation.
     Through { parameter: u32, plus: u32 },
-    /// The word at a place.
+    /// The word at a spot.
     Item(Box<Spot>),
     Nested(Box<Term>),
     Not(Box<Term>),
@@ -56,7 +60,7 @@ pub enum Operand {
     Realtime,
 }
 
-/// An operator and its right operand. Most are numbers, which are told apart first.
+/// An operator and its right operand. Most right operands are numbers, which are tested first.
 #[cycle(terms)]
 #[derive(Debug, Drop)]
 pub enum Application {
@@ -64,7 +68,8 @@ pub enum Application {
     WithOperand(Operator, Operand),
 }
 
-/// An index, with the bounds of its array, the words of an element, and how far within the element the part lies.
+/// An index, with the bounds of its array, the number of words in an element, and the offset of the
+/// part within the element.
 #[cycle(terms)]
 #[derive(Debug, Drop)]
 pub struct Index {
@@ -75,7 +80,7 @@ pub struct Index {
     pub value: Term,
 }
 
-/// The place of a variable, or of a part of one.
+/// The location of a variable, or of a part of one.
 #[cycle(terms)]
 #[derive(Debug, Drop)]
 pub struct Spot {
@@ -92,7 +97,7 @@ pub struct Term {
 }
 
 impl Root {
-    /// So many words further on, if that is a number of 32 bits.
+    /// Returns the root `words` words further on, if its offset still fits in 32 bits.
     pub fn advance(self, words: u32) -> Option<Root>
         ensures { IfSome result (λ r. view.root r ≡ moved_root words (view.root self)) }
     {
@@ -108,7 +113,7 @@ impl Root {
 }
 
 impl Spot {
-    /// A variable.
+    /// Returns the spot of a variable.
     pub fn variable(alloc: Global, root: Root) -> Spot
         ensures { view.spot result ≡ plain.Rooted (view.root root) }
     {
@@ -118,7 +123,7 @@ impl Spot {
         }
     }
 
-    /// An element of a variable, or of a part of one.
+    /// Returns the spot of an element of a variable, or of a part of one.
     pub fn element(self, low: i32, high: i32, size: u32, value: Term) -> Result<Spot, AllocError>
         ensures { IfOk result
             (λ s. view.spot s ≡ plain.Element (view.spot self) low high size 0 (view.term value)) }
@@ -134,7 +139,7 @@ impl Spot {
         Ok(Spot { root, indices })
     }
 
-    /// So many words further on, if that is a number of 32 bits.
+    /// Returns the spot `words` words further on, if its offset still fits in 32 bits.
     pub fn advance(self, words: u32) -> Option<Spot>
         ensures { IfSome result (λ s. view.spot s ≡ moved words (view.spot self)) }
     {
@@ -165,7 +170,7 @@ impl Application {
 }
 
 impl Term {
-    // A term of one operand.
+    // Returns a term with one operand.
     fn lone(alloc: Global, first: Operand) -> Term
         ensures { view.term result ≡ view.operand first }
     {
@@ -181,7 +186,7 @@ impl Term {
         Term::lone(alloc, Operand::Number(n))
     }
 
-    /// The value of a call, in the temp of this number.
+    /// Returns a term for the value of a call, in the temp with this number.
     pub fn temp(alloc: Global, temp: u32) -> Term
         ensures { view.term result ≡ plain.Made temp }
     {
@@ -194,7 +199,7 @@ impl Term {
         Term::lone(alloc, Operand::Realtime)
     }
 
-    /// A variable.
+    /// Returns a term for a variable.
     pub fn variable(alloc: Global, root: Root) -> Term
         ensures { view.term result ≡ plain.Item (plain.Rooted (view.root root)) }
     {
@@ -206,7 +211,7 @@ impl Term {
         Term::lone(alloc, operand)
     }
 
-    /// The word at a place.
+    /// Returns a term for the word at a spot.
     pub fn item(alloc: Global, spot: Spot) -> Result<Term, AllocError>
         ensures { IfOk result (λ t. view.term t ≡ plain.Item (view.spot spot)) }
     {
@@ -216,28 +221,28 @@ impl Term {
         Ok(Term::lone(alloc, Operand::Item(Box::new(alloc, spot)?)))
     }
 
-    /// Whether a queue is empty.
+    /// Returns a term for whether a queue is empty.
     pub fn empty(alloc: Global, queue: Spot) -> Result<Term, AllocError>
         ensures { IfOk result (λ t. view.term t ≡ plain.Empty (view.spot queue)) }
     {
         Ok(Term::lone(alloc, Operand::Empty(Box::new(alloc, queue)?)))
     }
 
-    /// The value that isn't this one.
+    /// Returns a term for the negation of this truth value.
     pub fn not(self, alloc: Global) -> Result<Term, AllocError>
         ensures { IfOk result (λ t. view.term t ≡ plain.Not (view.term self)) }
     {
         Ok(Term::lone(alloc, Operand::Not(Box::new(alloc, self)?)))
     }
 
-    /// With its sign changed.
+    /// Returns a term for this value with its sign changed.
     pub fn negative(self, alloc: Global) -> Result<Term, AllocError>
         ensures { IfOk result (λ t. view.term t ≡ plain.Negative (view.term self)) }
     {
         Ok(Term::lone(alloc, Operand::Negative(Box::new(alloc, self)?)))
     }
 
-    /// A standard function of it.
+    /// Returns a term for a standard function of this value.
     pub fn standard(self, alloc: Global, function: Function) -> Result<Term, AllocError>
         ensures { IfOk result
             (λ t. view.term t ≡ plain.Standard (view.function function) (view.term self)) }
@@ -246,7 +251,7 @@ impl Term {
         Ok(Term::lone(alloc, Operand::Standard(function, argument)))
     }
 
-    // As an operand: what is one operand needs no box.
+    // Returns the term as an operand. A term with only one operand needs no box.
     fn into_operand(self, alloc: Global) -> Result<Operand, AllocError>
         ensures { IfOk result (λ x. view.operand x ≡ view.term self) }
     {
@@ -256,7 +261,7 @@ impl Term {
         Ok(Operand::Nested(Box::new(alloc, self)?))
     }
 
-    /// An operator between it and a right operand.
+    /// Returns a term with an operator between this term and a right operand.
     pub fn binary(self, alloc: Global, operator: Operator, right: Term) -> Result<Term, AllocError>
         ensures { IfOk result
             (λ t. view.term t ≡ plain.Binary (operator_of operator) (view.term self)

@@ -3,7 +3,7 @@ use Rattle.cp_steps.specs.Machines as plain
 use Rattle.cp_threaded.specs.View as view
 use Rattle.cp_gates.proofs.starting.start_monitors.Given as goal
 
--- What is left leads to the words of all.
+-- The iterations that are left lead to the same words as all of them.
 abbrev pub invariant-loop-i : goal.invariant-loop-i
 invariant-loop-i l =
     let ms = (view.program l.program).monitors in

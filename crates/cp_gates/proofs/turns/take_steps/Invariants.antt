@@ -5,7 +5,8 @@ use Rattle.cp_process.specs.Rooms.{HasRoomFor}
 use Rattle.cp_gates.specs.KernelOf.{HasRoomForAskers, IsBegun, turning}
 use Rattle.cp_gates.proofs.turns.take_steps.Given as goal
 
--- What is left of the turn leads to the same. Once the process asks, no step is due any more.
+-- The steps that are left lead to the same state as the whole turn. Once the process asks, no step
+-- is due any more.
 abbrev pub invariant-loop-i : goal.invariant-loop-i
 invariant-loop-i l = record {
   room : HasRoomFor l.private (l.count - l._i);

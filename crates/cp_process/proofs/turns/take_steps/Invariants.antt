@@ -5,7 +5,8 @@ use Rattle.cp_process.specs.Rooms.{HasRoomFor}
 use Rattle.cp_process.specs.States.{IsReady, private_of}
 use Rattle.cp_process.proofs.turns.take_steps.Given as goal
 
--- What is left of the turn leads to the same, and the process is ready for it.
+-- The steps that are left lead to the same state as the whole turn, and the process is ready for
+-- them.
 abbrev pub invariant-loop-i : goal.invariant-loop-i
 invariant-loop-i l = record {
   room : HasRoomFor l.private (l.count - l._i);

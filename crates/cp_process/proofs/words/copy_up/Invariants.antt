@@ -2,7 +2,7 @@ use Rattle.std.proofs.Common.{◌≡◌, ◌++◌, length}
 use Rattle.cp_code.specs.Starts.{block, paste}
 use Rattle.cp_process.proofs.words.copy_up.Given as goal
 
--- What is left leads to the words of all.
+-- The iterations that are left lead to the same words as all of them.
 abbrev pub invariant-loop-i : goal.invariant-loop-i
 invariant-loop-i l = record {
   words : paste l.to (block (l.own ++ l.shared) l.from l.i) (l.own ++ l.shared)

@@ -2,7 +2,7 @@ use Rattle.std.proofs.Common.{◌≡◌, ◌-◌, ◌<◌, ◌^◌, ◌++◌, le
 use Rattle.cp_code.specs.Starts.{repeated}
 use Rattle.cp_process.proofs.words.repeat.Given as goal
 
--- What is left leads to the words of all.
+-- The iterations that are left lead to the same words as all of them.
 abbrev pub invariant-loop-i : goal.invariant-loop-i
 invariant-loop-i l = record {
   small : l.from < 2 ^ 34;

@@ -3,7 +3,7 @@ use Rattle.cp_code.specs.Starts.{started}
 use Rattle.cp_threaded.specs.View as view
 use Rattle.cp_process.proofs.words.start.Given as goal
 
--- What is left leads to the words of all.
+-- The iterations that are left lead to the same words as all of them.
 abbrev pub invariant-loop-step : goal.invariant-loop-step
 invariant-loop-step l = record {
   words : started l.base (map view.start (drop l.step-index l.plan)) (l.own ++ l.shared)

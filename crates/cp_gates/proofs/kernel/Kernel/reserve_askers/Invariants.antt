@@ -5,7 +5,7 @@ use Rattle.cp_process.specs.declared.outside.Gate.{Gate}
 use Rattle.cp_gates.specs.KernelOf.{HasRoomToAsk}
 use Rattle.cp_gates.proofs.kernel.Kernel.reserve_askers.Given as goal
 
--- The gates so far have room, and all are the same.
+-- The gates so far have room, and all gates are the same as before.
 abbrev pub invariant-loop-gate : goal.invariant-loop-gate
 invariant-loop-gate l = record {
   same : map states.gate l.gate-items ≡ map states.gate l.fn.self.gates.items;

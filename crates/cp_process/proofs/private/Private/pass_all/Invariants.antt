@@ -4,7 +4,7 @@ use Rattle.cp_threaded.specs.View as view
 use Rattle.cp_process.specs.States.{joined, outside_of}
 use Rattle.cp_process.proofs.private.Private.pass_all.Given as goal
 
--- What is left leads to the words of all.
+-- The iterations that are left lead to the same words as all of them.
 abbrev pub invariant-loop-argument : goal.invariant-loop-argument
 invariant-loop-argument l = record {
   output : l.self.output ≡ l.fn.self.output;

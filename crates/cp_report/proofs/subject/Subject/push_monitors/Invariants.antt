@@ -8,7 +8,7 @@ use Rattle.cp_report.specs.Subjects.{IsOf, machine_in}
 use Rattle.cp_report.proofs.LinesTold.{LinesToTell}
 use Rattle.cp_report.proofs.subject.Subject.push_monitors.Given as goal
 
--- What was told, and the monitors that are left, come to all.
+-- What has been reported and the monitors that are left make up the whole.
 abbrev pub invariant-loop-index : goal.invariant-loop-index
 invariant-loop-index l =
     (setup : Setup) → IsOf l.self setup

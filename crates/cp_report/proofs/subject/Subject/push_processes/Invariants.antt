@@ -9,7 +9,7 @@ use Rattle.cp_report.specs.Subjects.{IsOf, machine_in}
 use Rattle.cp_report.proofs.LinesTold.{LinesToTell}
 use Rattle.cp_report.proofs.subject.Subject.push_processes.Given as goal
 
--- What was told, and the processes that are left, come to all.
+-- What has been reported and the processes that are left make up the whole.
 abbrev pub invariant-loop-index : goal.invariant-loop-index
 invariant-loop-index l =
     (setup : Setup) (vs : List (Name × Variable)) → IsOf l.self setup → AreListed l.self.tables.now.types (map entry l.processes) vs

@@ -6,7 +6,7 @@ use Rattle.cp_report.specs.Tellings.{visit_of}
 use Rattle.cp_report.specs.Walks.{GoesOn, WalkStands}
 use Rattle.cp_report.proofs.walk.Walk.finish.Given as goal
 
--- What was told and what is left come to what was left at first.
+-- What has been reported and what is left make up what was left at first.
 abbrev pub invariant-loop-visit : goal.invariant-loop-visit
 invariant-loop-visit l =
     (g : GlobalScope) (rest : List Left) → ScopeStands l.tables.names l.tables.types g → WalkStands l.tables.types l.fn.self rest

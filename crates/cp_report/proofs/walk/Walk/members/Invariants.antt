@@ -6,7 +6,7 @@ use Rattle.cp_report.specs.Tellings.{visit_of}
 use Rattle.cp_report.proofs.MembersTold.{MembersToTell}
 use Rattle.cp_report.proofs.walk.Walk.members.Given as goal
 
--- What was told, and the members that are left, come to all.
+-- What has been reported and the members that are left make up the whole.
 abbrev pub invariant-loop-member : goal.invariant-loop-member
 invariant-loop-member l =
     (g : GlobalScope) (ms : Members) → ScopeStands l.tables.names l.tables.types g → AreMembers l.tables.types (map entry l.members) ms

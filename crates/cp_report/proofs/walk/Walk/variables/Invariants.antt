@@ -7,7 +7,7 @@ use Rattle.cp_report.specs.Tellings.{visit_of}
 use Rattle.cp_report.proofs.MembersTold.{MembersToTell}
 use Rattle.cp_report.proofs.walk.Walk.variables.Given as goal
 
--- What was told, and the variables that are left, come to all.
+-- What has been reported and the variables that are left make up the whole.
 abbrev pub invariant-loop-declared : goal.invariant-loop-declared
 invariant-loop-declared l =
     (g : GlobalScope) (ms : Members) → ScopeStands l.tables.names l.tables.types g → AreMembers l.tables.types (map declared_member l.variables) ms
