@@ -1,4 +1,4 @@
--- Components that are made one after another.
+-- Components are made one after another.
 use Rattle.std.proofs.Common.{◌≡◌, ◌∷◌, ◌++◌, ◌+◌, ◌∙◌, suc, Bool, true, false, ℕ, List, [], Some, Bor, ap, append_assoc, arith, if◌then◌else◌, length, map, refl, slice_get, subst, sym}
 use Rattle.std.proofs.lemmas.Option.{same_Some}
 use Rattle.std.proofs.lemmas.List.{append-nil}
@@ -36,7 +36,7 @@ use Rattle.cp_compile.specs.CompiledComponents.{AreOwners, IsInitial, IsOwner, O
 
 -- ---- System types
 
--- What is of a type with the row of a component is one.
+-- A type whose row is that of a component type is a component type.
 pub component_there : (types : Types) (n k : ℕ) (t : ResolvedType) → Stands types n t → system_of (row_at types n) ≡ Some k
     → (s : a.System) × (ms : Members) × (t ≡ ComponentOf s ms) × (b : Bor tree_system.System) × (system_at types k ≡ Some b) × (erase.system (tree.system b.now) ≡ s)
 component_there types n k (Simple b low high start) h is = absurd (let no = sym (ap system_of h.1) ∙ is in cc)
@@ -85,7 +85,7 @@ one_owner plans g (p ∷ os) (y ∷ xs) o x are is = (are.0, one_owner plans g o
 one_owner plans g [] (y ∷ xs) o x are is = absurd are
 one_owner plans g (p ∷ os) [] o x are is = absurd are
 
--- Of the variables that are left, the components behind those so far are all.
+-- The components so far and those among the remaining variables are all components.
 pub record PartlyOwned (plans : List Plan) (g : GlobalScope) (types : Types) (firsts : List (Name × ℕ)) (groups : List Group) (s : Sort) (left : List Entry)
     (all : List code.Owner) (owners : List Owner) : Type 0 where
   pub others : List (Name × Variable)

@@ -1,4 +1,4 @@
--- Components that are laid out one after another.
+-- Components are laid out one after another.
 use Rattle.std.proofs.Common.{◌≡◌, ◌∷◌, ◌++◌, ◌+◌, ◌∙◌, ℕ, List, [], ap, append_assoc, arith, map, subst, sym}
 use Rattle.std.proofs.lemmas.List.{append-nil, map-append}
 use Rattle.cp_model.specs.Abstract.{System}
@@ -15,7 +15,7 @@ use Rattle.cp_threaded.specs.declared.program.Process.{Process}
 use Rattle.cp_compile.specs.declared.components.Owner.{Owner}
 use Rattle.cp_compile.specs.CompiledComponents.{AreOwners, OwnerIs}
 
--- What was laid out so far, and what is left at a word.
+-- The components laid out so far, and the remaining ones, which begin at the word `at`.
 pub record PartlyLaid {A B : Type 0} (plans : List Plan) (g : GlobalScope) (shown : A → B) (from : ℕ → List code.Owner → List B) (f : System → ℕ)
     (left : List Owner) (laid : List A) (at start : ℕ) (xs : List code.Owner) : Type 0 where
   pub others : List code.Owner
@@ -23,7 +23,7 @@ pub record PartlyLaid {A B : Type 0} (plans : List Plan) (g : GlobalScope) (show
   pub rest : map shown laid ++ from at others ≡ from start xs
   pub end : at + sum_words f others ≡ start + sum_words f xs
 
--- The first of those that are left is this, and the others lie behind it.
+-- The component `x` is laid out as `z` at the word `at`, and the others lie after it.
 pub record IsFirst {A B : Type 0} (shown : A → B) (from : ℕ → List code.Owner → List B) (f : System → ℕ) (z : A) (at next : ℕ) (x : code.Owner) : Type 0 where
   pub laid : (others : List code.Owner) → from at (x ∷ others) ≡ shown z ∷ from next others
   pub next_is : next ≡ at + f x.system
@@ -48,7 +48,7 @@ one_laid plans g shown from f o left laid z at next start xs some one = go some.
           end = omega (arith, end, first.next_is);
         }
 
--- Where none is left, all are laid out.
+-- Once no component remains, all are laid out.
 pub record AllLaid {A B : Type 0} (shown : A → B) (from : ℕ → List code.Owner → List B) (f : System → ℕ) (laid : List A) (at start : ℕ) (xs : List code.Owner)
     : Type 0 where
   pub all : map shown laid ≡ from start xs

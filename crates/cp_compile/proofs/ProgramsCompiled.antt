@@ -43,7 +43,7 @@ named_in_order g h before (a.TypeDef x t ∷ ds) typed = (tt, named_in_order g (
 named_in_order g h before (a.EnumDef x vs ∷ ds) typed = (tt, named_in_order g (define h (a.EnumDef x vs)) before ds typed)
 named_in_order g h before (a.ConstantDef x c ∷ ds) typed = (tt, named_in_order g (define h (a.ConstantDef x c)) before ds typed)
 
--- The names of the system types of an accepted text mean them.
+-- The names of the system types of an accepted text mean those types.
 pub accepted_names : (t : text.Tree) → Accepted (tree.tree t) → AreNamed (globals (text_of t)) (text_of t).definitions
 accepted_names t accepted =
     let typed = accepted_texts_are_well_typed (tree.tree t) (record { tree = text_of t; inputs = λ p. []; tick = 1 }) accepted refl in
@@ -63,7 +63,7 @@ get_last : {A : Type 0} (xs : List A) (x : A) → slice_get (xs ++ x ∷ []) (le
 get_last [] x = refl
 get_last (z ∷ xs) x = get_last xs x
 
--- Where a list is as long as another, it has an item wherever that has one.
+-- A list that is at least as long as another has an item wherever the other has one.
 get_there : {A B : Type 0} (xs : List A) (ys : List B) (k : ℕ) (x : A) → length xs ≤ length ys → slice_get xs k ≡ Some x
     → (y : B) × (slice_get ys k ≡ Some y)
 get_there [] ys k x fits h = absurd (none k h)

@@ -1,4 +1,5 @@
--- The scopes with which the units of a system type are compiled, and its routines one after another.
+-- The scopes with which the units of a system type are compiled, and its routines, one after
+-- another.
 use Rattle.std.proofs.Common.{◌≡◌, ◌∷◌, ◌∙◌, ℕ, zero, suc, List, [], Option, None, Some, ap, drop, is_some, refl, slice_get, subst, sym}
 use Rattle.std.specs.Borrow.{Bor}
 use Rattle.cp_model.specs.Abstract.{Name, Routine, Statement, System}
@@ -63,7 +64,7 @@ pub function_written : (of : Option Identifier) → is_some of ≡ is_function (
 function_written None = refl
 function_written (Some x) = refl
 
--- A routine, whose plan and last operation these are.
+-- A routine is compiled with its plan and its last operation.
 pub routine_compiled : (of : SystemCompiler) (g : GlobalScope) (s : System) (firsts : List (Name × ℕ)) (r : Routine) (starts : List Start) (last : Operation)
     (c : Compiled) (new : Emitter) → starts ≡ plan_of_routine g r → last ≡ Return (is_function r.result)
     → IsCompiled new (with_unit (unit_scope of g s firsts (Some r)) starts last r.body c) → IsCompiled new (with_routine g s firsts of.first r c)
@@ -79,14 +80,14 @@ body_compiled of g s firsts starts last body c new none ends body_is is =
     (subst (λ o. IsCompiled new (with_unit (unit_scope of g s firsts None) [] o body c)) ends
     (subst (λ xs. IsCompiled new (with_unit (unit_scope of g s firsts None) xs last body c)) none is))
 
--- The types of a system type are those of its planner.
+-- The types of the text are those that the planner knows.
 pub planner_knows : (of : SystemCompiler) (g : GlobalScope) (s : System) (firsts : List (Name × ℕ)) → IsSystem of g s firsts → (ds : List Entry)
     (vs : List (Name × Variable)) → AreDeclared of.tables.now.types ds vs → AreDeclared (types_of of.planner.now) ds vs
 planner_knows of g s firsts i ds vs h = subst (λ (z : Types). AreDeclared z ds vs) (sym (ap (λ t. t.types) i.planned)) h
 
 -- ---- Routines one after another
 
--- With the routines that are left, what was compiled so far becomes all.
+-- Compiling the remaining routines gives what compiling all of them gives.
 pub record PartlyCompiled (of : SystemCompiler) (g : GlobalScope) (s : System) (firsts : List (Name × ℕ)) (left all : List Routine) (start : Compiled) (emitter : Emitter)
     : Type 0 where
   pub so_far : Compiled
@@ -109,7 +110,7 @@ routine_there [] rest (suc i) x h = absurd (cc)
 routine_there (t ∷ ts) rest zero x h = ap (λ (rs : List tree_routine.Routine). slice_get (routines_of rs) 0) h
 routine_there (t ∷ ts) rest (suc i) x h = routine_there ts rest i x h
 
--- The table of a routine is that of its text.
+-- The table of a routine is the one made from its text.
 pub routine_known : (of : SystemCompiler) (g : GlobalScope) (s : System) (firsts : List (Name × ℕ)) → IsSystem of g s firsts
     → (texts rest : List tree_routine.Routine) (i : ℕ) (x : tree_routine.Routine) (t : RoutineTable) → s.routines ≡ routines_of texts
     → drop i texts ≡ x ∷ rest → slice_get of.system.now.routines.items i ≡ Some t

@@ -1,4 +1,4 @@
--- Definitions that are compiled one after another.
+-- Definitions are compiled one after another.
 use Rattle.std.proofs.Common.{◌≡◌, ◌∷◌, ◌++◌, ◌∙◌, ℕ, List, [], Option, None, Some, Box, Global, Vec, ◌≤◌, ap, arith, if◌then◌else◌, length, map, refl, subst, sym}
 use Rattle.std.proofs.lemmas.Option.{same_Some}
 use Rattle.std.specs.Borrow.{Bor}
@@ -70,7 +70,7 @@ pub constants_compiled : (g : GlobalScope) (ds : List ConstantDefinition) (m : C
 constants_compiled g [] m = refl
 constants_compiled g (d ∷ ds) m = constants_compiled g ds m
 
--- With the definitions that are left, what was compiled so far becomes all.
+-- Compiling the remaining definitions gives what compiling all of them gives.
 pub record PartlyDefined (g : GlobalScope) (left all : List Definition) (start : CompiledTypes) (emitter : Emitter) (firsts : List (Name × ℕ)) : Type 0 where
   pub so_far : CompiledTypes
   pub are : TypesAre emitter firsts so_far
@@ -110,14 +110,14 @@ pub record_has_no_units : (firsts : List (Name × ℕ)) (at : ℕ) (groups : Vec
     → 0 ≡ first_of_type firsts (erase.type_expression (tree.type_expression (written.Record at groups)))
 record_has_no_units firsts at groups = ap (λ t. first_of_type firsts (erase.type_expression t)) (sym (view_record at groups))
 
--- The first unit is the same in tables that tell the same.
+-- Tables that look up alike give the same first unit.
 pub same_first : (fs gs : List (Name × ℕ)) (t : a.TypeExpression) → ((x : Name) → lookup x fs ≡ lookup x gs) → first_of_type fs t ≡ first_of_type gs t
 same_first fs gs (a.TypeName x) so = ap or_zero (so x)
 same_first fs gs (a.Range l h) so = refl
 same_first fs gs (a.Array i e) so = refl
 same_first fs gs (a.Record gs') so = refl
 
--- A system type's definition.
+-- The definition of a system type.
 pub system_defined : (g : GlobalScope) (x : Name) (s : a.System) (m : CompiledTypes) (new : Emitter) (first : ℕ)
     → IsCompiled new (with_system g m.firsts s m.compiled) → first ≡ length m.compiled.units
     → IsDefined new first (a.SystemDef x s) m (with_definition g (a.SystemDef x s) m)

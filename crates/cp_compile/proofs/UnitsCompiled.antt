@@ -1,4 +1,4 @@
--- A unit that is compiled behind others.
+-- A unit is compiled after others.
 use Rattle.std.proofs.Common.{◌≡◌, ◌∷◌, ◌++◌, ◌∙◌, ℕ, suc, List, [], ap, append_assoc, drop, length, length-append, arith}
 use Rattle.std.proofs.Math.Seq.{drop-append_seam}
 use Rattle.cp_model.specs.Abstract as a
@@ -11,7 +11,7 @@ use Rattle.cp_emit.specs.declared.emitter.Emitter.{Emitter}
 use Rattle.cp_emit.specs.Emission.{operations_of, place_of, units_of}
 use Rattle.cp_compile.specs.Compiles.{IsCompiled}
 
--- What was emitted behind these operations and units.
+-- The operations and units after `os` and `us` are those of the unit.
 pub record Behind (s : code.Scope) (starts : List Start) (last : Operation) (body : a.Statement) (os : List Operation) (us : List CodeUnit) (operations : List Operation) (units : List CodeUnit) : Type 0 where
   pub operations_are : operations ≡ os ++ (unit_code s last body (length os)).operations
   pub units_are : units ≡ us ++ code_unit (unit_code s last body (length os)).entry starts
@@ -41,7 +41,7 @@ unit_behind s starts last body os us operations units at here entry first words 
           ∙ ap (λ xs. us ++ code_unit (unit_code s last body (length os)).entry starts (need_of_all us s.words xs) ∷ []) own;
     }
 
--- The same of an emitter.
+-- The same, for an emitter.
 pub unit_compiled : (s : code.Scope) (starts : List Start) (last : Operation) (body : a.Statement) (old new : Emitter) (c : Compiled)
     (here at entry first words : ℕ) → at ≡ place_of old → here ≡ length (operations_of old ++ last ∷ [])
     → first ≡ place_of old → words ≡ s.words → entry ≡ (emitted s body 0 here at).entry

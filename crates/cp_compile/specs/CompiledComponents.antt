@@ -42,7 +42,8 @@ AreOwners plans g [] [] = Unit {0}
 AreOwners plans g (o ∷ os) (x ∷ xs) = OwnerIs plans g o x × AreOwners plans g os xs
 AreOwners plans g _ _ = ⊥
 
--- It is a component of the system type of this table, if the plan of its number is that of the system type.
+-- `o` is the component with this body of the system type of this table, provided that plan number
+-- `plan` is that of the system type.
 abbrev pub IsOwner : SystemTable → ℕ → ℕ → Owner → Type 0
 IsOwner table body plan o =
     (plans : List Plan) (g : GlobalScope) (types : Types) (s : System)
@@ -50,7 +51,7 @@ IsOwner table body plan o =
     → SystemStands g types table ps vs rs → IsWritten s ps vs rs → plan_at plans plan ≡ plan_of_component g s
     → OwnerIs plans g o (record { system = s; body = body })
 
--- The variable is this component.
+-- The component that the variable `v` is, in the definition, is `o`.
 abbrev pub PutsOwner : List Plan → GlobalScope → List (Name × ℕ) → List Group → Name × Variable → Owner → Type 0
 PutsOwner plans g firsts groups v o =
     (x : code.Owner) × ((rest : List code.Owner) → owner_before firsts groups v rest ≡ x ∷ rest) × OwnerIs plans g o x
@@ -63,7 +64,7 @@ PlansAre g tables plans =
     → system_at tables.types k ≡ Some y → slice_get tables.systems.items k ≡ Some t
     → plan_at plans k ≡ plan_of_component g (erase.system (tree.system y.now))
 
--- The tables stand for the text, whose initial process declares these variables.
+-- The tables stand for the text, and its initial process declares the variables `vs`.
 pub record IsInitial (of : InitialCompiler) (plans : List Plan) (g : GlobalScope) (firsts : List (Name × ℕ))
     (groups : List Group) (vs : List (Name × Variable))
     : Type 0 where

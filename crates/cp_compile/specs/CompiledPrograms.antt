@@ -32,7 +32,7 @@ pub record IsPlanner (tables : Tables) (planner : Planner) (g : GlobalScope) : T
   pub over : planner.tables.now ≡ tables
   pub knows : Knows planner g
 
--- What the definitions of a text are compiled to.
+-- The result of compiling the definitions of a text.
 abbrev pub text_types : Tree → CompiledTypes
 text_types t = with_definitions (globals t) t.definitions nothing_compiled
 

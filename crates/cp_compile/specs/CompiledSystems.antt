@@ -14,7 +14,7 @@ use Rattle.cp_scope.specs.Systems.{SystemStands}
 use Rattle.cp_scope.specs.Texts.{AreSystems}
 use Rattle.cp_compile.specs.declared.system.SystemCompiler.{SystemCompiler}
 
--- The tables stand for the text with this outermost scope, and for this system type.
+-- The tables stand for the text with the outermost scope `g`, and for the system type `s`.
 pub record IsSystem (of : SystemCompiler) (g : GlobalScope) (s : System) (firsts : List (Name × ℕ)) : Type 0 where
   pub parameters : List Parameters
   pub variables : List Fields

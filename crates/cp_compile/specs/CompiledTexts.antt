@@ -1,4 +1,5 @@
--- When the definitions of a text are compiled with the right tables, and what was compiled so far.
+-- When the definitions of a text are compiled with the right tables, and what has been compiled so
+-- far.
 use Rattle.std.specs.Prelude.{◌≡◌, ℕ, List, [], ◌∷◌, Option, None, Some}
 use Rattle.cp_model.specs.Abstract as a
 use Rattle.cp_model.specs.Abstract.{Definition, Name, System}
@@ -19,7 +20,7 @@ use Rattle.cp_compile.specs.declared.definitions.SystemText.{SystemText}
 use Rattle.cp_compile.specs.declared.definitions.TextCompiler.{TextCompiler}
 use Rattle.cp_compile.specs.Compiles.{IsCompiled}
 
--- The tables stand for the text with this outermost scope.
+-- The tables stand for the text with the outermost scope `g`.
 pub record IsText (of : TextCompiler) (g : GlobalScope) : Type 0 where
   pub names : ScopeStands of.tables.now.names of.tables.now.types g
   pub laid : AreLaid g of.tables.now.types of.tables.now.layouts.rows.items
@@ -27,7 +28,7 @@ pub record IsText (of : TextCompiler) (g : GlobalScope) : Type 0 where
   pub planned : of.planner.now.tables.now ≡ of.tables.now
   pub knows : Knows of.planner.now g
 
--- The emitter and the first units are those of what was compiled so far.
+-- The emitter and the first units are those of `m`, which has been compiled so far.
 pub record TypesAre (emitter : Emitter) (firsts : List (Name × ℕ)) (m : CompiledTypes) : Type 0 where
   pub compiled : IsCompiled emitter m.compiled
   pub firsts_are : (x : Name) → lookup x firsts ≡ lookup x m.firsts
@@ -49,7 +50,7 @@ pub record IsSystemText (of : TextCompiler) (g : GlobalScope) (found : SystemTex
 
 -- ---- Definitions
 
--- The name of a system type means it in the scope of the whole text.
+-- In the scope of the whole text, the name of a system type means that type.
 abbrev pub IsNamed : GlobalScope → Definition → Type 0
 IsNamed g (a.SystemDef x s) = (ms : Members) × (lookup x g.types ≡ Some (ComponentOf s ms))
 IsNamed g d = Unit {0}
@@ -64,7 +65,7 @@ defined_name (a.TypeDef x t) = x
 defined_name (a.EnumDef x vs) = x
 defined_name (a.ConstantDef x c) = x
 
--- A type's definition was compiled, and the first unit of the type is this.
+-- The definition of a type is compiled, and `first` is the first unit of the type.
 pub record IsDefined (emitter : Emitter) (first : ℕ) (d : Definition) (before after : CompiledTypes) : Type 0 where
   pub compiled : IsCompiled emitter after.compiled
   pub firsts : after.firsts ≡ (defined_name d, first) ∷ before.firsts

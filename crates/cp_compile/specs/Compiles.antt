@@ -8,7 +8,7 @@ use Rattle.cp_code.specs.Compile.{Compiled}
 use Rattle.cp_emit.specs.declared.emitter.Emitter.{Emitter}
 use Rattle.cp_emit.specs.Emission.{operations_of, units_of}
 
--- Its operations and units are these.
+-- The emitter has the operations and units of `c`.
 pub record IsCompiled (emitter : Emitter) (c : Compiled) : Type 0 where
   pub operations : operations_of emitter ≡ c.operations
   pub units : units_of emitter ≡ c.units

@@ -1,4 +1,4 @@
-//! The program of a text.
+//! Compiles a text to a program.
 
 ghost use Rattle.std.specs.Prelude.{◌≡◌, IfOk};
 ghost use Rattle.cp_model.specs.Declarations.{globals};
@@ -23,7 +23,8 @@ use cp_scope::{CompileError, Tables, small_number};
 use cp_threaded::program::{Monitor, Plan, Process, Program};
 use std::alloc::Global;
 
-/// The code of a text: its operations and units, the first unit of each type, by its name, and that of the initial process.
+/// The code of a text: its operations and units, the first unit of each type by name, and the first
+/// unit of the initial process.
 #[derive(Drop)]
 struct Code<'t> {
     emitter: Emitter,
@@ -31,14 +32,16 @@ struct Code<'t> {
     first: u32,
 }
 
-/// The plans of components: of the system types by their numbers, and of the initial process.
+/// The plans of components: those of the system types by their numbers, and that of the initial
+/// process.
 #[derive(Drop)]
 struct Plans {
     all: Vec<Plan>,
     initial: u32,
 }
 
-/// Monitors and processes, and how many words the monitors and what is passed to processes take.
+/// The monitors and processes, and the number of shared words, which the monitors and the waiting
+/// parameters of processes take.
 #[derive(Drop)]
 struct Components {
     monitors: Vec<Monitor>,
@@ -46,7 +49,7 @@ struct Components {
     shared: u32,
 }
 
-// Compiles the system types of a text, and then the initial process.
+// Compiles the system types of a text, followed by the initial process.
 fn compile_code<'t>(
     alloc: Global,
     tree: &'t Tree,
@@ -82,7 +85,7 @@ fn compile_code<'t>(
     })
 }
 
-// Makes the plans of components.
+// Makes the plans of the components of all system types and of the initial process.
 fn make_plans<'t>(tables: &Tables<'t>, planner: &Planner<'_, 't>) -> Result<Plans, CompileError>
     ensures { IfOk result (λ plans. (g : GlobalScope) (t : text.Tree)
         → TablesStand g tables.now t → IsPlanner tables.now planner.now g
@@ -132,11 +135,13 @@ fn lay_components<'t>(
     })
 }
 
-/// The program of a text: of an accepted one that which the definition makes, which stands for it.
+/// Compiles a text to a program. For an accepted text, it is the program that the definition
+/// `compile` of `cp_code` makes, which stands for the text.
 ///
 /// # Errors
 ///
-/// `Memory` where memory runs out, and `Unaccepted` where a number or a name is beyond those of any accepted text.
+/// `Memory` if memory runs out, and `Unaccepted` if the tree has a number or a name that no
+/// accepted text has.
 pub fn compile(alloc: Global, tree: &Tree) -> Result<Program, CompileError>
     ensures { IfOk result (λ program. Accepted (syntax.tree tree.now)
         → view.program program ≡ code.compile (text_of tree.now)) }

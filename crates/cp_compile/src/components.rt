@@ -16,7 +16,8 @@ use cp_model::tree::Sort;
 use cp_names::NameTable;
 use cp_scope::{CompileError, Declared, SystemTable, Tables, small_number};
 
-/// A monitor or a process: the unit of its body, its words, those of what is passed to it, and the number of its plan.
+/// A monitor or a process: the unit of its body, the number of its words, the number of words that
+/// wait to be passed to it, and the number of its plan.
 #[derive(Clone, Copy)]
 pub struct Owner {
     pub body: u32,
@@ -25,7 +26,8 @@ pub struct Owner {
     pub plan: u32,
 }
 
-/// What the components of a text are made from: its tables, and the first unit of each type, by its name.
+/// What the components of a text are made from: its tables, and the first unit of each type by
+/// name.
 #[derive(Clone, Copy)]
 pub struct InitialCompiler<'s, 't> {
     pub tables: &'s Tables<'t>,
@@ -33,7 +35,7 @@ pub struct InitialCompiler<'s, 't> {
 }
 
 impl Owner {
-    /// A component of a system type, with the unit of its body and the number of its plan.
+    /// Makes a component of a system type, given the unit of its body and the number of its plan.
     pub fn of(table: &SystemTable, body: u32, plan: u32) -> Result<Owner, CompileError>
         ensures { IfOk result (IsOwner table.now body plan) }
     {
@@ -48,7 +50,7 @@ impl Owner {
 }
 
 impl<'s, 't> InitialCompiler<'s, 't> {
-    // The component that a variable is, of the system type of this number.
+    // The component that a variable is, where `number` is that of its system type.
     fn component(&self, d: &Declared<'t>, number: usize) -> Result<Owner, CompileError>
         ensures { IfOk result (λ o. (plans : List Plan) (g : GlobalScope)
             (firsts : List (Name × ℕ)) (groups : List Group) (vs : List (Name × Variable))
@@ -70,7 +72,7 @@ impl<'s, 't> InitialCompiler<'s, 't> {
         Owner::of(table, body, small_number(number)?)
     }
 
-    // Adds the component that a variable is, if it is one of this sort.
+    // Adds the component that a variable is, if it is a component of this sort.
     fn add_owner(
         &self,
         sort: Sort,

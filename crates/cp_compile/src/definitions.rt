@@ -1,4 +1,5 @@
-//! The system types of a text in text order, and the first unit of each named type.
+//! Compiles the system types of a text in text order, and records the first unit of each named
+//! type.
 
 ghost use Rattle.std.specs.Prelude.{◌≡◌, IfOk, OnOk, Some, length, map};
 ghost use Rattle.cp_model.specs.Abstract as a;
@@ -24,14 +25,14 @@ pub struct TextCompiler<'s, 't> {
     pub planner: &'s Planner<'s, 't>,
 }
 
-// A system type, and its table.
+// The text of a system type, and its table.
 #[derive(Clone, Copy)]
 struct SystemText<'s, 't> {
     text: &'t System,
     table: &'s SystemTable<'t>,
 }
 
-// The first unit of a type that is written: of a name, that of the type it names.
+// The first unit of a written type. For a name, it is that of the type that the name means.
 fn first_of_type_expression(
     t: &TypeExpression,
     firsts: &NameTable<u32>,
@@ -75,7 +76,7 @@ impl<'s, 't> TextCompiler<'s, 't> {
         Ok(SystemText { text, table })
     }
 
-    // Compiles the system type that a name is defined as, and answers its first unit.
+    // Compiles the system type that a name is defined as, and returns its first unit.
     fn system(
         &self,
         name: &[u8],
@@ -102,7 +103,7 @@ impl<'s, 't> TextCompiler<'s, 't> {
         Ok(first)
     }
 
-    // The first unit of a type that is defined.
+    // Compiles the type that is defined, if it is a system type, and returns its first unit.
     fn first_of(
         &self,
         d: &TypeDefinition,
@@ -122,7 +123,7 @@ impl<'s, 't> TextCompiler<'s, 't> {
         }
     }
 
-    // Compiles a type's definition.
+    // Compiles the definition of a type, and records its first unit.
     fn definition(
         &self,
         d: &'t TypeDefinition,
@@ -139,7 +140,7 @@ impl<'s, 't> TextCompiler<'s, 't> {
         Ok(())
     }
 
-    // Compiles the types of a section.
+    // Compiles the type definitions of a section.
     fn types(
         &self,
         list: &'t [TypeDefinition],

@@ -1,4 +1,4 @@
-//! Where the words of monitors lie, and behind them what is passed to processes.
+//! Lays out the words of monitors, and after them the parameters that wait for processes.
 
 ghost use Rattle.std.specs.Prelude.{List, IfOk};
 ghost use Rattle.cp_model.specs.Types.{GlobalScope};
@@ -12,21 +12,21 @@ use cp_scope::CompileError;
 use cp_threaded::program::{Monitor, Process};
 use std::alloc::Global;
 
-/// Monitors that lie one behind the other, and the words that they take.
+/// Monitors that lie one after another, and the number of words that they take.
 #[derive(Drop)]
 pub struct MonitorLayout {
     pub monitors: Vec<Monitor>,
     pub words: u32,
 }
 
-/// Processes with what is passed to them, one behind the other, and the word behind all.
+/// Processes whose waiting parameters lie one after another, and the word after all of them.
 #[derive(Drop)]
 pub struct ProcessLayout {
     pub processes: Vec<Process>,
     pub end: u32,
 }
 
-/// Lays monitors out, from the first word on.
+/// Lays out monitors, from the first shared word on.
 pub fn lay_monitors(alloc: Global, owners: &[Owner]) -> Result<MonitorLayout, CompileError>
     ensures { IfOk result (λ m. (plans : List Plan) (g : GlobalScope) (xs : List code.Owner)
         → AreOwners plans g owners.now xs → MonitorsLie plans g m xs) }
@@ -48,7 +48,7 @@ pub fn lay_monitors(alloc: Global, owners: &[Owner]) -> Result<MonitorLayout, Co
     })
 }
 
-/// Lays out what is passed to processes, from a word on.
+/// Lays out the waiting parameters of processes, from the word `start` on.
 pub fn lay_processes(
     alloc: Global,
     owners: &[Owner],

@@ -1,4 +1,4 @@
-//! The units of a system type: its routines in text order, and then its body.
+//! Compiles the units of a system type: its routines in text order, followed by its body.
 
 ghost use Rattle.std.specs.Prelude.{◌≡◌, List, ℕ, OnOk, length};
 ghost use Rattle.cp_model.specs.Abstract.{Name, Routine, System};
@@ -21,8 +21,9 @@ use cp_names::NameTable;
 use cp_scope::{CompileError, RoutineTable, Scope, SystemTable, Tables};
 use cp_threaded::operation::Operation;
 
-/// What the units of a system type are compiled with: the tables of the text, plans, the first unit of each type that was defined
-/// before, by its name, the table of the system type, and its own first unit.
+/// What the units of a system type are compiled with: the tables of the text, the planner, the
+/// first unit of each type that was defined before, by name, the table of the system type, and its
+/// own first unit.
 #[derive(Clone, Copy)]
 pub struct SystemCompiler<'s, 't> {
     pub tables: &'s Tables<'t>,

@@ -1,4 +1,4 @@
-//! Units: the code of a routine, or of the body of a system type.
+//! Compiles a unit: the code of a routine or of the body of a system type.
 
 ghost use Rattle.std.specs.Prelude.{OnOk, map};
 ghost use Rattle.cp_code.specs.Compile.{Compiled, with_unit};
@@ -15,7 +15,8 @@ use cp_threaded::program::Start;
 use cp_translate::Translator;
 use std::alloc::Global;
 
-/// Compiles a unit of these statements, which ends with an operation and whose words start by this plan.
+/// Compiles the statements `body` to a unit. It ends with the operation `last`, and its activations
+/// start by the plan `starts`.
 pub fn compile_unit(
     alloc: Global,
     scope: &Scope,

@@ -1,4 +1,4 @@
--- Lists in which the item at a place is changed.
+-- Lists with a changed item.
 use Rattle.std.proofs.Common.{◌≡◌, ◌≤◌, ◌<◌, ℕ, zero, suc, List, [], ◌∷◌, ◌++◌, length, map, refl, ap, arith}
 use Rattle.std.proofs.Math.ListN.{get_or, set}
 use Rattle.cp_emit.specs.Emission.{changed_at}
@@ -19,7 +19,7 @@ length-changed n f [] = refl
 length-changed zero f (x ∷ xs) = refl
 length-changed (suc n) f (x ∷ xs) = ap suc (length-changed n f xs)
 
--- What was emitted before keeps its place.
+-- The item after the first list is the one that changes.
 pub changed_between : {A : Type 0} (f : A → A) (xs : List A) (x : A) (ys : List A)
     → changed_at (length xs) f (xs ++ x ∷ ys) ≡ xs ++ f x ∷ ys
 changed_between f [] x ys = refl

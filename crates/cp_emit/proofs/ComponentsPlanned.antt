@@ -1,4 +1,4 @@
--- One more system type of which the plan is known.
+-- The plan of one more system type.
 use Rattle.std.proofs.Common.{◌≡◌, ◌∙◌, ℕ, List, [], ◌∷◌, ◌++◌, Some, ap, subst, ⊎_elim, length, map, slice_get}
 use Rattle.cp_model.specs.Abstract as a
 use Rattle.cp_model.specs.Declarations.{declarations}

@@ -1,4 +1,4 @@
--- Starts in front of others, as the last ones of a list.
+-- Starts before others in a plan come last in the list of a draft.
 use Rattle.std.proofs.Common.{◌≡◌, ◌∙◌, ◌+◌, ℕ, ℤ, List, [], ◌∷◌, ◌++◌, Option, None, Some, Bool, true, false, ap, refl, sym, drop, length, map, reverse, if◌then◌else◌, arith}
 use Rattle.std.specs.Prelude.{MatchOption, T, nat_eq, not}
 use Rattle.std.proofs.lemmas.List.{length-map, length-reverse, reverse-append}

@@ -1,4 +1,4 @@
--- Fills of neighbours by one value are one fill.
+-- Adjacent fills with one value are one fill.
 use Rattle.std.proofs.Common.{◌≡◌, ◌∙◌, ◌+◌, ℕ, zero, suc, ℤ, pos, negsuc, List, [], ◌∷◌, Bool, true, false, ap, refl, if◌then◌else◌, arith}
 use Rattle.std.specs.Prelude.{nat_eq, ◌&&◌}
 use Rattle.std.proofs.lemmas.Bool.{eq-eqb}
@@ -11,7 +11,7 @@ same_as_itself (pos k) = eq-eqb k k refl
 same_as_itself (negsuc k) = eq-eqb k k refl
 
 module _ (at i : ℕ) (n : ℤ) where
-  -- A fill in front of the one that goes on where it ends.
+  -- A fill before one that begins where it ends, with the same value.
   before_one : (j : ℕ) (xs : List Start) → fill_before at i n (Fill (at + i) j n ∷ xs) ≡ Fill at (i + j) n ∷ xs
   before_one j xs =
       ap (λ b. if b && same_integer n n then Fill at (i + j) n ∷ xs else Fill at i n ∷ Fill (at + i) j n ∷ xs) (eq-eqb (at + i) (at + i) refl)
@@ -43,7 +43,7 @@ fills_joined true at i j (pos (suc k)) xs = before_both at i (pos (suc k)) j xs
 fills_joined true at i j (negsuc k) xs = before_both at i (negsuc k) j xs
 fills_joined false at i j n xs = before_both at i n j xs
 
--- Where words are 0 before, only a fill by 0 plans nothing.
+-- If the words are 0 before, only a fill with 0 plans nothing.
 pub nothing_filled : (at count : ℕ) (n : ℤ) → fill_unless true at count n [] ≡ [] → n ≡ pos 0
 nothing_filled at count (pos zero) is = refl
 nothing_filled at count (pos (suc k)) is = absurd (cc)

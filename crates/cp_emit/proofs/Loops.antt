@@ -1,4 +1,5 @@
--- A loop: the operation that closes it is emitted first, with its calls, and completed once the body stands.
+-- Loops: the operation that closes a loop is emitted first, with its calls, and completed once the
+-- body is emitted.
 use Rattle.std.proofs.Common.{◌≡◌, ◌+◌, suc, List, ◌∷◌, ◌++◌, length, ap, ◌∙◌, append_assoc, arith, length-append}
 use Rattle.cp_code.specs.CodedTerms.{CodedCall}
 use Rattle.cp_code.specs.CodedStatements.{calls_at, with_calls}
@@ -14,7 +15,7 @@ place_of_body old cs o =
     let calls = (calls_at cs (suc (length old)) (length old)).operations in
     length-append old (o ∷ calls) ∙ omega arith
 
--- What was emitted, once the operation is completed.
+-- The operations that are emitted, once the closing operation is completed.
 pub loop_closed : (f : Operation → Operation) (old : List Operation) (cs : List CodedCall) (o : Operation) (body : List Operation)
     → changed_at (length old) f ((old ++ (with_calls cs o (length old)).operations) ++ body)
     ≡ old ++ f o ∷ ((calls_at cs (suc (length old)) (length old)).operations ++ body)

@@ -1,4 +1,4 @@
--- Members whose words all start by one value, and those that stay 0.
+-- Members whose words all start with one value, and members that stay 0.
 use Rattle.std.proofs.Common.{◌≡◌, ◌∙◌, ◌+◌, ◌<◌, ℕ, suc, ℤ, List, [], ◌∷◌, Option, None, Some, true, ap, refl, sym, arith, get_or, length, map, slice_get}
 use Rattle.std.specs.List.{HoldsAt}
 use Rattle.std.proofs.lemmas.Option.{slice_get-get_or}
@@ -12,16 +12,16 @@ use Rattle.cp_emit.specs.declared.start_values.StartValue.{StartValue}
 use Rattle.cp_emit.specs.StartValues.{AreFilledBy, AreStartValues, FillIs, FillsAt, FillsMembers, KeepsMembersZero, StayZero, StaysZeroAt}
 use Rattle.cp_emit.proofs.FillsJoined.{fills_joined}
 
--- What is read past the end of a list of fields.
+-- A placeholder for an index past the end of a list of fields.
 abbrev pub nothing : Field
 nothing = record { name = record { ref_ptr = (0, 0); now = [] }; of = 0 }
 
--- The first so many fields are so.
+-- The first `n` fields have the property `P`.
 abbrev pub Each : (Field → Type 0) → ℕ → List Field → Type 0
 Each P n fs = (k : ℕ) → k < n → P (get_or fs k nothing)
 
 module _ (values : List StartValue) where
-  -- ---- What is known of a number
+  -- ---- What is known of a type number
 
   pub value_read : (n : ℕ) (v : StartValue) → (n < length values) × HoldsAt (λ z. v ≡ z) values n → slice_get values n ≡ Some v
   value_read n v there = slice_get-get_or values n v there.0 ∙ ap Some (sym (there.1 v))

@@ -111,7 +111,7 @@ routine_planned g r b head first rest marked is head_is first_is rest_is marked_
     (rest_is ∙ (variables_planned g vs first
     ∙ ap (plan_of_variables g vs) (first_is ∙ ap (λ n. n + words) (head_is ∙ result_counted r.result b is))))
 
--- The variables that are left, after those that were counted.
+-- The variables that remain after those that are counted.
 pub record PartlyCounted (g : GlobalScope) (types : Types) (vs : List (Name × Variable)) (at next : ℕ) (ds : List Declared) : Type 0 where
   pub others : List (Name × Variable)
   pub stand : AreDeclared types (map declared_entry ds) others

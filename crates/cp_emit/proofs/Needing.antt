@@ -1,4 +1,4 @@
--- What operations need, as one is emitted or completed.
+-- The needs of operations, as an operation is emitted or completed.
 use Rattle.std.proofs.Common.{◌≡◌, ℕ, zero, suc, List, [], ◌∷◌, ◌++◌, drop, max, refl, ap, ◌∙◌, arith}
 use Rattle.cp_code.specs.CodeNeeds.{Need, greater_need, need_of, need_of_all}
 use Rattle.cp_code.specs.Programs as op

@@ -13,7 +13,7 @@ use Rattle.cp_code.specs.CodedStatements.{places_from}
 
 -- ---- Places
 
--- An arm whose label lies below leads from none of the numbers.
+-- An arm whose label lies below all numbers gives none of them a place.
 none_put : (xs : List Arm) (x : Arm) (low : ℤ) (n : ℕ) → int_le low x.label ≡ false → places_from xs low n ≡ places_from (x ∷ xs) low n
 none_put xs x low zero h = refl
 none_put xs x low (suc n) h = λ i.
@@ -41,7 +41,7 @@ arm_put xs x low n = go (int_le low x.label) refl
     go true h = one_put xs x (distance low x.label) low n (grind (arith, ints, h))
     go false h = none_put xs x low n h
 
--- Without arms no number has a place.
+-- Without arms, no number has a place.
 pub none_left : (low : ℤ) (n : ℕ) → replicate n None ≡ places_from [] low n
 none_left low zero = refl
 none_left low (suc n) = ap (λ ps. None ∷ ps) (none_left (low +ℤ pos 1) n)

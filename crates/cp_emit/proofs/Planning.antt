@@ -1,4 +1,4 @@
--- What is left to plan, as it is done.
+-- Work that is left to plan, as it is done.
 use Rattle.std.proofs.Common.{◌≡◌, ◌∙◌, ◌+◌, ℕ, ℤ, List, [], ◌∷◌, ◌++◌, None, Some, Bool, true, false, ap, refl, sym, subst, length}
 use Rattle.std.proofs.lemmas.Option.{same_Some}
 use Rattle.cp_model.specs.Abstract.{Name}
@@ -22,7 +22,7 @@ use Rattle.cp_emit.proofs.PlansJoined.{array_closed, array_repeated}
 same_row : (types : Types) (n : ℕ) (r s : TypeRow) → row_at types n ≡ Some r → row_at types n ≡ Some s → r ≡ s
 same_row types n r s p q = same_Some r s (sym p ∙ q)
 
--- What an array's number stands for.
+-- A number whose row is an array stands for an array type.
 pub as_array : (types : Types) (n : ℕ) (low high : ℤ) (e : ℕ) (P : ResolvedType → Type 0) → row_at types n ≡ Some (row.Array low high e)
     → ((t : ResolvedType) → Stands types n (ArrayOf low high t) → Stands types e t → P (ArrayOf low high t))
     → (t : ResolvedType) → Stands types n t → P t
@@ -52,18 +52,18 @@ module _ (zeros : Bool) (g : GlobalScope) (types : Types) where
       let rest = popped ws w now all.0 all.1 in
       (rest.0, rest.1, (all.0, rest.2, all.2))
 
-  -- Nothing was planned, and nothing is left.
+  -- At the beginning nothing is planned, and nothing else is left.
   pub begun : (d : Draft) (f : List Start → List Start) → d.starts.items ≡ [] → d.left.items ≡ [] → AllDone zeros g types d.left.items (f (planned d)) (f [])
   begun d f starts left = rw left (sym (ap (λ xs. f (starts_of xs)) starts))
 
-  -- So much was planned, and what is left is the same.
+  -- The starts of `f` are planned, and what is left is the same.
   pub leaves_planned : (old new : Draft) (f : List Start → List Start) → new.left ≡ old.left → planned new ≡ f (planned old)
       → Leaves zeros g types old new f
   leaves_planned old new f left is after all = rw (left, is) all
 
   -- ---- Members
 
-  -- Of members, those are left that weren't put.
+  -- The first members are left to be planned, and the others remain.
   pub record PartlyLeft (old new : Draft) (ms : Members) (at next : ℕ) (fields : List (Name × ℕ)) : Type 0 where
     pub others : Members
     pub stand : AreMembers types fields others
@@ -106,12 +106,12 @@ module _ (zeros : Bool) (g : GlobalScope) (types : Types) where
 
   -- ---- One value
 
-  -- Nothing was planned, where the words are 0 before.
+  -- Nothing is planned if the words are 0 before.
   pub nothing_planned : (d : Draft) (t : ResolvedType) (at : ℕ) → zeros ≡ true → StaysZero t → Leaves zeros g types d d (plan zeros g t at)
   nothing_planned d t at is zero after all =
       subst (λ xs. AllDone zeros g types d.left.items xs after) (ap (λ b. plan b g t at (planned d)) is ∙ zero g at (planned d)) all
 
-  -- All words were filled at once.
+  -- One fill plans all words.
   pub words_filled : (old new : Draft) (n : ℤ) (t : ResolvedType) (at count : ℕ) → new.left ≡ old.left
       → planned new ≡ fill_unless zeros at count n (planned old) → count ≡ words g t → IsFilledBy n t → Leaves zeros g types old new (plan zeros g t at)
   words_filled old new n t at count left is many filled =

@@ -1,4 +1,4 @@
--- Plans in front of a repeat: none of their fills is joined with what follows.
+-- Plans before a repeat: none of their fills is joined with what follows.
 use Rattle.std.proofs.Common.{◌≡◌, ◌∙◌, ◌+◌, ◌*◌, ℕ, ℤ, pos, negsuc, zero, suc, List, [], ◌∷◌, ◌++◌, Option, None, Some, Bool, true, false, ap, refl, sym, append_assoc, drop, length, length-append, if◌then◌else◌, arith}
 use Rattle.std.specs.Prelude.{nat_eq, ◌&&◌}
 use Rattle.std.proofs.lemmas.Bool.{eq-eqb}
@@ -66,12 +66,12 @@ module _ (a s c : ℕ) (rest : List Start) where
     members_joined b g (MoreMembers x t ms) at xs =
         ap (plan b g t at) (members_joined b g ms (at + words g t) xs) ∙ plan_joined b g t at (plan_of_members b g ms (at + words g t) xs)
 
--- An array is repeated, whatever its words were.
+-- An array is repeated if its words may be anything before.
 pub array_repeated : (g : GlobalScope) (t : ResolvedType) (at size count : ℕ) (rest : List Start)
     → plan false g t at (Repeat at size count ∷ rest) ≡ repeat_before false at size count (plan false g t at []) rest
 array_repeated g t at size count rest = plan_joined at size count rest false g t at []
 
--- Where its words may be 0 before, it is repeated unless nothing was planned for its first element.
+-- If its words are 0 before, an array is repeated unless nothing is planned for its first element.
 pub array_closed : (g : GlobalScope) (t : ResolvedType) (at size count n : ℕ) (rest : List Start) → length (Repeat at size count ∷ rest) ≡ n
     → closed n (plan true g t at (Repeat at size count ∷ rest)) ≡ repeat_before true at size count (plan true g t at []) rest
 array_closed g t at size count n rest is = ap (closed n) (plan_joined at size count rest true g t at []) ∙ go (plan true g t at [])

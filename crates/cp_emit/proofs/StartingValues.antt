@@ -1,4 +1,4 @@
--- By which values the words of a type start, row by row.
+-- The start values of types, row by row.
 use Rattle.std.proofs.Common.{◌≡◌, ◌∙◌, ◌+◌, ℕ, ℤ, pos, List, [], ◌∷◌, ◌++◌, Option, None, Some, true, ap, refl, sym, subst, ⊎_elim, length, map, slice_get}
 use Rattle.std.proofs.lemmas.Option.{same_Some}
 use Rattle.cp_model.specs.Abstract.{Class, Monitor, Name, Process, Sort}

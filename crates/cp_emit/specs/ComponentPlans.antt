@@ -1,4 +1,4 @@
--- When plans are those of system types.
+-- When plans are those of the components of system types.
 use Rattle.std.specs.Prelude.{◌≡◌, ℕ, List, Some, map, slice_get}
 use Rattle.std.specs.Borrow.{Bor}
 use Rattle.cp_model.specs.Erase as erase

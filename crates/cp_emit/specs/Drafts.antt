@@ -1,4 +1,4 @@
--- Plans under way, as the plain data of the definitions.
+-- Plans in progress, as the plain data of the definitions.
 use Rattle.std.specs.Prelude.{◌≡◌, Bool, true, false, ℕ, ℤ, nat_eq, List, [], ◌∷◌, ◌++◌, Option, None, Some, drop, if◌then◌else◌, length, map, reverse}
 use Rattle.cp_code.specs.Plans.{fill_before}
 use Rattle.cp_code.specs.Programs as code
@@ -8,18 +8,18 @@ use Rattle.cp_emit.specs.declared.draft.Draft.{Draft}
 use Rattle.cp_emit.specs.declared.draft.Work.{Work}
 use Rattle.cp_emit.specs.declared.draft.Work.TheVariants as work
 
--- The first start is the one that was planned last.
+-- A plan, of which a draft has the starts in reverse order.
 abbrev pub starts_of : List Start → List code.Start
 starts_of xs = map view.start (reverse xs)
 
 abbrev pub planned : Draft → List code.Start
 planned d = starts_of d.starts.items
 
--- The first start is taken away, if there are so many.
+-- The first start is removed if there are exactly `n`.
 abbrev pub closed : ℕ → List code.Start → List code.Start
 closed n xs = if nat_eq (length xs) n then drop 1 xs else xs
 
--- The end of an array is left, if its words may all be 0 before.
+-- The end of an array is left to be planned, if its words may already be 0.
 abbrev pub with_end : Bool → ℕ → List Work → List Work
 with_end true n ws = ws ++ work.EndOfArray n ∷ []
 with_end false n ws = ws

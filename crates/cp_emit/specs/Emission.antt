@@ -1,4 +1,4 @@
--- What the emitter holds, as the plain data of the definitions, and what each call adds to it.
+-- The state of the emitter as the plain data of the definitions, and what each call adds to it.
 use Rattle.std.specs.Prelude.{◌≡◌, ℕ, zero, suc, List, [], ◌∷◌, ◌++◌, drop, length, map}
 use Rattle.cp_code.specs.Programs as op
 use Rattle.cp_code.specs.CodedTerms as coded
@@ -20,30 +20,30 @@ operations_of e = map view.operation e.operations.items
 abbrev pub units_of : Emitter → List op.CodeUnit
 units_of e = map view.code_unit e.units.items
 
--- How many operations there are so far: the place of the next one.
+-- The number of operations so far, which is the place of the next one.
 abbrev pub place_of : Emitter → ℕ
 place_of e = length (operations_of e)
 
--- The unit under way goes on with these operations, and all else is as it was.
+-- The operations become `operations`, and everything else of the emitter stays the same.
 pub record Goes (old new : Emitter) (operations : List op.Operation) : Type 0 where
   pub operations_are : operations_of new ≡ operations
   pub units_are : new.units ≡ old.units
   pub first_is : new.first ≡ old.first
   pub words_are : new.words ≡ old.words
 
--- These operations were emitted.
+-- The operations `os` are added at the end.
 abbrev pub Emits : Emitter → Emitter → List op.Operation → Type 0
 Emits old new os = Goes old new (operations_of old ++ os)
 
--- The operations of calls that lead to a place, and where they are entered.
+-- The operations of calls that lead to the place `next`, and where they are entered.
 abbrev pub calls_from : Emitter → List CodedCall → ℕ → Emitted
 calls_from e cs next = calls_at (map coded_call cs) (place_of e) next
 
--- Those of an operation after its calls.
+-- The operations of the calls `cs` and of `o`, and where they are entered.
 abbrev pub operation_from : Emitter → List CodedCall → Operation → Emitted
 operation_from e cs o = with_calls (map coded_call cs) (view.operation o) (place_of e)
 
--- The unit under way, once it ends.
+-- The unit in progress, once it ends.
 abbrev pub unit_ended : Emitter → ℕ → List Start → op.CodeUnit
 unit_ended e entry starts =
     code_unit entry (map view.start starts)
@@ -51,20 +51,20 @@ unit_ended e entry starts =
 
 -- ---- Loops
 
--- The operation that closes a loop, once its body begins there. That of a `while` leads to the body
--- where its test holds.
+-- The operation that closes a loop, once its body is known to begin at `body`. That of a `while`
+-- leads to the body if its test holds.
 abbrev pub with_body : ℕ → op.Operation → op.Operation
 with_body body (op.Cycle b) = op.Cycle body
 with_body body (op.ForNext c) = op.ForNext (record c { body = body })
 with_body body (op.Test t y n) = op.Test t body n
 with_body body o = o
 
--- That of a `repeat` leads to the body where its test doesn't hold.
+-- The operation that closes a `repeat` leads to the body if its test doesn't hold.
 abbrev pub with_repeated : ℕ → op.Operation → op.Operation
 with_repeated body (op.Test t y n) = op.Test t y body
 with_repeated body o = o
 
--- The item at a place is changed, if there is one.
+-- The item at place `n` is changed, if there is one.
 abbrev pub changed_at : {A : Type 0} → ℕ → (A → A) → List A → List A
 changed_at n f [] = []
 changed_at zero f (x ∷ xs) = f x ∷ xs

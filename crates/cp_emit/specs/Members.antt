@@ -6,11 +6,11 @@ use Rattle.cp_scope.specs.declared.variables.Declared.{Declared}
 use Rattle.cp_scope.specs.Numbering.{system_of}
 use Rattle.cp_scope.specs.Standing.{row_at}
 
--- The name, and the number of the type.
+-- The name of a declared variable and the number of its type.
 abbrev pub member_of : Declared → Name × ℕ
 member_of d = (d.name.now, d.of)
 
--- It is no component.
+-- Whether a declared name isn't that of a component.
 abbrev pub is_own : Types → Declared → Bool
 is_own types d = is_none (system_of (row_at types d.of))
 

@@ -1,4 +1,4 @@
--- What is needed, as the plain data of the definitions.
+-- The needs of units, as the plain data of the definitions.
 use Rattle.cp_code.specs.CodeNeeds as needs
 use Rattle.cp_emit.specs.declared.need.Need.{Need}
 

@@ -16,26 +16,26 @@ use Rattle.cp_emit.specs.StartValues.{AreStartValues}
 abbrev pub types_of : Planner → Types
 types_of p = p.tables.now.types
 
--- What a planner knows is so in this outermost scope.
+-- The tables and start values of the planner are right for this outermost scope.
 pub record Knows (p : Planner) (g : GlobalScope) : Type 0 where
   pub scope : ScopeStands p.tables.now.names (types_of p) g
   pub laid : AreLaid g (types_of p) p.tables.now.layouts.rows.items
   pub values : AreStartValues (types_of p) p.values.items
 
--- What was planned becomes this, once that is done.
+-- Doing this work turns the plan `now` into the plan `after`.
 abbrev pub Done : Bool → GlobalScope → Types → Work → List Start → List Start → Type 0
 Done zeros g types (work.Variable of at) now after =
     (t : ResolvedType) × Stands types of t × (after ≡ plan zeros g t at now)
 Done zeros g types (work.EndOfArray n) now after = after ≡ closed n now
 
--- Once all is done that is left, the last one first.
+-- Doing all this work, the last piece first, turns the plan `now` into the plan `after`.
 abbrev pub AllDone : Bool → GlobalScope → Types → List Work → List Start → List Start → Type 0
 AllDone zeros g types [] now after = after ≡ now
 AllDone zeros g types (w ∷ ws) now after =
     (between : List Start) × AllDone zeros g types ws now between
     × Done zeros g types w between after
 
--- What was left after this is left after that, which plans so much more or leaves it to be planned.
+-- The new draft leads to the same plan as the old one would if `f` were applied to the plan so far.
 abbrev pub Leaves : Bool → GlobalScope → Types → Draft → Draft → (List Start → List Start) → Type 0
 Leaves zeros g types old new f =
     (after : List Start) → AllDone zeros g types old.left.items (f (planned old)) after

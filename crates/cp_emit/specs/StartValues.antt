@@ -1,4 +1,4 @@
--- When a list tells by which values variables start.
+-- When a list has the right start values of types.
 use Rattle.std.specs.Prelude.{◌≡◌, Bool, true, ℕ, ℤ, List, Option, None, Some, slice_get}
 use Rattle.cp_model.specs.Abstract.{Name}
 use Rattle.cp_model.specs.Types.{GlobalScope, Members, Queue, ResolvedType, Simple}
@@ -12,48 +12,49 @@ use Rattle.cp_emit.specs.declared.start_values.StartValue.{StartValue}
 
 -- ---- Types
 
--- All words of a variable of this type are filled at once by this value.
+-- All words of a variable of this type are planned with one fill with this value.
 abbrev pub IsFilledBy : ℤ → ResolvedType → Type 0
 IsFilledBy n t =
     (zeros : Bool) (g : GlobalScope) (at : ℕ) (rest : List Start)
     → plan zeros g t at rest ≡ fill_unless zeros at (words g t) n rest
 
--- Nothing is planned where its words are 0 before.
+-- Nothing is planned for this type if the words are 0 before.
 abbrev pub StaysZero : ResolvedType → Type 0
 StaysZero t = (g : GlobalScope) (at : ℕ) (rest : List Start) → plan true g t at rest ≡ rest
 
--- It is planned part by part: it is neither simple nor a queue, nor an array of simple elements.
+-- The type is planned part by part: it is neither simple nor a queue nor an array of simple
+-- elements.
 abbrev pub HasParts : ResolvedType → Type 0
 HasParts (Simple b low high n) = ⊥
 HasParts Queue = ⊥
 HasParts t = None ≡ start_of t
 
--- All its words are filled at once by the value, if there is one.
+-- One fill with this value plans all words of the type, or without a value the type has parts.
 abbrev pub FillIs : Option ℤ → ResolvedType → Type 0
 FillIs (Some n) t = IsFilledBy n t
 FillIs None t = HasParts t
 
--- The words of a variable of this type start as it tells.
+-- The words of a variable of this type start as `value` says.
 pub record StartsBy (value : StartValue) (t : ResolvedType) : Type 0 where
   pub elements : value.elements ≡ start_of t
   pub words : FillIs value.words t
   pub zero : value.zero ≡ true → StaysZero t
 
--- Those of types by their numbers.
+-- The list has the start values of types by their numbers.
 abbrev pub AreStartValues : Types → List StartValue → Type 0
 AreStartValues types values =
     (n : ℕ) (value : StartValue) (t : ResolvedType) → slice_get values n ≡ Some value
     → Stands types n t → StartsBy value t
 
--- That of what this row stands for.
+-- `value` is the start value of the type that this row stands for.
 abbrev pub StartsRow : List StartValue → TypeRow → StartValue → Type 0
 StartsRow values r value =
     (types : Types) (n : ℕ) (t : ResolvedType) → AreStartValues types values
     → row_at types n ≡ Some r → Stands types n t → StartsBy value t
 
--- ---- What is known of a number
+-- ---- What is known of a type number
 
--- All words of its type are filled at once by the value, if there is one.
+-- One fill with this value plans all words of the type with this number, if there is a value.
 abbrev pub FillsAt : List StartValue → ℕ → Option ℤ → Type 0
 FillsAt values n None = Unit {0}
 FillsAt values n (Some value) =
@@ -67,7 +68,7 @@ StaysZeroAt values n =
 
 -- ---- Members
 
--- All words of these members are filled at once by this value.
+-- All words of these members are planned with one fill with this value.
 abbrev pub AreFilledBy : ℤ → Members → Type 0
 AreFilledBy n ms =
     (zeros : Bool) (g : GlobalScope) (at : ℕ) (rest : List Start)
@@ -77,7 +78,8 @@ abbrev pub StayZero : Members → Type 0
 StayZero ms =
     (g : GlobalScope) (at : ℕ) (rest : List Start) → plan_of_members true g ms at rest ≡ rest
 
--- All words of members of these names and numbers are filled at once by the value, if there is one.
+-- One fill with this value plans all words of members with these names and types, if there is a
+-- value.
 abbrev pub FillsMembers : List StartValue → List (Name × ℕ) → Option ℤ → Type 0
 FillsMembers values fields None = Unit {0}
 FillsMembers values fields (Some value) =

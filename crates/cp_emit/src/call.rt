@@ -18,7 +18,7 @@ pub struct MadeTerm {
     pub temps: u32,
 }
 
-/// Adds a call whose value goes to a temp, and answers the term for its value.
+/// Adds a call whose value goes to the temp `into`, and returns the term for its value.
 pub fn make_call(
     alloc: Global,
     calls: &mut Vec<CodedCall>,

@@ -1,4 +1,4 @@
-//! Plans under way: they are made from their ends.
+//! Plans in progress, which are made from the end.
 
 ghost use Rattle.std.specs.Prelude.{◌≡◌, [], ◌∷◌, IfOk, OnOk, length, map};
 ghost use Rattle.cp_code.specs.Plans.{fill_before, fill_unless};
@@ -10,25 +10,27 @@ use cp_scope::CompileError;
 use cp_threaded::program::Start;
 use std::alloc::Global;
 
-/// What is left to plan.
+/// A piece of work that is left to plan.
 #[derive(Clone, Copy, Debug)]
 pub enum Work {
-    /// A variable of this type that lies at a word.
+    /// A variable of the type `of` that lies at the word `at`.
     Variable { of: usize, at: u32 },
-    /// The end of an array whose words may all be 0 before. With its `Repeat` so many starts were
-    /// planned: if no more were, its elements stay 0, and it is not repeated.
+    /// The end of an array whose words may already be 0. There were `planned` starts after its
+    /// `Repeat` was planned. If there are no more now, the elements stay 0, and the `Repeat` is
+    /// removed.
     EndOfArray { planned: usize },
 }
 
-/// A plan under way: what was planned so far, the last start first, and what is left to plan in
-/// front of it, the next one last.
+/// A plan in progress: the starts that are planned so far, the last one first, and the work that is
+/// left to plan before them. The work to do next is the last in `left`.
 #[derive(Debug, Drop)]
 pub struct Draft {
     pub(crate) starts: Vec<Start>,
     pub(crate) left: Vec<Work>,
 }
 
-// The fill that both are, if the second goes on where the first ends, and with the same value.
+// The fill that combines a fill and `next`, if `next` is a fill with the same value that begins
+// where the first one ends.
 fn join(at: u32, count: u32, value: i32, next: Start) -> Result<Option<Start>, CompileError>
     ensures { IfOk result (λ both. Joins at count value next both) }
 {
@@ -46,7 +48,7 @@ fn join(at: u32, count: u32, value: i32, next: Start) -> Result<Option<Start>, C
 }
 
 impl Draft {
-    /// Nothing planned, and nothing left to plan.
+    /// Creates a draft with nothing planned and nothing left to plan.
     pub fn new(alloc: Global) -> Draft
         ensures starts { result.starts.items ≡ [] }
         ensures left { result.left.items ≡ [] }
@@ -57,7 +59,7 @@ impl Draft {
         }
     }
 
-    /// Plans so many words of one value in front.
+    /// Plans `count` words that all start with `value`, before those planned so far.
     pub fn fill(&mut self, at: u32, count: u32, value: i32) -> Result<(), CompileError>
         ensures starts { OnOk result (planned self.new
             ≡ fill_before at count value (planned self.old)) }
@@ -78,7 +80,8 @@ impl Draft {
         Ok(())
     }
 
-    /// Plans so many words of one value in front, if they aren't 0 already.
+    /// Plans `count` words that all start with `value`, before those planned so far, unless they
+    /// are 0 already.
     pub fn fill_unless(
         &mut self,
         zeros: bool,
@@ -96,7 +99,8 @@ impl Draft {
         self.fill(at, count, value)
     }
 
-    /// Plans so many blocks like the first one in front.
+    /// Plans, before everything planned so far, that the block of `size` words at `at` is repeated,
+    /// for `count` blocks in all.
     pub fn repeat(&mut self, at: u32, size: u32, count: u32) -> Result<(), CompileError>
         ensures starts { OnOk result (planned self.new
             ≡ code.Repeat at size count ∷ planned self.old) }
@@ -106,8 +110,8 @@ impl Draft {
         Ok(())
     }
 
-    /// Leaves the end of an array to be planned, whose `Repeat` was planned just now, if its words
-    /// may all be 0 before.
+    /// Leaves the end of an array to be planned, if its words may already be 0. The array's
+    /// `Repeat` must be the start that was planned last.
     pub fn leave_end(&mut self, zeros: bool) -> Result<(), CompileError>
         ensures left { OnOk result (self.new.left.items ≡ with_end zeros
             (length self.old.starts.items) self.old.left.items) }
@@ -120,7 +124,7 @@ impl Draft {
         Ok(())
     }
 
-    /// Takes the first start away again, if so many were planned.
+    /// Removes the first start if exactly `count` starts are planned.
     pub fn close(&mut self, count: usize)
         ensures starts { planned self.new ≡ closed count (planned self.old) }
         ensures left { self.new.left ≡ self.old.left }
@@ -130,7 +134,7 @@ impl Draft {
         }
     }
 
-    /// What was planned, the first start first.
+    /// Returns the plan, with its first start first.
     pub fn into_starts(self) -> Vec<Start>
         ensures { map view.start result.items ≡ planned self }
     {

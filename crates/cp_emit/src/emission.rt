@@ -1,5 +1,5 @@
-//! Operations as they are emitted: with their calls, and loops that are closed once their body
-//! stands.
+//! Emission of operations together with their calls, and of loops, which are closed once their body
+//! is emitted.
 
 ghost use Rattle.std.specs.Prelude.{◌≡◌, [], ◌∷◌, ◌++◌, IfOk, OnOk, length, map};
 ghost use Rattle.cp_emit.specs.Emission.{Emits, Goes, calls_from, changed_at, operation_from, operations_of, place_of, with_body, with_repeated};
@@ -10,7 +10,8 @@ use crate::need::Need;
 use cp_scope::CompileError;
 use cp_threaded::operation::Operation;
 
-// Completes the operation that closes a loop, whose body begins there.
+// Completes the operation that closes a loop, by making it lead to `body`, where the loop's body
+// begins.
 fn complete(operation: &mut Operation, body: u32)
     ensures { view.operation operation.new ≡ with_body body (view.operation operation.old) }
 {
@@ -22,7 +23,7 @@ fn complete(operation: &mut Operation, body: u32)
     }
 }
 
-// Completes the operation that closes a `repeat`.
+// Completes the operation that closes a `repeat`, by making it lead to `body`.
 fn complete_repeat(operation: &mut Operation, body: u32)
     ensures { view.operation operation.new ≡ with_repeated body (view.operation operation.old) }
 {
@@ -53,7 +54,7 @@ fn complete_repeat_at(operations: &mut Vec<Operation>, place: u32, body: u32)
 }
 
 impl Emitter {
-    /// The place of the next operation, if it is a number of 32 bits.
+    /// The place of the next operation, if it fits in 32 bits.
     pub fn place(&self) -> Result<u32, CompileError>
         ensures { IfOk result (λ place. place ≡ place_of self.now) }
     {
@@ -65,7 +66,7 @@ impl Emitter {
         }
     }
 
-    /// Emits an operation, and answers its place.
+    /// Emits an operation and returns its place.
     pub fn push(&mut self, operation: Operation) -> Result<u32, CompileError>
         ensures place { IfOk result (λ place. place ≡ place_of self.old) }
         ensures emits { OnOk result (Emits self.old self.new (view.operation operation ∷ [])) }
@@ -77,8 +78,8 @@ impl Emitter {
         Ok(place)
     }
 
-    /// Completes the operation that closes a loop, once its body begins there: of a `cycle`, a
-    /// `for` or a `while`.
+    /// Completes the operation that closes a `cycle`, a `for` or a `while`, once the place where
+    /// the loop's body begins is known.
     pub fn close_loop(&mut self, place: u32, body: u32)
         ensures { Goes self.old self.new
             (changed_at place (with_body body) (operations_of self.old)) }
@@ -86,7 +87,8 @@ impl Emitter {
         complete_at(&mut self.operations, place, body);
     }
 
-    /// Completes the operation that closes a `repeat`, once its body begins there.
+    /// Completes the operation that closes a `repeat`, once the place where its body begins is
+    /// known.
     pub fn close_repeat(&mut self, place: u32, body: u32)
         ensures { Goes self.old self.new
             (changed_at place (with_repeated body) (operations_of self.old)) }
@@ -94,8 +96,8 @@ impl Emitter {
         complete_repeat_at(&mut self.operations, place, body);
     }
 
-    // Emits calls that lead to the next place, the last one first, and answers where they are
-    // entered.
+    // Emits calls that lead to the place `next`, the last call first, and returns the place where
+    // they are entered.
     fn emit_calls(&mut self, calls: Vec<CodedCall>, next: u32) -> Result<u32, CompileError>
         ensures entry { IfOk result
             (λ entry. entry ≡ (calls_from self.old calls.items next).entry) }
@@ -114,7 +116,7 @@ impl Emitter {
         Ok(entry)
     }
 
-    /// Emits an operation after the calls of its terms, and answers where they are entered.
+    /// Emits an operation and the calls of its terms, and returns the place where they are entered.
     pub fn emit(&mut self, calls: Vec<CodedCall>, operation: Operation) -> Result<u32, CompileError>
         ensures entry { IfOk result
             (λ entry. entry ≡ (operation_from self.old calls.items operation).entry) }

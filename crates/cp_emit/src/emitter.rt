@@ -1,4 +1,4 @@
-//! The emitter: the operations so far, and the unit under way.
+//! The emitter: the operations so far, and the unit in progress.
 
 ghost use Rattle.std.specs.Prelude.{◌≡◌, ◌≤◌, drop, length, map};
 ghost use Rattle.cp_code.specs.CodeNeeds.{need_of_all};
@@ -17,8 +17,8 @@ pub struct CodedCall {
     pub into: u32,
 }
 
-/// The operations and units so far, of which the unit under way begins at an operation, with so
-/// many words of an activation.
+/// The operations and units so far. The unit in progress begins at the operation `first`, and each
+/// of its activations has `words` words.
 #[derive(Debug, Drop)]
 pub struct Emitter {
     pub(crate) operations: Vec<Operation>,

@@ -1,16 +1,18 @@
-//! The compiler's emitter: operations as they are made from the end of a statement, with what the
-//! unit under way needs.
+//! The compiler's emitter: makes operations from the end of a statement to its start, and keeps
+//! track of what the unit in progress needs.
 //!
-//! - `emitter`: operations with their calls, loops whose first operation is completed once their
-//!   body stands, and units.
-//! - `need`: what an operation and a unit need of words, temps and frames.
+//! - `emitter`, `emission`, `unit`: operations with their calls, loops whose closing operation is
+//!   completed once their body is emitted, and units.
+//! - `need`: the words, temps and frames that an operation or a unit needs.
+//! - `call`: the calls of a statement's terms.
 //! - `table`: where a `case` leads.
-//! - `starts`: plans, by which the words of activations and components start.
-//! - `allowance`: how long they may be.
-//! - `plan`, `draft`: a plan as it is made, from its end, by a stack of what is left to plan.
+//! - `starts`: plans for the start values of the words of activations and components.
+//! - `allowance`: a limit on the length of plans.
+//! - `plan`, `draft`: a plan in progress, which is made from its end with a stack of what is left
+//!   to plan.
 //! - `members`, `start_values`: what plans are made from.
 //!
-//! Each equals a function of `cp_code`'s definitions, over the plain data that `cp_threaded` makes
+//! Each function equals one of `cp_code`'s definitions, on the plain data that `cp_threaded` makes
 //! of operations.
 #![tactic(auto)]
 

@@ -7,7 +7,7 @@ ghost use Rattle.cp_scope.specs.Standing.{entry};
 use cp_scope::{CompileError, Declared, Field, Types};
 use std::alloc::Global;
 
-// Adds a parameter, if it is no right to a component.
+// Adds a parameter, unless it is a right to a component.
 fn keep<'t>(
     types: &Types<'t>,
     kept: &mut Vec<Declared<'t>>,
@@ -22,7 +22,7 @@ fn keep<'t>(
     Ok(())
 }
 
-/// Those of these parameters that are no rights to components.
+/// The parameters in `list` that aren't rights to components.
 pub fn own_parameters<'t>(
     alloc: Global,
     types: &Types<'t>,

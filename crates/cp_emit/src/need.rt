@@ -1,4 +1,4 @@
-//! What a unit needs of words, temps and frames, with all that it calls.
+//! The words, temps and frames that a unit needs, including all that it calls.
 
 ghost use Rattle.std.specs.Prelude.{◌≡◌, ◌+◌, max, suc, IfOk, map, length};
 ghost use Rattle.cp_code.specs.CodeNeeds as needs;
@@ -9,7 +9,7 @@ use cp_scope::{CompileError, small_number};
 use cp_threaded::operation::{Argument, Call, Operation};
 use cp_threaded::program::CodeUnit;
 
-/// Words, temps and frames that are needed.
+/// The numbers of words, temps and frames that are needed.
 #[derive(Clone, Copy, Debug, PartialEq, Eq)]
 pub struct Need {
     pub words: u32,
@@ -17,7 +17,7 @@ pub struct Need {
     pub frames: u32,
 }
 
-// The sum, if it is a number of 32 bits.
+// The sum of two numbers, if it fits in 32 bits.
 fn sum(a: u32, b: u32) -> Result<u32, CompileError>
     ensures { IfOk result (λ n. n ≡ a + b) }
 {
@@ -25,7 +25,7 @@ fn sum(a: u32, b: u32) -> Result<u32, CompileError>
 }
 
 impl Need {
-    /// Nothing.
+    /// Needs nothing.
     pub fn none() -> Need
         ensures { plain_need result ≡ needs.no_need }
     {
@@ -36,7 +36,7 @@ impl Need {
         }
     }
 
-    /// An activation of so many words.
+    /// The need of an activation of `words` words.
     pub fn of_activation(words: u32) -> Need
         ensures { plain_need result ≡ record { words = words; temps = 0; frames = 0 } }
     {
@@ -47,7 +47,7 @@ impl Need {
         }
     }
 
-    /// The greater of two.
+    /// The greater of two needs, number by number.
     pub fn greater(self, other: Need) -> Need
         ensures { plain_need result ≡ needs.greater_need (plain_need self) (plain_need other) }
     {
@@ -58,7 +58,7 @@ impl Need {
         }
     }
 
-    // With so many temps.
+    // Raises the need to at least `temps` temps.
     fn with_temps(self, temps: u32) -> Need
         ensures { plain_need result ≡ needs.with_temps temps (plain_need self) }
     {
@@ -68,7 +68,7 @@ impl Need {
         }
     }
 
-    // With room for the arguments of an `init`, after so many words.
+    // Raises the need to room for the arguments of an `init`, after `words` words.
     fn with_room(self, words: u32, arguments: &[Argument]) -> Result<Need, CompileError>
         ensures { IfOk result
             (λ n. plain_need n ≡ needs.with_room words (length arguments.now) (plain_need self)) }
@@ -80,7 +80,7 @@ impl Need {
         })
     }
 
-    // What a call needs. The callee stands already.
+    // What a call needs. The callee's unit was emitted before.
     fn of_call(units: &[CodeUnit], call: &Call) -> Result<Need, CompileError>
         ensures { IfOk result
             (λ n. plain_need n ≡ needs.need_of_call (map view.code_unit units.now)
@@ -96,7 +96,7 @@ impl Need {
         })
     }
 
-    // What an `init` of a class or a monitor needs.
+    // What the `init` of a class or a monitor needs.
     fn of_init(units: &[CodeUnit], call: &Call) -> Result<Need, CompileError>
         ensures { IfOk result
             (λ n. plain_need n ≡ needs.with_room call.now.words (length call.now.arguments.items)
@@ -105,7 +105,7 @@ impl Need {
         Need::of_call(units, call)?.with_room(call.words, &call.arguments)
     }
 
-    /// What an operation needs, where these units stand.
+    /// What an operation needs, if `units` are the units emitted before.
     pub fn of(units: &[CodeUnit], operation: &Operation) -> Result<Need, CompileError>
         ensures { IfOk result
             (λ n. plain_need n ≡ needs.need_of (map view.code_unit units.now)

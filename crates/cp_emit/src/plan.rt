@@ -1,7 +1,8 @@
-//! Plans: how the words of activations and components are made to start.
+//! Plans: the start values of the words of activations and components.
 //!
-//! A plan is made from its end, by a stack of what is left to plan, for types name one another to
-//! any depth. Each equals the plan of `cp_code`'s `specs/Plans.antt`.
+//! A plan is made from its end, with a stack of what is left to plan instead of recursion, because
+//! types refer to one another to any depth. Each plan equals that of `cp_code`'s
+//! `specs/Plans.antt`.
 
 ghost use Rattle.std.specs.Prelude.{◌≡◌, ◌∷◌, ◌++◌, ◌+◌, [], Bool, List, None, ℕ, suc, IfOk, OnOk, map, slice_get};
 ghost use Rattle.cp_code.specs.Layout.{local_words};
@@ -26,14 +27,14 @@ use cp_model::tree::{Parameters, Sort, System};
 use cp_scope::{CompileError, Field, Tables, TypeRow, count_between, small_number};
 use std::alloc::Global;
 
-// How many integers there are from one to another.
+// The number of integers from `low` to `high`, both included.
 fn count_of(low: i32, high: i32) -> Result<u32, CompileError>
     ensures { IfOk result (λ count. count ≡ integers.count_between low high) }
 {
     small_number(count_between(low, high))
 }
 
-/// What plans are made from.
+/// What plans are made from: the tables of a text, and the start value of each type.
 #[derive(Drop)]
 pub struct Planner<'a, 't> {
     pub(crate) alloc: Global,
@@ -42,7 +43,7 @@ pub struct Planner<'a, 't> {
 }
 
 impl<'a, 't> Planner<'a, 't> {
-    /// A planner over the tables of a text.
+    /// Creates a planner over the tables of a text.
     pub fn new(alloc: Global, tables: &'a Tables<'t>) -> Result<Planner<'a, 't>, CompileError>
         ensures tables { IfOk result (λ planner. planner.tables ≡ tables.entry) }
         ensures knows { IfOk result (λ planner. (g : GlobalScope)
@@ -57,14 +58,14 @@ impl<'a, 't> Planner<'a, 't> {
         })
     }
 
-    /// What it takes memory from.
+    /// The allocator that the planner uses.
     pub fn alloc(&self) -> Global
         ensures { result ≡ self.now.alloc }
     {
         self.alloc
     }
 
-    // How many words a variable of this type takes.
+    // The size in words of a variable of the type `of`.
     fn words(&self, of: usize) -> Result<u32, CompileError>
         ensures { IfOk result (λ n. (g : GlobalScope) (t : ResolvedType) → Knows self.now g
             → Stands (types_of self.now) of t → n ≡ words g t) }
@@ -75,7 +76,7 @@ impl<'a, 't> Planner<'a, 't> {
         }
     }
 
-    // How many words a parameter or variable takes in an activation.
+    // The size in words of a parameter or variable in an activation.
     pub(crate) fn local_words(&self, by_reference: bool, of: usize) -> Result<u32, CompileError>
         ensures { IfOk result (λ n. (g : GlobalScope) (v : Variable) → Knows self.now g
             → by_reference ≡ v.by_reference → Stands (types_of self.now) of v.type
@@ -87,14 +88,14 @@ impl<'a, 't> Planner<'a, 't> {
         }
     }
 
-    // By which values the words of this type start, of a type that is known.
+    // The start value of the type `of`, if it is known.
     fn start_value(&self, of: usize) -> Option<StartValue>
         ensures { result ≡ slice_get self.now.values.items of }
     {
         self.values.get(of).copied()
     }
 
-    // How many words lie in front of the members of a component with these parameters.
+    // The number of words before the members of a component with these parameters.
     fn head_words(&self, parameters: &[Parameters]) -> Result<u32, CompileError>
         ensures { IfOk result (λ n. (g : GlobalScope) → Knows self.now g
             → n ≡ suc (rights_of g parameters.now)) }
@@ -105,7 +106,7 @@ impl<'a, 't> Planner<'a, 't> {
         rights.checked_add(1).ok_or(CompileError::Unaccepted)
     }
 
-    // Leaves a variable to be planned, and answers where the next one lies.
+    // Leaves a variable to be planned, and returns the word at which the next one lies.
     fn leave(&self, of: usize, at: u32, draft: &mut Draft) -> Result<u32, CompileError>
         ensures next { IfOk result (λ next. (g : GlobalScope) (t : ResolvedType) → Knows self.now g
             → Stands (types_of self.now) of t → next ≡ at + words g t) }
@@ -118,7 +119,7 @@ impl<'a, 't> Planner<'a, 't> {
         at.checked_add(words).ok_or(CompileError::Unaccepted)
     }
 
-    // Leaves members to be planned, the first of which lies at a word.
+    // Leaves members to be planned, the first of which lies at the word `at`.
     pub(crate) fn leave_members(
         &self,
         zeros: bool,
@@ -138,7 +139,7 @@ impl<'a, 't> Planner<'a, 't> {
         Ok(())
     }
 
-    // Plans that an array is repeated, and leaves its first element to be planned.
+    // Plans the `Repeat` of an array, and leaves its first element to be planned.
     fn plan_array(
         &self,
         zeros: bool,
@@ -160,7 +161,7 @@ impl<'a, 't> Planner<'a, 't> {
         Ok(())
     }
 
-    // Leaves the members of a component to be planned, where they lie in its variable.
+    // Leaves the members of a component to be planned, if they lie in its variable.
     fn plan_component(
         &self,
         zeros: bool,
@@ -184,8 +185,8 @@ impl<'a, 't> Planner<'a, 't> {
         }
     }
 
-    // Leaves the parts of a variable to be planned, of a type whose words aren't filled at once:
-    // those of a simple type and of a queue always are.
+    // Leaves the parts of a variable to be planned. One fill plans a simple type or a queue, so the
+    // type must be another one.
     fn plan_parts(
         &self,
         zeros: bool,
@@ -213,8 +214,8 @@ impl<'a, 't> Planner<'a, 't> {
         }
     }
 
-    // Plans a variable of this type: not at all where its words stay 0, by one fill where they
-    // start by one value, else part by part.
+    // Plans a variable of the type `of`: with nothing if its words stay 0, with one fill if all its
+    // words start with the same value, and otherwise part by part.
     fn plan_variable(
         &self,
         zeros: bool,
@@ -237,7 +238,7 @@ impl<'a, 't> Planner<'a, 't> {
         }
     }
 
-    // Does what is left last.
+    // Does one piece of work, `next`, which was the last in `left`.
     fn step(&self, zeros: bool, next: Work, draft: &mut Draft) -> Result<(), CompileError>
         ensures { OnOk result ((g : GlobalScope) (between after : List code.Start)
             → Knows self.now g
@@ -254,7 +255,7 @@ impl<'a, 't> Planner<'a, 't> {
         }
     }
 
-    // Does all that is left.
+    // Does all the work that is left.
     pub(crate) fn run(&self, zeros: bool, draft: &mut Draft) -> Result<(), CompileError>
         ensures { OnOk result ((g : GlobalScope) (after : List code.Start) → Knows self.now g
             → AllDone zeros g (types_of self.now) draft.old.left.items (planned draft.old) after

@@ -1,6 +1,7 @@
-//! The values by which variables start, type by type.
+//! The start values of variables, by type.
 //!
-//! A variable whose words start by one value is planned by one fill, without a look at its parts.
+//! A variable whose words all start with the same value is planned with one fill, without a look at
+//! its parts.
 
 ghost use Rattle.std.specs.Prelude.{◌≡◌, None, Some, IfOk, map, pos, true};
 ghost use Rattle.cp_emit.specs.StartValues.{AreStartValues, FillsAt, FillsMembers, KeepsMembersZero, StartsRow, StaysZeroAt};
@@ -9,19 +10,19 @@ ghost use Rattle.cp_scope.specs.Standing.{entry};
 use cp_scope::{CompileError, Field, TypeRow, Types};
 use std::alloc::Global;
 
-/// By which values the words of a type start.
+/// The values with which the words of a type start.
 #[derive(Clone, Copy)]
 pub struct StartValue {
-    /// The value by which all words start, if the type is made of simple elements.
+    /// The value with which all words start, if the type is simple or an array of such elements.
     pub elements: Option<i32>,
-    /// The value by which all words are filled at once, if they are.
+    /// The value with which one fill plans all words, if there is such a value.
     pub words: Option<i32>,
-    /// Whether nothing is planned where the words are 0 before.
+    /// Whether nothing is planned if the words are 0 before.
     pub zero: bool,
 }
 
 impl StartValue {
-    // Of a simple type.
+    // The start value of a simple type.
     fn of_simple(value: i32) -> StartValue
         ensures elements { result.elements ≡ Some value }
         ensures words { result.words ≡ Some value }
@@ -34,7 +35,7 @@ impl StartValue {
         }
     }
 
-    // Of arrays of a type of this start value.
+    // The start value of an array type whose elements have this start value.
     fn of_array(self) -> StartValue
         ensures elements { result.elements ≡ self.elements }
         ensures words { result.words ≡ self.elements }
@@ -47,7 +48,7 @@ impl StartValue {
         }
     }
 
-    // Of a type that isn't made of simple elements.
+    // The start value of a type that isn't made of simple elements.
     fn of_parts(words: Option<i32>, zero: bool) -> StartValue
         ensures elements { result.elements ≡ None }
         ensures words { result.words ≡ words }
@@ -61,14 +62,14 @@ impl StartValue {
     }
 }
 
-// The value by which all words of a type are filled at once, if that is known.
+// The value with which one fill plans all words of a type, if such a value is known.
 fn fill_value(values: &[StartValue], of: usize) -> Option<i32>
     ensures { FillsAt values.now of result }
 {
     values.get(of)?.words
 }
 
-// Whether it is known that nothing is planned of a type where the words are 0 before.
+// Whether it is known that nothing is planned for a type if the words are 0 before.
 fn is_zero(values: &[StartValue], of: usize) -> bool
     ensures { result ≡ true → StaysZeroAt values.now of }
 {
@@ -78,7 +79,7 @@ fn is_zero(values: &[StartValue], of: usize) -> bool
     }
 }
 
-// The value by which all words of members are filled at once, if that is known.
+// The value with which one fill plans all words of the members, if such a value is known.
 fn fill_of_members(values: &[StartValue], members: &[Field]) -> Option<i32>
     ensures { FillsMembers values.now (map entry members.now) result }
 {
@@ -92,7 +93,7 @@ fn fill_of_members(values: &[StartValue], members: &[Field]) -> Option<i32>
     Some(value)
 }
 
-// Whether it is known that nothing is planned of members where the words are 0 before.
+// Whether it is known that nothing is planned for the members if the words are 0 before.
 fn are_zero(values: &[StartValue], members: &[Field]) -> bool
     ensures { result ≡ true → KeepsMembersZero values.now (map entry members.now) }
 {
@@ -126,7 +127,7 @@ fn start_value(row: &TypeRow, values: &[StartValue]) -> Result<StartValue, Compi
     }
 }
 
-/// By which values the words of each type start.
+/// The start values of all types, by number.
 pub fn start_values(alloc: Global, types: &Types) -> Result<Vec<StartValue>, CompileError>
     ensures { IfOk result (λ values. AreStartValues types.now values.items) }
 {

@@ -1,4 +1,4 @@
-//! How activations and components start.
+//! The plans of activations and components.
 
 ghost use Rattle.std.specs.Prelude.{◌≡◌, ◌≤◌, ◌+◌, ◌-◌, List, [], suc, IfOk, OnOk, if◌then◌else◌, is_some, length, map, option_map, slice_get};
 ghost use Rattle.cp_code.specs.Layout.{locals_words};
@@ -22,17 +22,17 @@ use crate::plan::Planner;
 use cp_scope::{CompileError, Declared, Field, SystemTable};
 use cp_threaded::program::{Plan, Start};
 
-/// The word of a result that isn't set.
+/// The word of a result that isn't set yet.
 const UNSET: i32 = i32::MIN;
 
-// The words of a result.
+// The size of a result in words.
 fn result_words(is_function: bool) -> u32
     ensures { result ≡ (if is_function then 1 else 0) }
 {
     if is_function { 1 } else { 0 }
 }
 
-// Plans that the result of a function isn't set, in front of its variables.
+// Plans, before the variables of a function, that its result isn't set.
 fn mark_result(is_function: bool, draft: &mut Draft) -> Result<(), CompileError>
     ensures { OnOk result (planned draft.new ≡
         (if is_function then fill_before 0 1 unset (planned draft.old) else planned draft.old)) }
@@ -44,7 +44,7 @@ fn mark_result(is_function: bool, draft: &mut Draft) -> Result<(), CompileError>
 }
 
 impl<'a, 't> Planner<'a, 't> {
-    // Plans members, the first of which lies at a word.
+    // Plans members, the first of which lies at the word `at`.
     fn plan_members(
         &self,
         zeros: bool,
@@ -61,7 +61,8 @@ impl<'a, 't> Planner<'a, 't> {
         Ok(draft)
     }
 
-    // Where the variables of an activation begin: after its parameters, which begin at a word.
+    // The word at which the variables of an activation begin, after its parameters, which begin at
+    // the word `at`.
     fn first_variable(&self, parameters: &[Declared<'t>], at: u32) -> Result<u32, CompileError>
         ensures { IfOk result (λ first. (g : GlobalScope) (vs : List (Name × Variable))
             → Knows self.now g
@@ -76,7 +77,7 @@ impl<'a, 't> Planner<'a, 't> {
         Ok(next)
     }
 
-    /// How the words of an activation start, of a routine with these parameters and variables.
+    /// The plan of an activation of a routine with these parameters and variables.
     pub fn routine(
         &self,
         is_function: bool,
@@ -98,8 +99,8 @@ impl<'a, 't> Planner<'a, 't> {
         Ok(draft.into_starts())
     }
 
-    /// How the words of a component start, of a system type with these parameters and variables:
-    /// they are 0 before.
+    /// The plan of a component of a system type with these parameters and variables. It assumes
+    /// that the words are 0 before.
     pub fn component(
         &self,
         parameters: &[Declared<'t>],
@@ -121,7 +122,7 @@ impl<'a, 't> Planner<'a, 't> {
         Ok(draft.into_starts())
     }
 
-    // What is known of the system type of this number.
+    // The table of the system type with this number.
     fn table(&self, number: usize) -> Option<&SystemTable<'t>>
         ensures { option_map (λ t. t.now) result ≡ slice_get self.now.tables.now.systems.items
             number }
@@ -129,7 +130,7 @@ impl<'a, 't> Planner<'a, 't> {
         self.tables.systems.get(number)
     }
 
-    /// The plans of components, of system types by their numbers.
+    /// The plans of the components of all system types, by number.
     pub fn components(&self) -> Result<Vec<Plan>, CompileError>
         ensures plans { IfOk result (λ plans. (g : GlobalScope) → Knows self.now g
             → AreSystems g (types_of self.now) self.now.tables.now.systems.items
@@ -148,7 +149,7 @@ impl<'a, 't> Planner<'a, 't> {
     }
 }
 
-// The words in front of the members: the mark, and a word for each parameter that isn't among them.
+// The number of words before the members: the mark, and one for each parameter that is a right.
 fn head_words(parameters: usize, own: usize) -> Result<u32, CompileError>
     ensures { IfOk result (λ head. head ≡ suc (parameters - own)) }
 {

@@ -1,5 +1,5 @@
-//! Where a `case` leads: by a place for each number where the labels lie close to one another, else
-//! by the labels.
+//! Where a `case` leads. If the labels lie close to one another, the table has a place for each
+//! number, and otherwise it has the labels.
 
 ghost use Rattle.std.specs.Prelude.{◌≡◌, ℕ, ◌*◌, None, Some, IfErr, IfOk, [], if◌then◌else◌, int_le, length, map, replicate, slice_set};
 ghost use Rattle.cp_code.specs.CodedStatements as coded;
@@ -15,7 +15,7 @@ use cp_threaded::arms::Arms;
 use cp_threaded::operation::Table;
 use std::alloc::Global;
 
-// The lowest of a number and labels.
+// The lowest of `n` and the labels.
 fn lowest(n: i32, arms: &[Arm]) -> i32
     ensures { result ≡ coded.lowest n (map arm arms.now) }
 {
@@ -26,7 +26,7 @@ fn lowest(n: i32, arms: &[Arm]) -> i32
     least
 }
 
-// The highest of a number and labels.
+// The highest of `n` and the labels.
 fn highest(n: i32, arms: &[Arm]) -> i32
     ensures { result ≡ coded.highest n (map arm arms.now) }
 {
@@ -41,7 +41,7 @@ fn highest(n: i32, arms: &[Arm]) -> i32
     greatest
 }
 
-// The lowest and the highest label, where there is one.
+// The lowest and the highest label, if there are labels.
 fn bounds(arms: &[Arm]) -> Option<(i32, i32)>
     ensures { result ≡ bounds_of (map arm arms.now) }
 {
@@ -52,7 +52,7 @@ fn bounds(arms: &[Arm]) -> Option<(i32, i32)>
     ))
 }
 
-// Puts the place of a label among those of the numbers from the lowest on.
+// Puts the place of an arm at its label, where `places` belong to the numbers from `low` on.
 fn put(places: &mut Vec<Option<u32>>, low: i32, arm: Arm)
     ensures { places.new.items
         ≡ (if int_le low arm.label then slice_set places.old.items (distance low arm.label)
@@ -67,7 +67,7 @@ fn put(places: &mut Vec<Option<u32>>, low: i32, arm: Arm)
     }
 }
 
-// No place for each of so many numbers.
+// Places for `count` numbers, all without a place.
 fn no_places(alloc: Global, count: usize) -> Result<Vec<Option<u32>>, CompileError>
     ensures places { IfOk result (λ places. places.items ≡ replicate count None) }
     ensures memory { IfErr result (λ e. e ≡ error.Memory) }
@@ -75,7 +75,7 @@ fn no_places(alloc: Global, count: usize) -> Result<Vec<Option<u32>>, CompileErr
     Ok(vec![in alloc; None; count]?)
 }
 
-// The place of each of so many numbers, from the lowest on. The first arm with a label is put last.
+// The places of `count` numbers, from `low` on. The first arm with a label is put last, so it wins.
 fn places(
     alloc: Global,
     arms: &[Arm],
@@ -93,8 +93,8 @@ fn places(
     Ok(places)
 }
 
-/// The table of a `case` with these arms. One with a place for each number has at most four places
-/// a label.
+/// The table of a `case` with these arms. If it has a place for each number, it has at most four
+/// places for each arm.
 pub fn table_of(alloc: Global, arms: Vec<Arm>) -> Result<Table, CompileError>
     ensures table { IfOk result (λ table. view.table table ≡ coded.table_of (map arm arms.items)) }
     ensures memory { IfErr result (λ e. e ≡ error.Memory) }

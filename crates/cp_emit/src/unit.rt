@@ -1,4 +1,4 @@
-//! Units: an emitter begins one, emits its operations, and ends it.
+//! Units: an emitter begins a unit, emits its operations, and ends it.
 
 ghost use Rattle.std.specs.Prelude.{◌≡◌, [], ◌∷◌, ◌++◌, IfErr, IfOk, OnOk, length, map};
 ghost use Rattle.cp_scope.specs.declared.error.CompileError.TheVariants as error;
@@ -14,7 +14,7 @@ use cp_threaded::program::{CodeUnit, Start};
 use std::alloc::Global;
 
 impl Emitter {
-    /// No operations and no units.
+    /// Creates an emitter without operations and units.
     pub fn new(alloc: Global) -> Emitter
         ensures operations { operations_of result ≡ [] }
         ensures units { units_of result ≡ [] }
@@ -29,7 +29,7 @@ impl Emitter {
         }
     }
 
-    /// Begins a unit, an activation of which has so many words.
+    /// Begins a unit whose activations have `words` words.
     pub fn begin(&mut self, words: u32)
         ensures operations { operations_of self.new ≡ operations_of self.old }
         ensures units { units_of self.new ≡ units_of self.old }
@@ -41,7 +41,8 @@ impl Emitter {
         self.need = Need::of_activation(words);
     }
 
-    /// Ends the unit under way, which begins at an operation and whose words start by this plan.
+    /// Ends the unit in progress. It is entered at the operation `entry`, and `starts` is the plan
+    /// of its activations.
     pub fn end(&mut self, entry: u32, starts: Vec<Start>) -> Result<(), CompileError>
         ensures memory { IfErr result (λ e. e ≡ error.Memory) }
         ensures operations { OnOk result (operations_of self.new ≡ operations_of self.old) }
@@ -63,7 +64,7 @@ impl Emitter {
         Ok(())
     }
 
-    /// How many units there are so far.
+    /// The number of units so far.
     pub fn units(&self) -> Result<u32, CompileError>
         ensures { IfOk result (λ n. n ≡ length (units_of self.now)) }
     {
@@ -75,7 +76,7 @@ impl Emitter {
         }
     }
 
-    /// The operations and units.
+    /// Returns the operations and the units.
     pub fn into_parts(self) -> (Vec<Operation>, Vec<CodeUnit>)
         ensures operations { map view.operation result.0.items ≡ operations_of self }
         ensures units { map view.code_unit result.1.items ≡ units_of self }

@@ -1,4 +1,4 @@
--- Members that are laid out one after another.
+-- Members are laid out one after another.
 use Rattle.std.proofs.Common.{◌≡◌, ◌+◌, ◌*◌, ◌⊎◌, inl, inr, ⊎_elim, zero, suc, ℤ, Bor, Vec, Global, length, map, slice_get, ◌++◌, ◌∷◌, ◌∙◌, Bool, true, false, ℕ, List, [], Option, None, Some, ap, refl, subst, sym, arith, if◌then◌else◌}
 use Rattle.std.specs.Str.{bytes_eq}
 use Rattle.cp_model.specs.Abstract.{Name}
@@ -26,12 +26,12 @@ use Rattle.cp_scope.specs.Layouts.{AreLaid, Counts, LaysRow, LayoutIs, MembersLi
 use Rattle.cp_scope.specs.Standing.{AreMembers, Grows, ScopeStands, Stands, entry, row_at, system_at}
 use Rattle.cp_scope.specs.Tables.{Behind, or_last}
 
--- Of a part that was laid out already, where it lies; of another, where it lies among those that are left.
+-- Where a part lies: as recorded if it is laid out already, and otherwise among those that remain.
 abbrev pub PartFound : GlobalScope → Types → Option Part → Option code.Part → Option code.Part → Type 0
 PartFound g types None wanted left = wanted ≡ left
 PartFound g types (Some p) wanted left = PartIs types (Some p) wanted
 
--- The members that are left lie behind those that were laid out.
+-- The remaining members lie after those that are laid out.
 pub record PartlyLaid (g : GlobalScope) (types : Types) (at : ℕ) (ms : Members) (left : List (Name × ℕ)) (l : Layout) : Type 0 where
   pub here : ℕ
   pub others : Members

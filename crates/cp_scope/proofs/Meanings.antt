@@ -55,7 +55,7 @@ either_typed types (Some f) k (Some v) w one two = one
 either_typed types None k (Some v) w one two = absurd one
 either_typed types (Some f) k None w one two = absurd one
 
--- What a name is among the parameters, the variables and the result of a routine.
+-- What a name means among the parameters, the variables and the result of a routine.
 local_or_result : (g : GlobalScope) (r : Routine) (x : Name)
     → option_or (option_map (λ q. q.1) (local g r x)) (lookup x (result_variable g r.name r.result)) ≡ lookup x (local_variables g r)
 local_or_result g r x =
@@ -65,7 +65,7 @@ local_or_result g r x =
     ap (λ o. option_or o (lookup x of)) (lies_as g (result_words r.result) (locals g r) x) ∙ sym (looked_up x (ps ++ vs) of)
     ∙ ap (lookup x) (append_assoc ps vs of)
 
--- A local that is found comes before the result.
+-- A local comes before the result.
 pub local_first : (types : Types) (g : GlobalScope) (r : Option Routine) (x : Name) (f : Local)
     → LocalIs types (Some f) (elim r [ None ↦ None | Some q ↦ local g q x ]) → VariableIs types (Some f.of) (lookup x (locals_of g r))
 local_first types g None x f h = absurd h
@@ -86,7 +86,7 @@ local_or_else types g (Some r) x k h result =
     (either_typed types None k (option_map (λ q. q.1) (local g r x)) (lookup x (result_variable g r.name r.result))
     (local_typed types None (local g r x) h) result)
 
--- A local variable is what its name means.
+-- A name that is found among the locals means that local.
 pub local_meant : (types : Types) (g : GlobalScope) (y : System) (r : Option Routine) (x : Name) (of : ℕ) → VariableIs types (Some of) (lookup x (locals_of g r))
     → MeaningIs types (means.Variable of) (meaning (some_environment g y r) x)
 local_meant types g y None x of h = absurd h

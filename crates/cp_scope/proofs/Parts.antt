@@ -1,4 +1,4 @@
--- Types of parts.
+-- The types of parts.
 use Rattle.std.proofs.Common.{◌≡◌, ◌∷◌, ◌+◌, Bool, true, false, ℕ, List, [], Option, None, Some, if◌then◌else◌, map, option_map, refl, subst, sym}
 use Rattle.std.specs.Str.{bytes_eq}
 use Rattle.cp_model.proofs.Views.{view_field}
@@ -79,7 +79,7 @@ no_field NoType x is = refl
 
 -- ---- Selectors
 
--- What is left to select of a part is all that was to be selected.
+-- Selecting the remaining selectors of a part selects what all selectors select.
 pub record PartlyIndexed (scope : Scope) (s : code_scope.Scope) (whole : a.Designator) (of : Option ℕ) (left : List Index) : Type 0 where
   pub part_of : a.Designator
   pub typed : PlaceIs scope s of part_of

@@ -1,4 +1,4 @@
--- What is built for one routine after another, and what stays of it.
+-- Tables are made for one routine after another, and what holds of them stays true.
 use Rattle.std.proofs.Common.{◌≡◌, ◌++◌, ◌∷◌, ◌∙◌, ⊎_elim, Bor, ℕ, List, [], Option, None, Some, ap, append_assoc, length, slice_get, subst, sym}
 use Rattle.std.proofs.lemmas.List.{append-nil}
 use Rattle.cp_model.specs.Declarations.{Variable}
@@ -35,7 +35,7 @@ builds_more names a b c ls ms ns one two = record {
   laid = λ g scope laid. two.laid g (still_scope a b one.grows names g scope) (one.laid g scope laid);
 }
 
--- In front of the tables of the routines that are left, those that were made are all.
+-- The tables made so far and those of the remaining routines are the tables of all routines.
 pub record PartlyMade (names : Names) (old new : Types) (before after : List Layout) (all left : List tree.Routine) (tables : List RoutineTable) : Type 0 where
   pub builds : Builds names old new before after
   pub stands : (g : GlobalScope) (later : Types) (rest : List RoutineTable) → ScopeStands names old g → AreLaid g old before → Grows new later
@@ -88,7 +88,7 @@ one_system g types tables table y at stands all k z other here there =
     (subst (λ (t : SystemTable). SystemStands g types t y.now.parameters.items y.now.variables.items y.now.routines.items) last.1 stands))
     (last_or_before tables table k other there)
 
--- The tables of the system types before one.
+-- The tables of the first system types.
 pub record SystemsSoFar (names : Names) (old new : Types) (before after : List Layout) (tables : List SystemTable) : Type 0 where
   pub builds : Builds names old new before after
   pub stands : (g : GlobalScope) (later : Types) → ScopeStands names old g → AreLaid g old before → Grows new later → AreSystems g later tables

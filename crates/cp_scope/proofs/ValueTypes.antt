@@ -1,4 +1,5 @@
--- The types of values: of chains, of designators that are more than names, and of what functions give.
+-- The types of the values of chains, of designators that are more than a bare name, and of function
+-- results.
 use Rattle.std.proofs.Common.{◌≡◌, ◌∷◌, ◌∙◌, ◌≤◌, true, false, Global, Vec, List, [], Option, None, Some, ap, arith, length, map, refl, slice_index_or, subst, sym}
 use Rattle.cp_model.specs.Abstract as a
 use Rattle.cp_model.specs.Abstract.{Name}
@@ -91,7 +92,7 @@ selected_whole d (s.MoreSelectors (s.Indexed is) ss) h =
     let here = selected_whole (erase.indexed d is) ss h in
     here ∙ indexed_whole d is (ap is_part (sym here) ∙ h)
 
--- One that isn't more than a name is that name.
+-- A designator that isn't more than a bare name is that name.
 pub is_name : (d : Designator) → is_part (erase.designator (view.designator d)) ≡ false → erase.designator (view.designator d) ≡ a.Plain d.root.name
 is_name d h =
     let whole = ap erase.designator (view_designator d) in
@@ -110,7 +111,7 @@ pub nothing_called : (scope : Scope) (t : code.Scope) (o : Option calls.Callee) 
 nothing_called scope t None of other h typed = typed
 nothing_called scope t (Some c) of other h typed = absurd h
 
--- A call with one argument or more has a first one.
+-- A call with at least one argument has a first one.
 pub first_argument : (d : Designator) (list : Vec Expression Global) (ss : List Expression) (x : Expression) → ss ≡ list.items → 1 ≤ length ss
     → x ≡ slice_index_or ss 0 x
     → (es : s.Expressions) × (view.expression (tree.Call d list) ≡ s.Call (view.designator d) (s.MoreExpressions (view.expression x) es))

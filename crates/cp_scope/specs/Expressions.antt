@@ -1,4 +1,4 @@
--- Of what types the values of expressions are.
+-- The types of the values of expressions.
 use Rattle.std.specs.Prelude.{◌≡◌, Bool, true, false, Option, None, Some}
 use Rattle.cp_model.specs.Abstract as a
 use Rattle.cp_model.specs.Erase as erase
@@ -14,16 +14,16 @@ abbrev pub is_simple : ResolvedType → Bool
 is_simple (Simple b low high start) = true
 is_simple t = false
 
--- A type, if it is simple.
+-- `Some` has the simple type `t`, and `None` means that `t` isn't simple.
 abbrev pub SimpleIs : Option plain.Simple → ResolvedType → Type 0
 SimpleIs (Some s) t = simple_of s ≡ t
 SimpleIs None t = is_simple t ≡ false
 
--- Of the value of an expression.
+-- `of` describes the type of the value of the expression `e`.
 abbrev pub ValueIs : code.Scope → Option plain.Simple → syntax.Expression → Type 0
 ValueIs s of e = SimpleIs of (expression_type (environment s) (erase.expression e))
 
--- A designator that is more than a name.
+-- Whether a designator is more than a bare name.
 abbrev pub is_part : a.Designator → Bool
 is_part (a.Plain x) = false
 is_part d = true

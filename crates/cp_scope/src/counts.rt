@@ -1,11 +1,11 @@
-//! How many there are of something.
+//! Counts and 32-bit numbers.
 
 ghost use Rattle.std.specs.Prelude.{◌≡◌, IfOk};
 ghost use Rattle.cp_model.specs.Integers as integers;
 
 use crate::error::CompileError;
 
-/// How many integers there are from one to another.
+/// The number of integers from `low` to `high`, both included.
 pub fn count_between(low: i32, high: i32) -> usize
     ensures { result ≡ integers.count_between low high }
 {
@@ -15,7 +15,7 @@ pub fn count_between(low: i32, high: i32) -> usize
     (i64::from(high) - i64::from(low) + 1) as usize
 }
 
-/// A number of 32 bits. A larger one is refused: no accepted text has so many of anything.
+/// Converts a number to 32 bits. A larger one is refused, since no accepted text needs it.
 pub fn small_number(n: usize) -> Result<u32, CompileError>
     ensures { IfOk result (λ m. m ≡ n) }
 {

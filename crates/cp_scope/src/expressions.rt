@@ -1,4 +1,4 @@
-//! Of what types the values of expressions are.
+//! The types of the values of expressions.
 
 ghost use Rattle.std.specs.Prelude.{◌≡◌, IfOk, map};
 ghost use Rattle.cp_model.specs.Abstract as a;
@@ -47,7 +47,7 @@ pub fn last_ordinal(base: Base) -> Result<i32, CompileError>
     }
 }
 
-// The type of all values of a base type, which starts at 0.
+// The simple type that includes all values of a base type, and whose start value is 0.
 fn full_range<'t>(base: Base<'t>) -> Result<Option<Simple<'t>>, CompileError>
     ensures { IfOk result (λ s. SimpleIs s (types.full_range (base_of base.entry))) }
 {
@@ -59,7 +59,7 @@ fn full_range<'t>(base: Base<'t>) -> Result<Option<Simple<'t>>, CompileError>
     }))
 }
 
-/// The base type of values of a type; that of all but simple types counts as the integers.
+/// The base type of the values of a type. A type that isn't simple counts as the integers.
 pub fn base_type<'t>(of: Option<Simple<'t>>) -> Base<'t>
     ensures { (t : ResolvedType) → SimpleIs of.entry t → base_of result ≡ types.base_of_type t }
 {
@@ -83,7 +83,7 @@ fn operator_type<'t>(operator: Operator) -> Result<Option<Simple<'t>>, CompileEr
     })
 }
 
-// The type of a chain of operands, of which the first has this type.
+// The type of a chain of operands whose first operand has the type `first`.
 fn chain_type<'t>(
     first: Option<Simple<'t>>,
     rest: &[Operation],
@@ -98,7 +98,8 @@ fn chain_type<'t>(
     Ok(of)
 }
 
-// The type of what a standard function gives for an argument of this type; the last one is `chr`.
+// The type of the result of a standard function for an argument of the given type. Any name not
+// listed counts as `chr`.
 fn standard_type<'t>(
     name: &[u8],
     argument: Option<Simple<'t>>,
@@ -124,7 +125,7 @@ fn standard_type<'t>(
     full_range(Base::Char)
 }
 
-// Whether a designator is more than a name.
+// Whether a designator is more than a bare name.
 fn is_part(d: &Designator) -> Result<bool, CompileError>
     ensures { IfOk result (λ b. b ≡ is_part (erase.designator (view.designator d.now))) }
 {
@@ -138,7 +139,7 @@ fn is_part(d: &Designator) -> Result<bool, CompileError>
 }
 
 impl<'t> Types<'t> {
-    /// A type, if it is simple.
+    /// The simple type of the given number, or `None` if the type isn't simple.
     pub fn simple(&self, number: Option<usize>) -> Option<Simple<'t>>
         ensures { (t : ResolvedType) → TypeIs self.now number t → SimpleIs result t }
     {
@@ -150,7 +151,7 @@ impl<'t> Types<'t> {
 }
 
 impl<'s, 't> Scope<'s, 't> {
-    // The type of the value that a name has.
+    // The type of the value of a bare name.
     fn name_type(&self, name: &[u8]) -> Result<Option<Simple<'t>>, CompileError>
         ensures { IfOk result (λ of. (s : code.Scope) → IsScope self.now s
             → SimpleIs of (static.named_value_type (environment s) name.now)) }
@@ -165,7 +166,7 @@ impl<'s, 't> Scope<'s, 't> {
         }
     }
 
-    // The type of the value that a designator has where it calls nothing.
+    // The type of the value of a designator that calls nothing.
     fn own_type(&self, d: &Designator) -> Result<Option<Simple<'t>>, CompileError>
         ensures { IfOk result (λ of. (s : code.Scope) → IsScope self.now s → SimpleIs of
             (static.own_value_type (environment s) (erase.designator (view.designator d.now)))) }
@@ -177,7 +178,7 @@ impl<'s, 't> Scope<'s, 't> {
         }
     }
 
-    // The type of what a function gives.
+    // The type of the result of a function.
     fn answer_type(&self, callee: &Callee) -> Result<Option<Simple<'t>>, CompileError>
         ensures { IfOk result (λ of. (s : code.Scope) (c : calls.Callee) → IsScope self.now s
             → IsCallee self.now s callee.now c
@@ -201,7 +202,7 @@ impl<'s, 't> Scope<'s, 't> {
         }
     }
 
-    // The type of what a call with an argument of this type gives.
+    // The type of the result of a call whose first argument has the type `argument`.
     fn call_type(
         &self,
         d: &Designator,
@@ -223,11 +224,12 @@ impl<'s, 't> Scope<'s, 't> {
         }
     }
 
-    /// The type of the value of an expression, if it is simple.
+    /// The type of the value of an expression, or `None` if it isn't simple.
     ///
     /// # Errors
     ///
-    /// `Unaccepted` where an index list is empty, or an enumeration has too many values: no accepted text has either.
+    /// `Unaccepted` if an index list is empty or an enumeration has too many values. No accepted
+    /// text has either.
     pub fn expression_type(&self, e: &Expression) -> Result<Option<Simple<'t>>, CompileError>
         ensures { IfOk result (λ of. (s : code.Scope) → IsScope self.now s
             → ValueIs s of (view.expression e.now)) }

@@ -1,4 +1,4 @@
-//! Names of parameters and variables, with the numbers of the components among them.
+//! The names of parameters and variables, with the numbers of the components among them.
 
 ghost use Rattle.std.specs.Prelude.{◌≡◌, ◌≤◌, IfOk, if◌then◌else◌, map};
 ghost use Rattle.cp_model.specs.Components.{is_component_of, same_sort};
@@ -37,7 +37,7 @@ fn is_sort(a: Sort, b: Sort) -> bool
 }
 
 impl<'t> Types<'t> {
-    /// The number of the system type whose components the variables of a type are, if they are
+    /// The number of the system type of the components of a type, or `None` if it isn't a type of
     /// components.
     pub fn system_of(&self, number: usize) -> Option<usize>
         ensures { result ≡ system_of (row_at self.now number) }
@@ -48,7 +48,7 @@ impl<'t> Types<'t> {
         }
     }
 
-    /// Whether variables of a type are components of this sort.
+    /// Whether the variables of a type are components of this sort.
     pub fn is_component_of(&self, sort: Sort, number: usize) -> bool
         ensures { (t : ResolvedType) → Stands self.now number t → result ≡ is_component_of
             (erase.sort_of sort) t }
@@ -62,7 +62,7 @@ impl<'t> Types<'t> {
         }
     }
 
-    // One for a component of this sort.
+    // Returns 1 for a component of this sort and 0 otherwise.
     fn component_count(&self, sort: Sort, number: usize) -> usize
         ensures most { result ≤ 1 }
         ensures count { (t : ResolvedType) → Stands self.now number t → result ≡

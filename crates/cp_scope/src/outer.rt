@@ -20,14 +20,14 @@ use cp_model::tree::{
 };
 use std::alloc::Global;
 
-/// The names of the outermost scope, and the types.
+/// The names and types of the outermost scope.
 #[derive(Drop)]
 pub struct Outer<'t> {
     pub names: Names<'t>,
     pub types: Types<'t>,
 }
 
-// A number as an ordinal. No accepted text has one that doesn't fit.
+// Converts a number to an ordinal. No accepted text has one that doesn't fit.
 fn ordinal(n: usize) -> Result<i32, CompileError>
     ensures { IfOk result (λ i. i ≡ pos n) }
 {
@@ -43,7 +43,7 @@ fn value<'t>(base: Base<'t>, ordinal: i32) -> Value<'t>
     Value { base, ordinal }
 }
 
-// A base type itself: it starts at 0.
+// A simple type whose start value is 0.
 fn simple<'t>(base: Base<'t>, low: i32, high: i32) -> Simple<'t>
     ensures { simple_of result ≡ t.Simple (base_of base.entry) low high (pos 0) }
 {
@@ -55,7 +55,7 @@ fn simple<'t>(base: Base<'t>, low: i32, high: i32) -> Simple<'t>
     }
 }
 
-// The value of an enumeration with this number.
+// The value of an enumeration that has this number.
 fn enumeration_value<'t>(base: Base<'t>, number: usize) -> Result<Value<'t>, CompileError>
     ensures { IfOk result (λ v. value_of v ≡ (base_of base.entry, pos number)) }
 {
@@ -63,7 +63,7 @@ fn enumeration_value<'t>(base: Base<'t>, number: usize) -> Result<Value<'t>, Com
     Ok(value(base, ordinal))
 }
 
-// An enumeration whose last value has this number.
+// The type of an enumeration whose last value has the number `last`.
 fn enumeration<'t>(base: Base<'t>, last: usize) -> Result<Simple<'t>, CompileError>
     ensures { IfOk result (λ s. simple_of s ≡ t.Simple (base_of base.entry) (pos 0) (pos last)
         (pos 0)) }
@@ -73,14 +73,14 @@ fn enumeration<'t>(base: Base<'t>, last: usize) -> Result<Simple<'t>, CompileErr
 }
 
 impl<'t> Types<'t> {
-    /// Whether variables of a type are components.
+    /// Whether the variables of a type are components.
     pub fn is_component(&self, number: usize) -> bool
         ensures { (t : ResolvedType) → Stands self.now number t → result ≡ is_component t }
     {
         matches!(self.row(number), Some(TypeRow::Component { .. }))
     }
 
-    // Adds the parameters of one type, but the rights to components.
+    // Adds the parameters of one group, except rights to components.
     fn add_parameter(
         &mut self,
         names: &Names<'t>,
@@ -97,7 +97,7 @@ impl<'t> Types<'t> {
         Ok(())
     }
 
-    /// Adds parameters, but the rights to components.
+    /// Adds the parameters of these groups, except rights to components.
     pub fn add_parameters(
         &mut self,
         names: &Names<'t>,
@@ -113,7 +113,7 @@ impl<'t> Types<'t> {
         Ok(())
     }
 
-    // The number of the type of the components of a system type.
+    // Adds the type of the components of a system type, and returns its number.
     fn component(&mut self, names: &Names<'t>, system: &'t System) -> Result<usize, CompileError>
         ensures { IfOk result (λ n. Makes names.now self.old self.new (component_of system.now) n) }
     {
@@ -144,7 +144,7 @@ impl<'t> Outer<'t> {
         add_name(&mut self.names.types, name, of)
     }
 
-    // Adds a base type.
+    // Adds a simple type and its name.
     fn add_base(&mut self, name: &'t [u8], base: Simple<'t>) -> Result<(), CompileError>
         ensures { OnOk result (Defines self.old self.new
             (with_type name.now (λ g. simple_of base.entry))) }
@@ -188,7 +188,7 @@ impl<'t> Outer<'t> {
         self.add_type(x.name.as_bytes(), of)
     }
 
-    // The values of an enumeration. The last one is added first.
+    // Adds the values of an enumeration, the last one first.
     fn add_values(&mut self, base: Base<'t>, values: &'t [Identifier]) -> Result<(), CompileError>
         ensures { OnOk result (Defines self.old self.new
             (with_values (base_of base.entry) 0 values.now)) }

@@ -1,4 +1,4 @@
-//! Of what types the parts of variables are.
+//! The types of the parts of variables.
 
 ghost use Rattle.std.specs.Prelude.{◌≡◌, IfOk, map, option_map};
 ghost use Rattle.cp_model.specs.Erase as erase;
@@ -18,7 +18,7 @@ use crate::scope::{Meaning, Scope};
 use crate::types::{TypeRow, Types};
 use cp_model::tree::{Designator, Index, Selector};
 
-/// What an array type is: its bounds, and the number of its elements' type.
+/// An array type: its bounds, and the number of the type of its elements.
 #[derive(Clone, Copy)]
 pub struct Elements {
     pub low: i32,
@@ -27,14 +27,14 @@ pub struct Elements {
 }
 
 impl<'t> Types<'t> {
-    /// Whether a type is one of records.
+    /// Whether a type is a record type.
     pub fn is_record(&self, number: usize) -> bool
         ensures { (t : ResolvedType) → Stands self.now number t → result ≡ is_record t }
     {
         matches!(self.row(number), Some(TypeRow::Record(_)))
     }
 
-    /// The elements of an array type.
+    /// The bounds and element type of an array type, or `None` for another type.
     pub fn elements(&self, number: usize) -> Option<Elements>
         ensures { result ≡ elements_of (row_at self.now number) }
     {
@@ -48,7 +48,7 @@ impl<'t> Types<'t> {
         }
     }
 
-    /// The type of an element of what has this type. None is that of what has no type.
+    /// The type of an element of a value of the type `of`, where `None` stands for no type.
     pub fn element_type(&self, of: Option<usize>) -> Option<usize>
         ensures { (t : ResolvedType) → TypeIs self.now of t → TypeIs self.now result
             (static.element_type t) }
@@ -64,7 +64,7 @@ fn part_type(part: Option<Part>) -> Option<usize>
 }
 
 impl<'s, 't> Scope<'s, 't> {
-    /// The type of a field of what has this type.
+    /// The type of a field of a value of the type `of`.
     pub fn field_type(&self, of: Option<usize>, name: &[u8]) -> Result<Option<usize>, CompileError>
         ensures { IfOk result (λ n. (s : code.Scope) (t : ResolvedType) → IsScope self.now s
             → TypeIs self.now.tables.now.types of t → TypeIs self.now.tables.now.types n
@@ -92,7 +92,7 @@ impl<'s, 't> Scope<'s, 't> {
             _ => None,
         }
     }
-    // The type of an element, or of an element of an element and so on, one for each index.
+    // The type of the element that is left after indexing once for each of `indices`.
     fn indexed_type(&self, mut of: Option<usize>, indices: &[Index]) -> Option<usize>
         ensures { (s : code.Scope) (d : a.Designator) → PlaceIs self.now s of d → PlaceIs
             self.now s result (erase.indexed d (view.indices_of (map view.index indices.now))) }
@@ -103,7 +103,7 @@ impl<'s, 't> Scope<'s, 't> {
         of
     }
 
-    // The type of a part that is selected.
+    // The type of the part that a selector selects.
     fn selected_type(
         &self,
         of: Option<usize>,
@@ -119,7 +119,7 @@ impl<'s, 't> Scope<'s, 't> {
         }
     }
 
-    /// The type of the place of a designator, if it has one.
+    /// The type of the place of a designator, or `None` if it has no type.
     pub fn place_type(&self, d: &Designator) -> Result<Option<usize>, CompileError>
         ensures { IfOk result (λ n. (s : code.Scope) → IsScope self.now s → PlaceIs self.now s n
             (erase.designator (view.designator d.now))) }

@@ -27,8 +27,8 @@ use cp_model::tree::{Designator, Selector};
 use cp_names::NameTable;
 
 /// What the code of a unit is compiled with: the tables of its text, its system type, and its
-/// routine, where it isn't a body. `firsts` has the first unit of each type that was defined before,
-/// by its name, and `first` is that of the system type itself.
+/// routine unless the unit is a body. `firsts` has the first unit of each system type that is
+/// defined before this one, by name, and `first` is the first unit of this one.
 #[derive(Clone, Copy)]
 pub struct Scope<'s, 't> {
     pub(crate) tables: &'s Tables<'t>,
@@ -38,7 +38,8 @@ pub struct Scope<'s, 't> {
     pub(crate) first: u32,
 }
 
-/// What a designator calls: a routine, and the component of which it is one, where that is another.
+/// What a designator calls: a routine, and its component if that isn't the calling component
+/// itself.
 #[derive(Clone, Copy)]
 pub struct Callee<'s, 't, 'n> {
     pub routine: IndexedRoutine<'s, 't>,
@@ -53,14 +54,14 @@ pub enum Meaning<'t> {
     Unknown,
 }
 
-// The number of its type, if a parameter or variable was found.
+// The number of the type of a parameter or variable, if one was found.
 fn type_of(found: Option<Numbered>) -> Option<usize>
     ensures { result ≡ option_map (λ n. n.of) found }
 {
     Some(found?.of)
 }
 
-/// Every index list of a text has an index: one without is refused.
+/// Fails if a selector has an empty index list, which no text has.
 pub fn refuse_no_index(selector: &Selector) -> Result<(), CompileError>
     ensures { OnOk result (Selects (view.selector selector.now)) }
 {
@@ -74,7 +75,7 @@ pub fn refuse_no_index(selector: &Selector) -> Result<(), CompileError>
 }
 
 impl<'s, 't> Scope<'s, 't> {
-    /// The scope of a routine, or of the body, of a system type.
+    /// Creates the scope of a routine or of the body of a system type.
     pub fn new(
         tables: &'s Tables<'t>,
         system: &'s SystemTable<'t>,
@@ -99,28 +100,28 @@ impl<'s, 't> Scope<'s, 't> {
         }
     }
 
-    /// The tables of its text.
+    /// The tables of the text.
     pub fn tables(&self) -> &'s Tables<'t>
         ensures { result ≡ self.now.tables }
     {
         self.tables
     }
 
-    /// The table of its system type.
+    /// The table of the system type.
     pub fn system(&self) -> &'s SystemTable<'t>
         ensures { result ≡ self.now.system }
     {
         self.system
     }
 
-    /// The table of its routine, where it isn't that of a body.
+    /// The table of the routine, or `None` in a body.
     pub fn routine(&self) -> Option<&'s RoutineTable<'t>>
         ensures { result ≡ self.now.routine }
     {
         self.routine
     }
 
-    /// The parameter or variable of the routine that has a name.
+    /// The parameter or variable of the routine that has this name.
     pub fn local(&self, name: &[u8]) -> Option<Local>
         ensures { (s : code.Scope) → IsScope self.now s → LocalIs self.now.tables.now.types result
             (code.local_in s name.now) }
@@ -128,7 +129,7 @@ impl<'s, 't> Scope<'s, 't> {
         self.routine?.locals.names.find(name)
     }
 
-    /// The own member of the component that has a name.
+    /// The own member of the component that has this name.
     pub fn member(&self, name: &[u8]) -> Option<Part>
         ensures { (s : code.Scope) → IsScope self.now s → PartIs self.now.tables.now.types result
             (layout.member s.globals s.system name.now) }
@@ -136,7 +137,7 @@ impl<'s, 't> Scope<'s, 't> {
         self.system.members.parts.find(name)
     }
 
-    /// The right of the component that has a name.
+    /// The right of the component that has this name.
     pub fn right(&self, name: &[u8]) -> Option<Right>
         ensures { (s : code.Scope) → IsScope self.now s → RightIs self.now.tables.now.types result
             (layout.right s.globals s.system name.now) }
@@ -144,7 +145,7 @@ impl<'s, 't> Scope<'s, 't> {
         self.system.rights.find(name)
     }
 
-    // The type of the variable that has the name of a function, for its result.
+    // The type of the result variable of a function, if this is the function's name.
     fn result_type(&self, name: &[u8]) -> Option<usize>
         ensures { (s : code.Scope) → IsScope self.now s → VariableIs self.now.tables.now.types
             result (lookup name.now (results_of s.globals s.routine)) }
@@ -156,7 +157,7 @@ impl<'s, 't> Scope<'s, 't> {
         routine.result
     }
 
-    // The type of the routine's parameter, variable or result that has a name.
+    // The type of the routine's parameter, variable or result that has this name.
     fn local_type(&self, name: &[u8]) -> Option<usize>
         ensures { (s : code.Scope) → IsScope self.now s → VariableIs self.now.tables.now.types
             result (lookup name.now (locals_of s.globals s.routine)) }
@@ -167,7 +168,7 @@ impl<'s, 't> Scope<'s, 't> {
         }
     }
 
-    // The type of the component's parameter or variable that has a name.
+    // The type of the component's parameter or variable that has this name.
     fn permanent_type(&self, name: &[u8]) -> Option<usize>
         ensures { (s : code.Scope) → IsScope self.now s → VariableIs self.now.tables.now.types
             result (lookup name.now (permanent_variables s.globals s.system)) }
@@ -189,8 +190,8 @@ impl<'s, 't> Scope<'s, 't> {
         }
     }
 
-    /// What a name means: a variable of the routine or its result, else one of the component, else
-    /// a constant.
+    /// What a name means: a variable of the routine or its result, else a variable of the
+    /// component, else a constant.
     pub fn meaning(&self, name: &[u8]) -> Meaning<'t>
         ensures { (s : code.Scope) → IsScope self.now s → MeaningIs self.now.tables.now.types result
             (meaning (code.environment s) name.now) }
@@ -204,7 +205,7 @@ impl<'s, 't> Scope<'s, 't> {
         }
     }
 
-    // The routine of this system type that a name calls.
+    // The routine of this system type that a bare name calls.
     fn own_callee<'n>(&self, name: &[u8]) -> Result<Option<Callee<'s, 't, 'n>>, CompileError>
         ensures { IfOk result (λ c. (s : code.Scope) → IsScope self.now s → CalleeIs self.now s c
             (calls.callee (code.environment s) (a.Plain name.now))) }
@@ -218,7 +219,7 @@ impl<'s, 't> Scope<'s, 't> {
         }
     }
 
-    // The routine of a component that a name after a point calls.
+    // The routine that `component.name` calls.
     fn component_callee<'n>(
         &self,
         component: &'n [u8],
@@ -242,7 +243,7 @@ impl<'s, 't> Scope<'s, 't> {
         }
     }
 
-    // What a name with one selector calls.
+    // The routine that a name with one selector calls.
     fn selected_callee<'n>(
         &self,
         name: &'n [u8],
@@ -263,7 +264,8 @@ impl<'s, 't> Scope<'s, 't> {
         }
     }
 
-    /// What a designator calls, if it calls a routine. A selector without an index is refused.
+    /// The routine that a designator calls, or `None` if it calls none. An empty index list is
+    /// refused.
     pub fn callee<'n>(&self, d: &'n Designator) -> Result<Option<Callee<'s, 't, 'n>>, CompileError>
         ensures { IfOk result (λ c. (s : code.Scope) → IsScope self.now s → CalleeIs self.now s c
             (calls.callee (code.environment s) (erase.designator (view.designator d.now)))) }

@@ -1,5 +1,5 @@
-//! What is known of a system type: its parameters and variables, its routines, and where the
-//! members and rights of its components lie.
+//! What is known of a system type: its parameters, variables and routines, and where the members
+//! and rights of its components lie.
 
 ghost use Rattle.std.specs.Prelude.{◌≡◌, [], IfOk, option_map, slice_get};
 ghost use Rattle.cp_model.specs.Abstract.{Name};
@@ -21,9 +21,8 @@ use cp_names::NameTable;
 use std::alloc::Global;
 
 /// A system type: its parameters, variables and routines in text order, and where the members and
-/// the rights of its components lie.
-/// The words of a component are those of `members`. Its parameters, variables and routines are also
-/// found by their names, and so are the names of the types of its parameters and variables.
+/// rights of its components lie. `members` also has the size of a component. Parameters, variables,
+/// routines and the names of the types of parameters and variables can also be found by name.
 #[derive(Drop)]
 pub struct SystemTable<'t> {
     pub parameters: Vec<Declared<'t>>,
@@ -39,7 +38,7 @@ pub struct SystemTable<'t> {
 }
 
 impl<'t> Layouts<'t> {
-    // The tables of these routines.
+    // Makes the tables of these routines.
     fn routines(
         &mut self,
         names: &Names<'t>,
@@ -69,7 +68,7 @@ impl<'t> Layouts<'t> {
         Ok(names)
     }
 
-    /// What is known of a system type with these parameters, variables and routines.
+    /// Makes the table of a system type with these parameters, variables and routines.
     pub fn system(
         &mut self,
         names: &Names<'t>,
@@ -109,7 +108,7 @@ impl<'t> Layouts<'t> {
     }
 }
 
-/// A routine of a system type: its number in text order, and what is known of it.
+/// A routine of a system type: its number in text order, and its table.
 #[derive(Clone, Copy)]
 pub struct IndexedRoutine<'s, 't> {
     pub index: usize,
@@ -127,7 +126,7 @@ pub struct Component<'n> {
     pub processes: usize,
 }
 
-// What a parameter or variable names, if it is a component.
+// The component that a parameter or variable names, or `None` if it isn't a component.
 fn as_component<'n>(
     types: &Types,
     name: &'n [u8],
@@ -148,14 +147,14 @@ fn as_component<'n>(
 }
 
 impl<'t> SystemTable<'t> {
-    /// The routine of a number, if there is one.
+    /// The routine with this number, if there is one.
     pub fn routine_at(&self, index: usize) -> Option<&RoutineTable<'t>>
         ensures { option_map (λ t. t.now) result ≡ slice_get self.now.routines.items index }
     {
         self.routines.get(index)
     }
 
-    /// The first routine of a name.
+    /// The first routine with this name.
     pub fn routine(&self, name: &[u8]) -> Result<Option<IndexedRoutine<'_, 't>>, CompileError>
         ensures { IfOk result (λ r. RoutineFound self.now name.now r) }
     {
@@ -168,14 +167,14 @@ impl<'t> SystemTable<'t> {
         }
     }
 
-    /// The name of the type with which a variable is declared, empty where the type isn't a name alone.
+    /// The name of the type with which a variable is declared, empty if the type isn't a bare name.
     pub fn variable_type(&self, name: &[u8]) -> &'t [u8]
         ensures { result.now ≡ name_or (lookup name.now self.now.variable_types) [] }
     {
         self.variable_types.find(name).unwrap_or(&[])
     }
 
-    /// The component that a name means in a component of this system type.
+    /// The component that a name means inside a component of this system type.
     pub fn component<'n>(&self, types: &Types<'t>, name: &'n [u8]) -> Option<Component<'n>>
         ensures { ComponentFound types.now self.now name.now result }
     {

@@ -12,7 +12,7 @@ use cp_model::tree::{Fields, Identifier, Parameters, TypeExpression};
 use cp_names::NameTable;
 use std::alloc::Global;
 
-// The name of a written type, or an empty one where that isn't a name alone.
+// The name of a written type, empty if the type isn't a bare name.
 fn type_name<'t>(of: &'t TypeExpression) -> Result<&'t [u8], CompileError>
     ensures { IfOk result (λ name.
         name.now ≡ type_name (erase.type_expression (view.type_expression of.now))) }
@@ -58,7 +58,8 @@ pub fn parameter_types<'t>(
     Ok(table)
 }
 
-/// The name of the type of each variable that these groups declare, empty where the type isn't a name alone.
+/// The name of the type of each variable that these groups declare, empty if the type isn't a bare
+/// name.
 pub fn variable_types<'t>(
     alloc: Global,
     groups: &'t [Fields],

@@ -1,4 +1,4 @@
-//! Types, by their numbers: each has a row, which names the types of its parts by their numbers.
+//! Types by number: each has a row, which refers to the types of its parts by their numbers.
 
 ghost use Rattle.std.specs.Prelude.{◌≡◌, [], IfOk, option_map};
 ghost use Rattle.cp_scope.specs.Standing.{Adds, AddsSystem, row_at, system_at};
@@ -32,7 +32,7 @@ pub struct Field<'t> {
     pub of: usize,
 }
 
-/// What a type is. Types and system types are named by their numbers.
+/// A type. It refers to other types and to system types by their numbers.
 #[derive(Drop)]
 pub enum TypeRow<'t> {
     Simple(Simple<'t>),
@@ -43,17 +43,17 @@ pub enum TypeRow<'t> {
     },
     Record(Vec<Field<'t>>),
     Queue,
-    /// A component has the members that are its own: its parameters but the rights to components,
-    /// then its variables.
+    /// A component type, with its own members: its parameters except the rights to components,
+    /// followed by its variables.
     Component {
         system: usize,
         members: Vec<Field<'t>>,
     },
-    /// What names no type.
+    /// The type of a name that means no type.
     Unknown,
 }
 
-/// Types by their numbers, and system types by theirs, in text order.
+/// Types by their numbers, and system types by theirs, both in text order.
 #[derive(Drop)]
 pub struct Types<'t> {
     pub(crate) alloc: Global,
@@ -62,7 +62,7 @@ pub struct Types<'t> {
 }
 
 impl<'t> Types<'t> {
-    /// No types.
+    /// Creates empty tables of types.
     pub fn new(alloc: Global) -> Types<'t>
         ensures rows { result.rows.items ≡ [] }
         ensures systems { result.systems.items ≡ [] }
@@ -74,21 +74,21 @@ impl<'t> Types<'t> {
         }
     }
 
-    /// What the type of a number is, if there is one.
+    /// The row of the type with this number, if there is one.
     pub fn row(&self, number: usize) -> Option<&TypeRow<'t>>
         ensures { option_map (λ r. r.now) result ≡ row_at self.now number }
     {
         self.rows.get(number)
     }
 
-    /// The system type of a number, if there is one.
+    /// The system type with this number, if there is one.
     pub fn system(&self, number: usize) -> Option<&'t System>
         ensures { result ≡ system_at self.now number }
     {
         self.systems.get(number).copied()
     }
 
-    /// Adds a type, and answers its number.
+    /// Adds a type and returns its number.
     pub fn add(&mut self, row: TypeRow<'t>) -> Result<usize, CompileError>
         ensures { IfOk result (λ n. Adds self.old self.new row.entry n) }
     {
@@ -97,7 +97,7 @@ impl<'t> Types<'t> {
         Ok(number)
     }
 
-    /// Adds a system type, and answers its number.
+    /// Adds a system type and returns its number.
     pub fn add_system(&mut self, system: &'t System) -> Result<usize, CompileError>
         ensures { IfOk result (λ k. AddsSystem self.old self.new system.now k) }
     {

@@ -13,7 +13,7 @@ use crate::error::CompileError;
 use crate::scope::{Callee, Scope};
 use crate::systems::Component;
 
-// The unit that comes so many after the first.
+// The unit that comes `count` units after `first`.
 fn unit_after(first: u32, count: usize) -> Result<u32, CompileError>
     ensures { IfOk result (λ n. n ≡ first + count) }
 {
@@ -23,7 +23,7 @@ fn unit_after(first: u32, count: usize) -> Result<u32, CompileError>
 }
 
 impl<'s, 't> Scope<'s, 't> {
-    /// The words of an activation; a body has none.
+    /// The size of an activation in words. A body has none, so its size is 0.
     pub fn words(&self) -> Result<u32, CompileError>
         ensures { IfOk result (λ n. (s : code.Scope) → IsScope self.now s → n ≡ s.words) }
     {
@@ -60,7 +60,7 @@ impl<'s, 't> Scope<'s, 't> {
         unit_after(self.first_of(c), of.routines.len())
     }
 
-    /// The unit of a routine that is called.
+    /// The unit of a called routine.
     pub fn unit_of(&self, callee: &Callee) -> Result<u32, CompileError>
         ensures { IfOk result (λ unit. (s : code.Scope) (c : calls.Callee)
             → IsScope self.now s → IsCallee self.now s callee.now c → unit ≡ code.unit_of s c) }

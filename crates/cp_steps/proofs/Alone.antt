@@ -1,4 +1,5 @@
--- A step of a process that holds no gate: it is private, in the meaning and in the machine, or it is the kernel's in both.
+-- A step of a process that holds no gate is a private step in both the meaning and the machine, or
+-- a kernel step in both.
 use Rattle.std.proofs.Common.{inl, ◌≡◌, refl, ℕ, List, [], ◌∷◌, Bool, true, false, Some, ap, sym, subst, ◌∙◌}
 use Rattle.std.specs.Prelude.{◌||◌, if◌then◌else◌, not}
 use Rattle.cp_model.specs.Actions.{Action, action, is_kernel_action}

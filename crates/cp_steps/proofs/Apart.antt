@@ -20,14 +20,15 @@ abbrev pub IsClass : Sort → Type 0
 IsClass Class = Unit {0}
 IsClass _ = ⊥
 
--- One word that holds a value.
+-- A type whose variables are one word that holds a value.
 abbrev pub IsCell : ResolvedType → Type 0
 IsCell (Simple b low high start) = Unit {0}
 IsCell Queue = Unit {0}
 IsCell (ComponentOf s inner) = IsClass s.sort
 IsCell _ = ⊥
 
--- One of the first words of a part, which hold values or rights: the word of a simple value or queue, or the mark or a right of a class.
+-- Word `i` of a part is one of its first words that hold values or rights: the word of a simple
+-- value or queue, or the mark or a right of a class.
 abbrev pub InHead : GlobalScope → ResolvedType → ℕ → Type 0
 InHead g (Simple b low high start) i = i ≡ 0
 InHead g Queue i = i ≡ 0
@@ -66,7 +67,7 @@ cell_has_word g (ArrayOf low high t) h = absurd h
 cell_has_word g (RecordOf ms) h = absurd h
 cell_has_word g NoType h = absurd h
 
--- Members lie behind where they begin.
+-- Members lie at or after the place where the first one begins.
 pub member_above : (g : GlobalScope) (at : ℕ) (ms : Members) (x : Name) (p : Path) (n : ℕ) (u : ResolvedType) → member_part g at ms x p ≡ Some (n, u) → at ≤ n
 member_above g at NoMembers x p n u h = absurd (some_is_not_none (n, u) (sym h))
 member_above g at (MoreMembers y t ms) x p n u h = by (bytes_eq x y) h (member_above g (at + words g t) ms x p n u)

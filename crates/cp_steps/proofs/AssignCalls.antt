@@ -1,4 +1,4 @@
--- The first call of an assignment, and what its value leads on to.
+-- The first call of an assignment, and what is left to do once its value is known.
 use Rattle.std.proofs.Common.{◌≡◌, ℕ, None, refl, ap, sym, subst, ◌∙◌, arith}
 use Rattle.cp_model.specs.Abstract as a
 use Rattle.cp_model.specs.Calls.{call_in_designator, call_in_statement, callee, first_call, in_context, or_else, user_call}

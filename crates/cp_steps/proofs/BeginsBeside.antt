@@ -1,4 +1,5 @@
--- A process that hasn't begun stays so by private steps and waking, by kernel turns of others, and by the end of a round unless it is fresh.
+-- A process that hasn't begun is still right after private steps and waking, after kernel turns of
+-- others, and after the end of a round unless it is fresh.
 use Rattle.std.proofs.Common.{◌≡◌, ℕ, zero, suc, ◌≤◌, true, List, [], ◌∷◌, refl, ap, sym, subst, ◌∙◌}
 use Rattle.std.specs.Prelude.{if◌then◌else◌, ◌≢◌}
 use Rattle.cp_model.specs.Configurations as stage
@@ -77,7 +78,7 @@ begins_beside G s u k o sight S B = record {
 
 -- ---- the end of a round
 
--- Nobody is fresh then.
+-- The end of a round leaves an unstarted process as it is.
 pub begins_round : (G : Ground) (s : State) (k : Kernel) (o : PrivateState) → s.status G.p ≡ stage.Unstarted → Begins G s k o → (l : Kernel) → Begins G (close_round s) l o
 begins_round G s k o is B l = record {
   activity_is = B.activity_is;

@@ -1,4 +1,5 @@
--- A process that hasn't begun is kept where nothing of it changed, nor the words in which its parameters wait.
+-- A process that hasn't begun is kept if nothing that belongs to it changed, nor the words in which
+-- its parameters wait.
 use Rattle.std.proofs.Common.{◌≡◌, ℕ, zero, suc, ◌+◌, ◌-◌, ◌≤◌, ◌<◌, ℤ, List, [], ◌∷◌, map, Some, None, refl, ap, sym, subst, ◌∙◌, arith}
 use Rattle.std.specs.Prelude.{drop, slice_get}
 use Rattle.cp_model.specs.States.{State}
@@ -38,7 +39,7 @@ module _ (G : Ground) (q own : ℕ) (o : PrivateState) (number : o.number ≡ q)
   abbrev H : Ground
   H = other_ground G q own
 
-  -- It begins with what waits for it.
+  -- The process begins with the parameters that wait for it.
   abbrev pub begun : Kernel → PrivateState
   begun k = record o { activity = machine.Running; words = paste 1 (block k.shared (suc P.row.parameters) (P.row.waiting - 1)) o.words }
 

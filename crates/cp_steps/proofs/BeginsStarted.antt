@@ -1,6 +1,7 @@
 -- A process that is started by another one will run as the meaning says once it has its parameters.
 --
--- Its own words had the start values, and what waits for it is what was bound to its parameters.
+-- Its own words had the start values, and the words that wait for it are those bound to its
+-- parameters.
 use Rattle.std.proofs.Common.{◌≡◌, ℕ, suc, ◌+◌, ◌-◌, ◌≤◌, ◌<◌, ℤ, List, [], length, false, refl, ap, sym, subst, ◌∙◌, arith}
 use Rattle.std.specs.Prelude.{drop}
 use Rattle.std.proofs.lemmas.Bool.{true≢false}

@@ -1,5 +1,5 @@
--- What a process's words mean stays where another process is given its parameters: these are stored at that process, and lie in
--- shared words that are no monitor's.
+-- What a process's words mean stays the same if another process is given its parameters. These are
+-- stored at that process, and lie in shared words that belong to no monitor.
 use Rattle.std.proofs.Common.{◌≡◌, ◌⊎◌, inl, inr, ℕ, ◌+◌, ◌≤◌, ◌<◌, ℤ, List, [], ◌∷◌, length, Some, refl, ap, sym, subst, ◌∙◌, arith}
 use Rattle.cp_model.specs.Abstract.{System}
 use Rattle.cp_model.specs.Continuations.{Task}
@@ -118,7 +118,7 @@ module _ (G : Ground) (xs : List Activation) (top : ℕ) (stack : Stacked G top 
       inside : (z.base + activation_words (scope G) z.routine ≤ top) × ((s : System) → system_of_process G.setup G.p ≡ Some s → component_words (scope G) s ≤ z.base)
       inside = found_inside G top d xs z stack.stack there
 
--- The process runs on.
+-- The process runs on with the changed store and words.
 abbrev pub runs_beside : (G : Ground) (store after : Store) (o : PrivateState) (new : List ℤ) (k : List Task) (R : RunsOn G store o k) (r from count : ℕ)
     → Beside G (o.base + (site G R.running).words) r from count store after o.words new → length new ≡ length o.words
     → RunsOn G after (record o { words = new }) k

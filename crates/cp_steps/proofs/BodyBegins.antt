@@ -1,4 +1,5 @@
--- A process that stands at the start of its body runs on there, once its words mean what the store holds of it.
+-- A process at the start of its body runs on from there, once its words mean what the store holds
+-- for it.
 use Rattle.std.proofs.Common.{◌≡◌, ◌+◌, ◌≤◌, ℤ, List, [], ◌∷◌, length, Some, refl, ap, sym, subst, ◌∙◌, arith}
 use Rattle.std.specs.Prelude.{slice_get}
 use Rattle.cp_model.specs.Abstract.{Process, System}

@@ -1,4 +1,4 @@
--- Code that stands for a statement stands for it where as much is known of its temps.
+-- Code that stands for a statement still stands for it if as much is known of its temps.
 use Rattle.std.proofs.Common.{ℕ, List, [], ◌∷◌, arith}
 use Rattle.cp_model.specs.Abstract as a
 use Rattle.cp_model.specs.Abstract.{Char, Name, System}
@@ -13,7 +13,7 @@ use Rattle.cp_code.specs.TermsFor.{Knowns, nothing_known}
 use Rattle.cp_code.specs.StatementsFor.{AssignsBy, CodeFor, InitArgumentsFor, InitsBy, PerformsBy}
 use Rattle.cp_steps.proofs.CallsKept.{Keeps, arguments_kept, narrowed, spot_kept, term_kept}
 
--- Where nothing is known, that is kept.
+-- If nothing is known, nothing needs to be kept.
 pub none_kept : (L : Knowns) (low high : ℕ) → Keeps nothing_known L low high
 none_kept L low high s m p q h = absurd h
 

@@ -1,5 +1,5 @@
--- Whole steps of `continue`: the entry routine that runs returns at once, and the queue is empty. Where its call entered no monitor,
--- nothing is done.
+-- Whole steps of `continue`: the running entry routine returns at once, and the queue becomes
+-- empty. If its call entered no monitor, nothing is done.
 use Rattle.std.proofs.Common.{◌≡◌, ℕ, ◌+◌, ℤ, pos, List, [], ◌∷◌, length, Bool, true, false, Option, Some, None, Result, Ok, Err, refl, ap, sym, subst, ◌∙◌, arith}
 use Rattle.std.specs.Prelude.{if◌then◌else◌, slice_set}
 use Rattle.std.proofs.lemmas.Bool.{eq-eqb, true≢false}
@@ -70,7 +70,7 @@ module _ (G : Ground) (s : State) (w : Outside) (before : List ℕ) (o : Private
   abbrev ys : List Activation
   ys = activations P.base P.frames mark
 
-  -- The routine stands at its end mark.
+  -- The routine has reached its end mark.
   abbrev at_mark : RunsOn G s.store (go_to I.place P) mark
   at_mark = runs_moved G s.store P (first ∷ k) mark I.place I.low Y.now.on (I.same P.base) (I.means s.store P.words P.base) (sym I.marks) I.left I.fits
 
@@ -217,7 +217,8 @@ module _ (G : Ground) (s : State) (w : Outside) (before : List ℕ) (o : Private
           (sym (ap steps.is_held (I.left.2.0 ∙ ap gate_number i) ∙ is_held_at_least m (monitor_numbered G m (subst (IsGate G) i I.left.2.2))))
           (returns_at_once m (process_in_queue (s.store q)) (Continues f.gate (word P.words at)))
 
-      -- Who stood in the queue goes on, and the gate is the one that the frame keeps.
+      -- The process that waited in the queue continues, and the gate is the one that the frame
+      -- keeps.
       resumes_told : (gate : Option ℕ) → I.gate ≡ gate → EffectAgrees G w.own (calls.continue (configuration s G.p) q (Some (I.env, gate, I.rest))) (does (steps.is_held f.gate)).1
       resumes_told None i =
           subst (λ b. EffectAgrees G w.own (own_step (configuration s G.p)) (does (steps.is_held b)).1) (sym (I.left.2.0 ∙ ap gate_number i)) tt
@@ -245,7 +246,7 @@ continue_steps G s w before o x env k d Y queue function h names =
     first : Task
     first = Do (a.Perform (a.Plain x) (one (a.Use d))) env
 
-    -- What is shown of both, at the routine that runs.
+    -- What is proved of both sides, for the routine that runs.
     Both : StepResult → private.Acting → Type 0
     Both r e = PartOf G (after_step s G.p r) before e.0 × EffectAgrees G w.own r e.1
 

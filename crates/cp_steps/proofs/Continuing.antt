@@ -1,4 +1,4 @@
--- `continue`: the entry routine that runs returns at once, and the queue is empty.
+-- `continue`: the running entry routine returns at once, and the queue becomes empty.
 use Rattle.std.proofs.Common.{◌≡◌, ℕ, ◌≤◌, ℤ, List, [], ◌∷◌, Option, Some, None, refl, ap, sym, subst, ◌∙◌, arith}
 use Rattle.cp_model.specs.CallSteps.{innermost_call}
 use Rattle.cp_model.specs.Continuations.{Do, EndBody, EndCall, EndProcess, ForNext, RepeatTest, Task, WhileTest, marked_monitors}
@@ -18,7 +18,7 @@ use Rattle.cp_model.specs.Parts.{HasBegun, private_status}
 
 -- ---- the routine that runs
 
--- The end mark of the routine that runs is the innermost one, with this left behind it.
+-- The end mark of the running routine is the innermost one, and `k` is left to do after it.
 pub record Innermost (G : Ground) (temps : List ℤ) (limit : ℕ) (R : Running) (fs : List machine.Frame) (high : ℕ) (k : List Task) : Type 1 where
   pub env : Environment
   pub gate : Option ℕ
@@ -70,7 +70,7 @@ part_same G before o u s store continuation transcript consumed status P = recor
   runs_on = λ goes. subst (RunsOn G s.store o) (sym continuation) (subst (λ z. RunsOn G z o (u.continuation G.p)) (sym store) (P.runs_on goes));
 }
 
--- A process that resumes, or a gate that is passed on, is no matter of the private state.
+-- A private state doesn't depend on which process is resumed or on whether a gate is passed on.
 pub resumed_part : (G : Ground) (before : List ℕ) (o : PrivateState) (m : ℕ) (r : Option ℕ) (u : State) → PartOf G u before o → PartOf G (resume m r u) before o
 resumed_part G before o m None u P = gate_passed G before o m (u.gates m).askers u P
 resumed_part G before o m (Some r) u P = gate_passed G before o m (r ∷ (u.gates m).askers) u P

@@ -1,4 +1,4 @@
--- Values that are stored leaf by leaf, and word by word.
+-- Values are stored leaf by leaf, and word by word.
 use Rattle.std.proofs.Common.{◌≡◌, ◌⊎◌, inl, inr, ℕ, zero, suc, ◌+◌, ◌-◌, ◌≤◌, ◌<◌, ℤ, pos, Bool, true, false, List, [], ◌∷◌, ◌++◌, length, map, Some, None, refl, ap, sym, subst, ◌∙◌, arith}
 use Rattle.std.specs.Prelude.{nat_le, nat_lt, slice_index_or, zip}
 use Rattle.cp_model.specs.Abstract.{System}
@@ -151,7 +151,7 @@ holds_simple NoType v n s h = absurd s
 
 -- ---- a structured variable
 
--- Where an address lies: in so many words from one on, or outside.
+-- An address is one of `size` words from `n` on, or it is outside them.
 abbrev pub Inside : ℕ → ℕ → ℕ → Type 0
 Inside n size i = (k : ℕ) × (k < size) × (i ≡ n + k)
 
@@ -211,7 +211,7 @@ module _ (G : Ground) (xs : List Activation) (top : ℕ) (stack : Stacked G top 
           (holds_simple p.1 (changed l) (word new i) p.2
           (ap changed same ∙ (leaf_written (scope G) to f t store p.0 h.0 p.1 sound p.2 p.3 ∙ ap Ordinal (sym (ap (word new) h.2 ∙ inside p.0 h.0 p.1 p.2 p.3)))))
 
-  -- A word that shares none with a variable is outside.
+  -- A word that belongs to no part of the variable keeps its value.
   apart_word : (i : ℕ) → ((path : Path) (k : ℕ) (u : ResolvedType) → IsSimple u → lies G xs (under to path) ≡ Some (n + k, u) → n + k ≡ i → ⊥) → word new i ≡ word old i
   apart_word i none = by (inside_or_not n (words (scope G) t) i)
     where

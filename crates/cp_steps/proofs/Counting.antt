@@ -43,7 +43,8 @@ use Rattle.cp_steps.proofs.Stepping.{Now, Stepped, both_step, clock_of, does, fa
 use Rattle.cp_steps.proofs.Effects.{quiet_agrees}
 use Rattle.cp_steps.proofs.QuietOperations.{either_quiet, for_quiet, operation_quiet}
 
--- The counter and the last value come into their temps, and the body is left in front of the next test.
+-- The counter and the last value are put into their temps, and the body is left to do before the
+-- next test.
 pub counted_on : (G : Ground) (store : Store) (o : PrivateState) (i k : List Task) (R : RunsOn G store o i) (x : Name) (down : Bool) (st : a.Statement) (c : op.Counting) (next low test : ℕ) (n last : ℤ)
     → activations o.base o.frames k ≡ activations o.base o.frames i → ActivationsMean G store o.words o.base o.frames k ≡ ActivationsMean G store o.words o.base o.frames i → marked_monitors k ≡ marked_monitors i
     → Counts (site G R.running) x down c next low → operation_at G.program test ≡ Some (op.ForNext c) → CodeFor (site G R.running) nothing_known st c.body test (low + 2)

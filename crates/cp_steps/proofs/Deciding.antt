@@ -1,4 +1,4 @@
--- Which private step comes next, and that it is the meaning's: each kind of task and of operation.
+-- The next private step is that of the meaning, for each kind of task and of operation.
 use Rattle.std.proofs.Common.{Bool, List, None, Option, Some, [], ap, refl, subst, sym, true, ℕ, ℤ, ◌∙◌, ◌∷◌, ◌≡◌}
 use Rattle.std.specs.Prelude.{length, not, slice_get}
 use Rattle.std.proofs.lemmas.Bool.{eq-eqb}
@@ -61,7 +61,7 @@ use Rattle.cp_steps.proofs.Effects.{EffectAgrees}
 use Rattle.cp_steps.proofs.InitProcesses.{InitOfProcess}
 use Rattle.cp_steps.proofs.Queues.{activations_none, queues_shared}
 
--- The end mark of a routine stands in the environment that runs.
+-- The end mark of a routine belongs to the environment that runs.
 pub end_environment : (G : Ground) (temps : List ℤ) (limit : ℕ) (K : Knowns) (R : Running) (fs : List machine.Frame) (place low : ℕ) (env : Environment) (gate : Option ℕ) (k : List Task)
     → Left G temps limit K R fs place low (EndCall env gate ∷ k) → env ≡ R.env
 end_environment G temps limit K R [] place low env gate k h = absurd h
@@ -256,7 +256,7 @@ module _ (G : Ground) (s : State) (w : Outside) (before : List ℕ) (o : Private
       here : env ≡ N.on.running.env
       here = end_environment G o.temps o.limit (held_below N.on.live o.temps N.on.running.temp) N.on.running o.frames o.place N.on.running.unit.temps env gate k N.on.left
 
-  -- What the process may see, where the task stands.
+  -- What the process may see in the environment of its task.
   pub sees_in : (R : Running) (env : Environment) (k : List Task) → env ≡ R.env → s.continuation G.p ≡ k → EnvironmentIn (in_reach G.p (marked_monitors k)) env → Sees G (in_sight G) s.store R.env
   sees_in R env k is left there = record {
     component =

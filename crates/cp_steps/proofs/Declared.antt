@@ -1,4 +1,4 @@
--- What distinct names say of the variables of a routine.
+-- What it means for the variables of a routine that their names are distinct.
 use Rattle.std.proofs.Common.{◌≡◌, ℕ, ◌+◌, List, [], ◌∷◌, ◌++◌, Bool, true, false, Some, None, refl, ap, sym, subst, ◌∙◌, if◌then◌else◌, append_assoc}
 use Rattle.std.specs.Str.{bytes_eq}
 use Rattle.cp_model.specs.Abstract.{Name, Routine, System}
@@ -12,7 +12,7 @@ use Rattle.cp_typing.specs.Needs.{result_words}
 use Rattle.cp_code.specs.Layout.{local, local_at, local_words, locals}
 use Rattle.cp_steps.proofs.Finding.{some_is_not_none}
 
--- A name that stands in a list is found there.
+-- A name that is in a list is found there.
 there_is_found : (x : Name) (vs ws : List (Name × Variable)) (v : Variable) → lookup x (vs ++ (x, v) ∷ ws) ≡ None → ⊥
 there_is_found x [] ws v h = some_is_not_none v (sym (ap (λ b. if b then Some v else lookup x ws) (bytes_eq-refl x)) ∙ h)
 there_is_found x (w ∷ vs) ws v h = by (bytes_eq x w.0) h (there_is_found x vs ws v)
@@ -21,7 +21,7 @@ there_is_found x (w ∷ vs) ws v h = by (bytes_eq x w.0) h (there_is_found x vs 
     by true h go = some_is_not_none w.1 h
     by false h go = go h
 
--- So it isn't in front of itself where names are distinct.
+-- So, if names are distinct, a name isn't among those before it.
 pub distinct_before : (x : Name) (vs ws : List (Name × Variable)) (v : Variable) → Distinct (vs ++ (x, v) ∷ ws) → lookup x vs ≡ None
 distinct_before x [] ws v h = refl
 distinct_before x (w ∷ vs) ws v h = by (bytes_eq x w.0) refl (distinct_before x vs ws v h.1)

@@ -25,7 +25,7 @@ use Rattle.cp_steps.proofs.Layouts.{same_some}
 
 -- ---- what is declared
 
--- It declares no monitor but those of the text, and no process.
+-- An environment declares no monitors but those of the text, and no processes.
 pub record Declares (G : Ground) (env : Environment) : Type 0 where
   pub monitors : (x : Name) (n : Component) → component_named env x ≡ Some n → n.is_parameter ≡ false → n.system.sort ≡ Monitor → system_of_monitor G.setup (declared_monitor env n) ≡ Some n.system
   pub processes : (x : Name) (n : Component) → component_named env x ≡ Some n → n.is_parameter ≡ false → n.system.sort ≡ Process → system_of_process G.setup (process_number env n) ≡ Some n.system

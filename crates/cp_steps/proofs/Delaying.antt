@@ -1,4 +1,4 @@
--- `delay` inside a monitor: the process stands in the queue, whose word holds its number.
+-- `delay` inside a monitor: the process waits in the queue, whose word holds its number.
 use Rattle.std.proofs.Common.{Err, List, None, Ok, Option, Result, Some, [], ap, arith, length, negsuc, pos, refl, subst, suc, sym, true, zero, ℕ, ℤ, ◌+◌, ◌-◌, ◌<◌, ◌∙◌, ◌∷◌, ◌≡◌, ◌≤◌}
 use Rattle.std.specs.Prelude.{if◌then◌else◌, int_le, nat_lt}
 use Rattle.std.proofs.lemmas.Bool.{lt-leb, lt-ltb, true≢false}
@@ -63,7 +63,7 @@ module _ (G : Ground) (s : State) (w : Outside) (before : List ℕ) (o : Private
   abbrev stands : ℕ → PrivateState
   stands at = go_to n (set_word o at (pos o.number))
 
-  -- It stands in the queue.
+  -- The process waits in the queue.
   stood : (q : Location) (at : ℕ) → in_sight G q.owner ≡ true → lies G xs q ≡ Some (at, Queue)
       → PartOf G (after_step s G.p (Gives (with_writes (configuration s G.p) ((q, QueueHolds (Some G.p)) ∷ []) k, stage.Delays m q))) before (stands at)
   stood q at mine is =
@@ -117,7 +117,7 @@ module _ (G : Ground) (s : State) (w : Outside) (before : List ℕ) (o : Private
 
   -- ---- what is left to the kernel
 
-  -- Where queues lie in monitors alone.
+  -- If queues lie only in monitors.
   module _ (K : AroundAll G s w) (shared : QueuesShared G xs) where
     -- The word of the queue, among the shared ones.
     queue_lies : (q : Location) (at : ℕ) → in_sight G q.owner ≡ true → lies G xs q ≡ Some (at, Queue) → lies (kernel_ground G.program G.texts G.setup) [] q ≡ Some (at - w.own, Queue)

@@ -1,7 +1,8 @@
--- What a step leaves to the kernel, told of the two sides apart.
+-- What a step leaves to the kernel, stated for each of the two sides separately.
 --
--- A machine's step that faults leaves nothing, and so does the meaning's. Whether a step faults is told by the private state after it: where
--- that is the process's, both fault or neither does. So it is enough to say what each side leaves where it goes on.
+-- A step that faults leaves nothing, in the machine and in the meaning. The private state after a
+-- step shows whether it faulted: if it is that of the process, then both fault or neither does. So
+-- it is enough to say what each side leaves if it doesn't fault.
 use Rattle.std.proofs.Common.{Bool, Err, List, None, Ok, Option, Result, Some, [], ap, arith, false, refl, subst, suc, sym, true, zero, ℕ, ℤ, ◌+◌, ◌∙◌, ◌∷◌, ◌≡◌}
 use Rattle.std.specs.Prelude.{if◌then◌else◌, nat_eq}
 use Rattle.std.proofs.lemmas.Bool.{eqb-true}
@@ -35,7 +36,8 @@ use Rattle.cp_steps.specs.PrivateStates as machine
 use Rattle.cp_steps.specs.PrivateStates.{Acting, Activity, Frame, NoEffect, Outside, PrivateState, fault_in, provided, set_temp, view_of}
 use Rattle.cp_steps.proofs.MonitorsThere.{monitor_below}
 
--- What the one step leaves means what the other does, where so many words are the process's own.
+-- The effect that the machine leaves means the effect that the meaning leaves, if `own` words are
+-- the process's own.
 abbrev pub Means : Ground → ℕ → Effect → machine.Effect → Type 0
 Means G own x e = EffectMeans (kernel_ground G.program G.texts G.setup) (monitor_count G.setup) (process_count G.setup) own x e
 
@@ -74,7 +76,7 @@ abbrev pub HasFaulted : Activity → Type 0
 HasFaulted (machine.Faulted f) = Unit {0}
 HasFaulted _ = ⊥
 
--- The machine's step goes on and leaves this, or it faults and leaves nothing.
+-- The machine's step doesn't fault and leaves `e`, or it faults and leaves nothing.
 pub data LeavesIt (e : machine.Effect) (r : Acting) : Type 0 where
   WentOn : r.1 ≡ e → (HasFaulted r.0.activity → ⊥) → LeavesIt e r
   Stopped : r.1 ≡ NoEffect → HasFaulted r.0.activity → LeavesIt e r
@@ -105,7 +107,7 @@ private_ready Ended = refl
 private_ready Waiting = refl
 private_ready (Faulted n) = refl
 
--- Nor is anyone else, whoever is made ready, and whoever gets a gate.
+-- Making a process ready and passing on a gate change no private status.
 pub ready_same : (r p : ℕ) (f : ℕ → Status) → private_status (with_at r (made_ready (f r)) f p) ≡ private_status (f p)
 ready_same r p f = by (nat_eq r p) refl
   where
@@ -167,7 +169,7 @@ private_after s p ready c x = by x
         inner (Delayed m q) is = is_ready
         inner (Faulted n) is = is_ready
 
--- What goes on hasn't failed.
+-- A process that hasn't faulted in a step hasn't failed after it.
 pub unfailed : (s : State) (p : ℕ) → s.status p ≡ Ready → (c : Configuration) (x : Effect) → HasFailed (private_status ((after_step s p (Gives (c, x))).status p)) → ⊥
 unfailed s p ready c x h = by x (subst HasFailed (private_after s p ready c x) h)
   where
@@ -176,7 +178,8 @@ unfailed s p ready c x h = by x (subst HasFailed (private_after s p ready c x) h
     by effect.Waits h = h
     by _ h = h
 
--- Where the machine leaves this when it goes on, and it means what the meaning leaves then.
+-- The two sides agree if the machine leaves `e` when it doesn't fault, and `e` means what the
+-- meaning leaves then.
 pub told : (G : Ground) (own : ℕ) (s : State) (before : List ℕ) → s.status G.p ≡ Ready → (x : StepResult) (e : machine.Effect) (r : Acting)
     → PartOf G (after_step s G.p x) before r.0 → IfGives (λ y. Means G own y.1 e) x → LeavesIt e r → EffectAgrees G own x r.1
 told G own s before ready (Gives (c, x)) e r P means (WentOn same on) = subst (Means G own x) (sym same) means

@@ -1,4 +1,5 @@
--- The gates and stages of a kernel stay those of the state by a step with all words in reach.
+-- The gates and stages of a kernel are still those of the state after a step with all words in
+-- reach.
 use Rattle.std.proofs.Common.{◌≡◌, ℕ, ℤ, List}
 use Rattle.cp_model.specs.Actions.{action}
 use Rattle.cp_model.specs.Configurations.{Ready}
@@ -27,7 +28,7 @@ module _ (G : Ground) where
   abbrev pub Stand : State → Kernel → Type 0
   Stand s k = GatesStand (kernel_ground G.program G.texts G.setup) (monitor_count G.setup) (process_count G.setup) s k
 
-  -- What the shared words are is no matter.
+  -- Gates and stages don't depend on the shared words.
   pub stand_beside : (s : State) (k : Kernel) (us : List ℤ) → Stand s k → Stand s (record k { shared = us })
   stand_beside s k us S = record {
     gate_count = S.gate_count;

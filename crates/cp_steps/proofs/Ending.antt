@@ -1,4 +1,5 @@
--- Whole private steps at the ends of bodies: of a class, behind its `init`, and of the process.
+-- Whole private steps at the ends of bodies: that of a class, after its `init`, and that of the
+-- process.
 use Rattle.std.proofs.Common.{List, Option, [], ap, arith, refl, subst, sym, ℕ, ◌∙◌, ◌∷◌}
 use Rattle.cp_model.specs.Actions.{Acts}
 use Rattle.cp_model.specs.Configurations as stage

@@ -1,4 +1,5 @@
--- A routine is entered: the caller's frame is pushed, and the body is left in front of its end mark.
+-- A routine is entered: the caller's frame is pushed, and the body is left to do before its end
+-- mark.
 use Rattle.std.proofs.Common.{◌≡◌, ◌⊎◌, inl, inr, ℕ, zero, suc, ◌+◌, ◌≤◌, ℤ, List, [], ◌∷◌, length, Bool, true, false, Option, Some, None, refl, ap, sym, subst, ◌∙◌, arith}
 use Rattle.std.specs.Prelude.{if◌then◌else◌, nat_eq}
 use Rattle.std.proofs.lemmas.Bool.{eqb-true}
@@ -78,7 +79,8 @@ data_opened G xs store words base f O D = record {
 
 -- ---- the caller
 
--- What is left to the caller of a call: the same activations as before, at a place where so many temps are kept.
+-- What is left to do for the caller of a call: it has the same activations as before, at a place
+-- where the call keeps the first `kept` temps.
 pub record Waits (G : Ground) (o : PrivateState) (i k : List Task) (C : Running) (place kept live : ℕ) : Type 1 where
   pub same : activations o.base o.frames k ≡ activations o.base o.frames i
   pub means : (store : Store) (words : List ℤ) → ActivationsMean G store words o.base o.frames k ≡ ActivationsMean G store words o.base o.frames i
@@ -100,7 +102,8 @@ owner_of_call G k = OfActivation G.p (depth k)
 abbrev pub environment_of_call : Ground → List Task → System → Routine → Location → Environment
 environment_of_call G k s r at = routine_environment (scope G) s r at (owner_of_call G k)
 
--- The process runs on in the routine, where the store and the words are as they were at what is live, and the new activation is opened.
+-- The process runs on in the routine, if the store and the words in use are as before and the new
+-- activation is opened.
 pub entered_on : (G : Ground) (store after : Store) (o : PrivateState) (ws : List ℤ) (i k : List Task) (R : RunsOn G store o i) (call : Call) (back : Back) (s : System) (r : Routine) (at : Location) (c : Called)
     (gate : Option ℕ) (place kept live : ℕ) → Waits G o i k R.running place kept live → (E : Entered G R.running call kept s r at c gate)
     → CallerAt G call.routine kept live r.result (frame_of o c back) place → ClassHasRights G store c.component

@@ -1,4 +1,5 @@
--- The first call of an expression is the operation at its place; its value leads on to the next.
+-- The first call of an expression is the operation at its place, and its value leads to the next
+-- call.
 use Rattle.std.proofs.Common.{◌≡◌, ℕ, ◌+◌, ◌≤◌, ◌<◌, inl, inr, List, [], ◌∷◌, None, refl, ap, sym, subst, ◌∙◌, arith}
 use Rattle.cp_model.specs.Abstract as a
 use Rattle.cp_model.specs.Abstract.{BaseType, Name}
@@ -34,7 +35,7 @@ module _ (site : Site) (K : Knowns) where
   ArgumentsAdvance ps es xs to at next low high =
       Advance site K (λ v. call_in_arguments site.env v es) (λ L x after. ArgumentsFor site L ps x xs to after next low high) (λ z. ArgumentsFor site K ps es xs to z z low high) at next low high
 
-  -- A part that is the last one with calls, behind one whose calls are made.
+  -- A part that is the last one with calls, after a part whose calls have been made.
   pub moved_to : {A : Type 0} (find : a.Expression → Found A) (For : Knowns → A → ℕ → Type 0) (Still : ℕ → Type 0) (at between next low high : ℕ)
       → at ≡ between → Advance site K find For Still between next low high → Advance site K find For Still at next low high
   moved_to find For Still at between next low high p = subst (λ z. Advance site K find For Still z next low high) (sym p)

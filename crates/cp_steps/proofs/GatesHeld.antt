@@ -1,4 +1,4 @@
--- A process in a monitor holds its gate, for the machine too: there is no monitor 0.
+-- A process in a monitor holds its gate in the machine too, because there is no monitor 0.
 use Rattle.std.proofs.Common.{◌≡◌, ℕ, zero, suc, ◌≤◌, ℤ, List, [], ◌∷◌, true, Some, None, refl, ap, sym, subst, ◌∙◌, arith}
 use Rattle.cp_model.specs.Continuations.{Do, EndBody, EndCall, EndProcess, ForNext, RepeatTest, Task, WhileTest, marked_monitors}
 use Rattle.cp_model.specs.Stores.{Store}

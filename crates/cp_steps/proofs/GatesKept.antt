@@ -1,4 +1,4 @@
--- The kernel's gates are those of the state, also after one of them was set.
+-- The kernel's gates are those of the state, even after one of them is set.
 use Rattle.std.proofs.Common.{◌≡◌, ℕ, zero, suc, ◌-◌, ◌≤◌, List, [], ◌∷◌, length, Bool, true, false, refl, ap, sym, ◌∙◌, arith}
 use Rattle.std.specs.Prelude.{get_or, if◌then◌else◌, nat_eq, slice_set}
 use Rattle.std.proofs.lemmas.Bool.{eqb-true, eq-eqb, true≢false}
@@ -18,7 +18,7 @@ gate_is [] m = refl
 gate_is (g ∷ gs) zero = refl
 gate_is (g ∷ gs) (suc m) = gate_is gs m
 
--- A gate that there is is set.
+-- A gate that exists can be set.
 pub gate_set : (gs : List Gate) (f : ℕ → Gate) (m : ℕ) (g : Gate) → 1 ≤ m → m ≤ length gs → GatesAre gs f → GatesAre (slice_set gs (m - 1) g) (with_at m g f)
 gate_set gs f zero g low high same j = absurd (omega (arith, low))
 gate_set gs f (suc i) g low high same zero = same zero ∙ ap (λ b. if b then g else f zero) (sym (differ (suc i) zero (λ e. absurd (omega (arith, e)))))

@@ -26,7 +26,7 @@ pub all_kept : (G : Ground) (store after : Store) → KeepsGiven G store after �
 all_kept G store after keeps [] h = tt
 all_kept G store after keeps (n ∷ ns) h = (λ at s sort is. keeps at s n sort is (h.0 at s sort is), all_kept G store after keeps ns h.1)
 
--- Where the rights are stored as before.
+-- A component keeps its rights if they are stored as before.
 pub rights_kept : (G : Ground) (store after : Store) (at : Location) (s : System)
     → ((m : ℕ) (x : Name) (v : Variable) → right (scope G) s x ≡ Some (m, v) → member (scope G) s x ≡ None → after (under at (ByName x ∷ [])) ≡ store (under at (ByName x ∷ [])))
     → HasRights G store at s → HasRights G after at s
@@ -38,7 +38,7 @@ abbrev pub system_in : System → ResolvedType → System
 system_in s (ComponentOf r inner) = r
 system_in s _ = s
 
--- A type tells its system.
+-- A component type determines its system type.
 pub system_same : (G : Ground) (s r : System) → component_type G s ≡ component_type G r → s ≡ r
 system_same G s r e = ap (system_in s) e
 

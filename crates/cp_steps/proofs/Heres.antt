@@ -1,4 +1,4 @@
--- Where a process runs, its words mean what its names mean.
+-- If a process runs, its words mean what its names mean.
 use Rattle.std.proofs.Common.{◌≡◌, ℕ, suc, ◌+◌, ◌<◌, ℤ, List, [], ◌∷◌, length, Bool, true, false, Option, Some, None, refl, ap, sym, subst, ◌∙◌, arith}
 use Rattle.std.specs.Prelude.{if◌then◌else◌, nat_eq}
 use Rattle.std.proofs.lemmas.Bool.{eq-eqb, eqb-true}
@@ -51,7 +51,7 @@ module _ (G : Ground) (temps : List ℤ) (limit : ℕ) where
     pub owner : f.owner ≡ OfActivation G.p (length rest)
     pub means : ActivationMeans G rest store words b f
 
-  -- Tasks in front of the end mark change nothing of it.
+  -- Tasks before the end mark don't change the innermost activation.
   pub top_is : (store : Store) (words : List ℤ) (b : ℕ) (K : Knowns) (R : Running) (fs : List machine.Frame) (place low : ℕ) (k : List Task)
       (f : Frame) → Left G temps limit K R fs place low k → ActivationsMean G store words b fs k → R.env.frame ≡ Some f
       → Top b store words fs k f

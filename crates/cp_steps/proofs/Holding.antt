@@ -1,4 +1,4 @@
--- A store of a simple value keeps all else; words beyond all activations are not live.
+-- Storing a simple value keeps everything else, and words beyond all activations are not in use.
 use Rattle.std.proofs.Common.{◌≡◌, ◌≢◌, ◌⊎◌, inl, inr, ℕ, suc, ◌+◌, ◌≤◌, ◌<◌, ℤ, List, [], ◌∷◌, length, Bool, true, false, Option, Some, None, refl, ap, sym, subst, ◌∙◌, arith}
 use Rattle.std.specs.Prelude.{if◌then◌else◌, nat_eq, slice_set}
 use Rattle.std.proofs.lemmas.Bool.{eq-eqb}
@@ -26,7 +26,7 @@ use Rattle.cp_steps.proofs.Owned.{OwnRight, reference_inside, result_inside}
 use Rattle.cp_steps.proofs.Separate.{cell_below, cell_no_own_right, cell_no_reference, cell_no_result, own_right_below, separate}
 use Rattle.cp_steps.proofs.Writing.{cell_written, changed_other, location_is}
 
--- What lies in an activation lies in one that there is.
+-- A location in an activation belongs to an activation that exists.
 pub live_owner : (G : Ground) (xs : List Activation) (l : Location) (v : Part) (d : ℕ) → lies G xs l ≡ Some v → l.owner ≡ OfActivation G.p d → d < length xs
 live_owner G xs l v d h e = by l.owner l.path h e
   where
@@ -129,7 +129,7 @@ module _ (G : Ground) (xs : List Activation) (top : ℕ) (stack : Stacked G top 
   written_keeps at s k sort there =
       rights_kept G store (put l w store) at s (λ i x v r none. put_apart l (under at (ByName x ∷ [])) w store (not_there (under at (ByName x ∷ [])) (right_no_variable G xs at s k x (ClassLies sort there) none)))
 
-  -- Where it is a mark that is set, the class has its rights.
+  -- If the stored value marks a class as initialised, the class has its rights.
   abbrev pub MarksGiven : Type 0
   MarksGiven = (s : System) → s.sort ≡ Class → u ≡ component_type G s → is_initialised w ≡ true → HasRights G store l s
 

@@ -1,4 +1,4 @@
--- Designators with an index: they are no calls, and not the clock.
+-- Designators with an index are neither calls nor the clock.
 use Rattle.std.proofs.Common.{◌≡◌, Some, None, refl, sym}
 use Rattle.cp_model.specs.Abstract as a
 use Rattle.cp_model.specs.Abstract.{BaseType, Name}
@@ -7,7 +7,7 @@ use Rattle.cp_model.specs.Environments.{Environment}
 use Rattle.cp_code.specs.Sites.{IsNoClock}
 use Rattle.cp_steps.proofs.Finding.{some_is_not_none}
 
--- It has an index.
+-- Whether a designator has an index.
 abbrev pub IsIndexed : a.Designator → Type 0
 IsIndexed (a.Plain x) = ⊥
 IsIndexed (a.Part d x) = IsIndexed d

@@ -1,4 +1,4 @@
--- The first call of an `init`, and what its value leads on to.
+-- The first call of an `init`, and what is left to do once its value is known.
 use Rattle.std.proofs.Common.{◌≡◌, ℕ, List, [], ◌∷◌, Some, refl, ap, ◌∙◌, arith}
 use Rattle.cp_model.specs.Abstract as a
 use Rattle.cp_model.specs.Abstract.{Name, System}

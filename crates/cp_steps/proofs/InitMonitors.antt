@@ -1,4 +1,5 @@
--- The `init` of a monitor, with all words in reach: its parameters are stored in it, and its body is entered with its gate.
+-- The `init` of a monitor, with all words in reach: its parameters are stored in it, and its body
+-- is entered while its gate is held.
 use Rattle.std.proofs.Common.{suc, zero, Bool, List, None, Option, Some, [], ap, arith, false, inl, inr, length, refl, subst, sym, true, ℕ, ℤ, ◌+◌, ◌<◌, ◌∙◌, ◌∷◌, ◌≡◌, ◌≤◌, ◌⊎◌}
 use Rattle.std.specs.Prelude.{if◌then◌else◌, not}
 use Rattle.cp_model.specs.Abstract as a
@@ -156,7 +157,7 @@ body_entered G store o i k R call back s m c kept C stands sort is from gate has
       activation_fits = omega arith;
     }
 
--- Nobody else held the gate.
+-- The private state is still right once its process holds the gate of the monitor.
 opened_part : (G : Ground) (before : List ℕ) (after : PrivateState) (m : ℕ) (u : State) → PartOf G u before after → PartOf G (set_gate m (HeldBy G.p) [] u) before after
 opened_part G before after m u P = record {
   number = P.number;

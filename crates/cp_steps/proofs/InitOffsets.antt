@@ -1,4 +1,4 @@
--- Where the parameters of a class lie in it: they have the words after its mark, one each.
+-- Where the parameters of a class lie in it: each has one of the words after its mark.
 use Rattle.std.proofs.Common.{◌≡◌, ◌⊎◌, inl, inr, ℕ, zero, suc, ◌+◌, ◌-◌, ◌≤◌, ◌<◌, Bool, true, false, List, [], ◌∷◌, ◌++◌, length, Option, Some, None, refl, ap, sym, ◌∙◌, arith}
 use Rattle.std.specs.Prelude.{filter, if◌then◌else◌, nat_lt, not}
 use Rattle.std.proofs.lemmas.Bool.{true≢false}
@@ -92,7 +92,7 @@ right_index at (suc j) (w ∷ vs) d h =
     let r = right_index (suc at) j vs d.1 (omega (arith, h)) in
     (r.0, inr r.1, ap (λ b. if b then Some (at, w.1) else right_at (suc at) vs r.0.0) (other_name w r.0 vs d r.1) ∙ (r.2 ∙ ap (λ k. Some (k, r.0.1)) (omega arith)))
 
--- A right is found where it stands.
+-- A right is found at its own place.
 pub right_is : (at : ℕ) (vs : List (Name × Variable)) (x : Name) (k : ℕ) (v : Variable) → right_at at vs x ≡ Some (k, v) → (at ≤ k) × (k < at + length vs) × IsIn (x, v) vs
 right_is at [] x k v h = absurd (some_is_not_none (k, v) (sym h))
 right_is at (w ∷ vs) x k v h = by (bytes_eq x w.0) refl h (right_is (suc at) vs x k v)
@@ -141,7 +141,7 @@ member_index g at (suc j) (w ∷ vs) rest d one h =
           ∙ (r.2 ∙ ap (λ k. Some (k, r.0.1.type)) (omega (arith, size))),
     )
 
--- One of these lies among the first so many words.
+-- Variables of one word each lie among the first `length vs` words from `at` on.
 member_below : (g : GlobalScope) (at : ℕ) (vs : List (Name × Variable)) (rest : Members) (v : Name × Variable) (k : ℕ) (t : ResolvedType) → ((w : Name × Variable) → IsIn w vs → words g w.1.type ≡ 1) → IsIn v vs
     → member_part g at (members_from vs rest) v.0 [] ≡ Some (k, t) → (at ≤ k) × (k < at + length vs)
 member_below g at [] rest v k t one i h = absurd i
@@ -162,7 +162,7 @@ member_below g at (w ∷ vs) rest v k t one i h = by (bytes_eq v.0 w.0) refl i h
 
 -- ---- parameters
 
--- A parameter lies so far in the component: it is a right, or a member.
+-- The offset of a parameter in the component, as a right or as a member.
 abbrev pub Offset : GlobalScope → System → Name × Variable → ℕ → Type 0
 Offset g s p k =
     ((is_component p.1.type ≡ true) × (right g s p.0 ≡ Some (k, p.1)))
@@ -203,7 +203,7 @@ module _ (g : GlobalScope) (s : System) (distinct : Distinct (declarations g s.p
           let value = not_true (is_component m.0.1.type) i.1 in
           (m.0, i.0, inr (value, m.2 ∙ ap (λ z. Some (z, m.0.1.type)) (omega (arith, above)), (one m.0 i.0 value).1))
 
-  -- They lie in no other words.
+  -- Parameters lie in no other words.
   pub offset_within : (p : Name × Variable) (k : ℕ) → IsIn p passed → Offset g s p k → (1 ≤ k) × (k ≤ length passed)
   offset_within p k i (inl h) = let r = right_is 1 (rights g s) p.0 k p.1 h.1 in (r.0, omega (arith, r.1, count))
   offset_within p k i (inr h) =
@@ -247,7 +247,7 @@ no_member g at (w ∷ vs) rest x h none = by (bytes_eq x w.0) h (λ q. no_member
     by true h go = absurd (some_is_not_none w.1 h)
     by false h go = go h
 
--- The name of a right is none of a member.
+-- No member has the name of a right.
 pub right_is_no_member : (g : GlobalScope) (s : System) (p : Name × Variable) → Distinct (permanent_variables g s) → IsIn p (declarations g s.parameters) → is_component p.1.type ≡ true → member g s p.0 ≡ None
 right_is_no_member g s p distinct i component =
     no_member g (head_words g s) (filter (λ v. not (is_component v.1.type)) (declarations g s.parameters)) (members_from (declarations g s.variables) NoMembers) p.0

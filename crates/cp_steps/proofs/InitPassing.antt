@@ -1,4 +1,4 @@
--- Arguments of an `init` are what the meaning binds to its parameters.
+-- The arguments of an `init` are what the meaning binds to the parameters.
 use Rattle.std.proofs.Common.{◌≡◌, ◌⊎◌, inl, inr, ℕ, ◌+◌, ◌≤◌, ◌<◌, ℤ, pos, List, [], ◌∷◌, ◌++◌, length, Bool, true, false, Option, Some, None, Result, Ok, Err, refl, ap, sym, subst, ◌∙◌, arith}
 use Rattle.std.specs.Prelude.{if◌then◌else◌, slice_set}
 use Rattle.std.proofs.lemmas.Bool.{true≢false}
@@ -48,7 +48,8 @@ use Rattle.cp_steps.proofs.Writing.{changed_other, location_itself}
 
 module _ (G : Ground) (sys : System) (at : Location) (c from : ℕ) (distinct : Distinct (declarations (scope G) sys.parameters))
     (one : (p : Name × Variable) → IsIn p (declarations (scope G) sys.parameters) → is_component p.1.type ≡ false → (words (scope G) p.1.type ≡ 1) × IsCell p.1.type) where
-  -- What was bound in the store is in the words from `from` on, where the component's first word would lie.
+  -- The words that count from `from`, where the component's first word would lie, hold what is
+  -- bound in the store.
   pub record InitBound (ps : List (Name × Variable)) (ws : Writes) (old new : List ℤ) : Type 0 where
     pub length_is : length new ≡ length old
     pub outside : (i : ℕ) → ((p : Name × Variable) (k : ℕ) → IsIn p ps → Offset (scope G) sys p k → i ≡ from + k → ⊥) → word new i ≡ word old i
@@ -95,7 +96,7 @@ module _ (G : Ground) (sys : System) (at : Location) (c from : ℕ) (distinct : 
       B : InitBound ps more (slice_set ws (from + k) m) P.own.words
       B = h.2
 
-      -- Its name is none of the others.
+      -- No other parameter has its name.
       other : (q : Name × Variable) → IsIn q ps → p.0 ≡ q.0 → ⊥
       other q i' e = some_is_not_none q.1 (sym (found_in ps q.0 q.1 d.1 i') ∙ (ap (λ y. lookup y ps) (sym e) ∙ d.0))
 

@@ -1,4 +1,4 @@
--- Passed arguments that are moved into their component are its parameters.
+-- Arguments that are moved into their component become its parameters.
 use Rattle.std.proofs.Common.{List, Some, [], ap, arith, false, inl, inr, length, refl, subst, suc, sym, zero, ℕ, ℤ, ◌+◌, ◌-◌, ◌<◌, ◌∙◌, ◌∷◌, ◌≡◌, ◌≤◌, ◌⊎◌}
 use Rattle.std.proofs.lemmas.Bool.{true≢false}
 use Rattle.cp_model.specs.Abstract as a
@@ -36,7 +36,7 @@ init_count site K s (p ∷ ps) (a.MoreExpressions e es) (Value to lower upper x 
 init_count site K s (p ∷ ps) (a.MoreExpressions (a.Use (a.Plain x)) es) (Right to t ∷ xs) place next low high h = ap suc (init_count site K s ps es xs place next low high h.8)
 init_count site K s _ _ _ place next low high h = absurd h
 
--- One that is no right is a simple value.
+-- A parameter that isn't a right is a simple value.
 pub init_values : (site : Site) (K : Knowns) (s : System) (ps : List (Name × Variable)) (es : a.Expressions) (xs : List Argument) (place next low high : ℕ) → InitArgumentsFor site K s ps es xs place next low high
     → (g : GlobalScope) (p : Name × Variable) → IsIn p ps → is_component p.1.type ≡ false → (words g p.1.type ≡ 1) × IsCell p.1.type
 init_values site K s [] a.NoExpression [] place next low high h g p i data' = absurd i
@@ -48,7 +48,7 @@ init_values site K s (q ∷ ps) (a.MoreExpressions (a.Use (a.Plain x)) es) (Righ
     absurd (true≢false (sym (ap is_component (ap (λ (z : Name × Variable). z.1.type) i ∙ h.4)) ∙ data'))
 init_values site K s _ _ _ place next low high h g p i data' = absurd h
 
--- Each has its word.
+-- Each parameter has its word.
 pub init_offsets : (g : GlobalScope) (site : Site) (K : Knowns) (s : System) → site.env.globals ≡ g → (distinct : Distinct (declarations g s.parameters))
     → (one : (p : Name × Variable) → IsIn p (declarations g s.parameters) → is_component p.1.type ≡ false → (words g p.1.type ≡ 1) × IsCell p.1.type)
     → (ps : List (Name × Variable)) (es : a.Expressions) (xs : List Argument) (place next low high : ℕ) → InitArgumentsFor site K s ps es xs place next low high

@@ -278,7 +278,7 @@ init_steps G s w before o x es env k I units Y call next there h none declares =
     offsets p i =
         init_offsets (scope G) (site G Y.now.on.running) known_here n.system Y.now.on.runs.globals names one passed es call.arguments o.place Y.now.on.left.2.3.0 Y.now.on.left.2.1 Y.now.on.running.unit.temps arguments (λ q j. j) p i
 
-    -- The arguments are passed behind the running activation.
+    -- The arguments are passed to the words after the running activation.
     passed_ok : (c : ℕ) → c + length passed ≤ length o.words
         → InitAgrees G n.system (name_location here n) c (o.base + call.words) names one passed w.own (record o { words = o.words }) o.words
         (bind (λ l v e. init_argument_writes n.system.sort (clock_of G s) here s.store l v.type e) (name_location here n) passed es) (pass_all w (o.base + call.words) c call.arguments o)

@@ -1,4 +1,5 @@
--- A private state with the words of all monitors behind its own: what runs on does so with them in reach.
+-- A private state with the words of all monitors after its own: a process that runs on also does so
+-- with them in reach.
 use Rattle.std.proofs.Common.{◌≡◌, ◌⊎◌, inl, inr, ℕ, ◌+◌, ◌≤◌, ◌<◌, ℤ, pos, Bool, true, false, List, [], ◌∷◌, ◌++◌, length, Option, Some, None, refl, ap, sym, subst, ◌∙◌, arith}
 use Rattle.std.specs.Prelude.{if◌then◌else◌, nat_eq, ◌+ℤ◌}
 use Rattle.std.proofs.lemmas.Bool.{true≢false}
@@ -66,7 +67,7 @@ module _ (G : Ground) (lie : MonitorsLie G.program G.setup) where
           let f = farther_some (G.own + monitor_start G.program m) _ n t h in
           (0 + monitor_start G.program m + f.0, omega (arith, f.2), ap (farther (0 + monitor_start G.program m)) f.1)
 
-  -- What lies in a monitor lies behind its mark.
+  -- A location in a monitor lies after the monitor's mark.
   pub not_first : (j : Location) (n : ℕ) (t : ResolvedType) → lies shared [] j ≡ Some (n, t) → (is_shared j.owner ≡ true) × (1 ≤ n)
   not_first j n t h = by j.owner j.path h
     where

@@ -1,4 +1,5 @@
--- What the words mean stays where a store and words change nothing that is live.
+-- What the words mean stays the same if changes of the store and of words affect nothing that is in
+-- use.
 use Rattle.std.proofs.Common.{◌≡◌, ◌⊎◌, inl, inr, ℕ, suc, ◌+◌, ◌≤◌, ◌<◌, ℤ, List, [], ◌∷◌, length, Bool, true, false, Some, None, refl, ap, sym, subst, ◌∙◌, arith}
 use Rattle.std.specs.Prelude.{if◌then◌else◌}
 use Rattle.std.proofs.lemmas.Bool.{eq-eqb}
@@ -109,14 +110,14 @@ module _ (G : Ground) (store after : Store) (old new : List ℤ) where
         subst (λ z. ResultMeans z (word new b)) (sym same) (subst (λ z. ResultMeans (store (result_location f)) z) (sym k.1) (m.result t is none));
   }
 
-  -- What is shown of each activation that is found.
+  -- What is proved of each activation that is found.
   abbrev pub EachKept : List Activation → Type 0
   EachKept xs =
       (rest : List Activation) (f : Frame) (c : ℕ) → f.owner ≡ OfActivation G.p (length rest)
       → activation_at (length rest) xs ≡ Some (record { base = c; routine = f.routine })
       → ActivationMeans G rest store old c f → ActivationMeans G rest after new c f
 
-  -- All activations.
+  -- The same for all activations.
   pub activations_kept : (temps : List ℤ) (limit b : ℕ) (K : Knowns) (R : Running) (fs : List machine.Frame) (place low : ℕ) (k : List Task)
       → Left G temps limit K R fs place low k → EachKept (activations b fs k)
       → ActivationsMean G store old b fs k → ActivationsMean G after new b fs k

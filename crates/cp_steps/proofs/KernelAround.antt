@@ -1,4 +1,5 @@
--- What kernel steps read of gates and stages is the state's, where the kernel is that of the state.
+-- If the kernel is that of the state, then what kernel steps read of gates and stages is that of
+-- the state.
 use Rattle.std.proofs.Common.{◌≡◌, ℕ, suc, ◌-◌, ◌≤◌, Option, Some, None, refl, ap, sym, ◌∙◌, arith}
 use Rattle.std.specs.Prelude.{slice_get}
 use Rattle.cp_model.specs.Configurations as status
@@ -34,7 +35,7 @@ same_started G (status.Faulted n) Begun h = refl
 same_started G _ _ h = absurd h
 
 module _ (G : Ground) (F : StandsFor G.program G.setup) where
-  -- The first word of each monitor is a shared one, or behind the last.
+  -- The first word of each monitor is a shared word, or comes after the last one.
   start_below : (m : ℕ) → monitor_start G.program m ≤ G.program.shared
   start_below m = by (slice_get G.program.monitors (m - 1)) refl
     where

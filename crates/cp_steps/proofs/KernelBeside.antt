@@ -1,4 +1,5 @@
--- The kernel stays that of the state by private steps and waking, and by the end of a round.
+-- The kernel is still that of the state after private steps and waking, and after the end of a
+-- round.
 use Rattle.std.proofs.Common.{◌≡◌, ℕ, zero, suc, true, List, [], ◌∷◌, map, refl, ap, sym, subst, ◌∙◌, arith}
 use Rattle.std.proofs.lemmas.Bool.{true≢false}
 use Rattle.std.proofs.lemmas.List.{length-map}
@@ -22,7 +23,7 @@ use Rattle.cp_steps.proofs.PartsBeside.{data_beside}
 
 -- ---- the kernel's part is the same
 
--- A stage tells only what the kernel knows of a status.
+-- A stage contains only what the kernel knows of a status.
 stage_known : (G : Ground) (x : Status) (g : Stage) → StageMeans G x g → StageMeans G (kernel_status x) g
 stage_known G status.Unstarted g h = h
 stage_known G status.Fresh g h = h

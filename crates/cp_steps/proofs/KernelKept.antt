@@ -1,4 +1,5 @@
--- The gates and stages of a kernel stay those of the state where the machine's effect is the meaning's.
+-- The gates and stages of a kernel are still those of the state if the machine's effect is that of
+-- the meaning.
 use Rattle.std.proofs.Common.{◌≡◌, ℕ, zero, suc, ◌-◌, ◌≤◌, ℤ, pos, negsuc, List, [], ◌∷◌, ◌++◌, length, Bool, true, false, Some, refl, ap, sym, subst, ◌∙◌, arith}
 use Rattle.std.specs.Prelude.{if◌then◌else◌, nat_eq}
 use Rattle.std.proofs.lemmas.List.{length-set}
@@ -120,7 +121,7 @@ module _ (G : Ground) (monitors processes : ℕ) where
         by Begun h = refl
         by _ h = absurd h
 
-    -- So it is no matter of the kernel how the process goes on.
+    -- So the kernel doesn't depend on how the process continues.
     status_kept : (x : Status) → StageMeans G x Begun → Stand (set_status p x s) k
     status_kept x means = record {
       gate_count = S.gate_count;

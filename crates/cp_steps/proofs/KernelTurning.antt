@@ -1,7 +1,8 @@
--- The kernel step of the machine is the meaning's, also where neither has one.
+-- The kernel step of the machine is that of the meaning, even if neither has one.
 --
--- With the words of all monitors behind its own ones, the private state is the process's, so the step is one of those that are proved.
--- After it the words are parted again. The kernel's gates and stages are kept, since the effect is the meaning's.
+-- With the words of all monitors after its own, the private state is that of the process, so the
+-- step is one of those that are proved. After the step, the words are separated again. The kernel's
+-- gates and stages are right, since the effect is that of the meaning.
 use Rattle.std.proofs.Common.{◌≡◌, inr, ℕ, ◌+◌, ℤ, Bool, true, false, List, [], ◌∷◌, length, Option, Some, None, refl, ap, sym, subst, ◌∙◌, arith}
 use Rattle.std.specs.Prelude.{◌||◌, drop, if◌then◌else◌, take}
 use Rattle.std.proofs.lemmas.Bool.{true≢false}
@@ -82,7 +83,7 @@ no_end G temps limit K R fs place low (i ∷ k) left due end = by i left due (of
 
 -- ---- one step
 
--- What goes on, or has stopped, has begun.
+-- A process that continues or has stopped has begun.
 begun_still : (o : PrivateState) (y : Operation) (after : PrivateState) → Stops o y after → HasBegun (status_of after.activity)
 begun_still o y after (On goes) = by after.activity goes
   where
@@ -101,11 +102,11 @@ abbrev IsFinished : PrivateStatus → Type 0
 IsFinished parts.Finished = Unit {0}
 IsFinished _ = ⊥
 
--- Who doesn't run has no step.
+-- A process that doesn't run has no step.
 pub not_running : (o : PrivateState) → (IsRunning (status_of o.activity) → ⊥) → (program : Program) (k : Kernel) → is_due program (record { kernel = k; own = o }) ≡ false
 not_running o still program k = ap (λ b. if b then (if is_begun (stage_of k.stages o.number) then needs_kernel o (operation_of program o) else false) else false) (still_is o.activity still)
 
--- Who asks, or is delayed, has no step.
+-- A process that asks for a gate or is delayed has no step.
 not_begun : (o : PrivateState) (program : Program) (k : Kernel) → is_begun (stage_of k.stages o.number) ≡ false → is_due program (record { kernel = k; own = o }) ≡ false
 not_begun o program k held = by (machine.is_running o.activity)
   where
@@ -211,7 +212,8 @@ module _ (program : Program) (setup : Setup) (F : StandsFor program setup) (p ow
     edited = record k { shared = drop n r.0.words }
 
     module _ (J : StoreInvariant u.store) where
-      -- Parted again, whether it runs on or not.
+      -- After the words are separated, the kernel and the private state are right, whether the
+      -- process runs on or not.
       halves : (top : ℕ) → Stacked H top xs → HasBegun (status_of r.0.activity) → (GoesOn r.0.activity → RunsOn G u.store (record r.0 { words = take own r.0.words }) (u.continuation p))
           → TurningOf program setup F p own u before (parted n x r)
       halves top stack begun runs = record {
@@ -240,7 +242,7 @@ module _ (program : Program) (setup : Setup) (F : StandsFor program setup) (p ow
           D : DataMeans H xs (in_sight H) u.store r.0.words
           D = after.data_means (subst HasBegun (sym after.status) begun)
 
-      -- Where it faults, nothing of what is left to do changed.
+      -- If the process faults, what is left to do is unchanged.
       left_same : (res : StepResult) → PartOf H (after_step s p res) before r.0 → HasFaulted r.0.activity → (after_step s p res).continuation p ≡ s.continuation p
       left_same (Fault m) Q fails = refl
       left_same (Gives (c, e)) Q fails = absurd (unfailed s p ready c e (subst HasFailed (sym Q.status) (failed r.0.activity fails)))
@@ -284,7 +286,7 @@ module _ (program : Program) (setup : Setup) (F : StandsFor program setup) (p ow
 
   -- ---- all statuses
 
-  -- Neither steps, or both do.
+  -- Neither side makes a step, or both do.
   pub data Which : Type 0 where
     Rest : meaning.kernel_step setup s p ≡ s → plain.kernel_step program clock x ≡ x → Which
     Step : (ready : s.status p ≡ stage.Ready) (running : o.activity ≡ machine.Running) → Due (s.continuation p) ≡ true → meaning.kernel_step setup s p ≡ step setup s p

@@ -1,4 +1,5 @@
--- A turn of kernel steps is the meaning's, and turns of a process leave the private states of the others, and the kernel, as they are for it.
+-- A turn of kernel steps is that of the meaning, and turns of a process keep the private states of
+-- the others and the kernel right.
 use Rattle.std.proofs.Common.{refl, subst, suc, zero}
 use Rattle.cp_model.specs.Operators.{realtime}
 use Rattle.cp_model.specs.States.{running_clock}

@@ -1,4 +1,4 @@
--- A look-up of a longer path goes on from what the shorter one finds.
+-- A look-up of a longer path continues from what the shorter one finds.
 use Rattle.std.proofs.Common.{◌≡◌, ℕ, ◌+◌, ◌*◌, List, [], ◌∷◌, ◌++◌, Bool, true, false, Option, Some, None, refl, ap, sym, ◌∙◌, arith}
 use Rattle.std.specs.Prelude.{if◌then◌else◌, nat_eq}
 use Rattle.cp_model.specs.Abstract.{Class, Name, Sort, System}

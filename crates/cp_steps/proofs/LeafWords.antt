@@ -22,7 +22,7 @@ use Rattle.cp_steps.proofs.StartLeaves.{IsSimple}
 
 -- ---- indices
 
--- A word of rows of so many words lies in one of them.
+-- A word of `c` rows of `w` words lies in one of the rows.
 row_of : (c w k : ℕ) → k < c * w → (d : ℕ) × (m : ℕ) × (d < c) × (m < w) × (d * w + m ≡ k)
 row_of zero w k h = absurd (omega (arith, h))
 row_of (suc c) w k h = by (nat_lt k w) refl (row_of c w (k - w))
@@ -38,7 +38,7 @@ row_of (suc c) w k h = by (nat_lt k w) refl (row_of c w (k - w))
 not_below : (k n : ℕ) → nat_lt k n ≡ false → n ≤ k
 not_below k n e = Prim.grind (arith, e)
 
--- The index that lies so far from the lowest.
+-- The index at the distance `d` from the lowest index.
 index_at : (low high : ℤ) (d : ℕ) → d < count_between low high → (i : ℤ) × (within low high i ≡ true) × (distance low i ≡ d)
 index_at (pos a) (pos b) d h = (pos (a + d), Prim.grind (arith, ints, h), Prim.grind (arith, ints, h))
 index_at (pos a) (negsuc b) d h = absurd (omega (arith, h))
@@ -50,7 +50,7 @@ index_at (negsuc a) high d h = by (nat_lt a d) refl high h
     by false e (pos b) h = (negsuc (a - d), Prim.grind (arith, ints, h, e), Prim.grind (arith, ints, h, e))
     by false e (negsuc b) h = (negsuc (a - d), Prim.grind (arith, ints, h, e), Prim.grind (arith, ints, h, e))
 
--- A counted integer is no lower than the first one, and less than so many from it.
+-- A counted integer is at least the first one, and less than `n` away from it.
 counted_low : (low i : ℤ) (n : ℕ) → IsIn i (integers_from low n) → (int_le low i ≡ true) × (distance low i < n)
 counted_low low i zero h = absurd h
 counted_low low i (suc n) (inl h) = subst (λ z. (int_le low z ≡ true) × (distance low z < suc n)) (sym h) (itself low)

@@ -1,7 +1,9 @@
--- What process 2 of the example has left to do, at its start and where its calls are nested three deep.
+-- What process 2 of the example has left to do, at its start and when its calls are nested three
+-- deep.
 --
--- The example is the text of cp_code. Inside `get`, which `go` calls in an expression, `go` waits for the value with its whole
--- assignment left, `run` goes on behind its call of `go`, and the process behind its call of `run`.
+-- The example is the text of cp_code. Inside `get`, which `go` calls in an expression, `go` waits
+-- for the value with its whole assignment left to do, `run` continues after its call of `go`, and
+-- the process after its call of `run`.
 use Rattle.std.proofs.Common.{◌≡◌, ℤ, ℕ, ◌≤◌, ◌+◌, pos, negsuc, List, [], ◌∷◌, true, false, None, Some, refl}
 use Rattle.std.specs.Prelude.{codes}
 use Rattle.cp_model.specs.Abstract as a

@@ -1,4 +1,4 @@
--- What is left to do stays so where the temps below its own are the same, and where more is known.
+-- What is left to do stays the same if the temps below its own are the same, or if more is known.
 use Rattle.std.proofs.Common.{◌≡◌, ℕ, ◌+◌, ◌≤◌, ◌<◌, ℤ, List, [], ◌∷◌, length, subst, ◌∙◌, arith}
 use Rattle.cp_model.specs.Continuations.{Do, EndBody, EndCall, EndProcess, ForNext, RepeatTest, Task, WhileTest}
 use Rattle.cp_code.specs.Starts.{word}
@@ -13,7 +13,7 @@ use Rattle.cp_steps.proofs.CodeKept.{code_kept}
 abbrev pub SameBelow : ℕ → List ℤ → List ℤ → Type 0
 SameBelow n ts us = (i : ℕ) → i < n → word us i ≡ word ts i
 
--- All that is known in K is known in L.
+-- Everything that is known in `K` is known in `L`.
 abbrev pub Within : Knowns → Knowns → Type 0
 Within K L = (s : ℕ) (m : ℤ) → K s m → L s m
 
@@ -21,7 +21,7 @@ kept_within : (ts us : List ℤ) (temp kept live : ℕ) → SameBelow (temp + ke
     → Within (kept_below kept live ts temp) (kept_below kept live us temp)
 kept_within ts us temp kept live same s m h = (h.0, λ q. same (temp + s) (omega (arith, q)) ∙ h.1 q)
 
--- What a call keeps of what is alive.
+-- What a call keeps of the temps in use.
 pub held_within : (ts : List ℤ) (temp kept live : ℕ) → Within (held_below live ts temp) (kept_below kept live ts temp)
 held_within ts temp kept live s m h = (h.0, λ q. h.1)
 

@@ -1,4 +1,4 @@
--- A machine stays in the state of the meaning's by whole rounds.
+-- Whole rounds keep a machine in the state of the meaning.
 use Rattle.std.proofs.Common.{◌≡◌, ℕ, zero, suc, ◌+◌, ◌-◌, ◌≤◌, ◌<◌, List, [], ◌∷◌, ◌++◌, length, map, Bool, true, false, Some, None, refl, ap, sym, subst, ◌∙◌, arith}
 use Rattle.std.specs.Prelude.{◌≢◌, if◌then◌else◌, nat_eq, slice_get, slice_set, ◌%◌}
 use Rattle.std.proofs.lemmas.Bool.{eq-eqb, true≢false}

@@ -1,4 +1,5 @@
--- The first machine is in the start, and after so many rounds in the state of so many rounds, of which the report is read off it.
+-- The first machine is in the start. After any number of rounds it is in the state after as many
+-- rounds of the meaning, and its report is that of this state.
 use Rattle.std.proofs.Common.{◌≡◌, ℕ, zero, suc, ◌+◌, ◌-◌, ◌≤◌, List, [], ◌∷◌, length, map, Bool, true, false, Some, None, refl, ap, sym, subst, ◌∙◌, arith}
 use Rattle.std.specs.Prelude.{if◌then◌else◌, nat_eq, slice_get}
 use Rattle.std.proofs.lemmas.List.{length-map}
@@ -99,7 +100,7 @@ rounds_stand program setup F own n (suc rounds) s m I =
 
 -- ---- as the laws say it
 
--- Each process has as many words as it has.
+-- The number of words in the private state of each process.
 abbrev own_words : Machine → ℕ → ℕ
 own_words m p = elim (slice_get m.parts (p - 1)) [ None ↦ 0 | Some o ↦ length o.words ]
 

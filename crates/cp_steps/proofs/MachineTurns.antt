@@ -1,4 +1,4 @@
--- A machine's kernel turn keeps it in the state of the meaning's.
+-- A kernel turn of the machine keeps it in the state of the meaning.
 use Rattle.std.proofs.Common.{◌≡◌, ℕ, zero, suc, ◌-◌, ◌≤◌, ◌<◌, List, [], ◌∷◌, ◌++◌, length, Bool, true, false, Option, Some, None, refl, ap, sym, subst, ◌∙◌, arith}
 use Rattle.std.specs.Prelude.{◌≢◌, if◌then◌else◌, nat_eq, slice_get, slice_set}
 use Rattle.std.proofs.lemmas.Bool.{eq-eqb, eqb-true, true≢false}
@@ -116,7 +116,7 @@ module _ (setup : Setup) where
   idle_meaning zero s p h = refl
   idle_meaning (suc n) s p h = ap (λ u. meaning.kernel_turn setup n u p) (idle_step s p h) ∙ idle_meaning n s p h
 
-  -- Who has begun has begun for ever.
+  -- A process that has begun stays begun.
   begun_step : (s : State) (p : ℕ) → HasNotBegun ((meaning.kernel_step setup s p).status p) → HasNotBegun (s.status p)
   begun_step s p = by (s.status p) refl
     where
@@ -189,7 +189,7 @@ module _ (program : Program) (setup : Setup) (F : StandsFor program setup) (own 
     abbrev moved : PrivateState
     moved = record y.own { output = [] }
 
-    -- Its own.
+    -- The process's own private state.
     own_stands : PartStands program setup F (own p) p u y.kernel bytes moved
     own_stands = record {
       part = output_moved (ground_of program setup F p (own p)) u (transcript_of ts p) y.own later.part;
@@ -201,7 +201,7 @@ module _ (program : Program) (setup : Setup) (F : StandsFor program setup) (own 
           (subst (λ z. Begins (ground_of program setup F p (own p)) s k (record o { output = z })) B.at_start.output B));
     }
 
-    -- Another's.
+    -- The private state of another process.
     other_stands : (q : ℕ) → p ≢ q → 1 ≤ q → q ≤ process_count setup → (oq : PrivateState) → slice_get os (q - 1) ≡ Some oq → PartStands program setup F (own q) q u y.kernel (transcript_of ts q) oq
     other_stands q d from below oq is =
         let theirs = A.parts q from below oq is in

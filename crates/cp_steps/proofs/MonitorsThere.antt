@@ -1,4 +1,5 @@
--- Where monitors lie: their words are among the shared ones, apart from one another, and follow behind a process's own.
+-- Where monitors lie: their words are among the shared ones, which follow a process's own words,
+-- and don't overlap.
 use Rattle.std.proofs.Common.{Bool, List, None, Option, Some, [], ap, arith, false, inl, inr, length, refl, suc, sym, true, zero, ℕ, ◌<◌, ◌∙◌, ◌∷◌, ◌≡◌, ◌≤◌}
 use Rattle.std.specs.Prelude.{filter, if◌then◌else◌}
 use Rattle.cp_model.specs.Abstract.{Monitor, Name, Process, Sort, System}

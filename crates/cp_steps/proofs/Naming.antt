@@ -86,7 +86,7 @@ module _ (g : GlobalScope) (before : List System) (named : BeforeNamed g before)
       (filtered (λ v. not (is_component v.1.type)) (declarations g s.parameters) (parameters_named s.sort (declarations g s.parameters) t.parameters))
       (each_from (declarations g s.variables) NoMembers (variables_named s.sort (declarations g s.variables) t.variables) tt))
 
--- Each speaks of those before it.
+-- By induction, all system types before number `n` have members with distinct names.
 systems_named : (setup : Setup) → WellTyped setup → (n i : ℕ) → i < n → (s : System) → slice_get (text_systems setup) i ≡ Some s → NamedMembers (reported_members (globals setup.tree) s)
 systems_named setup typed zero i h s there = absurd (omega (arith, h))
 systems_named setup typed (suc n) i h s there =

@@ -1,4 +1,5 @@
--- No step unsets what a monitor holds: only what an activation held is forgotten, and what is written is a value.
+-- No step unsets what a monitor holds: only what an activation held is forgotten, and only values
+-- are written.
 use Rattle.std.proofs.Common.{◌≡◌, ℕ, ℤ, List, [], ◌∷◌, ◌++◌, Bool, true, false, Option, Some, None, map, refl, ap, sym, subst, ◌∙◌}
 use Rattle.std.specs.Prelude.{codes, if◌then◌else◌, zip}
 use Rattle.std.specs.Str.{bytes_eq}
@@ -60,7 +61,7 @@ all_set : (ws : Writes) (store : Store) → AllSet ws → KeepsSet store (put_al
 all_set [] store set k m owner h = h
 all_set (w ∷ ws) store set k m owner h = all_set ws (put w.0 w.1 store) set.1 k m owner (put_set w.0 w.1 store set.0 k m owner h)
 
--- What an activation holds is no matter.
+-- What an activation holds doesn't matter for monitors.
 no_monitor : (p d : ℕ) (l : Location) (m : ℕ) → l.owner ≡ OfMonitor m → same_owner (OfActivation p d) l.owner ≡ false
 no_monitor p d l m owner = ap (same_owner (OfActivation p d)) owner
 
@@ -128,7 +129,7 @@ bind_set one h at (p ∷ ps) (MoreExpressions e es) =
 
 -- ---- steps
 
--- Where a task is done, and no call is made.
+-- If a task is done without a call.
 abbrev pub IfActs : (Task → List Task → Type 0) → Action → Type 0
 IfActs P (Acts i k) = P i k
 IfActs P _ = Unit {0}
@@ -139,7 +140,7 @@ SetStill store x = IfGives (λ y. KeepsSet store y.0.store) x
 nothing_changed : (store : Store) → KeepsSet store store
 nothing_changed store l m owner h = h
 
--- Where writes come first.
+-- If the step makes writes first.
 written : (store : Store) (ws : Outcome Writes) (go : Writes → StepResult) → IfGives AllSet ws → ((w : Writes) → KeepsSet store (put_all w store) → SetStill store (go w)) → SetStill store (and_then ws go)
 written store ws go set h = then_gives AllSet (λ y. KeepsSet store y.0.store) ws go set (λ w each. h w (all_set w store each))
 

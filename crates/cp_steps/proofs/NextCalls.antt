@@ -1,6 +1,6 @@
--- The next call of an expression: the operation at its place, which leads on with its value.
+-- The next call of an expression is the operation at its place, and its value leads on.
 --
--- Behind it all calls are made, or the next one puts its value into a temp behind.
+-- After it, all calls have been made, or the next call puts its value into a later temp.
 use Rattle.std.proofs.Common.{◌≡◌, ℕ, ◌≤◌, ◌<◌, ℤ, ◌⊎◌, inl, inr, Some, None, ap, ◌∙◌, arith}
 use Rattle.cp_model.specs.Abstract as a
 use Rattle.cp_model.specs.Abstract.{BaseType, Name}
@@ -12,7 +12,7 @@ use Rattle.cp_code.specs.TermsFor.{ArgumentsFor, Knowns}
 
 -- ---- the first call
 
--- The call that stands at a place is ready to be made: its arguments hold no call.
+-- The call at a place is ready to be made: its arguments contain no call.
 pub record CallReady (site : Site) (K : Knowns) (u : UserCall) (place temp after : ℕ) (base : BaseType) : Type 0 where
   pub call : Call
   pub op : operation_at site.program place ≡ Some (op.Function call temp after)
@@ -26,11 +26,12 @@ pub record CallReady (site : Site) (K : Knowns) (u : UserCall) (place temp after
   pub answers : Answers site u.callee base
   pub where_is : u.environment ≡ site.env
 
--- What is known of the temps that the call keeps, and behind the one that gets its value, does not change.
+-- What is known of the temps that the call keeps, and of those after the one that gets its value,
+-- doesn't change.
 abbrev pub Learns : Knowns → Knowns → ℕ → ℕ → Type 0
 Learns K L kept temp = (s : ℕ) (m : ℤ) → (s < kept) ⊎ (temp < s) → K s m → L s m
 
--- After the call all calls are made, or the next one puts its value into a temp behind.
+-- After the call, all calls have been made, or the next one puts its value into a later temp.
 abbrev pub Follows : Site → ℕ → ℕ → ℕ → Type 0
 Follows site temp after next =
     (after ≡ next)
@@ -50,7 +51,8 @@ pub record Next {A : Type 0} (site : Site) (K : Knowns) (find : a.Expression →
   pub follows : Follows site temp after next
   pub answered : (n : ℤ) (L : Knowns) → Learns K L ready.low temp → L temp n → For L (fill (a.Known base n)) after
 
--- All calls are made, and then it stands for the same anywhere; or a call is next.
+-- Either all calls have been made, and the code stands for the same whatever is known, or a call is
+-- next.
 pub data Advance {A : Type 0} (site : Site) (K : Knowns) (find : a.Expression → Found A) (For : Knowns → A → ℕ → Type 0) (Still : ℕ → Type 0) (place next low high : ℕ) : Type 1 where
   AllMade : place ≡ next → ((v : a.Expression) → find v ≡ None) → ((z : ℕ) → Still z) → Advance site K find For Still place next low high
   Calling : Next site K find For place next low high → Advance site K find For Still place next low high
@@ -110,7 +112,7 @@ next_right site K x y For place low high none N = record {
   answered = N.answered;
 }
 
--- What comes behind a part comes behind the whole.
+-- What follows a part follows the whole.
 pub follows_on : {A : Type 0} (site : Site) (K : Knowns) (find : a.Expression → Found A) (For : Knowns → A → ℕ → Type 0) (Still : ℕ → Type 0)
     (temp after between next low high : ℕ) → temp < low → Advance site K find For Still between next low high
     → Follows site temp after between → Follows site temp after next
@@ -119,7 +121,7 @@ follows_on site K find For Still temp after between next low high below (Calling
     inr (N.ready.call, N.temp, N.after, ap (operation_at site.program) e ∙ N.ready.op, omega (arith, below, N.lower))
 follows_on site K find For Still temp after between next low high below h (inr c) = inr c
 
--- Behind the last call of its arguments comes the call itself.
+-- The last call of the arguments is followed by the call itself.
 pub call_follows : (site : Site) (call : Call) (t next last middle temp after : ℕ) → operation_at site.program last ≡ Some (op.Function call t next)
     → temp < middle → middle ≤ t → Follows site temp after last → Follows site temp after next
 call_follows site call t next last middle temp after is below up (inl e) =

@@ -43,7 +43,7 @@ use Rattle.cp_steps.proofs.Writing.{same_owner_itself}
 
 -- ---- variables that are found
 
--- A variable is found among the parameters, or behind them among the variables.
+-- A local variable is found among the parameters, or after them among the variables.
 pub local_either : (g : GlobalScope) (n : ℕ) (ps vs : List (Name × Variable)) (x : Name) (k : ℕ) (d : Variable) → local_at g n (ps ++ vs) x ≡ Some (k, d)
     → (local_at g n ps x ≡ Some (k, d)) ⊎ ((v : Name × Variable) × (i : ℕ) × (slice_get vs i ≡ Some v) × IsIn v vs × (v.0 ≡ x) × (v.1 ≡ d))
 local_either g n [] [] x k d h = absurd (some_is_not_none _ (sym h))
@@ -110,7 +110,7 @@ mutual
       by true e here later = let k = found_farther at (part g t path) m u e in here k.0 k.1
       by false e here later = later e
 
--- All of it is simple values.
+-- A type whose variables hold only simple values.
 abbrev pub HoldsValues : ResolvedType → Type 0
 HoldsValues t = IsSimple t ⊎ (SoundType t × (has_queues t ≡ false))
 

@@ -1,4 +1,5 @@
--- Another process on the same ground, with its own words alone in reach: what its words mean stays where what it owns is stored as before.
+-- What the words of another process mean, with only its own words in reach, stays the same if what
+-- it owns is stored as before.
 use Rattle.std.proofs.Common.{◌≡◌, ℕ, ◌+◌, ℤ, List, [], ◌∷◌, length, Bool, true, false, Option, Some, None, refl, ap, sym, subst, ◌∙◌, arith}
 use Rattle.std.specs.Prelude.{if◌then◌else◌, nat_eq}
 use Rattle.std.proofs.lemmas.Bool.{eq-eqb}
@@ -22,7 +23,7 @@ use Rattle.cp_steps.proofs.Keeping.{activation_kept, activations_kept, local_nam
 use Rattle.cp_code.specs.Starts.{word}
 use Rattle.cp_steps.proofs.Owned.{component_part, found_monitor}
 
--- The process q, which has so many words.
+-- The ground of the process `q`, which has `own` words of its own.
 abbrev pub other_ground : Ground → ℕ → ℕ → Ground
 other_ground G q own = record {
   program = G.program;
@@ -34,7 +35,7 @@ other_ground G q own = record {
   monitors_lie = tt;
 }
 
--- A right that is none to a class means the same to each process, wherever it lies.
+-- A right that isn't to a class means the same for each process, wherever it lies.
 pub right_elsewhere : (G : Ground) (q own : ℕ) (t : ResolvedType) (v : Value) (at to : ℕ) (n : ℤ) → ((s : System) (inner : Members) → t ≡ ComponentOf s inner → s.sort ≡ Class → ⊥)
     → RightMeans G t v at n → RightMeans (other_ground G q own) t v to n
 right_elsewhere G q own (ComponentOf s inner) v at to n none h = by s.sort refl v h
@@ -87,7 +88,7 @@ module _ (G : Ground) (q own : ℕ) (store after : Store) (same : (l : Location)
         subst (IsGiven v.type) (sym (same (under at (ByName x ∷ [])) mine)) (D.given at s n mine sort is (ap is_initialised (sym (same at mine)) ∙ set) m x v r none);
   }
 
-  -- It runs on, where the components that run have their rights.
+  -- The process runs on, if the components that run have their rights.
   abbrev pub runs_owned : (o : PrivateState) (k : List Task) (R : RunsOn H store o k) → AllHaveRights H after (components o) → RunsOn H after o k
   runs_owned o k R given = record {
     running = R.running;

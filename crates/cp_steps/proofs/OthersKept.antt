@@ -25,7 +25,8 @@ use Rattle.cp_steps.proofs.StartedUnread.{started_unread}
 use Rattle.cp_steps.proofs.StartsNobody.{Nobody, StartsNobody, action_nobody}
 use Rattle.cp_steps.proofs.StartsNone.{starts}
 
--- Of q, whether it is unstarted or fresh, and what it has left to do, is as it was.
+-- If process `q` is unstarted or fresh now, it was so before, and what it has left to do is as
+-- before.
 pub record NotStarted (q : ℕ) (s u : State) : Type 0 where
   pub unstarted : u.status q ≡ Unstarted → s.status q ≡ Unstarted
   pub fresh : u.status q ≡ Fresh → s.status q ≡ Fresh
@@ -46,7 +47,7 @@ same_started q s u status left = record { unstarted = λ e. sym status ∙ e; fr
 status_started : (p q : ℕ) (x : Status) (v : State) → p ≢ q → NotStarted q v (set_status p x v)
 status_started p q x v d = same_started q v (set_status p x v) (with_at_there p q x v.status (differ p q d)) refl
 
--- Who is made ready has begun.
+-- A process that is made ready has begun.
 abbrev IsReady : Status → Type 0
 IsReady Ready = Unit {0}
 IsReady _ = ⊥
@@ -141,7 +142,7 @@ module _ (s : State) (p q : ℕ) (d : p ≢ q) where
       started_trans q s (with_configuration s p x.0) _ (same_started q s (with_configuration s p x.0) refl (with_at_there p q x.0.continuation s.continuation (differ p q d)))
       (effect_started p q x.1 (with_configuration s p x.0) d h)
 
-  -- Where it is another process that is started.
+  -- If the step starts a process other than `q`.
   pub after_other_start : (config : Configuration) (r : ℕ) (k : List Task) → r ≢ q → NotStarted q s (after_step s p (Gives (config, Starts r k)))
   after_other_start config r k other = started_trans q s v _ (same_started q s v refl (with_at_there p q config.continuation s.continuation (differ p q d))) (by (v.status r))
     where
@@ -174,7 +175,7 @@ module _ (setup : Setup) (s : State) (p q : ℕ) (d : p ≢ q) (I : Invariant s)
   abbrev outcome : StepResult
   outcome = step_of (context setup s p) (configuration s p)
 
-  -- It is that of a state where all processes are started.
+  -- The outcome is the same in a state where all processes have been started.
   outcome_is : outcome ≡ step_of c (configuration s p)
   outcome_is = started_unread (context setup s p) (configuration s p) (λ r. true) (action (s.continuation p)) none
 

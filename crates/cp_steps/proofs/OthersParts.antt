@@ -1,8 +1,9 @@
--- A step of one process keeps the private states of the others.
+-- A step of one process keeps the private states of the others right.
 --
--- What the meaning keeps apart for another process is the same after the step. What is left are the rights of classes that lie in monitors,
--- where the other process may be running: a right there that was given stays one, since what a monitor holds is never unset, and the
--- store still holds rights where there were rights.
+-- What the meaning keeps for another process alone is the same after the step. What remains are the
+-- rights of classes that lie in monitors, where the other process may be running. A right there
+-- that has been given stays given, since what a monitor holds is never unset, and the store still
+-- holds rights where there were rights.
 use Rattle.std.proofs.Common.{◌≡◌, ℕ, ◌+◌, ℤ, Bool, true, false, List, [], ◌∷◌, Option, Some, None, refl, ap, sym, subst, ◌∙◌}
 use Rattle.std.specs.Prelude.{◌≢◌, if◌then◌else◌, nat_eq}
 use Rattle.std.proofs.lemmas.Bool.{eq-eqb}
@@ -121,7 +122,7 @@ module _ (G : Ground) (store after : Store) (same : (l : Location) → is_own G.
           let z = farther_some (G.own + monitor_start G.program m) _ n t h in
           shared at s m (0 + monitor_start G.program m + z.0) e sort ((λ i. part_at shared_ground [] (e i) (f i)) ∙ ap (farther (0 + monitor_start G.program m)) z.1) has
 
--- Where the store still holds rights for the shared words.
+-- A right of a monitor's class is still a right, if the store is right for the shared words.
 rights_still : (G : Ground) (store after : Store) (us : List ℤ) → DataMeans (kernel_ground G.program G.texts G.setup) [] is_shared after us → KeepsSet store after
     → (at : Location) (s : System) (m k : ℕ) → at.owner ≡ OfMonitor m → s.sort ≡ Class → lies (kernel_ground G.program G.texts G.setup) [] at ≡ Some (k, component_type G s) → HasRights G store at s → HasRights G after at s
 rights_still G store after us D set at s m k owner sort is has i x v found none =

@@ -1,4 +1,4 @@
--- What is found in the component of a process, in its activations and in monitors, and in which words.
+-- What lies in the component of a process, in its activations and in monitors, and in which words.
 use Rattle.std.proofs.Common.{◌≡◌, ◌⊎◌, inl, inr, ℕ, ◌+◌, ◌≤◌, ◌<◌, List, [], ◌∷◌, Bool, true, false, Option, Some, None, refl, ap, sym, ◌∙◌, arith}
 use Rattle.std.specs.Prelude.{if◌then◌else◌, nat_eq}
 use Rattle.std.proofs.lemmas.Bool.{eqb-true}
@@ -181,7 +181,7 @@ OwnRight G n =
     ((s : System) × (system_of_process G.setup G.p ≡ Some s) × (n < head_words (scope G) s))
     ⊎ ((m : ℕ) × (s : System) × (k : ℕ) × (in_sight G (OfMonitor m) ≡ true) × (system_of_monitor G.setup m ≡ Some s) × (k < head_words (scope G) s) × (n ≡ G.own + monitor_start G.program m + k))
 
--- Where `var` parameters and the result lie in their activation.
+-- The places of `var` parameters and the result in their activation.
 pub reference_inside : (g : GlobalScope) (r : a.Routine) (x : Name) (at : ℕ) (v : declared.Variable) → local g r x ≡ Some (at, v) → v.by_reference ≡ true
     → (result_words r.result ≤ at) × (at < activation_words g r)
 reference_inside g r x at v is by_reference =

@@ -1,4 +1,4 @@
--- A process that is started has its parameters in its first words, as they waited for it.
+-- A process that is started has its parameters in its first words, just as they waited for it.
 use Rattle.std.proofs.Common.{◌≡◌, ◌⊎◌, inl, inr, ℕ, ◌+◌, ◌-◌, ◌≤◌, ◌<◌, ℤ, List, [], length, true, false, Some, refl, ap, suc, sym, subst, ◌∙◌, arith}
 use Rattle.std.proofs.lemmas.Bool.{eq-eqb}
 use Rattle.cp_model.specs.Abstract.{Name, System}
@@ -33,7 +33,7 @@ use Rattle.cp_steps.proofs.Stacks.{Stacked}
 -- ---- the component of a process
 
 module _ (G : Ground) (xs : List Activation) (top : ℕ) (stack : Stacked G top xs) (s : System) (is : system_of_process G.setup G.p ≡ Some s) (own : in_sight G (OfProcess G.p) ≡ true) where
-  -- It lies in the first words.
+  -- The component of the process lies in its first words.
   pub process_placed : Placed G xs top (root (OfProcess G.p)) 0 s
   process_placed = record {
     own = own;
@@ -94,7 +94,7 @@ module _ (G : Ground) (q own : ℕ) (s : System) (is : system_of_process G.setup
       let inside : 0 + size < own = component_below H [] top stack at 0 from s placed names one in
       omega (arith, inside, count)
 
-  -- Each of its parameters has the word in which it waited.
+  -- Each parameter has the word in which it waited.
   moved : (k : ℕ) → (1 ≤ k) × (k ≤ size) → word given_words (0 + k) ≡ word us (from + k)
   moved k h =
       ap (word given_words) (there k h.0)

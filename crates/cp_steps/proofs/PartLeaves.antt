@@ -1,4 +1,5 @@
--- The cells of a variable, of any type, are its leaves: each cell is a leaf with its start value, and where names differ each leaf is a part.
+-- The cells of a variable of any type are its leaves: each cell is a leaf with its start value, and
+-- if names differ, each leaf is a part.
 use Rattle.std.proofs.Common.{◌≡◌, ◌⊎◌, inl, inr, ℕ, ◌+◌, ◌*◌, Bool, true, false, [], ◌∷◌, ◌++◌, map, Option, Some, None, refl, ap, sym, subst, ◌∙◌}
 use Rattle.std.specs.Prelude.{if◌then◌else◌}
 use Rattle.std.proofs.lemmas.Bool.{true≢false}

@@ -1,4 +1,4 @@
--- The words of a process and of the monitors, parted again.
+-- The words of a process and of the monitors are separated again.
 use Rattle.std.proofs.Common.{◌≡◌, inl, inr, ℕ, ◌+◌, ◌≤◌, ◌<◌, ℤ, pos, true, false, List, [], ◌∷◌, ◌++◌, length, Some, refl, ap, sym, subst, ◌∙◌, arith}
 use Rattle.std.specs.Prelude.{drop, take, ◌+ℤ◌}
 use Rattle.std.proofs.lemmas.Bool.{true≢false}

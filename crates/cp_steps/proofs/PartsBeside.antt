@@ -1,5 +1,5 @@
--- The private state of a process stays its own whatever others do: where the meaning's private state of it is the same, and classes keep
--- the rights that they were given.
+-- The private state of a process is still right after steps of others, if the meaning's private
+-- state of the process is the same and classes keep the rights that they were given.
 use Rattle.std.proofs.Common.{Bool, List, [], ap, length, refl, subst, sym, true, ℕ, ℤ, ◌+◌, ◌∙◌, ◌∷◌, ◌≡◌}
 use Rattle.std.proofs.lemmas.Bool.{eq-eqb}
 use Rattle.cp_model.specs.CallSteps.{is_initialised}
@@ -62,7 +62,7 @@ module _ (G : Ground) (sight : G.sight ≡ OwnWords) (store after : Store) (same
 
 -- ---- the private state
 
--- What goes on has begun.
+-- A process that runs or will run again has begun.
 goes_begun : (x : Activity) → GoesOn x → HasBegun (status_of x)
 goes_begun machine.Running h = tt
 goes_begun machine.Waiting h = tt

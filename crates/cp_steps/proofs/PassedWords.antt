@@ -27,7 +27,7 @@ use Rattle.cp_steps.proofs.InitOffsets.{Offset, offset_within, right_of}
 use Rattle.cp_steps.proofs.Passing.{KeptOutside}
 use Rattle.cp_steps.proofs.Writing.{changed_other}
 
--- They lie among so many words.
+-- The arguments are passed to the first `n` words.
 abbrev pub LieBelow : ℕ → List Argument → Type 0
 LieBelow n [] = Unit {0}
 LieBelow n (Value at low high e ∷ xs) = (at < n) × LieBelow n xs

@@ -52,7 +52,7 @@ use Rattle.cp_steps.proofs.Writing.{changed_other, same_owner_itself}
 abbrev pub SameOutside : ℕ → ℕ → List ℤ → List ℤ → Type 0
 SameOutside from to ws us = (i : ℕ) → (i < from) ⊎ (to ≤ i) → word us i ≡ word ws i
 
--- As many words, of which those outside are as they were.
+-- The number of words is the same, and the words outside are as they were.
 abbrev pub KeptOutside : ℕ → ℕ → List ℤ → List ℤ → Type 0
 KeptOutside from to ws us = (length us ≡ length ws) × SameOutside from to ws us
 
@@ -70,7 +70,8 @@ Has by_reference g lies t l st ws at =
 abbrev pub ParameterHas : GlobalScope → (Location → Option Part) → declared.Variable → Location → Store → List ℤ → ℕ → Type 0
 ParameterHas g lies d l st ws at = Has d.by_reference g lies d.type l st ws at
 
--- What was bound in the store is in the words from `to` on, where the first of these parameters lies `at` behind.
+-- The words from `to` on hold what is bound in the store. The first of these parameters lies `at`
+-- words after `to`.
 pub record Bound (site : Site) (lies : Location → Option Part) (n : Owner) (to at : ℕ) (ps : List (Name × declared.Variable)) (ws : Writes) (old new : List ℤ) : Type 0 where
   pub length_is : length new ≡ length old
   pub outside : SameOutside (to + at) (to + (at + locals_words site.env.globals ps)) old new
@@ -106,7 +107,7 @@ has_kept g lies d n x st after old new at keeps same h = by d.by_reference refl 
         let all : local_words g d ≡ words g d.type = ap (λ t. if t then 1 else words g d.type) e in
         keeps path ∙ (h path m u simple there ∙ ap Ordinal (sym (same m (omega (arith, all, part_fits g d.type path m u there, cell_has_word g u (simple_cell u simple))))))
 
--- One parameter more, with what is written of it.
+-- One parameter more, with the writes for it.
 prepend : (site : Site) (lies : Location → Option Part) (n : Owner) (to at : ℕ) (p : Name × declared.Variable) (ps : List (Name × declared.Variable)) (us : Writes) (top : ℕ) (ws mid : List ℤ)
     (x : PrivateState) (O : Outcome Writes) (P : Passing)
     → Distinct (p ∷ ps) → to + (at + local_words site.env.globals p.1) ≤ top → length mid ≡ length ws → SameOutside (to + at) (to + (at + local_words site.env.globals p.1)) ws mid
@@ -194,7 +195,7 @@ prepend_word site lies n to at p ps v m top ws x O P one distinct room in_words 
         ap (λ z. put (parameter_at n p.0) v st (under (parameter_at n p.0) z)) whole.0
         ∙ (put_here n p.0 v st ∙ (h.1 ∙ ap Ordinal (sym (ap (word (slice_set ws (to + at) m)) place_is ∙ held))))
 
--- Here stays where words behind all that is live change: those from `to` on that are the process's own.
+-- `Here` still holds if words after everything in use change: the process's own words from `to` on.
 abbrev pub Stays : Environment → Clock → Store → Outside → Knowns → (Location → Option Part) → ℕ → PrivateState → Type 0
 Stays env clock store w K lies to o =
     (ws : List ℤ) → length ws ≡ length o.words → SameOutside to w.own o.words ws → Here env clock store (view_of w (record o { words = ws })) K lies

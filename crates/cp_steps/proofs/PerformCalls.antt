@@ -1,4 +1,4 @@
--- The first call of a procedure statement, and what its value leads on to.
+-- The first call of a procedure statement, and what is left to do once its value is known.
 use Rattle.std.proofs.Common.{◌≡◌, ℕ, None, refl, ap, sym, subst, arith}
 use Rattle.cp_model.specs.Abstract as a
 use Rattle.cp_model.specs.Abstract.{Char, Name}
@@ -30,7 +30,7 @@ module _ (site : Site) (K : Knowns) where
   one_argument x e at last next low For Still (AllMade m q r) go =
       AllMade m (λ v. ap (λ z. in_context (a.Perform (a.Plain x)) (or_else (in_context (λ y. a.MoreExpressions y a.NoExpression) z) None)) (q v)) (λ z. tt)
 
-  -- Its one argument is a lone designator.
+  -- The one argument of a standard procedure is a lone designator.
   one_used : (x : Name) (d : a.Designator) (s : Spot) (t : ResolvedType) (at last next low : ℕ)
       → Rattle.cp_model.specs.Calls.callee site.env d ≡ None → SpotFor site K d s t at last low site.unit.temps
       → ((L : Knowns) (z : a.Designator) (after : ℕ) → SpotFor site L z s t after last low site.unit.temps → Rattle.cp_model.specs.Calls.callee site.env z ≡ None

@@ -23,12 +23,13 @@ use Rattle.cp_steps.proofs.Stacks.{Stacked, monitor_seen}
 
 -- ---- where a component lies
 
--- The words of its rights, which come behind its mark.
+-- The words of a component's rights, which come after its mark.
 abbrev pub IsRightWord : Ground → System → ℕ → Type 0
 IsRightWord G s k = (1 ≤ k) × (k < head_words (scope G) s)
 
--- Where a component lies: its rights are apart from the cells of all else, from the rights of all others, and from the words of
--- activations that are no cells, which lie behind the process's own.
+-- Where a component lies. Its rights are separate from all other cells, from the rights of all
+-- other components, and from the words of activations that aren't cells, which come after the
+-- component of the process.
 pub record Placed (G : Ground) (xs : List Activation) (top : ℕ) (at : Location) (c : ℕ) (s : System) : Type 0 where
   pub own : in_sight G at.owner ≡ true
   pub there : ComponentLies G at s c

@@ -1,4 +1,4 @@
--- The private step of the machine is the meaning's, also where neither has one.
+-- The private step of the machine is that of the meaning, even if neither has one.
 use Rattle.std.proofs.Common.{◌≡◌, ℕ, List, [], ◌∷◌, Bool, true, false, Option, Some, None, refl, ap, sym, subst, ◌∙◌}
 use Rattle.std.specs.Prelude.{◌||◌, if◌then◌else◌, not}
 use Rattle.std.proofs.lemmas.Bool.{true≢false}
@@ -31,7 +31,7 @@ use Rattle.cp_model.specs.Reach.{in_reach}
 use Rattle.cp_code.specs.StandsFor.{StandsFor}
 
 module _ (G : Ground) (s : State) (before : List ℕ) (o : PrivateState) (part : PartOf G s before o) where
-  -- Neither steps.
+  -- Neither side makes a step.
   neither : private_step G.setup s G.p ≡ s → steps.private_step G.program (realtime (clock_of G s)) o ≡ o → StepsAlone G s before o
   neither defined computed =
       subst (λ (u : State). PartOf G u before (steps.private_step G.program (realtime (clock_of G s)) o)) (sym defined) (subst (PartOf G s before) (sym computed) part)

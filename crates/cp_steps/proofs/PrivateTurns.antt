@@ -1,4 +1,4 @@
--- A turn of private steps is the meaning's: each step is, and none changes the clock.
+-- A turn of private steps is that of the meaning, because each step is and none changes the clock.
 use Rattle.std.proofs.Common.{zero, suc, subst}
 use Rattle.cp_model.specs.Operators.{realtime}
 use Rattle.cp_model.specs.States.{running_clock}

@@ -1,5 +1,6 @@
--- A kernel step of one process leaves each other one that hasn't begun as one that hasn't begun: it is started by the step, or nothing
--- of it changes, nor the words in which its parameters wait.
+-- If another process hasn't begun, then after a kernel step it is still ready to begin. Either the
+-- step starts it, or nothing that belongs to it changes, nor do the words in which its parameters
+-- wait.
 use Rattle.std.proofs.Common.{◌≡◌, ◌⊎◌, inl, inr, ℕ, zero, suc, ◌+◌, ◌-◌, ◌++◌, ◌≤◌, ◌<◌, ℤ, List, [], ◌∷◌, length, Bool, true, false, Some, refl, ap, sym, subst, ◌∙◌, arith}
 use Rattle.std.specs.Prelude.{drop, nat_eq}
 use Rattle.std.proofs.lemmas.Bool.{eq-eqb, eqb-true, true≢false}
@@ -63,7 +64,7 @@ module _ (G : Ground) (s : State) (w : Outside) (before : List ℕ) (o : Private
     abbrev P : ProcessStands G.program F.texts G.setup q
     P = F.processes q low high
 
-    -- Where it waits no monitor lies.
+    -- No monitor lies in the words where the parameters wait.
     waiting_spared : (i : ℕ) → P.row.parameters ≤ i → i < P.row.parameters + P.row.waiting → IsSpared G (G.own + i)
     waiting_spared i from below = (omega arith, λ m y is. by m y (waits_apart G F q P m y is))
       where
@@ -125,8 +126,8 @@ module _ (G : Ground) (s : State) (w : Outside) (before : List ℕ) (o : Private
     both_begins R M (BothStart ws us free result acting bound) is =
         subst (λ z. Begins H (after_step s G.p z) l oq) (sym result) (start_begins free ws us bound (is ∙ ap (λ (z : Acting). drop G.own z.0.words) acting))
 
--- The process p takes its next step, which is the kernel's, with all words in reach. Behind its own words lie those that the kernel has,
--- before it and after it.
+-- Process `p` takes its next step, which is a kernel step, with all words in reach. The words after
+-- its own are those of the kernel, both before and after the step.
 pub started_begins : (G : Ground) (s : State) (w : Outside) (before : List ℕ) (o : PrivateState) (F : StandsFor G.program G.setup) → F.texts ≡ G.texts → PartOf G s before o → Invariant s
     → Around G s w → Reaches G s → AroundAll G s w → kind s G.p ≡ turns.Kernel → RunsOn G s.store o (s.continuation G.p)
     → (y : Operation) → operation_at G.program o.place ≡ Some y → (k l : Kernel) → k.shared ≡ drop G.own o.words → l.shared ≡ drop G.own (act G.program w o y).0.words

@@ -33,7 +33,7 @@ use Rattle.cp_steps.proofs.Waiting.{parameters_are, waits_apart}
 use Rattle.cp_steps.proofs.Effects.{EffectAgrees, Means}
 use Rattle.cp_steps.proofs.MonitorsThere.{process_below}
 
--- Another process that is started is no matter of a private state.
+-- A private state doesn't depend on whether another process is started.
 pub started_part : (G : Ground) (before : List ℕ) (after : PrivateState) (r : ℕ) (j : List Task) (x : Status) (u : State) → (r ≡ G.p → ⊥) → PartOf G u before after → PartOf G (start_process r j x u) before after
 started_part G before after r j stage.Unstarted u other P = record {
   number = P.number;
@@ -91,7 +91,7 @@ module _ {G : Ground} {s : State} {w : Outside} {before : List ℕ} {o : Private
   room_is : from + (1 + size) ≤ G.own
   room_is = room Z
 
-  -- Beyond the process's own unused words, those that are passed are as they were.
+  -- Passing changes only the process's own unused words.
   pub passes_same : (ws : Writes) (us : List ℤ) → WellBound ws us → (i : ℕ) → (i < from) ⊎ (G.own ≤ i) → word us i ≡ word o.words i
   passes_same ws us B i below =
       B.outside i (λ p j there off e.
@@ -102,7 +102,7 @@ module _ {G : Ground} {s : State} {w : Outside} {before : List ℕ} {o : Private
       by j (inl q) e inside = omega (arith, q, e)
       by j (inr q) e inside = omega (arith, q, e, inside.1, room_is)
 
-  -- Where they wait.
+  -- Moving the arguments changes only the words where they wait.
   pub moved_same : (us : List ℤ) (i : ℕ) → (i < G.own + params) ⊎ (G.own + params + waiting ≤ i) → word (words_moved us) i ≡ word us i
   moved_same us i apart = copied_outside us us _ (from + 1) size i (by apart)
     where

@@ -1,4 +1,4 @@
--- A statement that is put in front of what is left: its code, and no end mark.
+-- A statement that is added before what is left to do: its code, which has no end mark.
 use Rattle.std.proofs.Common.{◌≡◌, ℕ, ℤ, List, ◌∷◌, refl, sym, subst, ◌∙◌, arith}
 use Rattle.cp_model.specs.Abstract as a
 use Rattle.cp_model.specs.Continuations.{RepeatTest, Task, marked_monitors, push}

@@ -1,4 +1,4 @@
--- Types in which no queue lies: what a routine, a class or a process declares has no other.
+-- Types that contain no queue: a routine, a class or a process declares only such types.
 use Rattle.std.proofs.Common.{◌≡◌, ◌⊎◌, inl, inr, ◌<◌, ◌+◌, ◌*◌, ℕ, zero, suc, Bool, true, false, List, [], ◌∷◌, Option, Some, None, refl, ap, sym, subst, arith}
 use Rattle.std.specs.Prelude.{filter, if◌then◌else◌, not, slice_get, take}
 use Rattle.std.proofs.lemmas.Bool.{true≢false}
@@ -33,7 +33,7 @@ abbrev IfClass : Sort → Type 0 → Type 0
 IfClass Class A = A
 IfClass _ A = Unit {0}
 
--- Of components only classes lie in their variables.
+-- Of all components, only classes lie in their variables.
 abbrev mutual
   pub NoQueues : ResolvedType → Type 0
   NoQueues (Simple b low high start) = Unit {0}
@@ -50,7 +50,7 @@ abbrev mutual
 is_queue : (t : ResolvedType) (n m : ℕ) → ◌≡◌ {A = Option (ℕ × ResolvedType)} (Some (n, t)) (Some (m, Queue)) → NoQueues t → ⊥
 is_queue t n m e h = subst NoQueues (ap (λ z. z.1) (same_some {A = ℕ × ResolvedType} (n, t) (m, Queue) e)) h
 
--- So no part of it is one.
+-- So no part of such a type is a queue.
 mutual
   pub part_no_queue : (g : GlobalScope) (t : ResolvedType) (path : Path) (n : ℕ) → NoQueues t → part g t path ≡ Some (n, Queue) → ⊥
   part_no_queue g (Simple b low high start) [] n h e = is_queue (Simple b low high start) 0 n e h
@@ -120,7 +120,7 @@ filtered f (v ∷ vs) h = by (f v) (filtered f vs h.1)
     by true go = (h.0, go)
     by false go = go
 
--- Queues stand in monitors alone.
+-- Queues lie only in monitors.
 abbrev IsNoMonitor : Sort → Type 0
 IsNoMonitor Monitor = ⊥
 IsNoMonitor _ = Unit {0}
@@ -173,7 +173,7 @@ module _ (g : GlobalScope) (before : List System) (none : Before g before) where
       (filtered (λ v. not (is_component v.1.type)) (declarations g s.parameters) (parameters_none s.sort (declarations g s.parameters) t.parameters))
       (each_from (declarations g s.variables) NoMembers (variables_none s.sort other (declarations g s.variables) t.variables) tt)
 
--- Each speaks of those before it.
+-- By induction, this holds of all system types before number `n`.
 systems_none : (setup : Setup) → WellTyped setup → (n i : ℕ) → i < n → (s : System) → slice_get (text_systems setup) i ≡ Some s → IsNoMonitor s.sort
     → NoneQueues (reported_members (globals setup.tree) s)
 systems_none setup typed zero i h s there other = absurd (omega (arith, h))

@@ -1,4 +1,4 @@
--- The lines that are read off the words of a variable are those of its leaves.
+-- The lines that are read from the words of a variable are those of its leaves.
 use Rattle.std.proofs.Common.{◌≡◌, inl, inr, ℕ, zero, suc, ◌+◌, ◌*◌, ℤ, pos, negsuc, Bool, true, false, List, [], ◌∷◌, ◌++◌, map, Option, Some, None, refl, ap, sym, subst, ◌∙◌, arith}
 use Rattle.std.specs.Prelude.{flat_map, if◌then◌else◌, ◌-ℤ◌, ◌||◌}
 use Rattle.std.proofs.lemmas.Bool.{true≢false}
@@ -77,7 +77,7 @@ module _ (g : GlobalScope) (store : Store) (root : Location) (ws : List ℤ) whe
       ∙ flat_same (λ leaf. leaf_text path (below_step s leaf)) (leaf_text (path ++ s ∷ [])) xs
       (λ leaf. ap (λ p. leaf_line p (store (under root p))) (sym (deeper path leaf.0 s)))
 
-  -- The parts behind a step, read from where they begin.
+  -- The parts after a step of a path, read from where they begin.
   step_reads : (path : Path) (s : PathStep) (at n : ℕ) (parts inner : Path → Option Part) → Reads path at parts
       → ((q : Path) (k : ℕ) (u : ResolvedType) → inner q ≡ Some (k, u) → parts (s ∷ q) ≡ Some (n + k, u)) → Reads (path ++ s ∷ []) (at + n) inner
   step_reads path s at n parts inner reads there q k u is =
@@ -132,7 +132,7 @@ module _ (g : GlobalScope) (store : Store) (root : Location) (ws : List ℤ) whe
   here : (n : ℕ) → n + 0 ≡ n
   here n = omega arith
 
-  -- What a member behind the first ones reads.
+  -- What a member after the first ones reads.
   abbrev MemberReads : Path → ℕ → ℕ → Members → Type 0
   MemberReads path at far ms =
       (x : Name) (q : Path) (k : ℕ) (u : ResolvedType) → member_part g far ms x q ≡ Some (k, u) → CellMeans u (store (under root (path ++ ByName x ∷ q))) (word ws (at + k))

@@ -1,4 +1,5 @@
--- The queue that lies at a word is found by its place: one walk over the monitor's words tells its path, and that of no other.
+-- A queue is found by the place of its word: one walk over the monitor's words finds its path and
+-- no other.
 use Rattle.std.proofs.Common.{◌≡◌, ◌⊎◌, inl, inr, ℕ, zero, suc, ◌+◌, ◌*◌, ◌<◌, ◌≤◌, ℤ, pos, negsuc, Bool, true, false, [], ◌∷◌, ◌++◌, Option, Some, None, refl, ap, sym, subst, ◌∙◌, arith}
 use Rattle.std.specs.Prelude.{if◌then◌else◌, nat_eq, ◌-ℤ◌}
 use Rattle.std.proofs.lemmas.Int.{ints}
@@ -24,7 +25,7 @@ use Rattle.cp_steps.proofs.ReportLines.{append_none, join_append}
 no_farther : (n : ℕ) → n + 0 ≡ n
 no_farther n = omega arith
 
--- A counted list goes on with the next integer.
+-- The next integer in a counted list.
 abbrev following : ℤ → ℤ
 following (pos a) = pos (suc a)
 following (negsuc zero) = pos 0
@@ -133,7 +134,7 @@ module _ (g : GlobalScope) (target : ℕ) where
 
   -- ---- and of the queue its path
 
-  -- Where one element is the queue's, all others are beside it.
+  -- If one element contains the queue, no other element does.
   elements_found : (n : ℕ) (lo low i : ℤ) (d e m : ℕ) (path : Path) (t : ResolvedType) (at : ℕ) (q : Text) → lo -ℤ low ≡ pos d → i -ℤ low ≡ pos (d + e) → e < n → m < words g t
       → target ≡ at + (e * words g t + m) → visit_type g V (path ++ ByIndex i ∷ []) (at + e * words g t) t ≡ q
       → visit_elements (λ p a. visit_type g V p a t) (words g t) path at (integers_from lo n) ≡ q

@@ -1,4 +1,4 @@
--- The status of a process as the machine tells it, and the path of the queue in which it stands.
+-- The status of a process as the machine reports it, and the path of the queue in which it waits.
 use Rattle.std.proofs.Common.{◌≡◌, ◌⊎◌, inl, inr, ℕ, zero, suc, ◌+◌, ◌≤◌, ◌<◌, Bool, true, false, List, [], ◌∷◌, ◌++◌, Option, Some, None, refl, ap, sym, ◌∙◌, arith}
 use Rattle.std.specs.Prelude.{codes, if◌then◌else◌, nat_eq, slice_get}
 use Rattle.cp_model.specs.Abstract.{Monitor, Name, System}
@@ -36,7 +36,7 @@ use Rattle.cp_steps.proofs.ReportQueues.{member_found, members_beside}
 
 -- ---- queues
 
--- Where one monitor tells the path, and no other tells anything.
+-- One monitor gives the path, and no other gives anything.
 queues_found : (g : GlobalScope) (program : Program) (at i j : ℕ) (vs : List (Name × Variable)) (v : Name × Variable) (q : Text) → slice_get vs j ≡ Some v
     → visit_component g (queue_visit at) (monitor_start program (i + j)) v.1.type ≡ q
     → ((l : ℕ) (u : Name × Variable) → slice_get vs l ≡ Some u → (l ≡ j → ⊥) → visit_component g (queue_visit at) (monitor_start program (i + l)) u.1.type ≡ [])
@@ -78,7 +78,7 @@ module _ (program : Program) (setup : Setup) (F : StandsFor program setup) where
   abbrev K : Ground
   K = kernel_ground program F.texts setup
 
-  -- The words of a monitor, whose type is told by its variable.
+  -- The words of a monitor, whose type is that of its variable.
   told_by : (v : Name × Variable) (C : IsComponent setup v.1.type) (at n : ℕ)
       → visit_component g (queue_visit at) (monitor_start program n) v.1.type
       ≡ visit_members g (queue_visit at) [] (monitor_start program n + head_words g C.system) (reported_members g C.system)

@@ -1,4 +1,4 @@
--- What is read off a machine is the report of the state that it is in.
+-- The report read from a machine is that of the state that it is in.
 use Rattle.std.proofs.Common.{◌≡◌, ℕ, zero, suc, ◌+◌, ◌-◌, ◌≤◌, ◌<◌, List, [], ◌∷◌, ◌++◌, length, Some, None, refl, ap, sym, subst, ◌∙◌, arith}
 use Rattle.std.specs.Prelude.{codes, slice_get}
 use Rattle.cp_model.specs.Abstract.{Monitor, Name, Process, System}

@@ -1,4 +1,5 @@
--- Whole private steps at the end of a routine: the caller goes on, with a function's value in the place of the call.
+-- Whole private steps at the end of a routine: the caller continues, with a function's value in the
+-- place of the call.
 use Rattle.std.proofs.Common.{◌≡◌, ℕ, ◌+◌, ◌≤◌, ℤ, List, [], ◌∷◌, length, Bool, true, false, Option, Some, None, refl, ap, sym, subst, ◌∙◌, arith}
 use Rattle.std.specs.Prelude.{if◌then◌else◌, map, slice_get, slice_set}
 use Rattle.std.proofs.lemmas.List.{length-set}
@@ -65,7 +66,7 @@ forgotten G xs o store e l h = by (same_owner o l.owner) refl
 
 -- ---- an answer leaves the end marks
 
--- What tells only end marks is the same where the first task has another expression.
+-- What depends only on end marks is the same if the first task has another expression.
 with_answer_same : {A : Type 1} (f : List Task → A) (v : a.Expression) (k : List Task)
     → ((s t : a.Statement) (env : Environment) (k : List Task) → f (Do s env ∷ k) ≡ f (Do t env ∷ k))
     → ((x y e : a.Expression) (s : a.Statement) (env : Environment) (k : List Task) → f (WhileTest x e s env ∷ k) ≡ f (WhileTest y e s env ∷ k))
@@ -165,7 +166,7 @@ module _ (G : Ground) (s : State) (w : Outside) (before : List ℕ) (o : Private
   caller_there : (x : Option Name) → N.on.left.1.frame.routine.result ≡ x → caller_is x
   caller_there x e = subst caller_is (ap result_of N.on.left.1.runs ∙ e) N.on.left.3.6
 
-  -- A procedure's caller goes on after the call.
+  -- The caller of a procedure continues after the call.
   pub procedure_returns : N.on.left.1.frame.routine.result ≡ None → PartOf G (gone (result_returns (configuration s G.p) env k N.on.left.1.frame None)) before (leave o f fs)
   procedure_returns none =
       let c = N.on.left.3 in
@@ -179,7 +180,7 @@ module _ (G : Ground) (s : State) (w : Outside) (before : List ℕ) (o : Private
       (λ d n m e. omega arith) (λ F x. x) (λ store ws x. x))
       record { number = refl; input = refl; consumed = refl; output = refl; activity = refl }
 
-  -- A function's value takes the place of the call; one that has set none is a fault.
+  -- A function's value takes the place of the call. If the function has set no result, it faults.
   pub function_returns : (t : Name) → N.on.left.1.frame.routine.result ≡ Some t → local (scope G) N.on.left.1.frame.routine N.on.left.1.frame.routine.name ≡ None
       → (effect : machine.Effect) → PartOf G (gone (result_returns (configuration s G.p) env k N.on.left.1.frame (Some t))) before (return_with returning returning f fs true effect).0
   function_returns t is none effect = by (s.store (result_location N.on.left.1.frame)) (word o.words o.base) refl means

@@ -1,4 +1,4 @@
--- What is there has room, and is told by its place.
+-- What exists has room, and is identified by its place.
 use Rattle.std.proofs.Common.{◌≡◌, ℕ, ◌+◌, ◌≤◌, ◌<◌, pos, length, true, ap}
 use Rattle.std.specs.Prelude.{◌&&◌, ◌-ℤ◌, if◌then◌else◌}
 use Rattle.std.proofs.lemmas.Bool.{le-leb, lt-ltb}

@@ -1,4 +1,5 @@
--- Waking, and the end of a round: the private state of each process stays that of the process.
+-- After waking and after the end of a round, the private state of each process is still that of the
+-- process.
 use Rattle.std.proofs.Common.{List, None, Some, ap, refl, subst, suc, sym, ℕ, ◌++◌, ◌-◌, ◌∙◌, ◌≡◌}
 use Rattle.std.specs.Prelude.{slice_get}
 use Rattle.cp_model.specs.Configurations as status
@@ -56,7 +57,7 @@ awake_goes machine.Waiting h = tt
 awake_goes machine.Ended h = h
 awake_goes (machine.Faulted f) h = h
 
--- What runs on does so whatever its activity is.
+-- What it means to run on doesn't depend on the activity.
 runs_whatever : (G : Ground) (store : Store) (o : PrivateState) (k : List Task) (x : Activity) → RunsOn G store o k → RunsOn G store (record o { activity = x }) k
 runs_whatever G store o k x R = record {
   running = R.running;
@@ -74,7 +75,7 @@ runs_whatever G store o k x R = record {
   given = R.given;
 }
 
--- Where all that wait wake.
+-- All processes that wait wake.
 pub part_wakes : (G : Ground) (s : State) (before : List ℕ) (o : PrivateState) → PartOf G s before o → PartOf G (record s { status = λ p. awakened (s.status p) }) before (wake_one o)
 part_wakes G s before o P = record {
   number = P.number;
@@ -89,7 +90,7 @@ part_wakes G s before o P = record {
 
 -- ---- the end of a round
 
--- Where only the count of rounds changes for the process.
+-- If only the number of rounds changes for the process.
 part_closes : (G : Ground) (s : State) (before : List ℕ) (o : PrivateState) → after_closing (s.status G.p) ≡ s.status G.p → PartOf G s before o → PartOf G (close_round s) before o
 part_closes G s before o same P = record {
   number = P.number;
@@ -127,7 +128,8 @@ fresh_begins G s before k o fresh P B = record {
         ap (λ n. elim (slice_get G.program.processes (n - 1)) as (λ z. PrivateState) [ None ↦ o | Some x ↦ with_parameters x ]) P.number
         ∙ λ i. elim (B.at_start.there i) as (λ z. PrivateState) [ None ↦ o | Some x ↦ with_parameters x ]
 
--- Of each process that begins, or has begun.
+-- The private state of each process at the end of a round, whether it begins then or has begun
+-- before.
 pub part_ends_round : (G : Ground) (s : State) (before : List ℕ) (k : Kernel) (o : PrivateState) → StageMeans (kernel_ground G.program G.texts G.setup) (s.status G.p) (stage_of k.stages G.p)
     → PartOf G s before o → (s.status G.p ≡ status.Fresh → Begins G s k o) → PartOf G (close_round s) before (begin_one G.program k o)
 part_ends_round G s before k o stands P B =

@@ -1,4 +1,5 @@
--- Waking, and all private turns of a round together: the private state of each process stays its own, and the kernel that of the state.
+-- After waking and all private turns of a round, the private state of each process is still that of
+-- the process, and the kernel that of the state.
 use Rattle.std.proofs.Common.{◌≡◌, ℕ, zero, suc, Bool, true, false, List, [], ◌∷◌, refl, sym, ◌∙◌}
 use Rattle.std.specs.Prelude.{if◌then◌else◌, nat_eq, ◌%◌}
 use Rattle.cp_model.specs.Invariant.{Invariant}
@@ -29,7 +30,7 @@ use Rattle.cp_steps.proofs.Given.{rights_kept}
 use Rattle.cp_steps.specs.Addresses.{Ground}
 
 module _ (program : Program) (setup : Setup) (F : StandsFor program setup) (p own : ℕ) (s : State) (before : List ℕ) (o : PrivateState) (P : PartOf (ground_of program setup F p own) s before o) where
-  -- Where the round's number is a multiple of the tick, who waits wakes.
+  -- If the round's number is a multiple of the tick, processes that wait wake.
   pub part_woken : PartOf (ground_of program setup F p own) (wake setup s) before (if nat_eq (suc s.rounds % setup.tick) 0 then wake_one o else o)
   part_woken = by (nat_eq (suc s.rounds % setup.tick) 0)
     where
@@ -44,7 +45,7 @@ monitor_same setup (suc n) s p I l m owner =
     monitor_same setup n (meaning.private_step setup s p) p (private_step_keeps setup s p I) l m owner ∙ (private_step_kernel_part setup p s I).monitor_store l m owner
 
 module _ (program : Program) (setup : Setup) (F : StandsFor program setup) (n : ℕ) (s : State) (I : Invariant s) where
-  -- Of each process, after all private turns together.
+  -- The private state of each process after all private turns together.
   pub part_turned : (p own : ℕ) (before : List ℕ) (o : PrivateState) → is_in p (processes setup) ≡ true → PartOf (ground_of program setup F p own) s before o
       → PartOf (ground_of program setup F p own) (own_parts setup n s) before (private_steps program (realtime (running_clock setup s)) n o)
   part_turned p own before o there P =

@@ -1,4 +1,5 @@
--- What runs on: what its words mean, other places and tasks, and other words and stores.
+-- Processes that run or will run again: what their words mean, and the same with other places,
+-- tasks, words and stores.
 use Rattle.std.proofs.Common.{◌≡◌, ℕ, ◌+◌, ◌≤◌, ℤ, List, Some, length, refl, ap, sym, subst, ◌∙◌, arith}
 use Rattle.std.specs.Prelude.{slice_set, true}
 use Rattle.std.proofs.lemmas.Bool.{true≢false}
@@ -67,7 +68,7 @@ left_afresh G ts limit live R fs place low k up h =
     left_raised G ts limit (held_below live ts R.temp) R fs place low R.unit.temps k up
     (left_kept G ts ts limit refl nothing_known (held_below live ts R.temp) R fs place low k (λ s m z. absurd z) (λ i q. refl) h)
 
--- Other tasks are in front, of the same activations.
+-- The process runs on with other tasks first, if the activations are the same.
 abbrev pub runs_moved : (G : Ground) (store : Store) (o : PrivateState) (i j : List Task) (place low : ℕ) (R : RunsOn G store o i)
     → activations o.base o.frames j ≡ activations o.base o.frames i → ActivationsMean G store o.words o.base o.frames j ≡ ActivationsMean G store o.words o.base o.frames i
     → marked_monitors j ≡ marked_monitors i
@@ -89,7 +90,7 @@ runs_moved G store o i j place low R same mean marks left fits = record {
   given = R.given;
 }
 
--- A statement is in front of what is left.
+-- The process runs on with a statement before what is left to do.
 abbrev pub runs_pushed : (G : Ground) (store : Store) (o : PrivateState) (i k : List Task) (s : a.Statement) (place next low : ℕ) (R : RunsOn G store o i)
     → activations o.base o.frames k ≡ activations o.base o.frames i → ActivationsMean G store o.words o.base o.frames k ≡ ActivationsMean G store o.words o.base o.frames i
     → marked_monitors k ≡ marked_monitors i

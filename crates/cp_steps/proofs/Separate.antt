@@ -1,4 +1,4 @@
--- No two cells of a process share a word: its component, and its activations, lie one behind another.
+-- No two cells of a process share a word: its component and its activations lie one after another.
 use Rattle.std.proofs.Common.{◌≡◌, ◌⊎◌, inl, inr, ℕ, ◌+◌, ◌≤◌, ◌<◌, List, [], ◌∷◌, Bool, true, false, Some, refl, ap, sym, subst, ◌∙◌, arith}
 use Rattle.std.specs.Prelude.{if◌then◌else◌, nat_eq}
 use Rattle.std.proofs.lemmas.Bool.{eq-eqb, eqb-true, true≢false}
@@ -117,7 +117,7 @@ module _ (G : Ground) (xs : List Activation) (top : ℕ) (stack : Stacked G top 
           let s = same_owner_cells o r x y p q n m u w a b c d m1 m2 h k e in
           λ i. record { owner = s.0 i; path = s.1 i }
 
-  -- A word of the process lies below the top, and one of a monitor behind the process's own.
+  -- A word of the process lies below the top, and one of a monitor after the process's own words.
   pub cell_below : (l : Location) (n : ℕ) (u : ResolvedType) (a : ℕ) → in_sight G l.owner ≡ true → InHead (scope G) u a → lies G xs l ≡ Some (n, u) → (n + a < top) ⊎ (G.own ≤ n + a)
   cell_below l n u a mine c h = by l.owner l.path h
     where
@@ -136,7 +136,7 @@ module _ (G : Ground) (xs : List Activation) (top : ℕ) (stack : Stacked G top 
       by o (ByIndex i ∷ p) own h = absurd (some_is_not_none (n, u) (sym h))
       by o (ByName x ∷ p) own h = own_cell o x p n u a own c h
 
-  -- Each is among the words that are in reach.
+  -- Each cell is among the words in reach.
   pub cell_inside : (l : Location) (n : ℕ) (u : ResolvedType) (a : ℕ) → in_sight G l.owner ≡ true → InHead (scope G) u a → lies G xs l ≡ Some (n, u) → n + a < whole G
   cell_inside l n u a mine c h = by l.owner l.path mine h
     where
@@ -150,7 +150,7 @@ module _ (G : Ground) (xs : List Activation) (top : ℕ) (stack : Stacked G top 
           let S = monitor_seen G z m in
           omega (arith, M.place, M.fits, head_inside (scope G) u a c, S.0.inside z M.system M.is, S.1)
 
-  -- So is a part of any type, or it has no words and lies behind them.
+  -- A part of any type is also among them, or it has no words and lies after them.
   pub part_below : (l : Location) (n : ℕ) (u : ResolvedType) → in_sight G l.owner ≡ true → lies G xs l ≡ Some (n, u) → n ≤ whole G
   part_below l n u mine h = by l.owner l.path mine h
     where
@@ -203,7 +203,7 @@ module _ (G : Ground) (xs : List Activation) (top : ℕ) (stack : Stacked G top 
               blocks (inl s) = omega (arith, s, M.place, r.6, M.fits, below, r.5, e)
               blocks (inr s) = omega (arith, s, M.place, r.6, M.fits, below, r.5, e)
 
-  -- Where rights lie.
+  -- The places of rights.
   pub own_right_below : (n : ℕ) → OwnRight G n → (n < top) ⊎ (G.own ≤ n)
   own_right_below n (inl r) = inl (omega (arith, r.2, bottom_below top xs stack.stack r.0 r.1))
   own_right_below n (inr r) = inr (omega (arith, r.6))

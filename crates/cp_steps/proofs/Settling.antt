@@ -38,7 +38,7 @@ use Rattle.cp_steps.proofs.Given.{KeepsGiven, all_kept, rights_kept}
 use Rattle.std.proofs.lemmas.Bool.{true≢false}
 use Rattle.cp_model.specs.CallSteps.{is_initialised}
 
--- Where a parameter of the component is stored.
+-- The location at which a parameter of the component is stored.
 abbrev pub stored_at : Location → Name → Location
 stored_at at x = under at (ByName x ∷ [])
 
@@ -87,11 +87,11 @@ module _ (G : Ground) (xs : List Activation) (top : ℕ) (stack : Stacked G top 
   right_lies_not : (p : Name × Variable) → IsIn p (declarations (scope G) s.parameters) → is_component p.1.type ≡ true → lies G xs (stored_at at p.0) ≡ None
   right_lies_not p i component = right_no_variable G xs at s c p.0 L.there (right_is_no_member (scope G) s p distinct i component)
 
-  -- Its rights come behind its mark.
+  -- The rights of the component come after its mark.
   right_in_head : (p : Name × Variable) (k : ℕ) → right (scope G) s p.0 ≡ Some (k, p.1) → IsRightWord G s k
   right_in_head p k h = let w = right_within 1 (rights (scope G) s) p.0 k p.1 h in (w.0, omega (arith, w.1))
 
-  -- An address that holds what lives is that of a parameter, or outside.
+  -- An address in use is that of a parameter, or outside the parameters.
   abbrev Around : ℕ → Type 0
   Around i =
       ((p : Name × Variable) × (k : ℕ) × IsIn p (declarations (scope G) s.parameters) × Offset (scope G) s p k × (i ≡ c + k))
@@ -184,7 +184,7 @@ module _ (G : Ground) (xs : List Activation) (top : ℕ) (stack : Stacked G top 
           (subst (λ l. RightMeans G p.1.type (after l) (n + m) (word new (n + m))) (sym (λ i. stored_at (same i) (found.0 i)))
           (subst (λ z. RightMeans G p.1.type (after (stored_at at p.0)) z (word new z)) (sym e) (S.rights p k there' h.0 h.1)))
 
-  -- The component has its rights, and each other one keeps those that it had.
+  -- The component has its rights, and each other component keeps its own.
   pub has_settled : HasRights G after at s
   has_settled m x v r none =
       let i = of_filter (λ d. is_component d.1.type) (declarations (scope G) s.parameters) (x, v) (right_is 1 (rights (scope G) s) x m v r).2 in

@@ -39,7 +39,7 @@ block_started g s plan base ws S room zeros = record {
   heads = λ x path m i r inner e sort h. S.heads base ws room x path m i r inner zeros e sort h;
 }
 
--- It still has them where its words are the same.
+-- The component still has its start values if its words are the same.
 block_kept : (g : GlobalScope) (s : System) (base : ℕ) (ws us : List ℤ) → BlockStarts g s base ws → ((i : ℕ) → i < component_words g s → word us (base + i) ≡ word ws (base + i))
     → BlockStarts g s base us
 block_kept g s base ws us B same = record {
@@ -60,7 +60,7 @@ module _ (program : Program) (setup : Setup) (F : StandsFor program setup) where
   abbrev Stands : ℕ → Type 0
   Stands m = MonitorStands program F.texts setup m
 
-  -- The first k blocks are started, and the others are 0.
+  -- The blocks of the first `k` monitors have their start values, and the others are 0.
   record Until (k : ℕ) (ws : List ℤ) : Type 0 where
     count : length ws ≡ program.shared
     done : (m : ℕ) → 1 ≤ m → m ≤ k → (M : Stands m) → BlockStarts g M.system M.row.start ws

@@ -60,7 +60,7 @@ module _ (G : Ground) (o : PrivateState) where
 -- ---- what lies somewhere
 
 module _ (G : Ground) (xs : List Activation) (top : ℕ) (stack : Stacked G top xs) where
-  -- A spared word is none of a variable in reach.
+  -- A spared word belongs to no variable in reach.
   pub part_spared : (l : Location) (n : ℕ) (u : ResolvedType) → lies G xs l ≡ Some (n, u) → (i : ℕ) → IsSpared G i → (i < n) ⊎ (n + words (scope G) u ≤ i)
   part_spared l n u h i spared = by l.owner l.path h
     where

@@ -1,7 +1,9 @@
--- Each step changes no words but the process's own and those of monitors, or starts another process.
+-- Each step changes no words but the process's own and those of monitors, or starts another
+-- process.
 --
--- All tasks and statements are gone through once more, as in `Deciding`: of each operation it is asked only where it writes. A place
--- is one where the meaning's variable lies, and what is passed lies behind the running activation.
+-- This goes through all tasks and statements once more, as in `Deciding`, but looks only at where
+-- each operation writes. Each place that is written is one where the meaning's variable lies, and
+-- what is passed lies after the running activation.
 use Rattle.std.proofs.Common.{◌≡◌, ℕ, ◌+◌, ℤ, List, [], ◌∷◌, Bool, true, false, Option, Some, None, refl, ap, subst, ◌∙◌, arith}
 use Rattle.std.specs.Prelude.{if◌then◌else◌}
 use Rattle.cp_model.specs.Integers.{same_integer}
@@ -66,7 +68,7 @@ module _ (G : Ground) (s : State) (w : Outside) (before : List ℕ) (o : Private
     (around : Around G s w) (reaches : Reaches G s) (K : AroundAll G s w) where
   -- ---- calls
 
-  -- What is called has its words behind the running activation.
+  -- The callee has its words after the running activation.
   call_spared : (i : Task) (k : List Task) (N : Now G s w before o i k) (call : Call) (back : Back) (kept : ℕ) (c : Callee) (L : Knowns) (es : a.Expressions) (at from last low high : ℕ)
       → (C : sites.Runs (site G N.on.running) (RoutineOf (system_of_callee N.on.running.env c.of) c.routine) kept call)
       → ArgumentsFor (site G N.on.running) L (parameters (site G N.on.running) c) es call.arguments at from last low high → at ≡ first_parameter c

@@ -1,4 +1,5 @@
--- The `init` of a class or a monitor, as the text has it, changes no words but the process's own and those of monitors.
+-- The `init` of a class or a monitor, as written in the text, changes no words but the process's
+-- own and those of monitors.
 use Rattle.std.proofs.Common.{◌≡◌, ℕ, ◌+◌, ◌≤◌, List, ◌∷◌, false, Some, refl, ap, sym, subst, ◌∙◌, arith, length}
 use Rattle.cp_model.specs.Abstract as a
 use Rattle.cp_model.specs.Abstract.{Class, Monitor, Name, Sort, System}

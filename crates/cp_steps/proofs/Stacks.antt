@@ -1,4 +1,4 @@
--- Activations lie one behind another, and all behind the component of the process.
+-- Activations lie one after another, and all after the component of the process.
 use Rattle.std.proofs.Common.{◌≡◌, ◌⊎◌, inl, inr, ℕ, ◌+◌, ◌≤◌, ℤ, List, [], ◌∷◌, length, Bool, true, false, Option, Some, None, refl, ap, sym, subst, ◌∙◌, arith}
 use Rattle.std.specs.Prelude.{if◌then◌else◌, nat_eq}
 use Rattle.std.proofs.lemmas.Bool.{eqb-true, true≢false}
@@ -17,7 +17,8 @@ use Rattle.cp_steps.proofs.Finding.{some_is_not_none}
 use Rattle.cp_steps.proofs.Layouts.{same_some}
 use Rattle.cp_model.specs.Locations.{OfMonitor}
 
--- The activations lie below `top`, each behind the next one, and all behind the component.
+-- The activations lie below `top`, each after the next one in the list, and all after the
+-- component.
 abbrev pub Stack : Ground → ℕ → List Activation → Type 0
 Stack G top [] = (s : System) × (system_of_process G.setup G.p ≡ Some s) × (component_words (scope G) s ≤ top)
 Stack G top (x ∷ xs) = (x.base + activation_words (scope G) x.routine ≤ top) × Stack G x.base xs
@@ -27,7 +28,7 @@ pub process_of_stack : (G : Ground) (top : ℕ) (xs : List Activation) → Stack
 process_of_stack G top [] h = (h.0, h.1)
 process_of_stack G top (x ∷ xs) h = process_of_stack G x.base xs h.1
 
--- They lie among the process's own words.
+-- The activations lie among the process's own words.
 pub record Stacked (G : Ground) (top : ℕ) (xs : List Activation) : Type 0 where
   pub stack : Stack G top xs
   pub fits : top ≤ G.own
@@ -80,7 +81,7 @@ stacked G temps limit K R [] place low (EndBody gate ∷ k) gl w h = absurd h
 
 -- ---- look-ups of activations
 
--- An activation that is found lies below the top, and behind the component.
+-- An activation that is found lies below the top and after the component.
 pub found_inside : (G : Ground) (top d : ℕ) (xs : List Activation) (x : Activation) → Stack G top xs → activation_at d xs ≡ Some x
     → (x.base + activation_words (scope G) x.routine ≤ top) × ((s : System) → system_of_process G.setup G.p ≡ Some s → component_words (scope G) s ≤ x.base)
 found_inside G top d [] x h e = absurd (some_is_not_none x (sym e))
@@ -99,7 +100,7 @@ found_inside G top d (y ∷ xs) x h e = by (nat_eq d (length xs)) e (found_insid
         (h.0, bottom y.base xs h.1)
     by false e go = (omega (arith, (go e).0, h.0), (go e).1)
 
--- Two activations are the same one, or one lies behind the other.
+-- Two activations are the same, or one lies after the other.
 pub found_apart : (G : Ground) (top d c : ℕ) (xs : List Activation) (x y : Activation) → Stack G top xs → activation_at d xs ≡ Some x → activation_at c xs ≡ Some y
     → (d ≡ c) ⊎ ((x.base + activation_words (scope G) x.routine ≤ y.base) ⊎ (y.base + activation_words (scope G) y.routine ≤ x.base))
 found_apart G top d c [] x y h e f = absurd (some_is_not_none x (sym e))
@@ -125,7 +126,7 @@ monitor_seen G m h = by G.sight G.monitors_lie h
     by OwnWords lie h = absurd (true≢false (sym h))
     by AllWords lie h = (lie, refl)
 
--- With all words in reach, where they lie is known.
+-- With all words in reach, the places of the monitors are known.
 pub all_lie : (G : Ground) → G.sight ≡ AllWords → MonitorsLie G.program G.setup
 all_lie G all = (monitor_seen G 0 (ap (λ v. sees v G.p (OfMonitor 0)) all)).0
 

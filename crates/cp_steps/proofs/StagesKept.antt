@@ -1,4 +1,5 @@
--- The kernel's stages are those of the statuses, also after one of them was set, and after a process was made ready.
+-- The kernel's stages are those of the statuses, even after one of them is set and after a process
+-- is made ready.
 use Rattle.std.proofs.Common.{◌≡◌, ℕ, zero, suc, ◌-◌, ◌≤◌, List, [], ◌∷◌, length, Bool, true, false, refl, ap, sym, subst, ◌∙◌, arith}
 use Rattle.std.specs.Prelude.{get_or, if◌then◌else◌, nat_eq, slice_set}
 use Rattle.std.proofs.lemmas.Bool.{eqb-true, eq-eqb, true≢false}
@@ -37,7 +38,7 @@ stage_set G gs f (suc i) x g low means all (suc n) one high =
     by false e =
         subst (StageMeans G (f (suc n))) (stage_is gs n ∙ sym (get_or-set_other gs i n g Begun (λ h. true≢false (sym (eq-eqb (suc i) (suc n) (omega (arith, h))) ∙ e)))) (all (suc n) one high)
 
--- Who asks or is delayed is made ready, in both.
+-- A process that asks for a gate or is delayed is made ready, in both.
 pub ready_means : (G : Ground) (x : Status) (g : Stage) → StageMeans G x g → StageMeans G (made_ready x) (resumed g)
 ready_means G status.Unstarted Unstarted h = tt
 ready_means G status.Fresh Fresh h = tt

@@ -1,4 +1,5 @@
--- Whole private steps of the standard procedures but `continue`. Outside all monitors `delay` does nothing.
+-- Whole private steps of the standard procedures except `continue`. Outside all monitors, `delay`
+-- does nothing.
 use Rattle.std.proofs.Common.{Bool, Err, List, None, Ok, Option, Result, Some, [], ap, false, pos, refl, subst, sym, true, ℕ, ℤ, ◌++◌, ◌∙◌, ◌∷◌, ◌≡◌}
 use Rattle.std.specs.Prelude.{codes, if◌then◌else◌, int_le, length, nat_lt}
 use Rattle.std.specs.Str.{bytes_eq}
@@ -50,7 +51,7 @@ use Rattle.cp_model.proofs.QuietSteps.{Quietly}
 use Rattle.cp_steps.specs.Values.{place_of}
 use Rattle.cp_code.specs.Starts.{word}
 
--- What runs on does so whatever was displayed, taken and waited for.
+-- The process runs on, whatever it displayed, took from the input or waited for.
 abbrev runs_beside : (G : Ground) (store : Store) (o : PrivateState) (k : List Task) (x : Activity) (output : List ℕ) (consumed : ℕ)
     → RunsOn G store o k → RunsOn G store (record o { activity = x; output = output; consumed = consumed }) k
 runs_beside G store o k x output consumed R = record {
@@ -69,7 +70,7 @@ runs_beside G store o k x output consumed R = record {
   given = R.given;
 }
 
--- Where a state is reached that the process runs on in.
+-- The private state is right after the step, if the process runs on in the state that is reached.
 pub arrived : (G : Ground) (before : List ℕ) (u : State) (after : PrivateState) → after.number ≡ G.p → after.input ≡ G.setup.inputs G.p → after.consumed ≡ u.consumed G.p
     → u.transcript G.p ≡ before ++ after.output → private_status (u.status G.p) ≡ status_of after.activity → RunsOn G u.store after (u.continuation G.p)
     → PartOf G u before after
@@ -230,7 +231,7 @@ module _ (G : Ground) (s : State) (w : Outside) (before : List ℕ) (o : Private
       by (Gives v) (Err f) g = absurd g
       by (Fault i) (Ok m) g = absurd g
 
-  -- Where nothing happens.
+  -- If nothing happens.
   pub rests : (i : Task) (l : List Task) → Now G s w before o i l → PartOf G (after_step s G.p (own_step (configuration s G.p))) before o
   rests i l N =
       went G s before o N.part s.store o (s.continuation G.p) (subst (RunsOn G s.store o) (sym N.left) N.on)

@@ -1,4 +1,5 @@
--- When a machine is in a state, told part by part, with the program, what it stands for and counts of words that rounds leave alone.
+-- When a machine is in a state, part by part, given the program, what it stands for and the numbers
+-- of words, which rounds don't change.
 use Rattle.std.specs.Prelude.{◌≡◌, ◌≤◌, ◌-◌, ℕ, List, Some, length, slice_get}
 use Rattle.cp_model.specs.Invariant.{Invariant}
 use Rattle.cp_model.specs.Parts.{HasNotBegun}
@@ -13,7 +14,8 @@ use Rattle.cp_steps.specs.Machines.{Machine, transcript_of}
 use Rattle.cp_steps.specs.PartOf.{PartOf}
 use Rattle.cp_steps.specs.PrivateStates.{PrivateState}
 
--- The private state of p, which has so many words, and the beginning of its transcript. Before it has begun it stands at its start.
+-- The private state of `p`, which has `own` words of its own, and the beginning of its transcript.
+-- Before the process has begun, it is ready to begin.
 pub record PartStands (program : Program) (setup : Setup) (F : StandsFor program setup) (own p : ℕ) (s : State) (k : Kernel) (before : List ℕ) (o : PrivateState) : Type 0 where
   pub part : PartOf (ground_of program setup F p own) s before o
   pub begins : HasNotBegun (s.status p) → Begins (ground_of program setup F p own) s k o

@@ -1,4 +1,5 @@
--- What the store of the start holds of a process or a monitor: the start value at each leaf of its members, and nothing elsewhere.
+-- What the store of the start holds for a process or a monitor: the start value at each leaf of its
+-- members, and nothing elsewhere.
 use Rattle.std.proofs.Common.{◌≡◌, ◌⊎◌, inl, inr, ℕ, zero, suc, Bool, true, false, List, [], ◌∷◌, map, Some, refl, ap, sym, subst, ◌∙◌, arith}
 use Rattle.std.specs.Prelude.{filter, if◌then◌else◌}
 use Rattle.std.proofs.lemmas.Bool.{true≢false}
@@ -82,7 +83,7 @@ initial_owns setup typed = record {
 
 -- ---- the others
 
--- The component that stands there among those of its sort has that number.
+-- The component with the number `k` among those of its sort has `k` such components before it.
 numbered : (z : Sort) (ds : List (Name × Variable)) (k : ℕ) (s : System) → Distinct ds → component_at (filter (λ v. is_component_of z v.1.type) ds) k ≡ Some s
     → (d : Name × Variable) × IsIn d ds × (is_component_of z d.1.type ≡ true) × (component_in d.1.type ≡ Some s) × (count_before z d.0 ds ≡ k)
 numbered z [] k s distinct' h = absurd (some_is_not_none s (sym h))
@@ -102,7 +103,7 @@ numbered z (e ∷ ds) k s distinct' h = by (is_component_of z e.1.type) refl k h
     by true is (suc j) h go = let r = go j h in (r.0, inr r.1, r.2, r.3, count_later r.0 true is r.1 ∙ ap suc r.4)
     by false is j h go = let r = go j h in (r.0, inr r.1, r.2, r.3, count_later r.0 false is r.1 ∙ r.4)
 
--- The number of a component of a sort is told by its owner.
+-- The number of a component of a sort is determined by its owner.
 pub record IsNumbered (setup : Setup) (typed : WellTyped setup) (z : Sort) (k : ℕ) (o : Owner) : Type 0 where
   pub other : o ≡ OfProcess 1 → ⊥
   pub one : (x : Name) (y : Sort) → IsOwnedBy setup typed y x o → (y ≡ z) × (count_before z x (initial_variables setup) ≡ k)

@@ -1,4 +1,4 @@
--- An action that starts no process is the same whatever processes were started.
+-- An action that starts no process is the same whatever processes have been started.
 use Rattle.std.proofs.Common.{◌≡◌, ℕ, List, Bool, false, Option, Some, None, refl}
 use Rattle.std.proofs.lemmas.Bool.{true≢false}
 use Rattle.cp_model.specs.Abstract as a

@@ -242,7 +242,7 @@ not_fresh e = true≢false (ap is_unstarted e)
     is_unstarted stage.Unstarted = true
     is_unstarted _ = false
 
--- Each other one has not begun.
+-- Each other process has not begun.
 module _ (program : Program) (setup : Setup) (F : StandsFor program setup) (k : ℕ) (P : ProcessStands program F.texts setup (suc (suc k))) where
   unstarted : (start setup).status (suc (suc k)) ≡ stage.Unstarted
   unstarted = with_at_there 1 (suc (suc k)) Ready (λ q. Unstarted) (differ 1 (suc (suc k)) (λ e. absurd (omega (arith, e))))

@@ -1,4 +1,4 @@
--- What an action that starts no process leaves to the kernel starts none.
+-- If an action starts no process, neither does what it leaves to the kernel.
 use Rattle.std.proofs.Common.{◌≡◌, ℕ, ℤ, List, [], ◌∷◌, Bool, true, false, Option, Some, None}
 use Rattle.std.specs.Prelude.{codes, if◌then◌else◌}
 use Rattle.std.specs.Str.{bytes_eq}

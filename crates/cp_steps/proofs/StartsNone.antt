@@ -21,7 +21,7 @@ task_starts i k none = by (call_in_task (a.Literal 0) i) (procedure_call i)
     by None (Some v) = refl
     by None None = none
 
--- A call that comes first starts none.
+-- If a call comes first, it starts no process.
 pub call_starts : (i : Task) (k : List Task) (f : UserCall × Task) → call_in_task (a.Literal 0) i ≡ Some f → starts (action (i ∷ k)) ≡ false
 call_starts i k f found = λ z. starts (elim (found z) as (λ x. Action) [
   | Some y ↦ Calls y.0 (i ∷ k)

@@ -1,4 +1,5 @@
--- The first call of a statement is the operation at its place, and its value leads on to the next; or its own operation stands there.
+-- The first call of a statement is the operation at its place, and its value leads to the next
+-- call. Without a call, the statement's own operation is there.
 use Rattle.std.proofs.Common.{ℕ, Option, Some, refl, ap, subst, ◌∙◌, arith}
 use Rattle.cp_model.specs.Abstract as a
 use Rattle.cp_model.specs.Calls.{first_call, in_context, or_else}
@@ -15,7 +16,7 @@ use Rattle.cp_steps.proofs.AssignCalls.{StatementAdvances, assigns_next}
 use Rattle.cp_steps.proofs.PerformCalls.{performs_next}
 use Rattle.cp_steps.proofs.InitCalls.{inits_next}
 
--- Where the statement's own operation stands.
+-- The place of the statement's own operation.
 abbrev pub own_place : (site : Site) (K : Knowns) (s : a.Statement) (place next low : ℕ) → CodeFor site K s place next low → ℕ
 own_place site K (a.Assign d e) place next low h = h.0
 own_place site K (a.Perform d es) place next low h = h.0
@@ -112,7 +113,7 @@ abbrev pub IsFunction : Option Operation → Type 0
 IsFunction (Some (op.Function call into next)) = Unit {0}
 IsFunction _ = ⊥
 
--- It is no call of a function.
+-- The statement's own operation is no call of a function.
 pub own_no_function : (site : Site) (K : Knowns) (s : a.Statement) (place next low : ℕ) (h : CodeFor site K s place next low) → IsTask s
     → IsFunction (operation_at site.program (own_place site K s place next low h)) → ⊥
 own_no_function site K (a.Assign d e) place next low h t f = assigns d e h.1 h.3 (subst IsFunction h.2 f)

@@ -31,7 +31,7 @@ use Rattle.cp_model.specs.Gates.{enter, made_ready, pass_to}
 use Rattle.cp_model.specs.CallSteps.{entering, leaving}
 use Rattle.std.specs.Prelude.{Option, None}
 
--- What is said of tasks that stand in an environment.
+-- A claim about tasks that have an environment.
 abbrev pub IfPlaced : Task → Type 0 → Type 0
 IfPlaced (EndBody gate) A = Unit {0}
 IfPlaced EndProcess A = Unit {0}
@@ -45,7 +45,8 @@ pub record Around (G : Ground) (s : State) (w : Outside) : Type 0 where
   pub clock : w.clock ≡ realtime (clock_of G s)
   pub own : w.own ≡ G.own
 
--- All words are in reach, and what is read of gates and stages is the kernel's. 0 is no monitor.
+-- All words are in reach, and what is read of gates and stages is the kernel's. The number 0 is no
+-- monitor.
 pub record AroundAll (G : Ground) (s : State) (w : Outside) : Type 0 where
   pub sight : G.sight ≡ AllWords
   pub starts : (m : ℕ) → monitor_start G.program m ≤ G.program.shared
@@ -58,7 +59,7 @@ pub beyond : (G : Ground) (s : State) (w : Outside) → Around G s w → (top i 
 beyond G s w A top i (inl h) = inl h
 beyond G s w A top i (inr h) = inr (omega (arith, A.own, h))
 
--- A process is ready, and this is the task in front.
+-- The process is ready, and `i` is its first task.
 pub record Now (G : Ground) (s : State) (w : Outside) (before : List ℕ) (o : PrivateState) (i : Task) (k : List Task) : Type 0 where
   pub part : PartOf G s before o
   pub on : RunsOn G s.store o (i ∷ k)
@@ -99,7 +100,7 @@ pub record Quiet (o after : PrivateState) : Type 0 where
   pub activity : after.activity ≡ o.activity
 
 module _ (G : Ground) (s : State) (before : List ℕ) (o : PrivateState) (part : PartOf G s before o) where
-  -- It goes on.
+  -- The process continues.
   pub went : (store : Store) (after : PrivateState) (j : List Task) → RunsOn G store after j → Quiet o after
       → PartOf G (after_step s G.p (own_step (record (configuration s G.p) { store = store; continuation = j }))) before after
   went store after j R q = record {
@@ -113,7 +114,7 @@ module _ (G : Ground) (s : State) (before : List ℕ) (o : PrivateState) (part :
     runs_on = λ goes. subst (RunsOn G store after) (sym (with_at_here G.p j s.continuation)) R;
   }
 
-  -- It stops with a fault. Words that are of no use any more may have changed.
+  -- The process stops with a fault. Words that are no longer in use may have changed.
   pub stopped : (words : List ℤ) (n : ℕ) (f : fault.Fault) → n ≡ fault_number f → length words ≡ whole G
       → DataMeans G (activations o.base o.frames (s.continuation G.p)) (in_sight G) s.store words
       → PartOf G (after_step s G.p (Fault n)) before (record o { words = words; activity = machine.Faulted f })
@@ -128,7 +129,7 @@ module _ (G : Ground) (s : State) (before : List ℕ) (o : PrivateState) (part :
     runs_on = λ goes. absurd goes;
   }
 
--- A gate that is passed on is no matter of a private state.
+-- A private state doesn't depend on whether a gate is passed on.
 pub gate_passed : (G : Ground) (before : List ℕ) (after : PrivateState) (m : ℕ) (rs : List ℕ) (u : State) → PartOf G u before after → PartOf G (pass_to m rs u) before after
 gate_passed G before after m [] u P = record {
   number = P.number;
@@ -159,7 +160,8 @@ pub gate_left : (G : Ground) (s : State) (before : List ℕ) (gate : Option ℕ)
 gate_left G s before None after config P = P
 gate_left G s before (Some m) after config P = gate_passed G before after m (s.gates m).askers (with_configuration s G.p config) P
 
--- A gate that is entered, or asked for, is none either: who asks runs on in private.
+-- Nor does it depend on whether a gate is entered or asked for. A process that asks runs on in
+-- private.
 pub gate_entered : (G : Ground) (s : State) (before : List ℕ) (gate : Option ℕ) (after : PrivateState) (config : Configuration) → s.status G.p ≡ Ready
     → PartOf G (after_step s G.p (own_step config)) before after → PartOf G (after_step s G.p (Gives (config, entering gate))) before after
 gate_entered G s before None after config ready P = P

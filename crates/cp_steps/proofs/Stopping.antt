@@ -1,4 +1,5 @@
--- Where a machine's step stops: a fault changes no register and no frame, and only `End` ends a process.
+-- How a machine's step stops: a fault changes no register and no frame, and only `End` ends a
+-- process.
 use Rattle.std.proofs.Common.{◌≡◌, ℕ, ℤ, pos, List, [], ◌∷◌, Bool, true, false, Option, Some, None, Result, Ok, Err, refl, sym, subst, ◌+◌}
 use Rattle.std.specs.Prelude.{if◌then◌else◌, length, nat_lt, int_le, not, slice_get}
 use Rattle.cp_model.specs.Integers.{same_integer}
@@ -22,7 +23,7 @@ use Rattle.cp_steps.specs.Values.{View, place_of, value_of}
 use Rattle.cp_steps.specs.PartOf.{GoesOn}
 use Rattle.cp_steps.proofs.Effects.{HasFaulted, passed_words}
 
--- A step goes on, or it faults where it stands, or it ends the process there.
+-- A step continues, faults where it is, or ends the process there.
 pub data Stops (o : PrivateState) (y : Operation) (after : PrivateState) : Type 0 where
   On : GoesOn after.activity → Stops o y after
   Fails : HasFaulted after.activity → after.base ≡ o.base → after.frames ≡ o.frames → Stops o y after

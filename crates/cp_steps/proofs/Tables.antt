@@ -1,4 +1,4 @@
--- Look-ups in a list of which one element was set, or that was mapped.
+-- Look-ups in a list of which one element is set, or that is mapped.
 use Rattle.std.proofs.Common.{◌≡◌, ◌<◌, ℕ, zero, suc, List, [], ◌∷◌, length, map, Some, refl, ap, sym, arith}
 use Rattle.std.specs.Prelude.{slice_get, slice_set}
 use Rattle.cp_steps.proofs.Finding.{some_is_not_none}

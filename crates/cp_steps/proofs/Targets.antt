@@ -1,4 +1,5 @@
--- The component that a call goes to: where it begins, whether it was initialised, and which gate is entered.
+-- The component that a call goes to: where it begins, whether it is initialised, and which gate is
+-- entered.
 use Rattle.std.proofs.Common.{◌≡◌, ◌⊎◌, inl, inr, ℕ, ◌+◌, ◌≤◌, ◌<◌, ℤ, pos, List, [], ◌∷◌, Bool, true, false, Option, Some, None, refl, ap, sym, subst, ◌∙◌, arith}
 use Rattle.std.specs.Prelude.{if◌then◌else◌, nat_eq, not, ◌+ℤ◌}
 use Rattle.std.proofs.lemmas.Bool.{eq-eqb, lt-ltb, true≢false}
@@ -42,7 +43,7 @@ use Rattle.cp_steps.proofs.Separate.{cell_below, cell_inside, cell_no_own_right,
 use Rattle.cp_steps.proofs.Stepping.{AroundAll, Now}
 use Rattle.cp_steps.proofs.Stacks.{monitor_seen}
 
--- The mark of a class tells whether it was initialised.
+-- The mark of a class shows whether it is initialised.
 pub mark_is : (G : Ground) (xs : List Activation) (store : Store) (words : List ℤ) → DataMeans G xs (in_sight G) store words
     → (l : Location) (n : ℕ) (s : System) → in_sight G l.owner ≡ true → s.sort ≡ Class → lies G [] l ≡ Some (n, component_type G s)
     → not (same_integer (word words n) (pos 0)) ≡ is_initialised (store l)

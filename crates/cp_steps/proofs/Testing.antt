@@ -33,7 +33,7 @@ use Rattle.cp_steps.specs.Steps.{act}
 use Rattle.cp_model.specs.Expressions.{value}
 
 module _ (G : Ground) (s : State) (w : Outside) (before : List ℕ) (o : PrivateState) (i : Task) (k : List Task) (N : Now G s w before o i k) where
-  -- Where the two outcomes of a test lead.
+  -- What the two outcomes of a test lead to.
   pub tested : (b : BaseType) (yes' no' : ℕ) (j l : List Task) → RunsOn G s.store (go_to yes' o) j → RunsOn G s.store (go_to no' o) l
       → (O : Outcome TypedValue) (r : Result ℤ fault.Fault) → Agrees b O r
       → PartOf G (after_step s G.p (and_then O (λ v. own_step (with_continuation (configuration s G.p) (if is_true v then j else l))))) before

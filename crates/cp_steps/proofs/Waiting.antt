@@ -1,4 +1,4 @@
--- Where the parameters of a process wait for it: in shared words that are no monitor's.
+-- Where the parameters of a process wait for it: in shared words that belong to no monitor.
 use Rattle.std.proofs.Common.{◌≡◌, inl, inr, ℕ, List, [], Bool, true, false, Some, None, refl, ap, sym, subst, ◌∙◌, arith}
 use Rattle.cp_model.specs.Abstract as a
 use Rattle.cp_model.specs.Abstract.{Name, Process, Sort, System}

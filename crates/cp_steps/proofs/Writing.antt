@@ -1,4 +1,4 @@
--- A value that is stored in a simple variable and in its word.
+-- Storing a value in a simple variable and in its word.
 use Rattle.std.proofs.Common.{◌≡◌, ◌≢◌, ◌⊎◌, inl, inr, ℕ, ◌<◌, ℤ, pos, negsuc, List, [], ◌∷◌, length, Bool, true, false, Option, Some, refl, ap, sym, subst, ◌∙◌}
 use Rattle.std.specs.Prelude.{◌&&◌, if◌then◌else◌, nat_eq, slice_set}
 use Rattle.std.proofs.lemmas.Bool.{eq-eqb, eqb-true, true≢false}

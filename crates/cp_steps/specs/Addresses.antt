@@ -1,4 +1,5 @@
--- Where the variables of a process lie: the addresses of locations among its words and the shared ones behind them.
+-- Where the variables of a process lie: the addresses of locations among its own words and the
+-- shared words after them.
 use Rattle.std.specs.Prelude.{◌≡◌, ◌≤◌, ◌⊎◌, ℕ, ◌+◌, ℤ, Bool, true, pos, ◌+ℤ◌, if◌then◌else◌, List, [], ◌∷◌, Option, Some, None, length, nat_eq}
 use Rattle.cp_model.specs.Abstract.{Class, Monitor, Name, Process, Routine, Sort, System}
 use Rattle.cp_model.specs.Types.{ComponentOf, GlobalScope, ResolvedType}
@@ -18,7 +19,8 @@ use Rattle.cp_steps.specs.Passing.{monitor_start, monitor_word}
 
 -- ---- What is in reach
 
--- A step has the process's own words in reach, or those of all monitors as well, which follow behind them.
+-- A step has either the process's own words in reach, or also those of all monitors, which follow
+-- them.
 pub data Sight : Type 0 where
   OwnWords AllWords : Sight
 
@@ -32,7 +34,7 @@ abbrev pub words_seen : Sight → Program → ℕ → ℕ
 words_seen OwnWords program own = own
 words_seen AllWords program own = own + program.shared
 
--- The words of each monitor are among the shared ones, and those of any two are apart.
+-- The words of each monitor lie among the shared ones, and those of two monitors never overlap.
 pub record MonitorsLie (program : Program) (setup : Setup) : Type 0 where
   pub inside : (m : ℕ) (s : System) → system_of_monitor setup m ≡ Some s
       → monitor_start program m + component_words (globals setup.tree) s ≤ program.shared
@@ -44,7 +46,8 @@ abbrev pub WhereMonitorsLie : Sight → Program → Setup → Type 0
 WhereMonitorsLie OwnWords program setup = Unit {0}
 WhereMonitorsLie AllWords program setup = MonitorsLie program setup
 
--- The program and what its units are the code of, the text, the process, how many words are its own, and what is in reach.
+-- The program and the texts of its units, the setup, the process, the number of its own words, and
+-- what is in reach.
 pub record Ground : Type 0 where
   pub program : Program
   pub texts : List UnitText
@@ -65,7 +68,7 @@ whole G = words_seen G.sight G.program G.own
 
 -- ---- Activations
 
--- An activation: its first word, and its routine.
+-- An activation: its first word and its routine.
 pub record Activation : Type 0 where
   pub base : ℕ
   pub routine : Routine
@@ -74,7 +77,8 @@ abbrev pub activation_of : ℕ → Option Frame → List Activation → List Act
 activation_of base None xs = xs
 activation_of base (Some f) xs = record { base = base; routine = f.routine } ∷ xs
 
--- The activations of what is left to do, innermost first; the first one lies at `base`, the others where the frames say.
+-- The activations of what is left to do, the innermost one first. It begins at `base`, and the
+-- others where the frames say.
 abbrev pub activations : ℕ → List machine.Frame → List Task → List Activation
 activations base fs [] = []
 activations base fs (EndCall env gate ∷ k) = elim fs [
@@ -84,14 +88,15 @@ activations base fs (EndCall env gate ∷ k) = elim fs [
 activations base fs (EndBody gate ∷ k) = elim fs [ [] ↦ [] | f ∷ gs ↦ activations f.base gs k ]
 activations base fs (_ ∷ k) = activations base fs k
 
--- They are counted from the outermost.
+-- Activations are counted from the outermost one.
 abbrev pub activation_at : ℕ → List Activation → Option Activation
 activation_at d [] = None
 activation_at d (x ∷ xs) = if nat_eq d (length xs) then Some x else activation_at d xs
 
 -- ---- Addresses
 
--- A part of a parameter or variable. What a `var` parameter refers to lies elsewhere.
+-- Where a part of a parameter or variable lies. A `var` parameter has none, since it refers to a
+-- variable elsewhere.
 abbrev pub part_of_local : GlobalScope → Option (ℕ × Variable) → Path → Option Part
 part_of_local g None path = None
 part_of_local g (Some v) path = if v.1.by_reference then None else farther v.0 (part g v.1.type path)
@@ -117,7 +122,8 @@ part_at G xs o [] = None
 part_at G xs o (ByName x ∷ path) = part_of_owner G xs o x path
 part_at G xs o (ByIndex i ∷ path) = None
 
--- The address of a location that process p reaches, and its type. Its own words come first, then those of all monitors.
+-- The address and the type of a location that the process `G.p` reaches. Its own words come first,
+-- followed by those of all monitors.
 abbrev pub lies : Ground → List Activation → Location → Option Part
 lies G xs l = part_at G xs l.owner l.path
 
@@ -126,7 +132,8 @@ lies G xs l = part_at G xs l.owner l.path
 abbrev pub component_type : Ground → System → ResolvedType
 component_type G s = ComponentOf s (reported_members (scope G) s)
 
--- The component of a system type at a location has its first word there. No component lies in an activation.
+-- The component of type `s` at the location `at` begins at the word `n`. No component lies in an
+-- activation.
 pub data ComponentLies (G : Ground) (at : Location) (s : System) (n : ℕ) : Type 0 where
   ProcessLies : at ≡ root (OfProcess G.p) → system_of_process G.setup G.p ≡ Some s → n ≡ 0 → ComponentLies G at s n
   MonitorLies : (m : ℕ) → at ≡ root (OfMonitor m) → system_of_monitor G.setup m ≡ Some s
@@ -135,7 +142,7 @@ pub data ComponentLies (G : Ground) (at : Location) (s : System) (n : ℕ) : Typ
 
 -- ---- Rights
 
--- No monitor is 0.
+-- `m` is a monitor of type `s`, or 0, which is no monitor.
 abbrev pub IsMonitor : Ground → ℕ → System → Type 0
 IsMonitor G m s = (m ≡ 0) ⊎ (system_of_monitor G.setup m ≡ Some s)
 
@@ -147,7 +154,8 @@ RightOf G s Class Absent at n = n ≡ pos 0
 RightOf G s Process v at n = Unit {0}
 RightOf G s _ _ at n = ⊥
 
--- A right that was never set is that of the monitor 0, or of the class that lies at the right itself. Neither is ever initialised.
+-- A right that was never set is a right to monitor 0, or to a class at the place of the right
+-- itself. Neither is ever initialised.
 abbrev pub RightMeans : Ground → ResolvedType → Value → ℕ → ℤ → Type 0
 RightMeans G (ComponentOf s inner) v at n = RightOf G s s.sort v at n
 RightMeans G t v at n = Unit {0}
@@ -157,18 +165,18 @@ IsGivenTo Class (ClassRight j) = Unit {0}
 IsGivenTo Class _ = ⊥
 IsGivenTo _ _ = Unit {0}
 
--- Where it is a right to a class, it was given.
+-- If this is a right to a class, it has been given.
 abbrev pub IsGiven : ResolvedType → Value → Type 0
 IsGiven (ComponentOf s inner) v = IsGivenTo s.sort v
 IsGiven t v = Unit {0}
 
--- The component at the location has all its rights to classes.
+-- The component at the location has been given all its rights to classes.
 abbrev pub HasRights : Ground → Store → Location → System → Type 0
 HasRights G store at s =
     (m : ℕ) (x : Name) (v : Variable) → right (scope G) s x ≡ Some (m, v) → member (scope G) s x ≡ None
     → IsGiven v.type (store (under at (ByName x ∷ [])))
 
--- What is a class there has them.
+-- A class that begins at the word `n` has been given all its rights to classes.
 abbrev pub ClassHasRights : Ground → Store → ℕ → Type 0
 ClassHasRights G store n =
     (at : Location) (s : System) → s.sort ≡ Class → lies G [] at ≡ Some (n, component_type G s) → HasRights G store at s
@@ -177,8 +185,8 @@ abbrev pub AllHaveRights : Ground → Store → List ℕ → Type 0
 AllHaveRights G store [] = Unit {0}
 AllHaveRights G store (n ∷ ns) = ClassHasRights G store n × AllHaveRights G store ns
 
--- ---- What is seen
+-- ---- What is in sight
 
--- The same of the owners that pass the test.
+-- Where a location lies, if its owner passes the test `mine`.
 abbrev pub seen : (Owner → Bool) → Ground → List Activation → Location → Option Part
 seen mine G xs l = if mine l.owner then lies G xs l else None

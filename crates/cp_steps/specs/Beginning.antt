@@ -1,7 +1,8 @@
 -- A process before it begins: its private state, and the parameters that wait for it among the shared words.
 --
--- In the meaning a parameter is stored when the process is started, and its task is what is left to do. Here both come with the end
--- of the round. So what is said of a started process is said of the state that `begin_from` makes of it.
+-- In the meaning, the start of a process stores its parameters, and its task becomes what is left
+-- to do. Here both happen at the end of the round. So what is claimed of a started process is
+-- claimed of the private state that `begin_from` makes.
 use Rattle.std.specs.Prelude.{◌≡◌, ◌≤◌, ◌+◌, ◌-◌, [], length, slice_get, Some}
 use Rattle.cp_model.specs.Configurations as stage
 use Rattle.cp_model.specs.States.{State}
@@ -13,7 +14,7 @@ use Rattle.cp_steps.specs.Machines.{begin_from}
 use Rattle.cp_steps.specs.Addresses.{Ground, in_sight}
 use Rattle.cp_steps.specs.PartOf.{DataMeans, RunsOn}
 
--- o stands at the start of its body, with room for it.
+-- `o` is at the start of its body, and there is room for the body.
 pub record AtStart (G : Ground) (o : PrivateState) : Type 0 where
   pub row : code.Process
   pub there : slice_get G.program.processes (G.p - 1) ≡ Some row
@@ -31,7 +32,8 @@ pub record AtStart (G : Ground) (o : PrivateState) : Type 0 where
   pub temps_fit : unit.temps ≤ length o.temps
   pub frames_fit : unit.frames ≤ o.limit
 
--- An unstarted process has the start values. A fresh one will run as the meaning says once it has its parameters.
+-- The words of an unstarted process have their start values. A fresh process will run as the
+-- meaning says, once it has its parameters.
 pub record Begins (G : Ground) (s : State) (k : Kernel) (o : PrivateState) : Type 0 where
   pub activity_is : o.activity ≡ NotBegun
   pub at_start : AtStart G o

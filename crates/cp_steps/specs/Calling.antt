@@ -14,7 +14,7 @@ abbrev pub innermost : ℕ → ℕ → ℕ
 innermost zero held = held
 innermost (suc g) held = suc g
 
--- Where a call leads back: the place, and which temp of the caller takes a value.
+-- Where a call returns to: the place, and the temp of the caller that takes a value.
 pub record Back : Type 0 where
   pub place : ℕ
   pub into : ℕ
@@ -30,7 +30,7 @@ frame_of o c back = record {
   held = o.gate;
 }
 
--- The unit of the call runs in the component.
+-- The private state after the call, in which the unit `u` runs in the component `c`.
 abbrev pub enter : PrivateState → Called → CodeUnit → Call → Back → PrivateState
 enter o c u call back =
     record o {
@@ -42,21 +42,21 @@ enter o c u call back =
       frames = frame_of o c back ∷ o.frames;
     }
 
--- Own words, temps and a frame are left for the unit, and its component is there.
+-- There are enough own words and temps and a free frame for the unit, and its component exists.
 abbrev pub has_room : Outside → PrivateState → Call → CodeUnit → ℕ → Bool
 has_room w o call u component =
     nat_lt (length o.frames) o.limit
     && (nat_le (o.base + call.words + u.words) w.own
     && (nat_le (o.temp + call.temps + u.temps) (length o.temps) && nat_le component (length o.words)))
 
--- A unit that isn't there, or has no room, is not run.
+-- If the unit doesn't exist or has no room, nothing is done.
 abbrev pub with_unit : Program → Outside → PrivateState → Call → ℕ → (CodeUnit → Acting) → Acting
 with_unit program w o call component go = elim (slice_get program.units call.routine) [
   | None ↦ private_outcome o
   | Some u ↦ if has_room w o call u component then go u else private_outcome o
 ]
 
--- 0 is no monitor.
+-- The number 0 is no monitor.
 abbrev pub gate_effect : ℕ → (ℕ → Effect) → Effect
 gate_effect zero f = NoEffect
 gate_effect (suc g) f = f (suc g)
@@ -75,7 +75,7 @@ call_step program w o call back =
     (when_passed (pass_all w to to call.arguments o) (λ p.
     (enter (start_words to u p) c u call back, gate_effect c.gate Enters))))
 
--- Back in the caller.
+-- The private state after the return to the caller.
 abbrev pub leave : PrivateState → Frame → List Frame → PrivateState
 leave o f fs =
     record o {
@@ -87,7 +87,8 @@ leave o f fs =
       frames = fs;
     }
 
--- The routine of `o` returns, in the state `changed`. Where a function set no result, nothing is changed.
+-- The return of the routine that runs in `o`, where `changed` is the state to return with. If a
+-- function has set no result, it faults and changes nothing else.
 abbrev pub return_with : PrivateState → PrivateState → Frame → List Frame → Bool → Effect → Acting
 return_with o changed f fs false e = (leave changed f fs, e)
 return_with o changed f fs true e =
@@ -101,7 +102,7 @@ with_frame o (f ∷ fs) go = go f fs
 
 -- ---- Init
 
--- The arguments come behind the mark of the component.
+-- Moves the arguments to the words after the mark of the component.
 abbrev pub settle : PrivateState → ℕ → ℕ → ℕ → PrivateState
 settle o from to count = record o { words = paste (to + 1) (block o.words (from + 1) count) o.words }
 

@@ -1,4 +1,4 @@
--- When what a step of the machine leaves to the kernel is the effect of the meaning's step.
+-- When the effect that a step of the machine leaves to the kernel is that of the meaning's step.
 use Rattle.std.specs.Prelude.{◌≡◌, ◌≤◌, ◌-◌, ℕ, [], Some}
 use Rattle.cp_model.specs.Configurations as effect
 use Rattle.cp_model.specs.Configurations.{Effect, StepResult}
@@ -8,11 +8,12 @@ use Rattle.cp_steps.specs.Addresses.{Ground, lies}
 use Rattle.cp_steps.specs.Means.{queued}
 use Rattle.cp_steps.specs.PrivateStates as machine
 
--- A number from 1 to n.
+-- `i` is a number from 1 to `n`.
 abbrev pub IsNumber : ℕ → ℕ → Type 0
 IsNumber n i = (1 ≤ i) × (i ≤ n)
 
--- With so many monitors and processes, and so many words that are the process's own. A queue is told by its address.
+-- The two effects are the same, with valid numbers. A queue is given by its address, and the
+-- process has `own` words of its own.
 abbrev pub EffectMeans : Ground → ℕ → ℕ → ℕ → Effect → machine.Effect → Type 0
 EffectMeans G monitors processes own effect.Own machine.NoEffect = Unit {0}
 EffectMeans G monitors processes own effect.Ends machine.NoEffect = Unit {0}

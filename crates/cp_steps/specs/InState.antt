@@ -12,7 +12,7 @@ use Rattle.cp_steps.specs.Machines.{Machine, transcript_of}
 use Rattle.cp_steps.specs.PartOf.{PartOf}
 use Rattle.cp_steps.specs.PrivateStates.{PrivateState}
 
--- o is the private state of process p, and will be when it begins.
+-- `o` is the private state of process `p`, and it is ready to begin if `p` hasn't begun.
 pub record PartStands (m : Machine) (setup : Setup) (F : StandsFor m.program setup) (s : State) (p : ℕ) (o : PrivateState) : Type 0 where
   pub part : PartOf (ground_of m.program setup F p (length o.words)) s (transcript_of m.transcripts p) o
   pub begins : HasNotBegun (s.status p) → Begins (ground_of m.program setup F p (length o.words)) s m.kernel o
@@ -27,6 +27,6 @@ pub record IsIn (m : Machine) (setup : Setup) (s : State) : Type 0 where
   pub kernel : KernelOf m.program stands.texts setup s m.kernel
   pub invariant : Invariant s
 
--- Between rounds: each process that was started has begun.
+-- Between rounds, each process that has been started has begun.
 abbrev pub NoneFresh : State → Type 0
 NoneFresh s = (p : ℕ) → s.status p ≡ Fresh → ⊥

@@ -11,7 +11,7 @@ use Rattle.cp_steps.specs.Addresses.{Ground, OwnWords, lies}
 use Rattle.cp_steps.specs.KernelSteps.{Asking, Begun, Delayed, Fresh, Kernel, Stage, Unstarted, gate_of, stage_of}
 use Rattle.cp_steps.specs.PartOf.{DataMeans}
 
--- Where monitors lie among the shared words alone.
+-- The ground in which the shared words are the only words.
 abbrev pub kernel_ground : Program → List UnitText → Setup → Ground
 kernel_ground program texts setup = record {
   program = program;
@@ -27,7 +27,7 @@ abbrev pub is_shared : Owner → Bool
 is_shared (OfMonitor m) = true
 is_shared _ = false
 
--- What the kernel knows of the status of a process. A queue is told by its word.
+-- What the kernel knows of the status of a process. A queue is given by the place of its word.
 abbrev pub StageMeans : Ground → Status → Stage → Type 0
 StageMeans G status.Unstarted Unstarted = Unit {0}
 StageMeans G status.Fresh Fresh = Unit {0}
@@ -39,7 +39,7 @@ StageMeans G status.Waiting Begun = Unit {0}
 StageMeans G (status.Faulted n) Begun = Unit {0}
 StageMeans G _ _ = ⊥
 
--- Nobody is 0.
+-- The numbers of processes begin at 1. The number 0 stands for nobody.
 abbrev pub AreProcesses : List ℕ → Type 0
 AreProcesses [] = Unit {0}
 AreProcesses (p ∷ ps) = (1 ≤ p) × AreProcesses ps
@@ -52,7 +52,8 @@ pub record GatesStand (G : Ground) (monitors processes : ℕ) (s : State) (k : K
   pub stages : (p : ℕ) → 1 ≤ p → p ≤ length k.stages → StageMeans G (s.status p) (stage_of k.stages p)
   pub askers : (m : ℕ) → AreProcesses (s.gates m).askers
 
--- Its gates and stages are those of the state, and its shared words mean what the store holds of the monitors.
+-- The gates and stages are those of the state, and the shared words mean what the store holds for
+-- the monitors.
 pub record KernelOf (program : Program) (texts : List UnitText) (setup : Setup) (s : State) (k : Kernel) : Type 0 where
   pub word_count : length k.shared ≡ program.shared
   pub gates_stand : GatesStand (kernel_ground program texts setup) (monitor_count setup) (process_count setup) s k

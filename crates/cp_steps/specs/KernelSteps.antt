@@ -6,7 +6,8 @@ use Rattle.cp_code.specs.Programs.{Operation, Program}
 use Rattle.cp_steps.specs.PrivateStates.{Acting, Continues, Delays, Effect, Enters, Leaves, NoEffect, Opens, Outside, PrivateState, Starts, is_running}
 use Rattle.cp_steps.specs.Steps.{is_held, is_kernel_operation, operation_of, step_with}
 
--- What the kernel knows of a process. A delayed one stands in the queue whose word is this one of the shared words.
+-- What the kernel knows of a process. A delayed process waits in the queue whose word is the shared
+-- word `queue`.
 pub data Stage : Type 0 where
   Unstarted Fresh Begun : Stage
   Asking : (m : ℕ) → Stage
@@ -17,7 +18,7 @@ pub record Kernel : Type 0 where
   pub gates : List Gate
   pub stages : List Stage
 
--- Monitors and processes are numbered from 1.
+-- Monitors and processes have numbers from 1 on.
 abbrev pub gate_of : List Gate → ℕ → Gate
 gate_of gs zero = record { holder = Unset; askers = [] }
 gate_of gs (suc m) = elim (slice_get gs m) [ None ↦ record { holder = Unset; askers = [] } | Some g ↦ g ]
@@ -61,7 +62,7 @@ abbrev pub enter_gate : ℕ → ℕ → Holder → Kernel → Kernel
 enter_gate p m (HeldBy q) k = set_stage p (Asking m) (set_gate m (HeldBy q) ((gate_of k.gates m).askers ++ p ∷ []) k)
 enter_gate p m h k = set_gate m (HeldBy p) (gate_of k.gates m).askers k
 
--- Nobody is 0.
+-- The number 0 stands for nobody.
 abbrev pub resume : ℕ → ℕ → Kernel → Kernel
 resume m zero k = pass_on m k
 resume m (suc r) k = make_ready (suc r) (set_gate m (HeldBy (suc r)) (gate_of k.gates m).askers k)
@@ -70,7 +71,7 @@ abbrev pub start_process : ℕ → Stage → Kernel → Kernel
 start_process r Unstarted k = set_stage r Fresh k
 start_process r g k = k
 
--- The effect of a step of p, which has so many words of its own.
+-- Applies the effect of a step of process `p`, which has `own` words of its own.
 abbrev pub apply_effect : ℕ → ℕ → Effect → Kernel → Kernel
 apply_effect own p NoEffect k = k
 apply_effect own p (Enters m) k = enter_gate p m (gate_of k.gates m).holder k
@@ -82,7 +83,7 @@ apply_effect own p (Starts r) k = start_process r (stage_of k.stages r) k
 
 -- ---- Steps
 
--- The kernel and the private state of the process whose turn it is.
+-- The kernel, and the private state of the process whose turn it is.
 pub record Turning : Type 0 where
   pub kernel : Kernel
   pub own : PrivateState
@@ -95,7 +96,7 @@ outside clock x = record {
   is_started = λ r. is_started (stage_of x.kernel.stages r);
 }
 
--- The private words with the shared ones behind them, and parted again.
+-- Puts the shared words after the private ones, and separates them again after a step.
 abbrev pub joined : Turning → PrivateState
 joined x = record x.own { words = x.own.words ++ x.kernel.shared }
 
@@ -119,12 +120,12 @@ is_due program x =
     then (if is_begun (stage_of x.kernel.stages x.own.number) then needs_kernel x.own (operation_of program x.own) else false)
     else false
 
--- One step if the next one is the kernel's, else nothing.
+-- One step if the next one is a kernel step, and otherwise nothing.
 abbrev pub kernel_step : Program → ℕ → Turning → Turning
 kernel_step program clock x =
     if is_due program x then parted (length x.own.words) x (step_with program (outside clock x) (joined x)) else x
 
--- At most n steps while the next one is the kernel's.
+-- At most `n` steps, as long as the next one is a kernel step.
 abbrev pub kernel_steps : Program → ℕ → ℕ → Turning → Turning
 kernel_steps program clock zero x = x
 kernel_steps program clock (suc n) x = kernel_steps program clock n (kernel_step program clock x)

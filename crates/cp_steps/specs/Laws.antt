@@ -1,4 +1,4 @@
--- The laws of steps, turns and of the start, which the functions of `src/law.rt` state.
+-- The laws of steps, turns and starts, which the functions of `src/law.rt` state.
 use Rattle.std.specs.Prelude.{◌≡◌, ◌≢◌, ◌≤◌, ℕ, ◌-◌, List, [], Some, length, slice_get}
 use Rattle.cp_model.specs.Invariant.{Invariant}
 use Rattle.cp_model.specs.Operators.{realtime}
@@ -28,8 +28,8 @@ ground_of program setup F p own = record {
   monitors_lie = tt;
 }
 
--- Where o is the private state of p in a state with the invariant, its private step is that of p in the state after the
--- meaning's private step, also where neither has one.
+-- If `o` is the private state of `p` in a state with the invariant, its private step is the private
+-- state of `p` after the meaning's private step, even if neither has one.
 abbrev pub PrivateStepIsStep : Type 0
 PrivateStepIsStep =
     (program : Program) (setup : Setup) (F : StandsFor program setup) (p own : ℕ)
@@ -38,7 +38,7 @@ PrivateStepIsStep =
     Invariant s → PartOf G s before o
     → PartOf G (meaning.private_step setup s p) before (private_step program (realtime (running_clock setup s)) o)
 
--- The same of a turn: of so many steps, which ends early where the next step isn't private.
+-- The same for a turn of `n` steps, which ends early if the next step isn't private.
 abbrev pub PrivateTurnIsTurn : Type 0
 PrivateTurnIsTurn =
     (program : Program) (setup : Setup) (F : StandsFor program setup) (p own n : ℕ)
@@ -48,7 +48,8 @@ PrivateTurnIsTurn =
     → PartOf G (meaning.private_turn setup n s p) before
     (private_steps program (realtime (running_clock setup s)) n o)
 
--- The first private state of each process is that of the process in the start, and each but the first process begins there.
+-- The first private state of each process is that of the process in the start. Each process but the
+-- first is ready to begin there.
 abbrev pub StartIsPart : Type 0
 StartIsPart =
     (program : Program) (setup : Setup) (F : StandsFor program setup) (p : ℕ) (x : code.Process)
@@ -65,13 +66,13 @@ StartIsKernel =
 
 -- ---- Kernel steps
 
--- The kernel is that of the state, and the private state that of p, whose turn it is.
+-- The kernel is that of the state, and the private state is that of `p`, whose turn it is.
 pub record TurningOf (program : Program) (setup : Setup) (F : StandsFor program setup) (p own : ℕ) (s : State) (before : List ℕ) (x : Turning) : Type 0 where
   pub part : PartOf (ground_of program setup F p own) s before x.own
   pub kernel : KernelOf program F.texts setup s x.kernel
 
--- Where they are so in a state with the invariant, the machine's kernel step of p makes them those of the state after the
--- meaning's, also where neither has one.
+-- If they are so in a state with the invariant, they are so again after the kernel steps of the
+-- machine and of the meaning, even if neither has one.
 abbrev pub KernelStepIsStep : Type 0
 KernelStepIsStep =
     (program : Program) (setup : Setup) (F : StandsFor program setup) (p own : ℕ)
@@ -80,7 +81,7 @@ KernelStepIsStep =
     → TurningOf program setup F p own (meaning.kernel_step setup s p) before
     (kernel_step program (realtime (running_clock setup s)) x)
 
--- The same of a turn.
+-- The same for a turn.
 abbrev pub KernelTurnIsTurn : Type 0
 KernelTurnIsTurn =
     (program : Program) (setup : Setup) (F : StandsFor program setup) (p own n : ℕ)
@@ -89,9 +90,9 @@ KernelTurnIsTurn =
     → TurningOf program setup F p own (meaning.kernel_turn setup n s p) before
     (kernel_steps program (realtime (running_clock setup s)) n x)
 
--- ---- What a turn leaves of the others
+-- ---- What a turn keeps of the others
 
--- By a kernel turn of p the private state of another process stays its own.
+-- A kernel turn of `p` keeps the private state of another process right.
 abbrev pub KernelTurnKeepsParts : Type 0
 KernelTurnKeepsParts =
     (program : Program) (setup : Setup) (F : StandsFor program setup) (p own q others n : ℕ)
@@ -100,7 +101,8 @@ KernelTurnKeepsParts =
     → let G = ground_of program setup F q others in
     PartOf G s past o → PartOf G (meaning.kernel_turn setup n s p) past o
 
--- One that hasn't begun is started by the turn, or stays as it was.
+-- After a kernel turn of `p`, another process that hadn't begun is still ready to begin, started or
+-- not.
 abbrev pub KernelTurnKeepsBegins : Type 0
 KernelTurnKeepsBegins =
     (program : Program) (setup : Setup) (F : StandsFor program setup) (p own q others n : ℕ)
@@ -111,7 +113,7 @@ KernelTurnKeepsBegins =
     PartOf G s past o → Begins G s x.kernel o
     → Begins G (meaning.kernel_turn setup n s p) (kernel_steps program (realtime (running_clock setup s)) n x).kernel o
 
--- The private state of another process stays its own by a private turn of p.
+-- A private turn of `p` keeps the private state of another process right.
 abbrev pub PrivateTurnKeepsParts : Type 0
 PrivateTurnKeepsParts =
     (program : Program) (setup : Setup) (F : StandsFor program setup) (p q others n : ℕ)
@@ -120,7 +122,7 @@ PrivateTurnKeepsParts =
     → let G = ground_of program setup F q others in
     PartOf G s past o → PartOf G (meaning.private_turn setup n s p) past o
 
--- And the kernel stays that of the state.
+-- A private turn also keeps the kernel right.
 abbrev pub PrivateTurnKeepsKernel : Type 0
 PrivateTurnKeepsKernel =
     (program : Program) (setup : Setup) (F : StandsFor program setup) (p n : ℕ) (s : State) (k : Kernel)

@@ -1,8 +1,10 @@
--- When a place of the program, with the frames, is what a process has left to do.
+-- When a place in the program, together with frames, is what a process has left to do.
 --
--- The task in front, of the process or of a caller that waits, can hold values of calls that were made; its temps hold them. A call
--- keeps only the temps below its own first one, so of a caller that waits nothing is said of the others: the values of the call's
--- own arguments are of no use once it is entered. Behind the task in front no value is held but the counters of `for`.
+-- The first task of the process or of a waiting caller can contain the values of calls that have
+-- been made, and temps hold these values. A call keeps only the temps below its own first temp. So
+-- nothing is said of the other temps of a waiting caller: they have the values of the call's
+-- arguments, which are of no use once the call is entered. The tasks after the first one contain no
+-- values except the counters of `for`.
 use Rattle.std.specs.Prelude.{◌≡◌, ◌≤◌, ◌<◌, ℕ, ◌+◌, ℤ, Bool, List, [], ◌∷◌, Option, Some, None, length, slice_get}
 use Rattle.cp_model.specs.Abstract as a
 use Rattle.cp_model.specs.Abstract.{BaseType, Name, System}
@@ -23,7 +25,7 @@ use Rattle.cp_steps.specs.Addresses.{ComponentLies, Ground, scope}
 
 -- ---- What runs
 
--- The unit that runs, the meaning of its names, and where its activation, its temps and its component begin.
+-- The unit that runs, the environment, and where its activation, its temps and its component begin.
 pub record Running : Type 0 where
   pub number : ℕ
   pub unit : CodeUnit
@@ -41,7 +43,8 @@ FrameFor (RoutineOf s r) (Some f) = f.routine ≡ r
 FrameFor (BodyOf s) None = Unit {0}
 FrameFor _ _ = ⊥
 
--- So many temps and frames there are, and `fs` are in use. It has its place, and room for all that it calls.
+-- There are `temps` temps and `limit` frames, and the frames `fs` are in use. The running unit is
+-- that of its number, and it has room for all that it calls.
 pub record Runs (G : Ground) (temps limit : ℕ) (R : Running) (fs : List machine.Frame) : Type 0 where
   pub unit : slice_get G.program.units R.number ≡ Some R.unit
   pub text : slice_get G.texts R.number ≡ Some R.text
@@ -56,15 +59,16 @@ pub record Runs (G : Ground) (temps limit : ℕ) (R : Running) (fs : List machin
 
 -- ---- What temps hold
 
--- From a first one on.
+-- Temp number `t`, counted from `temp`, holds `n`.
 abbrev pub held : List ℤ → ℕ → Knowns
 held temps temp t n = word temps (temp + t) ≡ n
 
--- So many are alive.
+-- The same, for the first `live` temps, which are in use.
 abbrev pub held_below : ℕ → List ℤ → ℕ → Knowns
 held_below live temps temp t n = (t < live) × held temps temp t n
 
--- So many were alive at a call, which keeps the first ones. Of the others nothing is said.
+-- The first `live` temps were in use at a call, which keeps the first `kept` temps. Nothing is said
+-- of the others.
 abbrev pub kept_below : ℕ → ℕ → List ℤ → ℕ → Knowns
 kept_below kept live temps temp t n = (t < live) × (t < kept → held temps temp t n)
 
@@ -77,7 +81,7 @@ IsTask (a.While e s) = ⊥
 IsTask (a.Repeat s e) = ⊥
 IsTask _ = Unit {0}
 
--- The test of a `while`, of which some calls may have been made, and the whole loop.
+-- The rest of the test of a `while`, for which some calls may have been made, and the whole loop.
 pub record WhileLeft (s : Site) (K : Knowns) (now e : a.Expression) (body : a.Statement) (place next low : ℕ) : Type 0 where
   pub start : ℕ
   pub last : ℕ
@@ -89,7 +93,7 @@ pub record WhileLeft (s : Site) (K : Knowns) (now e : a.Expression) (body : a.St
   pub whole : TermFor s nothing_known e term base start last low s.unit.temps
   pub again : CodeFor s nothing_known body way start low
 
--- The same of a `repeat`, whose body comes before its test.
+-- The same for a `repeat`, whose body comes before its test.
 pub record RepeatLeft (s : Site) (K : Knowns) (now e : a.Expression) (body : a.Statement) (place next low : ℕ) : Type 0 where
   pub start : ℕ
   pub last : ℕ
@@ -101,7 +105,7 @@ pub record RepeatLeft (s : Site) (K : Knowns) (now e : a.Expression) (body : a.S
   pub whole : TermFor s nothing_known e term base start last low s.unit.temps
   pub again : CodeFor s nothing_known body way start low
 
--- Its counter and its last value are in two temps.
+-- The counter and the last value of a `for` are in two temps.
 pub record ForLeft (s : Site) (temps : List ℤ) (temp : ℕ) (x : Name) (down : Bool) (n last : ℤ) (body : a.Statement) (place next low : ℕ) : Type 0 where
   pub counting : Counting
   pub test : stands_at s place (op.ForNext counting)
@@ -120,16 +124,17 @@ abbrev pub innermost_gate : List ℕ → ℕ
 innermost_gate [] = 0
 innermost_gate (m ∷ ms) = m
 
--- It is a monitor of the text.
+-- A gate is that of a monitor of the text.
 abbrev pub IsGate : Ground → Option ℕ → Type 0
 IsGate G None = Unit {0}
 IsGate G (Some m) = (s : System) × (system_of_monitor G.setup m ≡ Some s)
 
--- A frame keeps the gate that its end mark names, and the one that is held after it.
+-- A frame keeps the gate that its end mark names, and the gate that is held after the return.
 abbrev pub GatesKept : Ground → machine.Frame → Option ℕ → List Task → Type 0
 GatesKept G f gate k = (f.gate ≡ gate_number gate) × (f.held ≡ innermost_gate (marked_monitors k)) × IsGate G gate
 
--- A frame keeps the registers of the caller, whose activation and kept temps end before those of the unit that runs.
+-- A frame keeps the registers of the caller. The activation and the kept temps of the caller end
+-- before those of the running unit begin.
 pub record Keeps (G : Ground) (f : machine.Frame) (C R : Running) (kept : ℕ) : Type 0 where
   pub base : f.base ≡ C.base
   pub temp : f.temp ≡ C.temp
@@ -138,7 +143,8 @@ pub record Keeps (G : Ground) (f : machine.Frame) (C R : Running) (kept : ℕ) :
   pub temps_apart : C.temp + kept ≤ R.temp
   pub kept_fit : kept ≤ C.unit.temps
 
--- The caller waits at its call for a value, or goes on after it, where no value is alive. The value goes to a temp after all that were alive.
+-- The caller waits for a value, which its call puts into a temp after those in use, or it continues
+-- after the call, with no temps in use.
 abbrev pub CallerAt : Ground → ℕ → ℕ → ℕ → Option Name → machine.Frame → ℕ → Type 0
 CallerAt G n kept live None f place = (place ≡ f.place) × (live ≡ 0)
 CallerAt G n kept live (Some t) f place =
@@ -149,7 +155,7 @@ abbrev pub result_of : Option Frame → Option Name
 result_of None = None
 result_of (Some f) = f.routine.result
 
--- The running routine has this activation, and returns at the place.
+-- The running routine has the activation of this depth, and it returns at `place`.
 pub record ReturnsAt (G : Ground) (R : Running) (place depth_is : ℕ) : Type 0 where
   pub frame : Frame
   pub runs : R.env.frame ≡ Some frame
@@ -158,8 +164,8 @@ pub record ReturnsAt (G : Ground) (R : Running) (place depth_is : ℕ) : Type 0 
 
 -- ---- All tasks
 
--- What is left to do, at a place of a unit, where so many temps are in use and `K` is what they are known to hold for the task in
--- front.
+-- What is left to do at `place` in the running unit, whose temps in use lie below `low`. `K` is
+-- what they are known to hold for the first task.
 abbrev pub Left : Ground → List ℤ → ℕ → Knowns → Running → List machine.Frame → ℕ → ℕ → List Task → Type 0
 Left G temps limit K R fs place low [] = ⊥
 Left G temps limit K R fs place low (Do s e ∷ k) =

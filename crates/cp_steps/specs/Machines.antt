@@ -1,4 +1,4 @@
--- Whole rounds of the machine as plain data: its start, turns, waking, and the end of a round.
+-- Whole rounds of the machine as plain data: its start, its turns, waking, and the end of a round.
 use Rattle.std.specs.Prelude.{ℕ, zero, suc, ◌+◌, ◌-◌, ◌/◌, ◌%◌, ℤ, pos, List, [], ◌∷◌, ◌++◌, None, Some, if◌then◌else◌, nat_eq, map, replicate, slice_get, slice_set}
 use Rattle.cp_model.specs.States.{Unset}
 use Rattle.cp_code.specs.Programs as code
@@ -8,7 +8,8 @@ use Rattle.cp_steps.specs.PrivateStates.{Activity, NotBegun, PrivateState, Runni
 use Rattle.cp_steps.specs.Steps.{private_steps}
 use Rattle.cp_steps.specs.KernelSteps.{Begun, Fresh, Kernel, Stage, Turning, Unstarted, kernel_steps, stage_of}
 
--- Private states and transcripts by process. What a process wrote stays in its private state until its kernel turn.
+-- Private states and transcripts are listed by process. What a process writes stays in its private
+-- state until its kernel turn.
 pub record Machine : Type 0 where
   pub program : Program
   pub tick : ℕ
@@ -25,12 +26,12 @@ unit_at program n = elim (slice_get program.units n) [
   | Some u ↦ u
 ]
 
--- The initial process, which is the first, has begun.
+-- The initial process, which has the number 1, has begun.
 abbrev pub first_activity : ℕ → Activity
 first_activity (suc zero) = Running
 first_activity _ = NotBegun
 
--- The unit is the process's body.
+-- The first private state of process `p`, whose body is the unit `u`.
 abbrev pub part_at_start : (ℕ → List ℕ) → ℕ → code.Process → CodeUnit → PrivateState
 part_at_start inputs p x u = record {
   number = p;
@@ -151,7 +152,7 @@ abbrev pub kernel_turns : ℕ → Machine → List ℕ → Machine
 kernel_turns n m [] = m
 kernel_turns n m (p ∷ ps) = kernel_turns n (kernel_turn n m p) ps
 
--- All private turns first, then the kernel turns, of at most n steps each.
+-- A round with turns of at most `n` steps: all private turns first, followed by the kernel turns.
 abbrev pub phased_round : ℕ → List ℕ → Machine → Machine
 phased_round n ps m = end_round (kernel_turns n (private_turns n (wake m) ps) ps)
 

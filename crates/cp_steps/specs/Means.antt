@@ -20,7 +20,7 @@ use Rattle.cp_steps.specs.Values.{View}
 
 -- ---- Cells
 
--- Nobody is 0.
+-- The process in a queue. The number 0 stands for nobody.
 abbrev pub queued : ℤ → Option ℕ
 queued (pos (suc n)) = Some (suc n)
 queued _ = None
@@ -29,7 +29,7 @@ abbrev pub MarkMeans : Sort → Value → ℤ → Type 0
 MarkMeans Class v n = v ≡ Initialised (not (same_integer n (pos 0)))
 MarkMeans _ v n = Unit {0}
 
--- A value and the word in which it lies.
+-- What a value of this type means for the word in which it lies.
 abbrev pub CellMeans : ResolvedType → Value → ℤ → Type 0
 CellMeans (Simple b low high start) v n = v ≡ Ordinal n
 CellMeans Queue v n = v ≡ QueueHolds (queued n)
@@ -38,11 +38,11 @@ CellMeans _ v n = Unit {0}
 
 -- ---- Places
 
--- Where the words of variables and their parts are.
+-- Where variables and their parts lie.
 abbrev pub Lying : Type 0
 Lying = Location → Option Part
 
--- The place of a variable of this type, or the same fault.
+-- Both give the place of a variable of this type, or both have the same fault.
 abbrev pub PlaceAgrees : Lying → ResolvedType → Outcome Place → Result ℕ machine.Fault → Type 0
 PlaceAgrees lies t (Gives p) (Ok n) = (lies p.at ≡ Some (n, t)) × (p.type ≡ t)
 PlaceAgrees lies t (Fault k) (Err f) = k ≡ fault_number f
@@ -53,7 +53,7 @@ ReferenceMeans lies v n t = (j : Location) × (v ≡ Reference j) × (lies j ≡
 
 -- ---- Where code runs
 
--- All that terms and spots read is what the meaning finds in the environment and the store.
+-- Everything that terms and spots read is what the meaning finds in the environment and the store.
 pub record Here (env : Environment) (clock : Clock) (store : Store) (v : View) (K : Knowns) (lies : Lying) : Type 0 where
   pub clock_is : v.clock ≡ realtime clock
   pub locals : (f : Frame) (x : Name) (at : ℕ) (d : declared.Variable) → env.frame ≡ Some f

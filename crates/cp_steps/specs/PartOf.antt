@@ -1,4 +1,4 @@
--- When a private state, as plain data, is the private state of its process in a state of the system.
+-- When a private state, as plain data, is that of its process in a state of the system.
 use Rattle.std.specs.Prelude.{◌≡◌, ◌≤◌, ℕ, ◌+◌, ℤ, Bool, true, List, [], ◌∷◌, ◌++◌, Option, Some, None, length, map}
 use Rattle.cp_model.specs.Abstract.{Class, Name, System}
 use Rattle.cp_model.specs.Types.{ResolvedType}
@@ -29,7 +29,8 @@ ResultMeans Absent n = n ≡ unset
 ResultMeans (Ordinal m) n = (n ≡ m) × (n ≡ unset → ⊥)
 ResultMeans _ n = ⊥
 
--- The `var` parameters and the result of one activation, behind which these others lie.
+-- The `var` parameters and the result of one activation, where `xs` has the activations of its
+-- callers.
 pub record ActivationMeans (G : Ground) (xs : List Activation) (store : Store) (words : List ℤ) (base : ℕ) (f : Frame) : Type 0 where
   pub references : (x : Name) (at : ℕ) (d : declared.Variable) → local (scope G) f.routine x ≡ Some (at, d)
       → d.by_reference ≡ true → ReferenceMeans (lies G xs) (store (local_location f x)) (word words (base + at)) d.type
@@ -56,7 +57,8 @@ ActivationsMean G store words base fs (_ ∷ k) = ActivationsMean G store words 
 
 -- ---- Variables and rights
 
--- Those of the owners that pass the test. A member of the name hides a right. A class that was initialised has its rights.
+-- The variables and rights of the owners that pass the test `mine`. A member hides a right with the
+-- same name. A class that is initialised has been given its rights.
 pub record DataMeans (G : Ground) (xs : List Activation) (mine : Owner → Bool) (store : Store) (words : List ℤ) : Type 0 where
   pub cells : (l : Location) (n : ℕ) (t : ResolvedType) → mine l.owner ≡ true → lies G xs l ≡ Some (n, t)
       → CellMeans t (store l) (word words n)
@@ -68,7 +70,7 @@ pub record DataMeans (G : Ground) (xs : List Activation) (mine : Owner → Bool)
 
 -- ---- The private state
 
--- A call at the place puts its value behind the temps that are alive.
+-- A function call at the place puts its value into a temp after the `live` temps in use.
 abbrev pub CallsBehind : Ground → ℕ → ℕ → Type 0
 CallsBehind G live place =
     (call : Call) (into next : ℕ) → operation_at G.program place ≡ Some (Function call into next) → live ≤ into
@@ -77,7 +79,8 @@ CallsBehind G live place =
 abbrev pub components : PrivateState → List ℕ
 components o = o.component ∷ map (λ f. f.component) o.frames
 
--- What runs has what is left to do, its variables, and its rights.
+-- The private state of a process that runs or will run again: it has what is left to do, its
+-- variables and its rights.
 pub record RunsOn (G : Ground) (store : Store) (o : PrivateState) (k : List Task) : Type 0 where
   pub running : left.Running
   pub runs : Runs G (length o.temps) o.limit running o.frames
@@ -93,7 +96,7 @@ pub record RunsOn (G : Ground) (store : Store) (o : PrivateState) (k : List Task
   pub data_means : DataMeans G (activations o.base o.frames k) (in_sight G) store o.words
   pub given : AllHaveRights G store (components o)
 
--- It runs, or will run again.
+-- The process runs or will run again.
 abbrev pub GoesOn : Activity → Type 0
 GoesOn machine.Running = Unit {0}
 GoesOn machine.Waiting = Unit {0}
@@ -106,8 +109,8 @@ status_of machine.Waiting = Sleeping
 status_of machine.Ended = Finished
 status_of (machine.Faulted f) = Failed (fault_number f)
 
--- o is the private state of the process in the state s, where `before` of its transcript was moved to the kernel. Its words are those in
--- reach.
+-- `o` is the private state of the process `G.p` in the state `s`. `before` is the part of its
+-- transcript that has already been taken from `o`. The words of `o` are those in reach.
 pub record PartOf (G : Ground) (s : State) (before : List ℕ) (o : PrivateState) : Type 0 where
   pub number : o.number ≡ G.p
   pub input : o.input ≡ G.setup.inputs G.p

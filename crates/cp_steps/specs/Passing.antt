@@ -1,4 +1,4 @@
--- Targets of calls over words, and the arguments that are passed.
+-- The targets of calls, over words, and the arguments that are passed.
 use Rattle.std.specs.Prelude.{Bool, true, not, ◌&&◌, ℕ, ◌+◌, ◌-◌, ℤ, pos, ◌+ℤ◌, ◌-ℤ◌, List, [], ◌∷◌, Option, None, Some, Result, Ok, Err, if◌then◌else◌, length, nat_le, nat_lt, slice_get}
 use Rattle.cp_model.specs.Integers.{same_integer}
 use Rattle.cp_model.specs.Places.{within}
@@ -14,7 +14,8 @@ use Rattle.cp_steps.specs.PrivateStates.{Acting, Outside, PrivateState, fault_in
 
 -- ---- Targets
 
--- Where the component begins that is called, whether it was initialised, and the monitor that is entered, or 0.
+-- The component that is called: where it begins, whether it is initialised, and the monitor that is
+-- entered, or 0.
 pub record Called : Type 0 where
   pub component : ℕ
   pub is_set : Bool
@@ -29,7 +30,7 @@ monitor_called program w m = record { component = w.own + monitor_start program 
 abbrev pub class_called : PrivateState → ℕ → Called
 class_called o at = record { component = at; is_set = not (same_integer (word o.words at) (pos 0)); gate = 0 }
 
--- A right to a class is how far it lies from the right itself.
+-- A right to a class holds the distance of the class from the right itself.
 abbrev pub class_right : PrivateState → ℕ → ℕ
 class_right o at = natural (pos (o.component + at) +ℤ word o.words (o.component + at))
 
@@ -42,12 +43,13 @@ component_called program w o (target.MonitorRight at) = monitor_called program w
 
 -- ---- Places and numbers as words
 --
--- Words have 32 bits, and there are fewer than 2 ^ 31 of them. What isn't there is told by 0.
+-- Words have 32 bits, and there are fewer than 2 ^ 31 of them. What doesn't exist is represented by
+-- 0.
 
 abbrev pub reference_word : PrivateState → ℕ → ℤ
 reference_word o at = if nat_le at (length o.words) then pos at else pos 0
 
--- How far a class at the one place lies from the word at the other.
+-- The distance from the word `from` to a class that begins at `at`.
 abbrev pub distance_word : PrivateState → ℕ → ℕ → ℤ
 distance_word o at from =
     if nat_le at (length o.words) && nat_le from (length o.words) then pos at -ℤ pos from else pos 0
@@ -55,7 +57,7 @@ distance_word o at from =
 abbrev pub monitor_word : ℕ → ℤ
 monitor_word m = if nat_lt m 2147483648 then pos m else pos 0
 
--- A right as it is handed on, to lie in the word `to`.
+-- A right to the target, as it is stored in the word `to`.
 abbrev pub right_word : PrivateState → ℕ → Target → ℤ
 right_word o to target.Own = pos 0
 right_word o to (target.Class at) = distance_word o (o.component + at) to
@@ -65,7 +67,7 @@ right_word o to (target.MonitorRight at) = word o.words (o.component + at)
 
 -- ---- Arguments
 
--- What holds after arguments were passed, and the fault where one came up.
+-- The state after arguments are passed, and the fault, if one occurred.
 pub record Passing : Type 0 where
   pub own : PrivateState
   pub fault : Option Fault
@@ -83,7 +85,8 @@ pass_value o at low high n = if within low high n then pass_word o at n else rec
 abbrev pub pass_copy : PrivateState → ℕ → ℕ → ℕ → Passing
 pass_copy o at size from = record { own = record o { words = paste at (block o.words from size) o.words }; fault = None }
 
--- The words lie from `to` on; they are those of a component or activation that lies from `home` on in the end.
+-- Passes an argument to a word that counts from `to`. The words from `to` on finally become those
+-- of a component or activation that begins at `home`.
 abbrev pub pass_one : Outside → ℕ → ℕ → PrivateState → Argument → Passing
 pass_one w to home o (Value at low high e) =
     pass_result o (value_of (view_of w o) e) (λ n. pass_value o (to + at) low high n)
@@ -100,6 +103,7 @@ abbrev pub pass_all : Outside → ℕ → ℕ → List Argument → PrivateState
 pass_all w to home [] o = record { own = o; fault = None }
 pass_all w to home (x ∷ xs) o = unless_fault (pass_one w to home o x) (pass_all w to home xs)
 
--- A fault of an argument ends the step. What was passed before it stays behind the running activation, where nothing lives.
+-- A fault of an argument ends the step. What was passed before it remains after the running
+-- activation, where no variables are.
 abbrev pub when_passed : Passing → (PrivateState → Acting) → Acting
 when_passed p go = elim p.fault [ None ↦ go p.own | Some f ↦ fault_in p.own f ]

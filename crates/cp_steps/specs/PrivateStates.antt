@@ -1,4 +1,5 @@
--- Private states as plain data: what a process holds, and what a step of it reads beside and leaves to the kernel.
+-- Private states as plain data: what a process holds, what else its steps read, and what they leave
+-- to the kernel.
 use Rattle.std.specs.Prelude.{Bool, false, true, ℕ, ℤ, List, Result, Ok, Err, if◌then◌else◌, slice_set}
 use Rattle.cp_model.specs.declared.state.Fault.{Fault}
 use Rattle.cp_steps.specs.Values.{View}
@@ -7,8 +8,9 @@ pub data Activity : Type 0 where
   NotBegun Running Waiting Ended : Activity
   Faulted : (f : Fault) → Activity
 
--- What a call keeps of its caller: where that goes on, the registers, which of its temps takes the value, the monitor that was entered,
--- or 0, and the gate that is held behind it, or 0.
+-- What a call keeps of its caller: the place where it continues, its registers, the temp that takes
+-- the value, the monitor that the call enters, or 0, and the innermost gate that the caller holds,
+-- or 0.
 pub record Frame : Type 0 where
   pub place : ℕ
   pub base : ℕ
@@ -18,8 +20,9 @@ pub record Frame : Type 0 where
   pub gate : ℕ
   pub held : ℕ
 
--- The registers are the place, where the running activation, its temps and its component begin, and the innermost gate that is held,
--- or 0. The innermost frame comes first, and there are never more than `limit`.
+-- The registers are the place, the beginnings of the running activation, its temps and its
+-- component, and the innermost gate that is held, or 0. The innermost frame comes first, and there
+-- are never more than `limit` frames.
 pub record PrivateState : Type 0 where
   pub number : ℕ
   pub activity : Activity
@@ -36,15 +39,16 @@ pub record PrivateState : Type 0 where
   pub input : List ℕ
   pub consumed : ℕ
 
--- What a step reads beside: the clock, how many words are the process's own, and which monitors and processes were initialised. The
--- shared words, where they are in reach, follow behind the own ones.
+-- What a step reads besides the private state: the clock, the number of the process's own words,
+-- and which monitors and processes have been initialised. Shared words that are in reach follow the
+-- own words.
 pub record Outside : Type 0 where
   pub clock : ℕ
   pub own : ℕ
   pub is_set : ℕ → Bool
   pub is_started : ℕ → Bool
 
--- What is left to the kernel. A queue is told by its address.
+-- What a step leaves to the kernel. A queue is given by its address.
 pub data Effect : Type 0 where
   NoEffect : Effect
   Enters Leaves Opens Starts : (number : ℕ) → Effect
@@ -72,7 +76,7 @@ private_outcome o = (o, NoEffect)
 abbrev pub fault_in : PrivateState → Fault → Acting
 fault_in o f = (record o { activity = Faulted f }, NoEffect)
 
--- Goes on with a value. A fault changes the activity alone.
+-- Continues with a value. A fault changes nothing but the activity.
 abbrev pub with_result : {A : Type 0} → PrivateState → Result A Fault → (A → Acting) → Acting
 with_result o (Ok x) go = go x
 with_result o (Err f) go = fault_in o f

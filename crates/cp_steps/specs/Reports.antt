@@ -1,7 +1,7 @@
--- The report of a machine: what is read off its words, in their order.
+-- The report of a machine, which is read from its words in their order.
 --
--- The words of a variable are those of its leaves, in the order in which they are reported. So one walk over the type reads all of
--- them: `words` says how many each part has.
+-- The words of a variable are those of its leaves, in the order in which they are reported. So one
+-- walk over the type reads all of them, and `words` says how many words each part has.
 use Rattle.std.specs.Prelude.{ℕ, suc, ℤ, ◌+◌, ◌-◌, ◌++◌, List, [], ◌∷◌, None, Some, codes, flat_map, if◌then◌else◌, nat_eq, slice_get}
 use Rattle.cp_model.specs.Abstract.{Class, Monitor, Name, Process, Sort}
 use Rattle.cp_model.specs.Decimal.{natural}
@@ -26,12 +26,12 @@ use Rattle.cp_steps.specs.PrivateStates.{Activity, Ended, Faulted, NotBegun, Pri
 
 -- ---- Variables
 
--- What is done at each simple part and queue: of its path and the place of its word.
+-- What is done at each simple part and at each queue, given its path and the place of its word.
 pub record Visit : Type 0 where
   pub simple : Path → ℕ → Text
   pub queue : Path → ℕ → Text
 
--- The elements have so many words each.
+-- Visits elements of `size` words each.
 abbrev pub visit_elements : (Path → ℕ → Text) → ℕ → Path → ℕ → List ℤ → Text
 visit_elements inner size path at [] = []
 visit_elements inner size path at (i ∷ is) =
@@ -42,7 +42,7 @@ of_class_text Class t = t
 of_class_text Monitor t = []
 of_class_text Process t = []
 
--- A variable of this type that lies at a place, and the members of a record or component.
+-- Visits a variable of this type that lies at a place, and the members of a record or component.
 abbrev mutual
   pub visit_type : GlobalScope → Visit → Path → ℕ → ResolvedType → Text
   visit_type g v path at (Simple b low high start) = v.simple path at
@@ -64,7 +64,7 @@ lines_visit ws = record {
   queue = λ path at. leaf_line path (QueueHolds (queued (word ws at)));
 }
 
--- The path of the queue that lies at a place.
+-- Finds the path of the queue at the place `target`.
 abbrev pub queue_visit : ℕ → Visit
 queue_visit target = record {
   simple = λ path at. [];
@@ -73,7 +73,7 @@ queue_visit target = record {
 
 -- ---- Components
 
--- A component's words begin with its mark and its rights.
+-- The words of a component begin with its mark and its rights.
 abbrev pub head_of : GlobalScope → ResolvedType → ℕ
 head_of g (ComponentOf s inner) = head_words g s
 head_of g _ = 0
@@ -81,13 +81,13 @@ head_of g _ = 0
 abbrev pub visit_component : GlobalScope → Visit → ℕ → ResolvedType → Text
 visit_component g v at t = visit_members g v [] (at + head_of g t) (component_members t)
 
--- Of these monitors, numbered from n.
+-- The path of the queue at the place `at` among these monitors, which have the numbers from `n` on.
 abbrev pub queues_text : GlobalScope → Program → ℕ → ℕ → List (Name × Variable) → Text
 queues_text g program at n [] = []
 queues_text g program at n (v ∷ vs) =
     visit_component g (queue_visit at) (monitor_start program n) v.1.type ++ queues_text g program at (suc n) vs
 
--- The path of the queue that is this one of the shared words.
+-- The path of the queue whose word is the shared word `at`.
 abbrev pub queue_text : Setup → Program → ℕ → Text
 queue_text setup program at = queues_text (globals setup.tree) program at 1 (components_of setup Monitor)
 

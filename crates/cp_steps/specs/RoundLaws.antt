@@ -10,30 +10,31 @@ use Rattle.cp_steps.specs.InState.{IsIn, NoneFresh}
 use Rattle.cp_steps.specs.Machines.{Machine, first_machine, phased_round, phased_rounds}
 use Rattle.cp_steps.specs.Reports.{machine_report}
 
--- The first machine is in the start.
+-- The first machine is in the start of the meaning.
 abbrev pub StartIsIn : Type 0
 StartIsIn =
     (program : Program) (setup : Setup) → StandsFor program setup
     → IsIn (first_machine program setup.tick setup.inputs) setup (start setup)
 
--- A round with turns of n steps leads the machine from a state to the one that the meaning's phased round leads to.
+-- A round with turns of `n` steps leads the machine to the state that the meaning's phased round
+-- leads to.
 abbrev pub RoundIsRound : Type 0
 RoundIsRound =
     (m : Machine) (setup : Setup) (s : State) (n : ℕ) → IsIn m setup s
     → IsIn (phased_round n (processes setup) m) setup (meaning.phased_round setup n s)
 
--- And so many rounds lead to the state that one processor reaches.
+-- `rounds` rounds lead to the state that one processor reaches.
 abbrev pub RoundsAreRun : Type 0
 RoundsAreRun =
     (m : Machine) (setup : Setup) (s : State) (n rounds : ℕ) → IsIn m setup s
     → IsIn (phased_rounds n (processes setup) rounds m) setup (meaning.run setup n rounds s)
 
--- What is read off the machine is the report of its state.
+-- The report read from the machine is that of its state.
 abbrev pub ReportIsReport : Type 0
 ReportIsReport =
     (m : Machine) (setup : Setup) (s : State) → IsIn m setup s → NoneFresh s → machine_report setup m ≡ report setup s
 
--- From the start: what is read off the machine after so many rounds is the report of one processor.
+-- The report read from the machine `rounds` rounds after the start is that of one processor.
 abbrev pub RunIsReported : Type 0
 RunIsReported =
     (program : Program) (setup : Setup) (n rounds : ℕ) → StandsFor program setup

@@ -1,7 +1,8 @@
 -- The steps of a process as plain data.
 --
--- In a private step the words are the process's own. In a kernel step the shared words, of all monitors, follow behind them, so
--- that both kinds of step are one function: an address at or above the number of own words lies in a monitor.
+-- In a private step, the words are the process's own. In a kernel step, the shared words of all
+-- monitors follow them. One function thus serves both kinds of step: an address at or above the
+-- number of own words lies in a monitor.
 use Rattle.std.specs.Prelude.{Bool, true, false, not, ℕ, zero, suc, ◌+◌, ℤ, pos, [], ◌∷◌, ◌++◌, Option, None, Some, if◌then◌else◌, int_le, length, nat_lt, slice_get}
 use Rattle.cp_model.specs.Decimal.{decimal}
 use Rattle.cp_model.specs.Integers.{same_integer}
@@ -42,7 +43,7 @@ abbrev pub go_to_arm : PrivateState → Option ℕ → Acting
 go_to_arm o None = fault_in o fault.NoLabel
 go_to_arm o (Some place) = private_outcome (go_to place o)
 
--- The variable and the two temps are written, and the body comes next.
+-- Sets the variable and the two temps, and continues with the body.
 abbrev pub count_to : Outside → PrivateState → Counting → ℤ → ℤ → Acting
 count_to w o c n last =
     let counted = set_word o (root_place (view_of w o) c.variable) n in
@@ -72,11 +73,11 @@ abbrev pub is_held : ℕ → Bool
 is_held zero = false
 is_held (suc g) = true
 
--- Outside all monitors nothing is done.
+-- Outside all monitors, nothing is done.
 abbrev pub in_monitor : PrivateState → Acting → Acting
 in_monitor o x = if is_held o.gate then x else private_outcome o
 
--- In a queue that isn't there nobody is delayed.
+-- If the queue doesn't exist, the process isn't delayed.
 abbrev pub delay : PrivateState → ℕ → ℕ → Acting
 delay o at next =
     in_monitor o
@@ -85,7 +86,7 @@ delay o at next =
     (go_to next (set_word o at (pos o.number)), Delays o.gate at)
     else private_outcome o)
 
--- Nothing is done where the call of the routine that runs entered no monitor.
+-- If the call of the running routine entered no monitor, nothing is done.
 abbrev pub continue : PrivateState → ℕ → Bool → Acting
 continue o at function =
     with_frame o o.frames (λ f fs.
@@ -154,11 +155,11 @@ abbrev pub act_on : Program → Outside → PrivateState → Option Operation �
 act_on program w o None = private_outcome o
 act_on program w o (Some x) = act program w o x
 
--- Nothing of the kernel is read in a private step.
+-- A private step reads nothing of the kernel.
 abbrev pub alone : ℕ → PrivateState → Outside
 alone clock o = record { clock = clock; own = length o.words; is_set = λ m. false; is_started = λ r. true }
 
--- One step if the next one is private, else nothing.
+-- One step if the next one is private, and otherwise nothing.
 abbrev pub private_step : Program → ℕ → PrivateState → PrivateState
 private_step program clock o =
     let x = operation_of program o in
@@ -166,11 +167,11 @@ private_step program clock o =
     then (if is_private o x then (act_on program (alone clock o) o x).0 else o)
     else o
 
--- At most n steps while the next one is private.
+-- At most `n` steps, as long as the next one is private.
 abbrev pub private_steps : Program → ℕ → ℕ → PrivateState → PrivateState
 private_steps program clock zero o = o
 private_steps program clock (suc n) o = private_steps program clock n (private_step program clock o)
 
--- One step of a running process with the shared words in reach.
+-- One step of a running process, with the shared words in reach.
 abbrev pub step_with : Program → Outside → PrivateState → Acting
 step_with program w o = act_on program w o (operation_of program o)

@@ -20,7 +20,7 @@ pub record View : Type 0 where
   pub component : ℕ
   pub clock : ℕ
 
--- Goes on with a value, or keeps the fault.
+-- Continues with a value, or keeps the fault.
 abbrev pub bind : {A B : Type 0} → Result A Fault → (A → Result B Fault) → Result B Fault
 bind (Ok x) go = go x
 bind (Err f) go = Err f

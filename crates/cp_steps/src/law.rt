@@ -1,28 +1,30 @@
-//! The laws of steps and turns, and of the start, and those of whole rounds and reports. Their statements stand in `specs/Laws.antt` and
-//! `specs/RoundLaws.antt`.
+//! The laws of steps, turns and starts, and those of whole rounds and reports. `specs/Laws.antt`
+//! and `specs/RoundLaws.antt` state them.
 
 ghost use Rattle.cp_steps.specs.Laws.{KernelStepIsStep, KernelTurnIsTurn, KernelTurnKeepsBegins, KernelTurnKeepsParts};
 ghost use Rattle.cp_steps.specs.Laws.{PrivateStepIsStep, PrivateTurnIsTurn, PrivateTurnKeepsKernel, PrivateTurnKeepsParts};
 ghost use Rattle.cp_steps.specs.Laws.{StartIsKernel, StartIsPart};
 ghost use Rattle.cp_steps.specs.RoundLaws.{ReportIsReport, RoundIsRound, RoundsAreRun, RunIsReported, StartIsIn};
 
-/// Where a private state is that of its process in a state with the invariant, the machine's private step makes it that of the
-/// process in the state after the meaning's, and so does a turn of so many steps. A function without a body: a caller has the
-/// laws as facts once it calls the function.
+/// If a private state is that of its process in a state with the invariant, then the machine's
+/// private step makes it that of the process in the state after the meaning's private step. The
+/// same holds for turns of any number of steps. The function does nothing: calling it gives the
+/// caller the laws as facts.
 pub fn private_steps()
     ensures step { PrivateStepIsStep }
     ensures turn { PrivateTurnIsTurn }
 {}
 
-/// Where a kernel is that of a state with the invariant, and a private state that of its process, the machine's kernel step makes
-/// them those of the state after the meaning's, and so does a turn of so many steps.
+/// If a kernel is that of a state with the invariant, and a private state is that of its process,
+/// then the machine's kernel step makes them those of the state after the meaning's kernel step.
+/// The same holds for turns of any number of steps.
 pub fn kernel_steps()
     ensures step { KernelStepIsStep }
     ensures turn { KernelTurnIsTurn }
 {}
 
-/// By a turn of one process the private states of the others stay their own, or that of one that hasn't begun, and by a private turn so
-/// does the kernel.
+/// A turn of one process keeps the private states of the others right, both those that have begun
+/// and those that haven't. A private turn also keeps the kernel right.
 pub fn others()
     ensures kernel { KernelTurnKeepsParts }
     ensures begins { KernelTurnKeepsBegins }
@@ -30,23 +32,25 @@ pub fn others()
     ensures shared { PrivateTurnKeepsKernel }
 {}
 
-/// The first private state of each process is that of the process in the start of the meaning. Each but the first process, which runs
-/// from the start on, is as one that has not begun. The first kernel is that of the start.
+/// The first private state of each process is that of the process in the start of the meaning. Only
+/// the first process runs from the start on, and each other one is right for a process that hasn't
+/// begun. The first kernel is that of the start.
 pub fn start()
     ensures parts { StartIsPart }
     ensures kernel { StartIsKernel }
 {}
 
-/// The first machine is in the start of the meaning, a phased round leads a machine to the state that the meaning's leads to, and so
-/// many rounds to the state that one processor reaches.
+/// The first machine is in the start of the meaning. A phased round leads a machine to the state
+/// that the meaning's phased round leads to, and any number of rounds to the state that one
+/// processor reaches.
 pub fn rounds()
     ensures start { StartIsIn }
     ensures round { RoundIsRound }
     ensures run { RoundsAreRun }
 {}
 
-/// What is read off the words of a machine, between two rounds, is the report of the state that it is in. So from the start on it is,
-/// after so many rounds, the report of one processor.
+/// The report read from the words of a machine between two rounds is that of the state that the
+/// machine is in. So after any number of rounds from the start, it is the report of one processor.
 pub fn reports()
     ensures read { ReportIsReport }
     ensures run { RunIsReported }

@@ -1,4 +1,4 @@
--- What holds of an answer of which several clauses speak.
+-- What several clauses say about a result.
 use Rattle.std.proofs.Common.{Result, Ok, Err, IfOk, OnOk}
 
 pub both_ok : {A E Q : Type 0} {P R : A → Type 0} (r : Result A E) → ((x : A) → P x → Q → R x) → IfOk r P → OnOk r Q → IfOk r R

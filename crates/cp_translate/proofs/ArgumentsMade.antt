@@ -1,4 +1,4 @@
--- Arguments, one by one, and calls with them.
+-- Arguments one by one, and calls with them.
 use Rattle.std.proofs.Common.{◌≡◌, ◌∷◌, ◌++◌, ◌∙◌, ◌<◌, ◌≤◌, Bor, ℕ, zero, suc, List, [], Option, Some, false, ap, append_assoc, drop, length, map, refl, slice_get, subst, sym}
 use Rattle.std.proofs.lemmas.List.{append-nil, map-append}
 use Rattle.std.specs.List.{HoldsAt}
@@ -26,7 +26,7 @@ use Rattle.cp_translate.specs.declared.made.MadeArguments.{MadeArguments}
 use Rattle.cp_translate.specs.declared.made.MadeSpot.{MadeSpot}
 use Rattle.cp_translate.specs.Translated.{AreArguments, IsArgument, IsSpot, IsTerm}
 
--- What was made and the rest are the whole.
+-- The arguments so far and the remaining ones are all arguments.
 pub record Finishes (before : List coded.CodedCall) (after : List CodedCall) (made : MadeArguments) (rest whole : coded.CodedArguments) : Type 0 where
   pub arguments : map view.argument made.arguments.items ++ rest.arguments ≡ whole.arguments
   pub calls : map coded_call after ++ rest.calls ≡ before ++ whole.calls
@@ -63,12 +63,12 @@ all_made before after made whole so_far = record {
   temps = so_far.temps;
 }
 
--- What is read at a place of a list.
+-- The item at a place of a list is the first one of the rest.
 pub got : {X : Type 0} (xs : List X) (i : ℕ) (r : Option (Bor X)) (x : Bor X)
     → MatchOption r (length xs ≤ i) (λ y. (i < length xs) × HoldsAt (λ z. y.now ≡ z) xs i) → r ≡ Some x → slice_get xs i ≡ Some x.now
 got xs i r x h is = let there = rw is at h in slice_get-get_or xs i x.now there.0 ∙ ap Some (sym (there.1 x.now))
 
--- The parameter of this number stands for the one of this number.
+-- The parameter with this number stands for the variable with this number.
 pub record DeclaredAt (types : Types) (d : Declared) (vs : List (Name × Variable)) (k : ℕ) : Type 0 where
   pub declared : Name × Variable
   pub split : drop k vs ≡ declared ∷ drop (suc k) vs
@@ -92,7 +92,7 @@ declared_at types (e ∷ ds) (v ∷ vs) (suc k) d are there =
     let more = declared_at types ds vs k d are.3 there in
     record { declared = more.declared; split = more.split; name = more.name; reference = more.reference; type = more.type }
 
--- A call of which the value goes to the next temp.
+-- A call whose value goes to the next temp.
 pub call_made : (before : List coded.CodedCall) (middle after : List CodedCall) (xs : MadeArguments) (ys : coded.CodedArguments) (made : MadeTerm)
     (f : List plain.Argument → code.Call) → AreArguments before middle xs ys
     → map coded_call after ≡ map coded_call middle ++ record { call = f (map view.argument xs.arguments.items); into = xs.temps } ∷ []
@@ -109,7 +109,7 @@ call_made before middle after xs ys made f are more term temps =
       temps = temps ∙ ap suc are.temps;
     }
 
--- What isn't simple is copied.
+-- A variable whose type isn't simple is copied.
 module _ (g : GlobalScope) (before : List coded.CodedCall) (after : List CodedCall) (at size : ℕ) (made : MadeSpot) (one : MadeArgument)
     (t : coded.CodedTerm) (c : coded.CodedSpot) (place : IsSpot before after made c) (temps : one.temps ≡ made.temps)
     (is : view.argument one.argument ≡ plain.Copy at size (view.spot made.spot)) where

@@ -1,4 +1,4 @@
--- The statements of a `case`, from the last one on.
+-- The statements of a `case`, from the last to the first.
 use Rattle.std.proofs.Common.{◌≡◌, ◌∙◌, ◌+◌, ℕ, List, length, map, subst}
 use Rattle.cp_model.specs.Abstract as a
 use Rattle.cp_code.specs.CodedStatements.{arms_at, emitted, emitted_arms}

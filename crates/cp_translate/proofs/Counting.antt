@@ -1,4 +1,4 @@
--- A `for`: the operation that closes it, its body, and the one that begins it.
+-- `for` statements: the operation that closes the loop, its body, and the operation that begins it.
 use Rattle.std.proofs.Common.{◌≡◌, ◌∷◌, ◌++◌, ◌+◌, ℕ, suc, Bool, arith, length, subst}
 use Rattle.cp_model.specs.Abstract as a
 use Rattle.cp_model.specs.Abstract.{Name}

@@ -10,7 +10,7 @@ use Rattle.cp_threaded.specs.declared.operation.Operation.{Operation}
 use Rattle.cp_threaded.specs.View as view
 use Rattle.cp_translate.specs.Statements.{Enters}
 
--- The operation and its calls are these.
+-- The emitted operation and its calls are those of the definition.
 pub entered : (old new : Emitter) (place : ℕ) (cs : List CodedCall) (ds : List coded.CodedCall) (o : Operation) (p : op.Operation)
     → map coded_call cs ≡ ds → view.operation o ≡ p → place ≡ (operation_from old cs o).entry → Emits old new (operation_from old cs o).operations
     → Enters old new place (with_calls ds p (place_of old))

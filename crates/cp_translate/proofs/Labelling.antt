@@ -1,4 +1,4 @@
--- Labels, from the last one on.
+-- Labels, from the last to the first.
 use Rattle.std.proofs.Common.{◌≡◌, ◌∷◌, ◌++◌, ◌∙◌, ℕ, ℤ, List, [], Option, None, Some, ap, map, refl, reverse}
 use Rattle.std.proofs.lemmas.List.{reverse-append}
 use Rattle.cp_model.specs.Abstract as a

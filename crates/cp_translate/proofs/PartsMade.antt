@@ -54,7 +54,7 @@ field_made scope s low before calls d x of made p n at spot temps lies typed pla
 
 -- ---- Elements
 
--- What has elements is an array of these.
+-- A type that has elements is an array type with these elements.
 pub record IsArray (types : Types) (e : Elements) (t : ResolvedType) : Type 0 where
   pub element : ResolvedType
   pub is : t ≡ ArrayOf e.low e.high element

@@ -1,4 +1,4 @@
--- Which standard procedure a name is.
+-- The standard procedure that a name means.
 use Rattle.std.proofs.Common.{◌≡◌, ℕ, true, false, codes, refl}
 use Rattle.std.specs.Str.{bytes_eq}
 use Rattle.cp_model.specs.Abstract.{Name}

@@ -1,4 +1,4 @@
--- Operations behind others, and loops.
+-- Operations after others, and loops.
 use Rattle.std.proofs.Common.{◌≡◌, ◌∷◌, ◌++◌, ◌∙◌, ◌+◌, ℕ, suc, List, [], ap, append_assoc, arith, length, length-append, refl, subst, sym}
 use Rattle.std.proofs.lemmas.List.{append-nil}
 use Rattle.cp_model.specs.Abstract as a
@@ -30,7 +30,7 @@ emits_both old middle new os ps first second = record {
 pub nothing_entered : (old : Emitter) (next : ℕ) → Enters old old next (record { operations = []; entry = next })
 nothing_entered old next = record { entry = refl; emits = emits_nothing old }
 
--- Others, and then these behind them.
+-- Some operations, and then more after them.
 pub then_entered : (old middle new : Emitter) (os : List op.Operation) (place : ℕ) (f : ℕ → Emitted) → Emits old middle os
     → Enters middle new place (f (place_of middle)) → Enters old new place (behind os (f (place_of old + length os)))
 then_entered old middle new os place f first second =
@@ -66,7 +66,7 @@ if_entered s e c x y low next false_at true_at place old first second new last m
 
 -- ---- Loops
 
--- A loop whose first operation was emitted with its calls, and completed once its body stood.
+-- A loop whose closing operation is emitted with its calls, and completed once the body is emitted.
 pub record LoopClosed (f : op.Operation → op.Operation) (old new : Emitter) (cs : List CodedCall) (o : op.Operation) (entry first : ℕ)
     (body : ℕ → ℕ → Emitted) : Type 0 where
   pub entered : entry ≡ (calls_at cs (suc (place_of old)) (place_of old)).entry
@@ -104,7 +104,7 @@ loop_made f old first second new cs o place entry start body here head inner clo
       };
     }
 
--- A loop whose first operation has no calls.
+-- A loop whose closing operation has no calls.
 pub record BodyClosed (f : op.Operation → op.Operation) (old new : Emitter) (o : op.Operation) (start : ℕ) (body : ℕ → ℕ → Emitted) : Type 0 where
   pub body_is : start ≡ (body (suc (place_of old)) (place_of old)).entry
   pub emits : Emits old new (f o ∷ (body (suc (place_of old)) (place_of old)).operations)

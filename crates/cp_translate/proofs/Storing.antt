@@ -12,7 +12,7 @@ use Rattle.cp_scope.specs.Expressions.{is_simple}
 use Rattle.cp_translate.specs.Statements.{Enters}
 use Rattle.cp_translate.proofs.TermsMade.{IsPart}
 
--- What isn't simple is copied.
+-- A variable whose type isn't simple is copied.
 pub copies : (g : GlobalScope) (t : ResolvedType) (d : CodedSpot) (e : CodedTerm) (s : CodedSpot) (at next : ℕ) → is_simple t ≡ false
     → store g t d e s at next ≡ with_calls (d.calls ++ s.calls) (op.CopyWords d.spot s.spot (words g t) next) at
 copies g (Simple b low high start) d e s at next other = absurd (cc)
@@ -22,13 +22,13 @@ copies g Queue d e s at next other = refl
 copies g (ComponentOf y ms) d e s at next other = refl
 copies g NoType d e s at next other = refl
 
--- A part is no result.
+-- A part is never the result of a function.
 pub part_no_result : (s : code.Scope) (d : a.Designator) → IsPart d → is_result s d ≡ false
 part_no_result s (a.Plain x) part = absurd part
 part_no_result s (a.Part d x) part = refl
 part_no_result s (a.At d e) part = refl
 
--- The place that was made is this one, and its type this.
+-- The spot and the type that are made are those of the designator.
 pub stored : (old new : Emitter) (place : ℕ) (g : GlobalScope) (at next : ℕ) (c : CodedSpot) (e : ℕ → CodedTerm) (f : ℕ → CodedSpot) (n : ℕ)
     (t u : ResolvedType) → n ≡ c.temps → u ≡ t → Enters old new place (store g u c (e n) (f n) at next)
     → Enters old new place (store g t c (e c.temps) (f c.temps) at next)

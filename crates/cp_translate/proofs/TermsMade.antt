@@ -1,4 +1,4 @@
--- Terms that are made of expressions.
+-- The terms of expressions.
 use Rattle.std.proofs.Common.{◌≡◌, ◌∷◌, ◌∙◌, ℕ, List, [], Some, drop, map, refl, slice_get, ap, subst, sym}
 use Rattle.std.proofs.lemmas.List.{append-nil}
 use Rattle.std.proofs.lemmas.Option.{same_Some}
@@ -21,7 +21,7 @@ use Rattle.cp_scope.specs.Scopes.{Selects}
 use Rattle.cp_threaded.specs.View as view
 use Rattle.cp_translate.specs.Translated.{IsTerm}
 
--- No call is made before.
+-- A term that needs no calls.
 pub lone_made : (calls : List CodedCall) (made : MadeTerm) (t : plain.Term) (low : ℕ) → view.term made.term ≡ t → made.temps ≡ low
     → IsTerm (map coded_call calls) calls made (coded.lone_term t low)
 lone_made calls made t low is temps = record { term = is; calls = sym (append-nil (map coded_call calls)); temps = temps }

@@ -18,7 +18,7 @@ pub record IsTable (g : GlobalScope) (types : Types) (table : SystemTable) (y : 
   pub stands : SystemStands g types table text.parameters.items text.variables.items text.routines.items
   pub is : erase.system (view.system text) ≡ y
 
--- A right to the component that an argument names. No call is made before.
+-- A right to the component that an argument names, which needs no calls.
 abbrev pub right_argument : code.Scope → ℕ → ℕ → a.Expression → CodedArgument
 right_argument s at low e =
     record { argument = plain.Right at (target_named (environment s) e); calls = []; temps = low }

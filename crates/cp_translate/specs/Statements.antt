@@ -1,4 +1,4 @@
--- When what was emitted for a statement is what the compiler's definition emits for it.
+-- When the code emits for a statement what the compiler's definition emits.
 use Rattle.std.specs.Prelude.{◌≡◌, ℕ, List, map}
 use Rattle.cp_model.specs.Abstract as a
 use Rattle.cp_code.specs.CodedStatements.{Emitted, EmittedArms, emitted, emitted_arms}
@@ -10,17 +10,17 @@ use Rattle.cp_scope.specs.Scopes.{IsScope}
 use Rattle.cp_threaded.specs.Labels.{arm}
 use Rattle.cp_threaded.specs.declared.arm.Arm.{Arm}
 
--- These operations were emitted, and are entered at this place.
+-- The operations of `e` are emitted, and `place` is where they are entered.
 pub record Enters (old new : Emitter) (place : ℕ) (e : Emitted) : Type 0 where
   pub entry : place ≡ e.entry
   pub emits : Emits old new e.operations
 
--- Those of a statement, in each scope that has this table.
+-- What is emitted for the statement `st`, in each scope that has this table.
 abbrev pub StatementOf : Scope → Emitter → Emitter → a.Statement → ℕ → ℕ → ℕ → Type 0
 StatementOf scope old new st low next place =
     (s : code.Scope) → IsScope scope s → Enters old new place (emitted s st low (place_of old) next)
 
--- Those of the statements of a `case`, and their labels.
+-- The operations of the arms of a `case` are emitted, and `arms` has their labels.
 pub record ArmsEnter (old new : Emitter) (arms : List Arm) (e : EmittedArms) : Type 0 where
   pub labels : map arm arms ≡ e.arms
   pub emits : Emits old new e.operations

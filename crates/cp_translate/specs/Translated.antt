@@ -1,4 +1,4 @@
--- When what was made of terms, spots and arguments is what the compiler's definition makes of them.
+-- When the code makes terms, spots and arguments as the compiler's definition does.
 use Rattle.std.specs.Prelude.{◌≡◌, ℕ, List, ◌++◌, map}
 use Rattle.cp_model.specs.Abstract as a
 use Rattle.cp_model.specs.Abstract.{Name}
@@ -19,7 +19,7 @@ use Rattle.cp_translate.specs.declared.made.MadeArgument.{MadeArgument}
 use Rattle.cp_translate.specs.declared.made.MadeArguments.{MadeArguments}
 use Rattle.cp_translate.specs.declared.made.MadeSpot.{MadeSpot}
 
--- ---- What was made, with the calls behind those from before
+-- ---- What is made, with its calls after those in `before`
 
 pub record IsTerm (before : List coded.CodedCall) (after : List CodedCall) (made : MadeTerm) (t : coded.CodedTerm)
     : Type 0 where
@@ -45,7 +45,7 @@ pub record AreArguments (before : List coded.CodedCall) (after : List CodedCall)
   pub calls : map coded_call after ≡ before ++ t.calls
   pub temps : made.temps ≡ t.temps
 
--- The spot of a designator, and the type of its place.
+-- The spot of a designator and the type of its place.
 pub record IsPlace (scope : Scope) (s : code.Scope) (low : ℕ) (before : List coded.CodedCall) (after : List CodedCall)
     (d : a.Designator) (made : MadeSpot) : Type 0 where
   pub spot : IsSpot before after made (coded_spot s d low)
@@ -58,7 +58,7 @@ abbrev pub TermOf : Scope → List CodedCall → List CodedCall → a.Expression
 TermOf scope old new e low made =
     (s : code.Scope) → IsScope scope s → IsTerm (map coded_call old) new made (coded_term s e low)
 
--- The variable that is an argument.
+-- The spot of an argument that is a variable.
 abbrev pub VariableOf : Scope → List CodedCall → List CodedCall → a.Expression → ℕ → MadeSpot → Type 0
 VariableOf scope old new e low made =
     (s : code.Scope) → IsScope scope s → IsSpot (map coded_call old) new made (coded_variable s e low)
@@ -67,14 +67,14 @@ abbrev pub SpotOf : Scope → List CodedCall → List CodedCall → a.Designator
 SpotOf scope old new d low made =
     (s : code.Scope) → IsScope scope s → IsPlace scope s low (map coded_call old) new d made
 
--- A part of the place that was made before.
+-- The spot of a part of a place, if `of` is the spot of that place.
 abbrev pub PartOf : Scope → List CodedCall → List CodedCall → MadeSpot → (a.Designator → a.Designator) → MadeSpot
     → Type 0
 PartOf scope old new of part made =
     (s : code.Scope) (low : ℕ) (before : List coded.CodedCall) (d : a.Designator) → IsScope scope s
     → IsPlace scope s low before old d of → IsPlace scope s low before new (part d) made
 
--- An operand that was made before, and the operators and operands after it.
+-- The term of a chain, if `first` is the term of its first operand.
 abbrev pub ChainOf : Scope → List CodedCall → List CodedCall → MadeTerm → List syntax.Operation → MadeTerm → Type 0
 ChainOf scope old new first rest made =
     (s : code.Scope) (low : ℕ) (before : List coded.CodedCall) (e : syntax.Expression) → IsScope scope s

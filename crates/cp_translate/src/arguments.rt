@@ -1,4 +1,4 @@
-//! What is passed to parameters.
+//! The arguments that are passed to parameters.
 
 ghost use Rattle.std.specs.Prelude.{◌≡◌, ◌+◌, false, List, IfOk};
 ghost use Rattle.cp_model.specs.Declarations.{Variable};
@@ -20,7 +20,7 @@ use cp_emit::call::MadeTerm;
 use cp_scope::{CompileError, Declared, Simple};
 use cp_threaded::operation::Argument;
 
-/// A reference to a variable.
+/// Passes a reference to a variable.
 pub fn reference(at: u32, made: MadeSpot) -> MadeArgument
     ensures { (before : List coded.CodedCall) (after : List CodedCall) (c : coded.CodedSpot)
         → IsSpot before after made c → IsArgument before after result
@@ -32,7 +32,7 @@ pub fn reference(at: u32, made: MadeSpot) -> MadeArgument
     }
 }
 
-/// A value of a simple type.
+/// Passes a value of a simple type.
 pub fn simple_value(at: u32, simple: Simple, made: MadeTerm) -> MadeArgument
     ensures { (before : List coded.CodedCall) (after : List CodedCall) (g : GlobalScope)
         (t : coded.CodedTerm) (c : coded.CodedSpot) → IsTerm before after made t
@@ -50,7 +50,7 @@ pub fn simple_value(at: u32, simple: Simple, made: MadeTerm) -> MadeArgument
 }
 
 impl<'s, 't> Translator<'s, 't> {
-    /// The words of a variable of a type that isn't simple.
+    /// Passes a copy of the words of a variable whose type isn't simple.
     pub fn copy_argument(
         &self,
         at: u32,
@@ -73,7 +73,7 @@ impl<'s, 't> Translator<'s, 't> {
         })
     }
 
-    // How many words a parameter takes in an activation.
+    // The size in words of a parameter in an activation.
     fn local_words(&self, parameter: &Declared) -> Result<u32, CompileError>
         ensures { IfOk result (λ n. (s : code.Scope) (v : Variable) → IsScope self.now.scope s
             → parameter.now.by_reference ≡ v.by_reference
@@ -87,7 +87,7 @@ impl<'s, 't> Translator<'s, 't> {
         }
     }
 
-    /// Where the parameter after this one lies.
+    /// The word at which the next parameter lies.
     pub fn next_parameter(&self, at: u32, parameter: &Declared) -> Result<u32, CompileError>
         ensures { IfOk result (λ n. (s : code.Scope) (v : Variable) → IsScope self.now.scope s
             → parameter.now.by_reference ≡ v.by_reference

@@ -26,7 +26,8 @@ use cp_scope::{CompileError, Simple, refuse_no_index};
 use cp_threaded::operation::Operation;
 
 impl<'s, 't> Translator<'s, 't> {
-    // Whether a name is that of the running function, and of no parameter or variable of it.
+    // Whether a name is that of the running function, and not that of one of its parameters or
+    // variables.
     fn names_result(&self, name: &[u8]) -> bool
         ensures { (s : code.Scope) → IsScope self.now.scope s
             → result ≡ coded.is_result s (a.Plain name.now) }
@@ -40,7 +41,7 @@ impl<'s, 't> Translator<'s, 't> {
         }
     }
 
-    // Whether a designator is the result of the running function.
+    // Whether a designator means the result of the running function.
     fn is_result(&self, d: &Designator) -> Result<bool, CompileError>
         ensures { IfOk result (λ b. (s : code.Scope) → IsScope self.now.scope s
             → b ≡ coded.is_result s (erase.designator (tree.designator d.now))) }
@@ -54,7 +55,7 @@ impl<'s, 't> Translator<'s, 't> {
         }
     }
 
-    // Sets the result of the running function.
+    // Emits an assignment to the result of the running function.
     fn set_result(
         &self,
         d: &Designator,
@@ -83,7 +84,7 @@ impl<'s, 't> Translator<'s, 't> {
         emitter.emit(calls, set)
     }
 
-    // Sets a variable of a simple type, after the calls of its place.
+    // Emits an assignment to a variable of a simple type. `calls` has the calls of its place.
     fn set_simple(
         &self,
         to: MadeSpot,
@@ -111,7 +112,7 @@ impl<'s, 't> Translator<'s, 't> {
         emitter.emit(calls, set)
     }
 
-    // Copies a variable of a type that isn't simple, after the calls of its place.
+    // Emits a copy to a variable whose type isn't simple. `calls` has the calls of its place.
     fn copy_words(
         &self,
         to: MadeSpot,
@@ -140,7 +141,7 @@ impl<'s, 't> Translator<'s, 't> {
         emitter.emit(calls, copy)
     }
 
-    // Sets or copies a variable.
+    // Emits an assignment to a variable.
     fn store(
         &self,
         d: &Designator,
@@ -165,7 +166,7 @@ impl<'s, 't> Translator<'s, 't> {
         }
     }
 
-    /// An assignment to the result of the running function or to a variable.
+    /// Emits an assignment to the result of the running function or to a variable.
     pub fn assign(
         &self,
         d: &Designator,

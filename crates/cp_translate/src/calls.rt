@@ -27,7 +27,7 @@ use cp_model::tree::Sort;
 use cp_scope::{Callee, CompileError, Component, RoutineTable, small_number};
 use cp_threaded::operation::{Argument, Call, Target};
 
-/// How many words lie in front of the parameters of a routine: that of its result, if it is a function.
+/// The number of words before the parameters of a routine. A function has one, for its result.
 pub fn words_before(routine: &RoutineTable) -> u32
     ensures { (g : GlobalScope) (types : Types) (r : Routine) → RoutineStands g types routine.now r
         → result ≡ result_words r.result }
@@ -36,7 +36,7 @@ pub fn words_before(routine: &RoutineTable) -> u32
 }
 
 impl<'s, 't> Translator<'s, 't> {
-    // Where a class lies in the component.
+    // The word of the component at which a class begins.
     fn class_at(&self, name: &[u8]) -> Result<u32, CompileError>
         ensures { IfOk result (λ at. (s : code.Scope) → IsScope self.now.scope s
             → at ≡ part_start (layout.member s.globals s.system name.now)) }
@@ -45,7 +45,7 @@ impl<'s, 't> Translator<'s, 't> {
         part.at.ok_or(CompileError::Unaccepted)
     }
 
-    // Where a right lies in the component.
+    // The word of the component that holds a right.
     fn right_at(&self, name: &[u8]) -> Result<u32, CompileError>
         ensures { IfOk result (λ at. (s : code.Scope) → IsScope self.now.scope s
             → at ≡ right_start (layout.right s.globals s.system name.now)) }
@@ -54,7 +54,7 @@ impl<'s, 't> Translator<'s, 't> {
         small_number(right.at)
     }
 
-    /// The component whose routine is called, where it is named.
+    /// The target of a call of a routine of another component.
     pub fn component_target(&self, of: Component) -> Result<Target, CompileError>
         ensures { IfOk result (λ t. (s : code.Scope) (n : components.Component)
             → IsScope self.now.scope s → IsComponent self.now.scope.tables.now.types
@@ -76,7 +76,7 @@ impl<'s, 't> Translator<'s, 't> {
         }
     }
 
-    /// The component whose routine is called.
+    /// The target of a call: the running component, or the component that the designator names.
     pub fn target(&self, of: Option<Component>) -> Result<Target, CompileError>
         ensures { IfOk result (λ t. (s : code.Scope) (n : Option components.Component)
             → IsScope self.now.scope s → ComponentIs self.now.scope.tables.now.types
@@ -111,7 +111,8 @@ impl<'s, 't> Translator<'s, 't> {
         })
     }
 
-    /// A call of a function with these arguments, whose value goes to the next temp.
+    /// A call of a function with these arguments. Its value goes to the first temp after their
+    /// calls.
     pub fn function_call(
         &self,
         callee: &Callee,

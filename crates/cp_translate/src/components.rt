@@ -1,4 +1,4 @@
-//! Components: which ones names mean, and where their parameters lie.
+//! The components that names mean, and where their parameters lie.
 
 ghost use Rattle.std.specs.Prelude.{◌≡◌, IfOk};
 ghost use Rattle.cp_model.specs.Abstract as a;
@@ -25,7 +25,7 @@ use cp_model::tree::{Designator, Expression};
 use cp_scope::{CompileError, Component, SystemTable, small_number};
 use cp_threaded::operation::Target;
 
-/// Where a member lies in a component of a system type.
+/// The word at which a member lies in a component of a system type.
 pub fn member_at(table: &SystemTable, name: &[u8]) -> Result<u32, CompileError>
     ensures { IfOk result (λ at. (g : GlobalScope) (types : Types) (y : a.System)
         → IsTable g types table.now y → at ≡ part_start (layout.member g y name.now)) }
@@ -35,7 +35,7 @@ pub fn member_at(table: &SystemTable, name: &[u8]) -> Result<u32, CompileError>
     part.at.ok_or(CompileError::Unaccepted)
 }
 
-/// Where a right lies in a component of a system type.
+/// The word that holds a right in a component of a system type.
 pub fn right_at(table: &SystemTable, name: &[u8]) -> Result<u32, CompileError>
     ensures { IfOk result (λ at. (g : GlobalScope) (types : Types) (y : a.System)
         → IsTable g types table.now y → at ≡ right_start (layout.right g y name.now)) }
@@ -44,7 +44,8 @@ pub fn right_at(table: &SystemTable, name: &[u8]) -> Result<u32, CompileError>
     small_number(right.at)
 }
 
-/// The designator that an expression is. Another expression is refused.
+/// The designator that an expression consists of, perhaps in parentheses. Any other expression is
+/// refused.
 pub fn lone_designator(e: &Expression) -> Result<&Designator, CompileError>
     ensures { IfOk result (λ d. erase.designator (tree.designator d.now)
         ≡ designator_of (erase.expression (tree.expression e.now))) }
@@ -81,7 +82,7 @@ impl<'s, 't> Translator<'s, 't> {
         }
     }
 
-    /// The component that an argument names, to which a right is passed.
+    /// The component that an argument names, for passing a right to it.
     pub fn named_target(&self, e: &Expression) -> Result<Target, CompileError>
         ensures { IfOk result (λ t. (s : code.Scope) → IsScope self.now.scope s
             → view.target t ≡ target_named (environment s)

@@ -1,6 +1,7 @@
 //! Expressions and designators.
 //!
-//! An expression, its designators and its arguments lead to one another; what doesn't stands in modules of its own.
+//! Expressions, designators and arguments contain one another, so their functions are mutually
+//! recursive. The other functions are in modules of their own.
 
 ghost use Rattle.std.specs.Prelude.{◌≡◌, None, IfOk, List, map};
 ghost use Rattle.cp_model.specs.Abstract as a;
@@ -33,7 +34,8 @@ use cp_model::tree::{Designator, Expression, Index, Operation, Selector};
 use cp_scope::{Callee, CompileError, Declared, refuse_no_index};
 
 impl<'s, 't> Translator<'s, 't> {
-    /// The term of an expression, whose calls are made before. The values of calls go to the temps from `low` on.
+    /// Makes the term of an expression, and adds the calls to make before it to `calls`. Their
+    /// values go to the temps from `low` on.
     #[cycle(terms)]
     pub fn term(
         &self,
@@ -68,7 +70,7 @@ impl<'s, 't> Translator<'s, 't> {
         }
     }
 
-    // The operators after an operand, and their right operands.
+    // Adds the operators and right operands of a chain to its first operand.
     #[cycle(terms)]
     fn chain(
         &self,
@@ -87,7 +89,8 @@ impl<'s, 't> Translator<'s, 't> {
         Ok(left)
     }
 
-    // A designator that is used as a value: a call without arguments, or what a name or a place holds.
+    // A designator that is used as a value: a call without arguments, or the value of a name or a
+    // place.
     #[cycle(terms)]
     fn use_term(
         &self,
@@ -107,7 +110,7 @@ impl<'s, 't> Translator<'s, 't> {
         }
     }
 
-    // What a name or a place holds.
+    // The value of a name or a place.
     #[cycle(terms)]
     fn place_term(
         &self,
@@ -129,7 +132,7 @@ impl<'s, 't> Translator<'s, 't> {
         self.item(made)
     }
 
-    /// The spot of a designator.
+    /// Makes the spot of a designator.
     #[cycle(terms)]
     pub fn spot(
         &self,
@@ -147,7 +150,7 @@ impl<'s, 't> Translator<'s, 't> {
         Ok(made)
     }
 
-    // A part of what was designated so far.
+    // Makes the spot of a part of the place so far.
     #[cycle(terms)]
     fn select(
         &self,
@@ -182,7 +185,8 @@ impl<'s, 't> Translator<'s, 't> {
         Ok(made)
     }
 
-    /// The spot of an argument that is a variable. What is no designator is refused.
+    /// Makes the spot of an argument that is a variable. An expression that is no designator is
+    /// refused.
     #[cycle(terms)]
     pub fn argument_spot(
         &self,
@@ -200,7 +204,7 @@ impl<'s, 't> Translator<'s, 't> {
         }
     }
 
-    // A call of a user's function.
+    // A call of a function that the text declares.
     #[cycle(terms)]
     fn user_call(
         &self,
@@ -247,7 +251,8 @@ impl<'s, 't> Translator<'s, 't> {
         self.apply(self.function(name, e)?, made)
     }
 
-    /// The arguments for parameters of which the first lies so many words from the first of the new activation.
+    /// Makes the arguments for these parameters, the first of which lies `at` words from the first
+    /// word of the new activation.
     #[cycle(terms)]
     pub fn arguments(
         &self,
@@ -278,7 +283,7 @@ impl<'s, 't> Translator<'s, 't> {
         Ok(made)
     }
 
-    // The argument for a parameter: a reference, a simple value or a copy.
+    // Makes the argument for a parameter: a reference, a simple value or a copy.
     #[cycle(terms)]
     fn argument(
         &self,

@@ -31,7 +31,7 @@ use cp_scope::{CompileError, Component, Declared, SystemTable, small_number};
 use cp_threaded::operation::{Argument, Call, Operation};
 
 impl<'s, 't> Translator<'s, 't> {
-    // A right to a component.
+    // Passes a right to a component.
     fn right(&self, at: u32, e: &Expression, low: u32) -> Result<MadeArgument, CompileError>
         ensures { IfOk result (λ made. (calls : List CodedCall) (s : code.Scope)
             → IsScope self.now.scope s → IsArgument (map coded_call calls) calls made
@@ -44,7 +44,7 @@ impl<'s, 't> Translator<'s, 't> {
         })
     }
 
-    // The argument for a parameter of a component: a value, or a right to another component.
+    // Makes the argument for a parameter of a component: a value, or a right to another component.
     fn init_argument(
         &self,
         table: &SystemTable,
@@ -77,7 +77,7 @@ impl<'s, 't> Translator<'s, 't> {
         }
     }
 
-    // The arguments for the parameters of a component.
+    // Makes the arguments for the parameters of a component.
     fn init_arguments(
         &self,
         table: &SystemTable,
@@ -105,7 +105,7 @@ impl<'s, 't> Translator<'s, 't> {
         Ok(made)
     }
 
-    // A call of the body of a class or a monitor.
+    // Makes the call of the body of a class or a monitor.
     fn init_call(
         &self,
         component: Component,
@@ -126,7 +126,7 @@ impl<'s, 't> Translator<'s, 't> {
         })
     }
 
-    // The start of a process. A right to one is refused.
+    // Makes the operation that starts a process. A right to a process is refused.
     fn init_process(
         &self,
         component: Component,
@@ -150,7 +150,7 @@ impl<'s, 't> Translator<'s, 't> {
         })
     }
 
-    // The operation of an `init`, by what the component is.
+    // Makes the operation of an `init`, which depends on the sort of the component.
     fn init_operation(
         &self,
         component: Component,
@@ -181,7 +181,7 @@ impl<'s, 't> Translator<'s, 't> {
         }
     }
 
-    // A component that is initialised.
+    // Emits the initialisation of a component.
     fn init_component(
         &self,
         component: Component,
@@ -203,7 +203,7 @@ impl<'s, 't> Translator<'s, 't> {
         emitter.emit(calls, operation)
     }
 
-    // A name that is initialised. One that means no component is refused.
+    // Emits the initialisation of a named component. A name that means no component is refused.
     fn init_item(
         &self,
         item: &InitItem,
@@ -223,7 +223,7 @@ impl<'s, 't> Translator<'s, 't> {
         }
     }
 
-    /// Components that are initialised, one after another.
+    /// Emits the initialisations of these components, one after another.
     pub fn initialise(
         &self,
         items: &[InitItem],

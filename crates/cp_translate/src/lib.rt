@@ -1,18 +1,22 @@
-//! The compiler's walk: from expressions, designators and statements to threaded code.
+//! Translates expressions, designators and statements to threaded code.
 //!
-//! A `Translator` has the scope of a unit. Each call equals a function of `cp_code`'s definitions (`CodedTerms.antt`,
-//! `CodedStatements.antt`) in each scope that its tables stand for, whatever the tree:
+//! A `Translator` has the scope of a unit. Whatever the tree, the result of each function equals
+//! that of a function of `cp_code`'s definitions (`CodedTerms.antt`, `CodedStatements.antt`), in
+//! each scope that its tables stand for:
 //!
-//! - `expressions`: terms and spots, with the calls that are made before, in the order in which they are made
-//!   (`specs/Translated.antt`). An expression, its designators and its arguments lead to one another; `names`, `parts`,
-//!   `operators`, `standard`, `calls` and `arguments` have the steps that don't lead back.
-//! - `statements`: the operations of a statement, and where they are entered (`specs/Statements.antt`). `operations`,
-//!   `assignments`, `procedures` and `initialisation` have the statements in which no statement stands; `components` has what
-//!   those need of the components that are named.
+//! - `expressions`: terms and spots, and the calls to make before them, in order
+//!   (`specs/Translated.antt`). Expressions, designators and arguments contain one another.
+//!   `names`, `parts`, `operators`, `standard`, `calls` and `arguments` have the steps that aren't
+//!   part of this recursion.
+//! - `statements`: the operations of a statement, and where they are entered
+//!   (`specs/Statements.antt`). `operations`, `assignments`, `procedures` and `initialisation` have
+//!   the statements that contain no statements, and `components` has what they need of named
+//!   components.
 //!
-//! Functions recur by nesting alone: lists are gone through by loops, and each part of a tree is visited once, but that the
-//! type of an argument is looked for where `succ`, `pred`, `display` or `accept` needs it. What no accepted text has is
-//! refused: a number beyond 32 bits, an index list without an index, a part of what has none, a name of nothing.
+//! Recursion follows nesting alone, and lists are handled by loops. Each part of a tree is visited
+//! once, except that `succ`, `pred`, `display` and `accept` also look for the type of their
+//! argument. What no accepted text has is refused: a number beyond 32 bits, an index list without
+//! an index, a part of something without parts, or a name that means nothing.
 #![tactic(auto)]
 
 mod arguments;

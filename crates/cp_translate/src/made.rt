@@ -1,4 +1,5 @@
-//! What is made of designators and arguments. The calls before it are kept apart, behind those that were made before.
+//! What is made of designators and arguments. The calls to make before are kept apart, added to
+//! those that were there.
 
 ghost use Rattle.std.specs.Prelude.{◌≡◌, []};
 
@@ -6,7 +7,8 @@ use cp_threaded::operation::Argument;
 use cp_threaded::term::Spot;
 use std::alloc::Global;
 
-/// The spot of a designator, the first temp after the values of its calls, and the number of the type of its place.
+/// The spot of a designator, the first temp after the values of its calls, and the number of the
+/// type of its place, if it has one.
 #[derive(Debug, Drop)]
 pub struct MadeSpot {
     pub spot: Spot,
@@ -14,21 +16,21 @@ pub struct MadeSpot {
     pub of: Option<usize>,
 }
 
-/// What is passed to a parameter, and the first temp after the values of its calls.
+/// An argument, and the first temp after the values of its calls.
 #[derive(Debug, Drop)]
 pub struct MadeArgument {
     pub argument: Argument,
     pub temps: u32,
 }
 
-/// What is passed to parameters, and the first temp after the values of their calls.
+/// Arguments, and the first temp after the values of their calls.
 #[derive(Debug, Drop)]
 pub struct MadeArguments {
     pub arguments: Vec<Argument>,
     pub temps: u32,
 }
 
-/// Nothing is passed, and no call is made before.
+/// No arguments, and no calls before them.
 pub fn no_arguments(alloc: Global, low: u32) -> MadeArguments
     ensures arguments { result.arguments.items ≡ [] }
     ensures temps { result.temps ≡ low }

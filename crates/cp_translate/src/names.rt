@@ -1,4 +1,4 @@
-//! What names are made to: places where variables begin, constants and the clock.
+//! What names are translated to: places where variables begin, constants and the clock.
 
 ghost use Rattle.std.specs.Prelude.{◌≡◌, ℕ, Option, IfOk, option_map};
 ghost use Rattle.cp_model.specs.Declarations.{Variable};
@@ -26,7 +26,7 @@ fn is_clock(name: &[u8]) -> bool
     name == b"realtime".as_slice()
 }
 
-// Where a parameter or variable of a routine begins.
+// The place where a parameter or variable of a routine begins.
 fn root_of_local(local: Local) -> Result<Root, CompileError>
     ensures { IfOk result (λ r. (types : Types) (q : ℕ × Variable)
         → LocalIs types (Some local) (Some q) → view.root r ≡ root_of_local q) }
@@ -42,7 +42,7 @@ fn root_of_local(local: Local) -> Result<Root, CompileError>
     }
 }
 
-// Where a member of a component begins.
+// The place where a member of a component begins.
 fn root_of_member(part: Part) -> Result<Root, CompileError>
     ensures { IfOk result (λ r. (types : Types) (q : layout.Part)
         → PartIs types (Some part) (Some q) → view.root r ≡ plain.Member q.0) }
@@ -51,7 +51,8 @@ fn root_of_member(part: Part) -> Result<Root, CompileError>
     Ok(Root::Member(at))
 }
 
-// Where a variable begins: one of the routine, or else one of the component.
+// The place where a variable begins: one of the routine if there is one, and otherwise one of the
+// component.
 fn root_of(local: Option<Local>, part: Option<Part>) -> Result<Option<Root>, CompileError>
     ensures { IfOk result (λ r. (types : Types) (l : Option (ℕ × Variable))
         (m : Option layout.Part) → LocalIs types local l → PartIs types part m
@@ -65,7 +66,7 @@ fn root_of(local: Option<Local>, part: Option<Part>) -> Result<Option<Root>, Com
 }
 
 impl<'s, 't> Translator<'s, 't> {
-    /// Where the variable of a name begins, if the name is that of one.
+    /// The place where the variable with this name begins, or `None` if there is no such variable.
     pub fn root(&self, name: &[u8]) -> Result<Option<Root>, CompileError>
         ensures { IfOk result (λ r. (s : code.Scope) → IsScope self.now.scope s
             → option_map view.root r ≡ root_named s name.now) }
@@ -73,7 +74,7 @@ impl<'s, 't> Translator<'s, 't> {
         root_of(self.scope.local(name), self.scope.member(name))
     }
 
-    /// Where the variable of a name begins. A name of none is refused.
+    /// The place where the variable with this name begins. Any other name is refused.
     pub fn variable_root(&self, name: &[u8]) -> Result<Root, CompileError>
         ensures { IfOk result (λ r. (s : code.Scope) → IsScope self.now.scope s
             → view.root r ≡ root_or_first (root_named s name.now)) }
@@ -81,7 +82,7 @@ impl<'s, 't> Translator<'s, 't> {
         self.root(name)?.ok_or(CompileError::Unaccepted)
     }
 
-    // The value of a constant. A name of none is refused.
+    // The value of the constant with this name. Any other name is refused.
     fn constant(&self, name: &[u8]) -> Result<Term, CompileError>
         ensures { IfOk result (λ t. (s : code.Scope) → IsScope self.now.scope s
             → view.term t ≡ plain.Number (ordinal_or_zero (lookup name.now s.globals.constants))) }
@@ -92,7 +93,7 @@ impl<'s, 't> Translator<'s, 't> {
         }
     }
 
-    /// What a name alone is the value of: the clock, a variable or a constant.
+    /// The value of a bare name: the clock, a variable or a constant.
     pub fn named_term(&self, name: &[u8]) -> Result<Term, CompileError>
         ensures { IfOk result (λ t. (s : code.Scope) → IsScope self.now.scope s
             → view.term t ≡ term_of_name s name.now) }

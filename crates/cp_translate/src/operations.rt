@@ -1,4 +1,4 @@
-//! Operations of statements, each after the calls of its terms.
+//! The operations of statements, each after the calls of its terms.
 
 ghost use Rattle.std.specs.Prelude.{◌≡◌, ◌++◌, ◌∷◌, [], IfOk, OnOk, map, reverse};
 ghost use Rattle.cp_model.specs.Erase as erase;
@@ -30,7 +30,7 @@ fn is_down(direction: Direction) -> bool
 }
 
 impl<'s, 't> Translator<'s, 't> {
-    /// A test, which leads to these places.
+    /// Emits a test, which leads to `yes` or `no`.
     pub fn test(
         &self,
         e: &Expression,
@@ -54,7 +54,7 @@ impl<'s, 't> Translator<'s, 't> {
         emitter.emit(calls, test)
     }
 
-    /// The operation of a `case` with these arms.
+    /// Emits the operation of a `case` with these arms.
     pub fn choose(
         &self,
         e: &Expression,
@@ -77,7 +77,7 @@ impl<'s, 't> Translator<'s, 't> {
         emitter.emit(calls, case)
     }
 
-    // Adds the label of a statement at this place, if it is one.
+    // Adds an arm for a label that leads to `place`, if the label has a value.
     fn add_label(
         &self,
         label: &Constant,
@@ -97,7 +97,7 @@ impl<'s, 't> Translator<'s, 't> {
         Ok(())
     }
 
-    /// Adds the labels of a statement at this place to arms, of which the last comes first.
+    /// Adds arms for the labels of a statement at `place`. The last label comes first in `arms`.
     pub fn label(
         &self,
         labels: &[Constant],
@@ -114,7 +114,7 @@ impl<'s, 't> Translator<'s, 't> {
         Ok(())
     }
 
-    /// A `for` over the variable of a name, before its body stands.
+    /// The data of a `for` over the variable with this name, before its body is emitted.
     pub fn counting(
         &self,
         name: &[u8],
@@ -139,7 +139,7 @@ impl<'s, 't> Translator<'s, 't> {
         })
     }
 
-    /// The operation with which a `for` begins.
+    /// Emits the operation with which a `for` begins.
     pub fn start_counting(
         &self,
         counting: Counting,

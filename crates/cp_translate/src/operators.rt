@@ -1,4 +1,4 @@
-//! Operators over terms that are made.
+//! Operators on terms.
 
 ghost use Rattle.std.specs.Prelude.{List, ℕ, IfOk, map};
 ghost use Rattle.cp_model.specs.Abstract as a;
@@ -18,7 +18,7 @@ use cp_scope::CompileError;
 use cp_threaded::term::Term;
 
 impl<'s, 't> Translator<'s, 't> {
-    /// A number, before which no call is made.
+    /// A number, which needs no calls.
     pub fn number(&self, n: i32, low: u32) -> MadeTerm
         ensures { (calls : List CodedCall) → IsTerm (map coded_call calls) calls result
             (coded.lone_term (plain.Number n) low) }
@@ -29,7 +29,7 @@ impl<'s, 't> Translator<'s, 't> {
         }
     }
 
-    /// The value that isn't this one.
+    /// The negation of a Boolean term.
     pub fn not(&self, made: MadeTerm) -> Result<MadeTerm, CompileError>
         ensures { IfOk result (λ n. (before : List coded.CodedCall) (after : List CodedCall)
             (t : coded.CodedTerm) → IsTerm before after made t
@@ -41,7 +41,7 @@ impl<'s, 't> Translator<'s, 't> {
         })
     }
 
-    /// With a sign before it.
+    /// A term with a sign before it.
     pub fn with_sign(&self, sign: Sign, made: MadeTerm) -> Result<MadeTerm, CompileError>
         ensures { IfOk result (λ n. (before : List coded.CodedCall) (after : List CodedCall)
             (s : code.Scope) (e : a.Expression) (low : ℕ)
@@ -57,7 +57,7 @@ impl<'s, 't> Translator<'s, 't> {
         }
     }
 
-    /// An operator between two operands, the calls of the second behind those of the first.
+    /// A binary operator. The calls of the right operand come after those of the left one.
     pub fn binary(
         &self,
         left: MadeTerm,

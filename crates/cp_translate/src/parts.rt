@@ -18,7 +18,7 @@ use cp_scope::CompileError;
 use cp_threaded::term::{Spot, Term};
 
 impl<'s, 't> Translator<'s, 't> {
-    /// The variable of a name, and the type of its place.
+    /// The spot of the variable with this name, and the type of its place.
     pub fn variable(&self, name: &[u8], low: u32) -> Result<MadeSpot, CompileError>
         ensures { IfOk result (λ made. (s : code.Scope) (calls : List CodedCall)
             → IsScope self.now.scope s
@@ -31,7 +31,7 @@ impl<'s, 't> Translator<'s, 't> {
         })
     }
 
-    /// What a place holds.
+    /// The word at a place, as a term.
     pub fn item(&self, made: MadeSpot) -> Result<MadeTerm, CompileError>
         ensures { IfOk result (λ t. (before : List coded.CodedCall) (after : List CodedCall)
             (c : coded.CodedSpot) → IsSpot before after made c → IsTerm before after t
@@ -43,7 +43,7 @@ impl<'s, 't> Translator<'s, 't> {
         })
     }
 
-    /// The field of a name of a variable. What is no field of a record is refused.
+    /// The field of a variable. Anything that isn't a field of a record is refused.
     pub fn field(&self, of: MadeSpot, name: &[u8]) -> Result<MadeSpot, CompileError>
         ensures { IfOk result (λ made. (calls : List CodedCall)
             → PartOf self.now.scope calls calls of (λ d. a.Part d name.now) made) }
@@ -63,7 +63,7 @@ impl<'s, 't> Translator<'s, 't> {
         })
     }
 
-    /// The element of this index of a variable. What is no array is refused.
+    /// The element of a variable at an index. A variable that isn't an array is refused.
     pub fn element(&self, of: MadeSpot, index: MadeTerm) -> Result<MadeSpot, CompileError>
         ensures { IfOk result (λ made. (s : code.Scope) (low : ℕ) (before : List coded.CodedCall)
             (old new : List CodedCall) (d : a.Designator) (e : a.Expression)

@@ -1,4 +1,4 @@
-//! Procedures: calls of a user's, and the standard ones.
+//! Calls of procedures: those that the text declares and the standard ones.
 
 ghost use Rattle.std.specs.Prelude.{◌≡◌, Some, IfOk, map};
 ghost use Rattle.cp_model.specs.Abstract as a;
@@ -26,7 +26,7 @@ use cp_model::tree::{Designator, Expression};
 use cp_scope::{Base, Callee, CompileError};
 use cp_threaded::operation::Operation;
 
-// Whether values of a base type are shown as bytes.
+// Whether values of a base type are displayed as bytes.
 fn is_char(base: Base) -> bool
     ensures { result ≡ coded.is_char (base_of base.entry) }
 {
@@ -34,7 +34,7 @@ fn is_char(base: Base) -> bool
 }
 
 impl<'s, 't> Translator<'s, 't> {
-    // Shows a value.
+    // Emits a `display` of a value.
     fn display(
         &self,
         e: &Expression,
@@ -58,7 +58,7 @@ impl<'s, 't> Translator<'s, 't> {
         emitter.emit(calls, display)
     }
 
-    // Takes a value of the input.
+    // Emits an `accept`, which takes a value from the input.
     fn accept(
         &self,
         e: &Expression,
@@ -85,7 +85,7 @@ impl<'s, 't> Translator<'s, 't> {
         emitter.emit(calls, accept)
     }
 
-    // Waits in a queue.
+    // Emits a `delay` in a queue.
     fn delay(
         &self,
         e: &Expression,
@@ -118,7 +118,7 @@ impl<'s, 't> Translator<'s, 't> {
         }
     }
 
-    // Lets the first one in a queue go on.
+    // Emits a `continue`, which lets the first process in a queue continue.
     fn resume(&self, e: &Expression, low: u32, emitter: &mut Emitter) -> Result<u32, CompileError>
         ensures { IfOk result (λ entry. (s : code.Scope) → IsScope self.now.scope s
             → let c = coded_variable s (erase.expression (tree.expression e.now)) low in
@@ -134,7 +134,8 @@ impl<'s, 't> Translator<'s, 't> {
         emitter.emit(calls, go_on)
     }
 
-    // The standard procedure of a name, with its first argument.
+    // Emits a call of the standard procedure with this name and first argument. Any name not listed
+    // counts as `continue`.
     fn standard_procedure(
         &self,
         name: &[u8],
@@ -160,7 +161,7 @@ impl<'s, 't> Translator<'s, 't> {
         }
     }
 
-    // A standard procedure; the one without arguments waits.
+    // Emits a call of a standard procedure. The one without arguments is `wait`.
     fn standard_statement(
         &self,
         name: &[u8],
@@ -180,7 +181,7 @@ impl<'s, 't> Translator<'s, 't> {
         }
     }
 
-    // A call of a user's procedure.
+    // Emits a call of a procedure that the text declares.
     fn procedure_call(
         &self,
         called: &Callee,
@@ -203,7 +204,7 @@ impl<'s, 't> Translator<'s, 't> {
         emitter.emit(calls, Operation::Procedure { call, next })
     }
 
-    /// A procedure statement.
+    /// Emits a procedure statement.
     pub fn perform(
         &self,
         d: &Designator,

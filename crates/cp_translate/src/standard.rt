@@ -26,7 +26,7 @@ use cp_model::tree::{Designator, Expression};
 use cp_scope::{Base, CompileError, base_type, first_ordinal, last_ordinal};
 use cp_threaded::term::{Function, Term};
 
-/// The name that a designator is. A part is refused.
+/// The name that a designator consists of. A designator of a part is refused.
 pub fn lone_name(d: &Designator) -> Result<&[u8], CompileError>
     ensures { IfOk result (λ x. x.now ≡ name_of (erase.designator (tree.designator d.now))) }
 {
@@ -37,14 +37,14 @@ pub fn lone_name(d: &Designator) -> Result<&[u8], CompileError>
     }
 }
 
-/// Whether a name is that of the function of queues.
+/// Whether a name is that of the standard function `empty`, which takes a queue.
 pub fn is_empty_test(name: &[u8]) -> bool
     ensures { result ≡ bytes_eq name.now (codes "empty") }
 {
     name == b"empty".as_slice()
 }
 
-// So many values further on, within the bounds of a base type.
+// The function that shifts a value by `by`, within the bounds of a base type.
 fn shift(by: i32, base: Base) -> Result<Function, CompileError>
     ensures { IfOk result (λ f. view.function f
         ≡ plain.Shift by (types.first_ordinal (base_of base.entry))
@@ -67,7 +67,8 @@ impl<'s, 't> Translator<'s, 't> {
         Ok(base_type(self.scope.expression_type(e)?))
     }
 
-    /// The standard function of one simple value that a name is.
+    /// The standard function with this name, for the argument `e`. Any name not listed counts as
+    /// `chr`.
     pub fn function(&self, name: &[u8], e: &Expression) -> Result<Function, CompileError>
         ensures { IfOk result (λ f. (s : code.Scope) → IsScope self.now.scope s
             → view.function f ≡ function_named name.now (base_of_type
@@ -86,7 +87,7 @@ impl<'s, 't> Translator<'s, 't> {
         }
     }
 
-    /// A standard function of a value.
+    /// A standard function applied to a term.
     pub fn apply(&self, function: Function, made: MadeTerm) -> Result<MadeTerm, CompileError>
         ensures { IfOk result (λ n. (before : List coded.CodedCall) (after : List CodedCall)
             (t : coded.CodedTerm) → IsTerm before after made t → IsTerm before after n
@@ -98,7 +99,7 @@ impl<'s, 't> Translator<'s, 't> {
         })
     }
 
-    /// Whether a queue is empty.
+    /// The test whether a queue is empty.
     pub fn empty(&self, made: MadeSpot) -> Result<MadeTerm, CompileError>
         ensures { IfOk result (λ n. (before : List coded.CodedCall) (after : List CodedCall)
             (c : coded.CodedSpot) → IsSpot before after made c → IsTerm before after n

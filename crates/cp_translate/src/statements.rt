@@ -1,7 +1,8 @@
-//! Statements.
+//! Translates statements.
 //!
-//! A list of statements is emitted from its last to its first, so that an operation knows the place to which it leads. The operation
-//! that closes a loop comes first, at the place to which the loop's body leads; it is complete once the body stands.
+//! A list of statements is emitted from its last to its first, so that the place to which an
+//! operation leads is already known. The operation that closes a loop is emitted before the loop's
+//! body, which leads to it, and completed afterwards.
 
 ghost use Rattle.std.specs.Prelude.{ℕ, IfOk, map};
 ghost use Rattle.cp_model.specs.Abstract as a;
@@ -17,7 +18,8 @@ use cp_threaded::arm::Arm as CodedArm;
 use cp_threaded::operation::Operation;
 
 impl<'s, 't> Translator<'s, 't> {
-    /// Emits the operations of a statement, which lead to the next, and answers where they are entered. Temps are free from `low` on.
+    /// Emits the operations of a statement, which lead to the place `next`, and returns the place
+    /// where they are entered. Temps are free from `low` on.
     #[cycle(statements)]
     pub fn statement(
         &self,
@@ -68,7 +70,7 @@ impl<'s, 't> Translator<'s, 't> {
         }
     }
 
-    /// Statements, one after another.
+    /// Emits statements that run one after another.
     #[cycle(statements)]
     pub fn statements(
         &self,
@@ -104,7 +106,7 @@ impl<'s, 't> Translator<'s, 't> {
         self.choose(selector, arms, low, emitter)
     }
 
-    // The statements of a `case`, and where each of their labels leads.
+    // Emits the statements of a `case`, and returns where each of their labels leads.
     #[cycle(statements)]
     fn arms(
         &self,
@@ -166,7 +168,7 @@ impl<'s, 't> Translator<'s, 't> {
         Ok(first)
     }
 
-    // A `for` keeps its counter and its last value in two temps while its body runs.
+    // While the body of a `for` runs, two temps keep its counter and its last value.
     #[cycle(statements)]
     fn for_loop(
         &self,

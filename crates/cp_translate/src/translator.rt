@@ -1,9 +1,9 @@
-//! What texts are translated with.
+//! What code is translated with.
 
 use cp_scope::Scope;
 use std::alloc::Global;
 
-/// What the code of a unit is translated with: its scope, and room for what is made.
+/// What the code of a unit is translated with: the scope of the unit, and an allocator.
 #[derive(Clone, Copy)]
 pub struct Translator<'s, 't> {
     pub scope: Scope<'s, 't>,

@@ -1,4 +1,4 @@
-//! What is asked of types.
+//! Queries about types.
 
 ghost use Rattle.std.specs.Prelude.{◌≡◌, IfOk};
 ghost use Rattle.cp_model.specs.Types.{ResolvedType};
@@ -11,7 +11,7 @@ use crate::translator::Translator;
 use cp_scope::CompileError;
 
 impl<'s, 't> Translator<'s, 't> {
-    /// How many words a variable of this type takes.
+    /// The size in words of a variable of the type `of`.
     pub fn words(&self, of: usize) -> Result<u32, CompileError>
         ensures { IfOk result (λ n. (s : code.Scope) (t : ResolvedType) → IsScope self.now.scope s
             → Stands self.now.scope.tables.now.types of t → n ≡ words s.globals t) }

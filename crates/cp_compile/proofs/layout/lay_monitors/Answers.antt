@@ -8,7 +8,7 @@ use Rattle.cp_compile.specs.declared.components.Owner.{Owner}
 use Rattle.cp_compile.proofs.LaidOut.{PartlyLaid, all_laid, monitor_first, one_laid}
 use Rattle.cp_compile.proofs.layout.lay_monitors.Goals as goal
 
--- What is read past the end of the owners.
+-- A placeholder for an index past the end of the owners.
 abbrev nothing : Owner
 nothing = record { body = 0; words = 0; waiting = 0; plan = 0 }
 

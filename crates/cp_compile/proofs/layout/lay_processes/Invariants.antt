@@ -8,7 +8,7 @@ use Rattle.cp_compile.specs.CompiledComponents.{AreOwners}
 use Rattle.cp_compile.proofs.LaidOut.{PartlyLaid}
 use Rattle.cp_compile.proofs.layout.lay_processes.Given as goal
 
--- those before this one are laid out
+-- The processes before this one are laid out.
 abbrev pub invariant-loop-owner : goal.invariant-loop-owner
 invariant-loop-owner l =
     (plans : List Plan) (g : GlobalScope) (xs : List code.Owner) → AreOwners plans g l.owners xs

@@ -5,7 +5,7 @@ use Rattle.cp_emit.specs.Members.{own_of}
 use Rattle.cp_emit.proofs.Membership.{one_kept}
 use Rattle.cp_emit.proofs.members.own_parameters.Goals as goal
 
--- What is read past the end of a list of declared names.
+-- A placeholder for an index past the end of a list of declared names.
 abbrev nothing : Declared
 nothing = record { name = record { ref_ptr = (0, 0); now = [] }; by_reference = false; of = 0 }
 

@@ -2,7 +2,7 @@ use Rattle.std.proofs.Common.{◌-◌, length}
 use Rattle.cp_emit.specs.StartValues.{AreStartValues}
 use Rattle.cp_emit.proofs.start_values.start_values.Given as goal
 
--- Of the types so far.
+-- The types so far have their start values.
 abbrev pub invariant-loop-row : goal.invariant-loop-row
 invariant-loop-row l = AreStartValues l.types l.values.items
 

@@ -3,6 +3,6 @@ use Rattle.cp_code.specs.CodedStatements as coded
 use Rattle.cp_threaded.specs.Labels.{arm}
 use Rattle.cp_emit.proofs.table.places.Given as goal
 
--- The arms from this one on were put.
+-- The arms from this one on have been put.
 abbrev pub invariant-loop-i : goal.invariant-loop-i
 invariant-loop-i l = l.places.items ≡ coded.places_from (map arm (drop l.i l.arms)) l.low l.count

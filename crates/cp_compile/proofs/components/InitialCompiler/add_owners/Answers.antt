@@ -7,7 +7,7 @@ use Rattle.cp_scope.specs.Variables.{declared_entry}
 use Rattle.cp_compile.proofs.ComponentsCompiled.{PartlyOwned, all_owned, one_owned}
 use Rattle.cp_compile.proofs.components.InitialCompiler.add_owners.Goals as goal
 
--- What is read past the end of a list of declared names.
+-- A placeholder for an index past the end of a list of declared names.
 abbrev nothing : Declared
 nothing = record { name = record { ref_ptr = (0, 0); now = [] }; by_reference = false; of = 0 }
 

@@ -11,7 +11,7 @@ use Rattle.cp_compile.specs.CompiledComponents.{AreOwners, IsInitial}
 use Rattle.cp_compile.proofs.ComponentsCompiled.{PartlyOwned}
 use Rattle.cp_compile.proofs.components.InitialCompiler.add_owners.Given as goal
 
--- with those of the variables that are left, the owners are all
+-- The owners so far and those of the remaining variables are all owners.
 abbrev pub invariant-loop-d : goal.invariant-loop-d
 invariant-loop-d l =
     (plans : List Plan) (g : GlobalScope) (firsts : List (Name × ℕ)) (groups : List Group) (vs : List (Name × Variable)) (before : List code.Owner)

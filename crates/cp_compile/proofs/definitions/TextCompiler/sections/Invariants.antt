@@ -7,7 +7,7 @@ use Rattle.cp_compile.specs.CompiledTexts.{AreNamed, IsText, TypesAre}
 use Rattle.cp_compile.proofs.TextsCompiled.{PartlyDefined}
 use Rattle.cp_compile.proofs.definitions.TextCompiler.sections.Given as goal
 
--- with the sections that are left, all are compiled
+-- Compiling the remaining sections gives what compiling all of them gives.
 abbrev pub invariant-loop-section : goal.invariant-loop-section
 invariant-loop-section l =
     (g : GlobalScope) (m : CompiledTypes) → IsText l.self g → AreNamed g (erase.sections (map tree.section_of l.sections)) → TypesAre l.fn.emitter l.fn.firsts m

@@ -7,7 +7,7 @@ use Rattle.cp_compile.specs.CompiledTexts.{AreNamed, IsText, TypesAre}
 use Rattle.cp_compile.proofs.TextsCompiled.{PartlyDefined}
 use Rattle.cp_compile.proofs.definitions.TextCompiler.types.Given as goal
 
--- with the definitions that are left, all are compiled
+-- Compiling the remaining definitions gives what compiling all of them gives.
 abbrev pub invariant-loop-d : goal.invariant-loop-d
 invariant-loop-d l =
     (g : GlobalScope) (m : CompiledTypes) → IsText l.self g → AreNamed g (map erase.type_definition (map tree.type_definition l.list)) → TypesAre l.fn.emitter l.fn.firsts m

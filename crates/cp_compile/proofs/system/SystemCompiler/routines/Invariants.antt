@@ -8,7 +8,7 @@ use Rattle.cp_compile.specs.Compiles.{IsCompiled}
 use Rattle.cp_compile.proofs.SystemsCompiled.{PartlyCompiled}
 use Rattle.cp_compile.proofs.system.SystemCompiler.routines.Given as goal
 
--- with the routines that are left, all are compiled
+-- Compiling the remaining routines gives what compiling all of them gives.
 abbrev pub invariant-loop-i : goal.invariant-loop-i
 invariant-loop-i l =
     (g : GlobalScope) (s : System) (firsts : List (Name × ℕ)) (c : Compiled) → IsSystem l.self g s firsts → s.routines ≡ routines_of l.texts

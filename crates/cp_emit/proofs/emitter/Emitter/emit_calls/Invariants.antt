@@ -3,7 +3,7 @@ use Rattle.cp_code.specs.CodedStatements.{calls_at}
 use Rattle.cp_emit.specs.Emission.{Emits, coded_call, place_of}
 use Rattle.cp_emit.proofs.emitter.Emitter.emit_calls.Given as goal
 
--- The calls that aren't left were emitted.
+-- The calls that are no longer left have been emitted.
 abbrev pub invariant-loop-made : goal.invariant-loop-made
 invariant-loop-made l =
     let made = calls_at (map coded_call (drop (length l.left.items) l.fn.calls.items)) (place_of l.fn.self) l.next in

@@ -5,7 +5,7 @@ use Rattle.cp_emit.specs.ComponentPlans.{ArePlans}
 use Rattle.cp_emit.specs.Planning.{Knows, types_of}
 use Rattle.cp_emit.proofs.plan.Planner.components.Given as goal
 
--- Of the system types so far.
+-- The system types so far have their plans.
 abbrev pub invariant-loop-table : goal.invariant-loop-table
 invariant-loop-table l =
     (g : GlobalScope) → Knows l.self g → AreSystems g (types_of l.self) l.self.tables.now.systems.items → ArePlans g (types_of l.self) l.plans.items

@@ -7,7 +7,7 @@ use Rattle.cp_emit.specs.Planning.{Knows, types_of}
 use Rattle.cp_emit.proofs.Membership.{PartlyCounted}
 use Rattle.cp_emit.proofs.plan.Planner.first_variable.Given as goal
 
--- So many words take the parameters so far.
+-- The parameters so far take the words from `at` to `next`.
 abbrev pub invariant-loop-d : goal.invariant-loop-d
 invariant-loop-d l =
     (g : GlobalScope) (vs : List (Name × Variable)) → Knows l.self g → AreDeclared (types_of l.self) (map declared_entry l.fn.parameters) vs

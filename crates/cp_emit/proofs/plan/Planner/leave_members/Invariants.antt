@@ -5,7 +5,7 @@ use Rattle.cp_emit.specs.Planning.{Knows, types_of}
 use Rattle.cp_emit.proofs.Planning.{PartlyLeft}
 use Rattle.cp_emit.proofs.plan.Planner.leave_members.Given as goal
 
--- The members that weren't put follow those that are left.
+-- The members so far are left to be planned, and the remaining ones follow them.
 abbrev pub invariant-loop-member : goal.invariant-loop-member
 invariant-loop-member l =
     (g : GlobalScope) (ms : Members) → Knows l.self g → AreMembers (types_of l.self) (map entry l.fn.members) ms

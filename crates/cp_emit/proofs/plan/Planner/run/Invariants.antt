@@ -5,7 +5,7 @@ use Rattle.cp_emit.specs.Drafts.{planned}
 use Rattle.cp_emit.specs.Planning.{AllDone, Knows, types_of}
 use Rattle.cp_emit.proofs.plan.Planner.run.Given as goal
 
--- What comes of what is left is still the same.
+-- What is left leads to the same plan as before.
 abbrev pub invariant-loop-turn : goal.invariant-loop-turn
 invariant-loop-turn l =
     (g : GlobalScope) (after : List code.Start) → Knows l.self g

@@ -12,7 +12,7 @@ use Rattle.cp_scope.proofs.types.Types.add_parameters.Goals as goal
 abbrev own : List (Name × Variable) → List (Name × Variable)
 own vs = filter (λ v. not (is_component v.1.type)) vs
 
--- The first group in front of the others.
+-- The first group, before the others.
 group_first : (r b : Bool) (t : ResolvedType) → is_component t ≡ b → (xs : List Name) (vs : List (Name × Variable)) (ms : Members)
     → members_from (own (declared_group r t xs vs)) ms ≡ (if b then members_from (own vs) ms else with_members xs t (members_from (own vs) ms))
 group_first r true t is [] vs ms = refl

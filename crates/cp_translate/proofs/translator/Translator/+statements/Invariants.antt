@@ -8,14 +8,14 @@ use Rattle.cp_scope.specs.Scopes.{IsScope}
 use Rattle.cp_translate.specs.Statements.{ArmsEnter, Enters}
 use Rattle.cp_translate.proofs.translator.Translator.+statements.Given as goal
 
--- The statements from this one on were emitted.
+-- The statements from this one on have been emitted.
 abbrev pub invariant-statements-loop-i : goal.invariant-statements-loop-i
 invariant-statements-loop-i l =
     (s : code.Scope) → IsScope l.self.scope s
     → Enters l.fn.emitter l.emitter l.entry
     (emitted s (erase.statements (tree.statements_of (map tree.statement (drop l.i l.list)))) l.low (place_of l.fn.emitter) l.next)
 
--- The labelled statements from this one on were emitted.
+-- The labelled statements from this one on have been emitted.
 abbrev pub invariant-arms-loop-i : goal.invariant-arms-loop-i
 invariant-arms-loop-i l =
     (s : code.Scope) → IsScope l.self.scope s

@@ -16,7 +16,7 @@ use Rattle.cp_translate.proofs.ArgumentsMade.{Finishes}
 use Rattle.cp_translate.specs.Translated.{IsPlace, IsTerm}
 use Rattle.cp_translate.proofs.translator.Translator.+terms.Given as goal
 
--- What was made so far is made of the operands so far.
+-- The term so far is that of the operands so far.
 abbrev pub invariant-chain-loop-o : goal.invariant-chain-loop-o
 invariant-chain-loop-o l =
     (s : code.Scope) (low : ℕ) (before : List coded.CodedCall) (e : syntax.Expression) → IsScope l.self.scope s
@@ -24,7 +24,7 @@ invariant-chain-loop-o l =
     → (f : syntax.Expression) × IsTerm before l.calls.items l.left (coded_term s (erase.expression f) low)
     × (chain_of f (map tree.operation (drop l.o-index l.rest)) ≡ chain_of e (map tree.operation l.fn.rest))
 
--- What was made so far is made of the selectors so far.
+-- The spot so far is that of the selectors so far.
 abbrev pub invariant-spot-loop-selector : goal.invariant-spot-loop-selector
 invariant-spot-loop-selector l =
     (s : code.Scope) → IsScope l.self.scope s
@@ -32,7 +32,7 @@ invariant-spot-loop-selector l =
     × (erase.selected d (tree.selectors_of (map tree.selector (drop l.selector-index l.selector-items)))
     ≡ erase.designator (tree.designator l.fn.d))
 
--- What was made so far is made of the indices so far.
+-- The spot so far is that of the indices so far.
 abbrev pub invariant-select_elements-loop-i : goal.invariant-select_elements-loop-i
 invariant-select_elements-loop-i l =
     (s : code.Scope) (low : ℕ) (before : List coded.CodedCall) (d : a.Designator) → IsScope l.self.scope s
@@ -41,7 +41,7 @@ invariant-select_elements-loop-i l =
     × (erase.indexed p (tree.indices_of (map tree.index (drop l.i-index l.indices)))
     ≡ erase.indexed d (tree.indices_of (map tree.index l.fn.indices)))
 
--- The arguments that were made and those that are left are all.
+-- The arguments so far and the remaining ones are all arguments.
 abbrev pub invariant-arguments-loop-e : goal.invariant-arguments-loop-e
 invariant-arguments-loop-e l = record {
   count : length l.made.arguments.items ≡ l.e-index;

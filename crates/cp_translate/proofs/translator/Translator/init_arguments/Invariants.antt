@@ -11,7 +11,7 @@ use Rattle.cp_translate.specs.Initialisation.{IsTable}
 use Rattle.cp_translate.proofs.ArgumentsMade.{Finishes}
 use Rattle.cp_translate.proofs.translator.Translator.init_arguments.Given as goal
 
--- The arguments that were made and those that are left are all.
+-- The arguments so far and the remaining ones are all arguments.
 abbrev pub invariant-loop-e : goal.invariant-loop-e
 invariant-loop-e l = record {
   count : length l.made.arguments.items ≡ l.e-index;

@@ -8,7 +8,7 @@ use Rattle.cp_scope.specs.Scopes.{IsScope}
 use Rattle.cp_translate.specs.Statements.{Enters}
 use Rattle.cp_translate.proofs.translator.Translator.initialise.Given as goal
 
--- The components from this one on are initialised.
+-- The initialisations from this one on have been emitted.
 abbrev pub invariant-loop-i : goal.invariant-loop-i
 invariant-loop-i l =
     (s : code.Scope) → IsScope l.self.scope s

@@ -6,7 +6,7 @@ use Rattle.cp_scope.specs.Scopes.{IsScope}
 use Rattle.cp_threaded.specs.Labels.{arm}
 use Rattle.cp_translate.proofs.translator.Translator.label.Given as goal
 
--- The labels from this one on were added.
+-- The labels from this one on have been added.
 abbrev pub invariant-loop-i : goal.invariant-loop-i
 invariant-loop-i l =
     (s : code.Scope) → IsScope l.self.scope s
