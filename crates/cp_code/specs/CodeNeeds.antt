@@ -21,8 +21,8 @@ need_of_call units c = elim (slice_get units c.routine) [
   | Some u ↦ record { words = c.words + u.words; temps = c.temps + u.temps; frames = 1 + u.frames }
 ]
 
--- The arguments of an `init` lie after the activation, where the component's words begin, and after
--- its mark.
+-- At first the arguments of an `init` lie after the activation, as the component's own words will:
+-- after its mark.
 abbrev pub with_room : ℕ → ℕ → Need → Need
 with_room words count need = record need { words = max need.words (words + suc count) }
 

@@ -28,7 +28,7 @@ use Rattle.cp_code.specs.Scopes.{Scope, environment, part_start, right_start, ro
 
 -- ---- What is made
 
--- A call whose value goes to a temp.
+-- A call, and the temp that gets its value.
 pub record CodedCall : Type 0 where
   pub call : Call
   pub into : ℕ

@@ -13,7 +13,7 @@ use Rattle.cp_code.specs.Programs.{Fill, Repeat, Start}
 use Rattle.cp_code.specs.Layout.{head_words, locals_words}
 use Rattle.cp_code.specs.Starts.{unset}
 
--- ---- Plans in front of others
+-- ---- Plans before others
 
 abbrev pub fill_before : ℕ → ℕ → ℤ → List Start → List Start
 fill_before at count n (Fill behind more m ∷ rest) =

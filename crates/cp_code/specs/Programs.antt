@@ -27,7 +27,7 @@ pub data Table : Type 0 where
   Dense : (low : ℤ) (places : List (Option ℕ)) → Table
   Sparse : (arms : List Arm) → Table
 
--- A `for`. Its counter and its last value are in two temps.
+-- A `for`. Two temps hold its counter and its last value.
 pub record Counting : Type 0 where
   pub variable : Root
   pub low : ℤ

@@ -31,7 +31,8 @@ abbrev pub fill : ℕ → ℕ → ℤ → List ℤ → List ℤ
 fill at zero n ws = ws
 fill at (suc k) n ws = fill (suc at) k n (slice_set ws at n)
 
--- The words after `k` more copies of the block of `size` words at `at`.
+-- The words after the block of `size` words at `at` has been copied a number of times, each copy
+-- after the one before.
 abbrev pub repeated : ℕ → ℕ → ℕ → List ℤ → List ℤ
 repeated at size zero ws = ws
 repeated at size (suc k) ws = repeated (at + size) size k (paste (at + size) (block ws at size) ws)

@@ -1,4 +1,4 @@
--- A chain that is computed within a bound is the asking chain, of which there is one.
+-- A chain that is computed within a bound is the asking chain, and there is only one.
 use Rattle.std.specs.Prelude.{Bool, List, None, if◌then◌else◌, Option, Some, [], false, option_map, refl, suc, true, zero, ℕ, ◌++◌, ◌∷◌, ◌≡◌}
 use Rattle.std.proofs.Common.{ap, arith, subst, sym, ◌∙◌}
 use Rattle.cp_model.specs.States.{Setup, State, processes}

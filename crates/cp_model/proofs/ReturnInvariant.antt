@@ -85,7 +85,7 @@ call_end p st (ForNext v down x last s env ∷ k) o = call_end p st k
 call_end p st (EndBody gate ∷ k) o = call_end p st k (continuation_tail p st (EndBody gate) k tt o)
 call_end p st (EndProcess ∷ k) o = call_end p st k (continuation_tail p st EndProcess k tt o)
 
--- A value in the place of a call changes no environment and no mark.
+-- Replacing a call by a value changes no environment and no end mark.
 with_answer_continuation : (p : ℕ) (st : Store) (v : Expression) (k : List Task) → ContinuationInvariant p st k
     → ContinuationInvariant p st (with_answer v k)
 with_answer_continuation p st v [] o = o

@@ -36,7 +36,7 @@ is_in-same p xs ys there back = go (is_in p xs) (is_in p ys) refl refl
     go true false f g = sym (is_in-contained p ys (there (contained-is_in p xs f))) ∙ g
     go false true f g = sym f ∙ is_in-contained p xs (back (contained-is_in p ys g))
 
--- ---- How many steps of a process there are
+-- ---- The number of steps of a process
 
 private_steps-append : (p : ℕ) (es fs : List Event) → private_steps p (es ++ fs) ≡ private_steps p es + private_steps p fs
 private_steps-append p [] fs = Prim.omega arith

@@ -383,4 +383,4 @@ module _ (w : Context) (config : Configuration) (s : StoreInvariant config.store
 
 -- ---- Calls
 
--- Writes at one owner, which refer into a reach.
+-- Writes at one owner, whose references lead into a reach.

@@ -42,7 +42,7 @@ component_target context env store Monitor n =
 component_target context env store Process n =
     record { component = env.component; system = n.system; is_callable = false; gate = None }
 
--- A routine called by its name alone belongs to the running component.
+-- A routine that is called by its bare name belongs to the running component.
 abbrev pub target : Context → Store → Environment → Option Component → Target
 target context store env None = record { component = env.component; system = env.system; is_callable = true; gate = None }
 target context store env (Some n) = component_target context env store n.system.sort n

@@ -60,7 +60,7 @@ monitor_location m = root (OfMonitor m)
 
 -- ---- Numbers
 
--- How many components of a sort are declared before a name.
+-- The number of components of a sort that are declared before a name.
 abbrev pub count_before : Sort → Name → List (Name × Variable) → ℕ
 count_before s x [] = 0
 count_before s x (v ∷ vs) =

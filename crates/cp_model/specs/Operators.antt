@@ -58,7 +58,7 @@ standard_function f v =
 
 -- ---- The clock
 
--- The number of the running round, from 1, and the tick.
+-- The number of the running round, counted from 1, and the tick.
 pub record Clock : Type 0 where
   pub round : ℕ
   pub tick : ℕ

@@ -149,7 +149,7 @@ allows_parameter env None row = true
 
 -- C7: a parameter of a process or monitor type that is neither simple nor a monitor; a parameter of
 -- a class type that is neither simple nor a monitor nor a class; a parameter of a routine that is
--- of a system type. C8: a parameter with queues, which is C8 alone
+-- of a system type. C8: a parameter with queues, which breaks only C8
 abbrev pub c7_c8_parameter : Environment → Option Sort → ℕ → ℕ → Judged ℕ
 c7_c8_parameter env of at t =
     if (row_of env t).has_queues then breaks C8 at else provided (allows_parameter env of (row_of env t).structure) C7 at t

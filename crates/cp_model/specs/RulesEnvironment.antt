@@ -196,7 +196,7 @@ with_names names env = record env { names = names }
 abbrev pub declare : Identifier → Entity → Environment → Environment
 declare x e env = with_names (declare_if_new x e env.names (lookup x.name env.names)) env
 
--- C1: a name is declared where it is visible or being defined, or twice in one scope
+-- C1: a name is declared that is already visible or being defined, or twice in one scope
 abbrev pub c1_declared : Environment → Identifier → Violations
 c1_declared env x = unless (not (is_some (lookup x.name env.names))) C1 x.at
 
@@ -205,7 +205,7 @@ abbrev pub entity_of : {A : Type 0} → (A → Entity) → Judged A → Entity
 entity_of f (Sound x) = f x
 entity_of f (Broken v vs) = entity.Broken v
 
--- ---- what is visible everywhere
+-- ---- names that are visible everywhere
 
 abbrev pub simple_row : ℕ → ℤ → ℤ → TypeRow
 simple_row base low high = record { structure = structure.Simple base low high; words = 1; has_queues = false }

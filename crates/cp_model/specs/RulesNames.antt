@@ -30,7 +30,7 @@ use Rattle.cp_model.specs.RulesJudged.{Judged, Sound, Broken, Violations, violat
 use Rattle.cp_model.specs.RulesEnvironment.{Environment, Members, integer, boolean, char, row_of, base_of, agree, is_component, routine_of, parameters_from, members_in, Text, c1_named, c4_unfinished, c9_standard, c4_c9_named}
 use Rattle.cp_model.specs.Names.{lookup}
 
--- ---- where names stand
+-- ---- the places of names
 
 abbrev pub first_name : s.Designator → Identifier
 first_name (s.Designate x ss) = x
@@ -179,7 +179,7 @@ called r env g = Sound (record { wants = wants_of env r; gives = g })
 abbrev pub function_called : Environment → Rule → Identifier → ℕ → RoutineRow → Judged Callee
 function_called env rule x n r = then_judge (function_gives rule x (nat_eq r.count n) r.returns) (called r env)
 
--- C2: a function as a statement; a wrong number of arguments
+-- C2: a function used as a statement; a wrong number of arguments
 abbrev pub is_procedure : Returns → Bool
 is_procedure returns.Nothing = true
 is_procedure _ = false
@@ -193,7 +193,7 @@ procedure_called env x n r =
 abbrev pub counted : Environment → Identifier → ℕ → RoutineRow → Judged Callee
 counted env x n r = breaks (if nat_eq r.count n then C5 else C2) x.at
 
--- C5: an entry routine called by its name alone
+-- C5: an entry routine called by its bare name
 abbrev pub c5_by_name : Identifier → RoutineRow → Violations
 c5_by_name x r = unless (not r.entry) C5 x.at
 
@@ -281,7 +281,7 @@ wants_named env (Sound (entity.UnfinishedRoutine r)) = wants_of env r
 wants_named env (Sound (entity.Standard f)) = standard_wants f
 wants_named env j = []
 
--- ---- what isn't a routine, where one is wanted
+-- ---- what isn't a routine, although one is wanted
 
 abbrev pub is_value : Judged Entity → Bool
 is_value (Sound (entity.Constant base n)) = true

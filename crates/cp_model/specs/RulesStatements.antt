@@ -127,7 +127,7 @@ selector_base env (Broken v vs) = None
 
 -- ---- `for`
 
--- C10: the variable of `for` isn't a variable. C2: it isn't simple
+-- C10: the variable of a `for` isn't a variable. C2: it isn't simple
 abbrev pub for_variable : Environment → Identifier → Judged ℕ
 for_variable env v =
     also (c10_designator env (plain v)) (then_judge (judge env mode.Variable (s.Designated (plain v))) (λ t. provided (is_simple env t) C2 v.at t))

@@ -43,7 +43,7 @@ values_in _ = 0
 
 -- ---- constants
 
--- C2: a constant is wanted, and the name is of another sort
+-- C2: a constant is wanted, but the name is of another sort
 abbrev pub c2_constant : Identifier → Entity → Judged (ℕ × ℤ)
 c2_constant x (entity.Constant base n) = Sound (base, n)
 c2_constant x entity.UnfinishedConstant = breaks C4 x.at
@@ -103,7 +103,7 @@ type_at (s.Subrange a b) = constant_at a
 type_at (s.Array at is e) = at
 type_at (s.Record at gs) = at
 
--- C2: a type is wanted, and the name is of another sort
+-- C2: a type is wanted, but the name is of another sort
 abbrev pub c2_type : Identifier → Entity → Judged ℕ
 c2_type x (entity.Type t) = Sound t
 c2_type x entity.UnfinishedType = breaks C4 x.at

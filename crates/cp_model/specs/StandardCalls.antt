@@ -48,7 +48,8 @@ abbrev pub enqueue : ℕ → Configuration → List Task → Location → ℕ �
 enqueue p config k q m (Some r) = Fault 5
 enqueue p config k q m None = Gives (with_writes config ((q, QueueHolds (Some p)) ∷ []) k, Delays m q)
 
--- The process stands in the queue, and the kernel passes on the gate of the innermost monitor. Outer gates stay held.
+-- The process stands in the queue, and the kernel passes on the gate of the innermost monitor. The
+-- outer gates stay held.
 abbrev pub delay : ℕ → Configuration → List Task → Location → List ℕ → StepResult
 delay p config k q [] = own_step config
 delay p config k q (m ∷ ms) = enqueue p config k q m (process_in_queue (config.store q))

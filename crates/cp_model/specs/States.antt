@@ -10,7 +10,7 @@ use Rattle.cp_model.specs.Configurations.{Configuration, Context, Status, Unstar
 
 -- ---- Gates
 
--- A gate is unset before its monitor is initialised; then it is free or held by a process.
+-- A gate is unset until its monitor is initialised. Then it is free or held by a process.
 pub data Holder : Type 0 where
   Unset Free : Holder
   HeldBy : (p : ℕ) → Holder

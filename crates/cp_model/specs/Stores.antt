@@ -19,7 +19,7 @@ pub data Value : Type 0 where
 abbrev pub Store : Type 0
 Store = Location → Value
 
--- The store with a value at a location.
+-- The store with another value at one location.
 abbrev pub put : Location → Value → Store → Store
 put l v store k = if same_location l k then v else store k
 

@@ -43,7 +43,7 @@ use Rattle.cp_typing.proofs.RoutineNames.{routines_new}
 
 -- ---- the bodies of a component
 
--- where its variables were declared, in a scope of outer names
+-- the scope after a component's variables have been declared
 pub record Opened (G : GlobalScope → Type 0) (ys : List a.System) (y : s.System) (p : Position) (env : Environment) (rs : Types) : Type 0 where
   pub scope : ComponentScope G ys (erase.system y) env rs 0
   pub region : env.region ≡ record { sort = y.sort; part = part.Body }

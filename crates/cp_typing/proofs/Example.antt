@@ -1,4 +1,5 @@
--- A text that is well typed, and statements in it that are not: the judgement holds of something, and not of everything.
+-- A text that is well typed, and statements in it that are not: the judgement holds for something,
+-- but not for everything.
 --
 --   type m = monitor
 --     var n: integer;
@@ -72,7 +73,8 @@ accepted = refl
 pub text_is_well_typed : WellTyped setup
 text_is_well_typed = accepted_texts_are_well_typed tree setup accepted refl
 
--- The initial process takes a word, and its call two: one for the activation and one for k. The monitor takes a word, and one for n.
+-- The initial process takes one word, and its call takes two: one for the activation and one for k.
+-- The monitor takes one word for itself and one for n.
 pub initial_takes_three : owner_words 2 (globals setup.tree) setup.tree.initial ≡ 3
 initial_takes_three = refl
 

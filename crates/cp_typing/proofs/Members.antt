@@ -1,4 +1,5 @@
--- The words of a component: one for its mark, one for each parameter, and those of its variables.
+-- The words of a component: one for its mark, one for each parameter, and the words of its
+-- variables.
 use Rattle.std.proofs.Common.{◌≡◌, ◌≤◌, inl, inr, ℕ, ◌+◌, suc, Bool, true, false, not, List, [], ◌∷◌, Some, length, filter, refl, ap, sym, ◌∙◌, arith}
 use Rattle.std.proofs.lemmas.Bool.{true≢false}
 use Rattle.cp_model.specs.Abstract as a

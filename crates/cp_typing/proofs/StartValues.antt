@@ -80,7 +80,7 @@ module _ (setup : Setup) (typed : WellTyped setup) where
         | inr k ↦ members_functional inner (system_good g (text_systems setup) (all_good setup typed) v.type k s inner is)
       ]
 
-  -- ---- what was written where
+  -- ---- what was written at each location
 
   pub record OwnWrite (l : Location) (v : Value) : Type 0 where
     pub name : Name

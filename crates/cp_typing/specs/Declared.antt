@@ -65,7 +65,7 @@ abbrev pub ResultFits : GlobalScope → Option Name → Type 0
 ResultFits g None = Unit {0}
 ResultFits g (Some t) = IsSimple (named_type g t) × IsData g (named_type g t)
 
--- ---- Components: of a system type, where these were defined before
+-- ---- Components of a system type, after the system types in `before`
 
 -- a right to a monitor or, for a class, a right to a class
 abbrev pub MayBePassed : Sort → Option Sort → Type 0

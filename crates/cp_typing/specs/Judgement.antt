@@ -80,7 +80,7 @@ first_name (Plain x) = x
 first_name (Part d x) = first_name d
 first_name (At d e) = first_name d
 
--- a parameter that isn't `var`
+-- whether a parameter is found that isn't a `var` parameter
 abbrev pub is_value_parameter : Option Variable → Bool
 is_value_parameter None = false
 is_value_parameter (Some v) = not v.by_reference
@@ -203,7 +203,7 @@ abbrev mutual
   TypedUse p (Part d x) = TypedPlace p d × HasField x (place_type p.env d)
   TypedUse p (At d e) = TypedPlace p d × TypedExpression p e × IsArray (place_type p.env d) × IsSimple (expression_type p.env e)
 
-  -- a place
+  -- a designator that has a place
   pub TypedPlace : Place → Designator → Type 0
   TypedPlace p (Plain x) = NamesVariable p.env x
   TypedPlace p (Part d x) = TypedPlace p d × HasField x (place_type p.env d)

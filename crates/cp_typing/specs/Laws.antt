@@ -1,4 +1,4 @@
--- The laws: an accepted text is well typed, and what follows from that and from the static types alone.
+-- The laws: an accepted text is well typed, and what follows from that and from the static types.
 use Rattle.std.specs.Prelude.{◌≡◌, ◌<◌, ◌≤◌, ◌⊎◌, ◌+◌, ℕ, ℤ, true, None, Some, slice_get, take, List}
 use Rattle.cp_model.specs.Syntax as s
 use Rattle.cp_model.specs.Erase as erase

@@ -1,5 +1,5 @@
--- Needs: the words of its process that an activation takes together with everything that it calls,
--- and the words that a process or a monitor takes including these.
+-- Needs: how many words of its process an activation takes, together with everything that it calls,
+-- and how many words a process or a monitor takes in all.
 use Rattle.std.specs.Prelude.{◌≤◌, ℕ, suc, ◌+◌, zero, max, if◌then◌else◌, List, [], ◌∷◌, Option, None, Some}
 use Rattle.cp_model.specs.Abstract.{Arms, Assign, At, Binary, Call, Case, Class, Cycle, Designator, Expression, Expressions, For, If, Init, MoreArms, MoreExpressions, Name, Negative, NoArm, NoExpression, Not, Nothing, Part, Perform, Plain, Positive, Process, Repeat, Routine, Seq, Sort, Statement, System, Use, While}
 use Rattle.cp_model.specs.RulesTypes.{word_limit}

@@ -51,7 +51,8 @@ pub fn owners_are_numbered()
     ensures monitors { MonitorsAreNumbered }
 {}
 
-/// At the start, each leaf of each variable of the initial process, of the processes and of the monitors has its start value.
+/// At the start, each leaf of each variable of the initial process, of the processes and of the
+/// monitors has its start value.
 pub fn variables_have_start_values()
     ensures { VariablesHaveStartValues }
 {}
