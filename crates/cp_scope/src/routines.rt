@@ -1,5 +1,4 @@
-//! What is known of a routine: its parameters and variables, where they lie, and the type of its
-//! result.
+//! A routine: its parameters, where its variables lie, and the type of its result.
 
 ghost use Rattle.std.specs.Prelude.{◌≡◌, ◌++◌, IfOk, map};
 ghost use Rattle.cp_typing.specs.Needs.{result_words};
@@ -17,9 +16,9 @@ use crate::variables::Declared;
 use cp_model::tree::{Identifier, Routine};
 use std::alloc::Global;
 
-/// A routine: its name, its parameters and variables in text order, where they lie in an activation
-/// (`locals` also has the size of the activation), and the number of the type of its result if it
-/// is a function.
+/// A routine: its name, its parameters and variables in text order, where they lie in an
+/// activation, and the number of the type of its result, if it is a function. The words of an
+/// activation are those of `locals`.
 #[derive(Drop)]
 pub struct RoutineTable<'t> {
     pub name: &'t [u8],
@@ -29,7 +28,7 @@ pub struct RoutineTable<'t> {
     pub result: Option<usize>,
 }
 
-// The size of the result in words.
+// The words of a result.
 fn words_of_result(of: &Option<Identifier>) -> u32
     ensures { result ≡ result_words (erase.name_if of.now) }
 {
@@ -39,7 +38,7 @@ fn words_of_result(of: &Option<Identifier>) -> u32
     }
 }
 
-// The parameters, followed by the variables.
+// Parameters, followed by variables.
 fn both<'t>(
     alloc: Global,
     parameters: &[Declared<'t>],
@@ -54,7 +53,7 @@ fn both<'t>(
 }
 
 impl<'t> Types<'t> {
-    // The number of the type of the result, or `None` for a procedure.
+    // The type of a result.
     fn result(
         &mut self,
         names: &Names<'t>,
