@@ -140,8 +140,8 @@ fn lay_components<'t>(
 ///
 /// # Errors
 ///
-/// `Memory` if memory runs out, and `Unaccepted` if the tree has a number or a name that no
-/// accepted text has.
+/// `Memory` if memory runs out or the plans of the text would take too much of it, and `Unaccepted`
+/// if the tree has a number or a name that no accepted text has.
 pub fn compile(alloc: Global, tree: &Tree) -> Result<Program, CompileError>
     ensures { IfOk result (λ program. Accepted (syntax.tree tree.now)
         → view.program program ≡ code.compile (text_of tree.now)) }

@@ -16,8 +16,8 @@ use cp_model::tree::Sort;
 use cp_names::NameTable;
 use cp_scope::{CompileError, Declared, SystemTable, Tables, small_number};
 
-/// A monitor or a process: the unit of its body, the number of its words, the number of words that
-/// wait to be passed to it, and the number of its plan.
+/// A monitor or a process: the unit of its body, the number of its words, the number of shared
+/// words in which its parameters wait, and the number of its plan.
 #[derive(Clone, Copy)]
 pub struct Owner {
     pub body: u32,

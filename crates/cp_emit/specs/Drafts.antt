@@ -19,7 +19,7 @@ planned d = starts_of d.starts.items
 abbrev pub closed : ℕ → List code.Start → List code.Start
 closed n xs = if nat_eq (length xs) n then drop 1 xs else xs
 
--- The end of an array is left to be planned, if its words may already be 0.
+-- The end of an array is left to be planned, if its words are 0 before.
 abbrev pub with_end : Bool → ℕ → List Work → List Work
 with_end true n ws = ws ++ work.EndOfArray n ∷ []
 with_end false n ws = ws

@@ -15,9 +15,9 @@ use std::alloc::Global;
 pub enum Work {
     /// A variable of the type `of` that lies at the word `at`.
     Variable { of: usize, at: u32 },
-    /// The end of an array whose words may already be 0. There were `planned` starts after its
-    /// `Repeat` was planned. If there are no more now, the elements stay 0, and the `Repeat` is
-    /// removed.
+    /// The end of an array whose words are 0 before. `planned` is the number of starts up to and
+    /// including its `Repeat`. If there are no more by now, its elements stay 0, and the `Repeat`
+    /// is removed.
     EndOfArray { planned: usize },
 }
 
@@ -110,8 +110,8 @@ impl Draft {
         Ok(())
     }
 
-    /// Leaves the end of an array to be planned, if its words may already be 0. The array's
-    /// `Repeat` must be the start that was planned last.
+    /// Leaves the end of an array to be planned, if its words are 0 before. The array's `Repeat`
+    /// must be the start that was planned last.
     pub fn leave_end(&mut self, zeros: bool) -> Result<(), CompileError>
         ensures left { OnOk result (self.new.left.items ≡ with_end zeros
             (length self.old.starts.items) self.old.left.items) }

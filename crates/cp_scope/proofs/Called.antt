@@ -41,7 +41,7 @@ use Rattle.cp_scope.specs.Variables.{parameters_of, variables_of}
 
 -- ---- Designators that call nothing
 
--- Neither a bare name nor a single field of a bare name.
+-- A designator that is neither a bare name nor a field of a bare name.
 abbrev pub IsDeep : a.Designator → Type 0
 IsDeep (a.Plain x) = ⊥
 IsDeep (a.Part (a.Plain y) x) = ⊥
@@ -72,7 +72,7 @@ deep_select : (d : a.Designator) (y : s.Selector) → IsDeep d → IsDeep (erase
 deep_select d (s.Field at x) deep = deep_part d x.name deep
 deep_select d (s.Indexed is) deep = deep_indexed d is deep
 
--- A designator with two selectors is deep.
+-- A part of a part is deep.
 deep_second : (x y : Name) (z : s.Selector) → Selects z → IsDeep (erase.select (a.Part (a.Plain x) y) z)
 deep_second x y (s.Field at z) selects = tt
 deep_second x y (s.Indexed s.NoIndices) selects = absurd selects
@@ -127,7 +127,7 @@ two_selectors_call_nothing env d ss y z all long y_is z_is first second =
 
 -- ---- Locals
 
--- A name has a place among the locals if it is declared.
+-- A name has a place among the locals if and only if it is declared.
 pub lies_if_declared : (g : GlobalScope) (at : ℕ) (vs : List (Name × Variable)) (x : Name) → is_some (local_at g at vs x) ≡ is_some (lookup x vs)
 lies_if_declared g at [] x = refl
 lies_if_declared g at (v ∷ vs) x = go (bytes_eq x v.0) (lies_if_declared g (at + local_words g v.1) vs x)
@@ -148,7 +148,7 @@ both_some types (Some f) (Some v) h = refl
 both_some types None (Some v) h = absurd h
 both_some types (Some f) None h = absurd h
 
--- A name is that of a local if one is found.
+-- A name is that of a local if and only if one is found.
 pub is_local_found : (types : Types) (s : code.Scope) (x : Name) (f : Option Local) → LocalIs types f (local_in s x)
     → is_local s.globals (environment s).frame x ≡ is_some f
 is_local_found types s x f h = local_known s.globals s.system s.routine x ∙ sym (both_some types f (local_in s x) h)
@@ -159,8 +159,8 @@ local_calls_nothing s x is = rw (is, callee) refl
 
 -- ---- Routines
 
--- The routine with this name, with the number of routines before it, if the first routine has
--- number n.
+-- The first routine named `x` in `rs` has the number `k`, if the first routine of the list has the
+-- number `n`.
 pub record IsAmong (x : Name) (n k : ℕ) (rs : List Routine) : Type 0 where
   pub routine : Routine
   pub before : ℕ
@@ -255,7 +255,7 @@ own_called scope s i x found other finds =
     go None (Some r) h = absurd h
     go (Some f) None h = absurd h
 
--- The component that is found is the one that is named.
+-- The component that is found is the one that the name means.
 pub component_known : (scope : Scope) (s : code.Scope) (i : IsScope scope s) (x : Name) (found : Option Component)
     → ComponentIs scope.tables.now.types (parameters_of s.globals i.parameters) (variables_of s.globals i.variables) found
     (component_among (parameters_of s.globals i.parameters) (variables_of s.globals i.variables) x)

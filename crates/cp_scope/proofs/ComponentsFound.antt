@@ -1,4 +1,4 @@
--- The component that a name means, found among numbered parameters and variables.
+-- The component that a name means is found among numbered parameters and variables.
 use Rattle.std.proofs.Common.{◌≡◌, Bool, Bor, true, false, List, Option, None, Some, refl, subst, sym}
 use Rattle.std.specs.Option.{option_or}
 use Rattle.cp_model.specs.Abstract.{Name}
@@ -13,7 +13,7 @@ use Rattle.cp_scope.specs.Numbering.{IsNumbered, NumberedIs}
 use Rattle.cp_scope.specs.Standing.{Stands}
 use Rattle.cp_scope.specs.Systems.{ComponentIs, component_among, component_of_name}
 
--- For parameters or for variables.
+-- The parameters or the variables.
 abbrev pub among : Bool → List (Name × Variable) → List (Name × Variable) → List (Name × Variable)
 among true ps vs = ps
 among false ps vs = vs

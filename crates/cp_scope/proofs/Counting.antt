@@ -1,4 +1,4 @@
--- Names that are numbered one after another.
+-- Names are numbered one after another.
 use Rattle.std.proofs.Common.{◌≡◌, ◌+◌, ◌∷◌, ◌∙◌, Bool, true, false, ℕ, suc, List, [], Option, None, Some, ap, arith, refl, subst, sym, if◌then◌else◌}
 use Rattle.std.specs.Str.{bytes_eq}
 use Rattle.cp_model.specs.Abstract.{Monitor, Name, Process, Sort}
@@ -13,7 +13,8 @@ use Rattle.cp_scope.specs.Standing.{Stands}
 use Rattle.cp_scope.specs.Tables.{Behind, or_last}
 use Rattle.cp_scope.specs.Variables.{AreDeclared, Entry}
 
--- A name that isn't in the table yet is among the remaining ones, after this many components.
+-- A name that isn't in the table yet is among the remaining ones, after the components counted so
+-- far.
 pub record IsLeft (vs others : List (Name × Variable)) (x : Name) (monitors processes : ℕ) : Type 0 where
   pub means : lookup x vs ≡ lookup x others
   pub monitors_are : count_before Monitor x vs ≡ monitors + count_before Monitor x others
@@ -48,7 +49,8 @@ all_numbered types vs left monitors processes names none partly x =
     go [] stand (Some n) found = found
     go [] stand None found = subst (NumberedIs types vs x None) (sym found.means) tt
 
--- The number of components of a sort before a name, after one more that doesn't have the name.
+-- The count of components of a sort before a name, after one more variable that doesn't have the
+-- name.
 counted_on : (s : Sort) (x : Name) (v : Name × Variable) (rest : List (Name × Variable)) (total before one : ℕ) → bytes_eq x v.0 ≡ false
     → one ≡ (if is_component_of s v.1.type then 1 else 0) → total ≡ before + count_before s x (v ∷ rest) → total ≡ (before + one) + count_before s x rest
 counted_on s x v rest total before one other is h = go (is_component_of s v.1.type) refl

@@ -1,4 +1,4 @@
--- Declared names, one after another.
+-- Names are declared one after another.
 use Rattle.std.proofs.Common.{◌≡◌, ◌∙◌, subst, ◌++◌, ◌∷◌, Bool, false, ℕ, List, [], Option, None, Some, ap, map, refl, sym}
 use Rattle.std.proofs.lemmas.List.{append-nil}
 use Rattle.cp_model.specs.Abstract.{Name}

@@ -1,4 +1,4 @@
--- An added name: what is found afterwards.
+-- What is found in a table after a name is added.
 use Rattle.std.proofs.Common.{◌≡◌, ◌++◌, ◌∷◌, ◌∙◌, Bool, true, false, ℕ, List, [], Option, None, Some, ap, option_map, refl, subst, sym, if◌then◌else◌}
 use Rattle.std.specs.Str.{bytes_eq}
 use Rattle.std.proofs.lemmas.Slice.Eq.{bytes_eq-Decides}
@@ -12,7 +12,7 @@ use Rattle.cp_scope.specs.Outer.{with_type, with_value}
 use Rattle.cp_scope.specs.Standing.{ScopeStands, Stands, TypeMeans, value_of}
 use Rattle.cp_scope.specs.Tables.{InFront, or_last}
 
--- A new name is found after the others as it is before them.
+-- A new name that is added last is found as if it were added first.
 pub behind_as_in_front : {A : Type 0} (es : List (Name × A)) (x : Name) (v : A) → lookup x es ≡ None
     → (y : Name) → lookup y (es ++ (x, v) ∷ []) ≡ lookup y ((x, v) ∷ es)
 behind_as_in_front [] x v new y = refl
@@ -44,7 +44,7 @@ behind_others {A} (e ∷ es) x v y = go (bytes_eq y e.0) (behind_others es x v y
     go true h = refl
     go false h = h
 
--- A name that is already there.
+-- Adding a name that is there already changes nothing.
 pub behind_itself : {A : Type 0} (es : List (Name × A)) (x : Name) (v w : A) (y : Name) → lookup x es ≡ Some w
     → lookup y es ≡ or_last (lookup y es) (bytes_eq y x) v
 behind_itself {A} es x v w y there = go (lookup y es) (bytes_eq y x) refl refl

@@ -10,9 +10,9 @@ use Rattle.cp_scope.specs.declared.names.Names.{Names}
 use Rattle.cp_scope.specs.Standing.{AreMembers, Grows, MakesList, ScopeStands, with_groups, with_parameters}
 use Rattle.cp_scope.proofs.Standing.{grows_more, grows_not, still_scope}
 
--- For any kind of groups, and whatever is made of them.
+-- For any kind of group, and anything that groups make.
 module _ {A E M : Type 0} (are : Types → List E → M → Type 0) (with_all : List A → GlobalScope → M → M) where
-  -- What was added, followed by what the remaining groups make, is all of it.
+  -- Placed before what the remaining groups make, the added entries stand for what all groups make.
   pub record Added (names : Names) (old new : Types) (before after added : List E) (all left : List A) : Type 0 where
     pub grows : Grows old new
     pub ends : after ≡ before ++ added

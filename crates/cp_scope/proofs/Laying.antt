@@ -1,4 +1,4 @@
--- Members that are laid out one after another.
+-- Members are laid out one after another.
 use Rattle.std.proofs.Common.{◌≡◌, ◌+◌, ◌*◌, ◌⊎◌, inl, inr, ⊎_elim, zero, suc, ℤ, Bor, Vec, Global, length, map, slice_get, ◌++◌, ◌∷◌, ◌∙◌, Bool, true, false, ℕ, List, [], Option, None, Some, ap, refl, subst, sym, arith, if◌then◌else◌}
 use Rattle.std.specs.Str.{bytes_eq}
 use Rattle.cp_model.specs.Abstract.{Name}
@@ -26,12 +26,12 @@ use Rattle.cp_scope.specs.Layouts.{AreLaid, Counts, LaysRow, LayoutIs, MembersLi
 use Rattle.cp_scope.specs.Standing.{AreMembers, Grows, ScopeStands, Stands, entry, row_at, system_at}
 use Rattle.cp_scope.specs.Tables.{Behind, or_last}
 
--- A part that has been laid out is where the table says, and any other is among the remaining ones.
+-- Where a part lies: as recorded if it is laid out already, and otherwise among those that remain.
 abbrev pub PartFound : GlobalScope → Types → Option Part → Option code.Part → Option code.Part → Type 0
 PartFound g types None wanted left = wanted ≡ left
 PartFound g types (Some p) wanted left = PartIs types (Some p) wanted
 
--- The remaining members lie after those laid out so far.
+-- The remaining members lie after those that are laid out.
 pub record PartlyLaid (g : GlobalScope) (types : Types) (at : ℕ) (ms : Members) (left : List (Name × ℕ)) (l : Layout) : Type 0 where
   pub here : ℕ
   pub others : Members
@@ -67,7 +67,7 @@ none_laid g types at ms fs l none counts stand = record {
   parts = λ x. rw none refl;
 }
 
--- One more member.
+-- One member more.
 pub one_laid : (g : GlobalScope) (types : Types) (at : ℕ) (ms : Members) (x : Name) (n : ℕ) (fs : List (Name × ℕ)) (l m : Layout) (p : Part) (size : Option ℕ)
     → ((t : ResolvedType) → Stands types n t → Counts size (words g t)) → ((i j : ℕ) → Counts l.words i → Counts size j → Counts m.words (i + j))
     → p.at ≡ l.words → p.of ≡ n → Behind x p l.parts m.parts → PartlyLaid g types at ms ((x, n) ∷ fs) l → PartlyLaid g types at ms fs m

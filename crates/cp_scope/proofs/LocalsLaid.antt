@@ -1,4 +1,4 @@
--- Parameters and variables that are laid out one after another.
+-- Parameters and variables are laid out one after another.
 use Rattle.std.proofs.Common.{◌≡◌, ◌+◌, ◌∷◌, Bool, true, false, ℕ, List, [], Option, None, Some, arith, refl, subst, sym, if◌then◌else◌}
 use Rattle.std.specs.Str.{bytes_eq}
 use Rattle.cp_model.specs.Abstract.{Name}
@@ -15,13 +15,13 @@ use Rattle.cp_scope.specs.Standing.{Stands}
 use Rattle.cp_scope.specs.Tables.{Behind, or_last}
 use Rattle.cp_scope.specs.Variables.{AreDeclared, Entry}
 
--- A variable that has been laid out is where the table says, and any other is among the remaining
--- ones.
+-- Where a variable lies: as recorded if it is laid out already, and otherwise among those that
+-- remain.
 abbrev pub LocalFound : Types → Option Local → Option (ℕ × Variable) → Option (ℕ × Variable) → Type 0
 LocalFound types None wanted left = wanted ≡ left
 LocalFound types (Some p) wanted left = LocalIs types (Some p) wanted
 
--- The remaining variables lie after those laid out so far.
+-- The remaining variables lie after those that are laid out.
 pub record PartlyLaid (g : GlobalScope) (types : Types) (at : ℕ) (vs : List (Name × Variable)) (left : List Entry) (l : Locals) : Type 0 where
   pub here : ℕ
   pub others : List (Name × Variable)
@@ -57,7 +57,7 @@ none_laid g types at vs fs l none counts stand = record {
   names = λ x. rw none refl;
 }
 
--- One more variable.
+-- One variable more.
 pub one_laid : (g : GlobalScope) (types : Types) (at : ℕ) (vs : List (Name × Variable)) (d : Entry) (fs : List Entry) (l m : Locals) (p : Local) (size : Option ℕ)
     → ((v : Variable) → d.1.0 ≡ v.by_reference → Stands types d.1.1 v.type → Counts size (local_words g v))
     → ((i j : ℕ) → Counts l.words i → Counts size j → Counts m.words (i + j))

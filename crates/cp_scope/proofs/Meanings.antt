@@ -65,7 +65,7 @@ local_or_result g r x =
     ap (λ o. option_or o (lookup x of)) (lies_as g (result_words r.result) (locals g r) x) ∙ sym (looked_up x (ps ++ vs) of)
     ∙ ap (lookup x) (append_assoc ps vs of)
 
--- A local that is found comes before the result.
+-- A local comes before the result.
 pub local_first : (types : Types) (g : GlobalScope) (r : Option Routine) (x : Name) (f : Local)
     → LocalIs types (Some f) (elim r [ None ↦ None | Some q ↦ local g q x ]) → VariableIs types (Some f.of) (lookup x (locals_of g r))
 local_first types g None x f h = absurd h

@@ -1,4 +1,4 @@
--- The members that come from the variables of a component.
+-- The members that the variables of a component make.
 use Rattle.std.proofs.Common.{◌≡◌, ◌∷◌, List, [], false, ap, map, refl}
 use Rattle.cp_model.specs.Abstract.{Name}
 use Rattle.cp_model.specs.Declarations.{Variable, declarations, declared_group, members_from}

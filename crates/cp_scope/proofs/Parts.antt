@@ -79,7 +79,7 @@ no_field NoType x is = refl
 
 -- ---- Selectors
 
--- The selectors applied so far, followed by the remaining ones, are all of them.
+-- Selecting the remaining selectors of a part selects what all selectors select.
 pub record PartlyIndexed (scope : Scope) (s : code_scope.Scope) (whole : a.Designator) (of : Option ℕ) (left : List Index) : Type 0 where
   pub part_of : a.Designator
   pub typed : PlaceIs scope s of part_of

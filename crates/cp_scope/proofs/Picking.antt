@@ -1,4 +1,4 @@
--- Rights: the components among parameters, and where rights lie one after another.
+-- The components among parameters, and the rights to them, one after another.
 use Rattle.std.proofs.Common.{◌≡◌, ◌++◌, ◌∷◌, ◌∙◌, Bool, true, false, ℕ, suc, List, [], Option, None, Some, ap, append_assoc, filter, refl, subst, sym, if◌then◌else◌}
 use Rattle.std.proofs.lemmas.List.{append-nil}
 use Rattle.std.specs.Str.{bytes_eq}
@@ -18,7 +18,7 @@ own vs = filter (λ v. is_component v.1.type) vs
 
 -- ---- Components
 
--- The components picked so far, followed by the remaining ones, are all of them.
+-- The picked entries and the components that remain are all components.
 pub record PartlyPicked (types : Types) (vs : List (Name × Variable)) (left picked : List Entry) : Type 0 where
   pub others : List (Name × Variable)
   pub stand : AreDeclared types left others
@@ -63,7 +63,7 @@ abbrev pub RightFound : Types → Option Right → Option (ℕ × Variable) → 
 RightFound types None wanted left = wanted ≡ left
 RightFound types (Some r) wanted left = RightIs types (Some r) wanted
 
--- The remaining rights lie after those placed so far.
+-- The remaining rights lie after those that are laid out.
 pub record PartlyLaid (types : Types) (vs : List (Name × Variable)) (at : ℕ) (left : List Entry) (rights : List (Name × Right)) : Type 0 where
   pub others : List (Name × Variable)
   pub stand : AreDeclared types left others

@@ -1,4 +1,4 @@
--- Routines that are numbered by their names.
+-- Routines are numbered by their names.
 use Rattle.std.proofs.Common.{◌≡◌, ◌∷◌, ◌∙◌, Bool, true, false, ℕ, suc, List, [], Option, None, Some, if◌then◌else◌, refl, subst, sym}
 use Rattle.std.specs.Str.{bytes_eq}
 use Rattle.cp_model.specs.Abstract.{Name, Routine}
@@ -6,12 +6,12 @@ use Rattle.cp_model.specs.Names.{lookup}
 use Rattle.cp_scope.specs.Systems.{routine_number}
 use Rattle.cp_scope.specs.Tables.{Behind, or_last}
 
--- What is found at a name, or else what remains.
+-- The number that is found, or else `left`.
 abbrev pub or_left : Option ℕ → Option ℕ → Option ℕ
 or_left (Some k) left = Some k
 or_left None left = left
 
--- A name is that of a routine in the table, or else of a remaining one.
+-- A name is that of a routine in the table, or else of one of the remaining routines.
 abbrev pub PartlyNamed : List Routine → ℕ → List Routine → List (Name × ℕ) → Type 0
 PartlyNamed all n left names = (x : Name) → routine_number x 0 all ≡ or_left (lookup x names) (routine_number x n left)
 

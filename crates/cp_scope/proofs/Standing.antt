@@ -1,4 +1,4 @@
--- What a number stands for stays the same when types are added.
+-- What stands for something still stands for it after types are added.
 use Rattle.std.proofs.Common.{◌≡◌, ◌++◌, ◌∷◌, ◌∙◌, ℕ, zero, suc, ℤ, List, [], Option, None, Some, ap, length, map, refl, slice_get}
 use Rattle.cp_model.specs.Abstract.{BaseType, Name}
 use Rattle.cp_model.specs.Types.{ArrayOf, ComponentOf, GlobalScope, Members, MoreMembers, NoMembers, NoType, Queue, RecordOf, ResolvedType, Simple, array_type}
@@ -79,18 +79,18 @@ array_made old new r index element n is adds = record { grows = adds.grows; stan
     made (ComponentOf y ms) e s t = row_is _ s.3
     made NoType e s t = row_is _ s
 
--- What is made after something else.
+-- What is made after something else is also made from the start.
 pub made_later : (names : Names) (a b c : Types) (of : GlobalScope → ResolvedType) (n : ℕ) → Grows a b → Makes names b c of n → Makes names a c of n
 made_later names a b c of n grows makes = record {
   grows = grows_more a b c grows makes.grows;
   stands = λ g s. makes.stands g (still_scope a b grows names g s);
 }
 
--- No index types: the element itself.
+-- Without index types, the array of arrays is the element itself.
 pub indexed_none : (names : Names) (types : Types) (element : ℕ) → MakesIndexed names types types [] element element
 indexed_none names types element = record { grows = grows_not types; stands = λ g e scope s. s }
 
--- One more index type, before the others.
+-- One index type more, before the others.
 pub indexed_more : (names : Names) (a b c d : Types) (i : TypeExpression) (is : List TypeExpression) (element of index n : ℕ)
     → MakesIndexed names a b is element of → Makes names b c (written i) index → MakesArray c d index of n
     → MakesIndexed names a d (i ∷ is) element n

@@ -1,4 +1,4 @@
--- What is built for one routine after another, and what is preserved.
+-- Tables are made for one routine after another, and what holds of them stays true.
 use Rattle.std.proofs.Common.{◌≡◌, ◌++◌, ◌∷◌, ◌∙◌, ⊎_elim, Bor, ℕ, List, [], Option, None, Some, ap, append_assoc, length, slice_get, subst, sym}
 use Rattle.std.proofs.lemmas.List.{append-nil}
 use Rattle.cp_model.specs.Declarations.{Variable}
@@ -35,7 +35,7 @@ builds_more names a b c ls ms ns one two = record {
   laid = λ g scope laid. two.laid g (still_scope a b one.grows names g scope) (one.laid g scope laid);
 }
 
--- The tables made so far, followed by those of the remaining routines, are all of them.
+-- The tables made so far and those of the remaining routines are the tables of all routines.
 pub record PartlyMade (names : Names) (old new : Types) (before after : List Layout) (all left : List tree.Routine) (tables : List RoutineTable) : Type 0 where
   pub builds : Builds names old new before after
   pub stands : (g : GlobalScope) (later : Types) (rest : List RoutineTable) → ScopeStands names old g → AreLaid g old before → Grows new later
@@ -75,7 +75,7 @@ no_systems g types tables none k y table at there =
     nothing : (i : ℕ) → slice_get {X = SystemTable} [] i ≡ Some table → ⊥
     nothing i h = absurd (cc)
 
--- One more table.
+-- One table more.
 pub one_system : (g : GlobalScope) (types : Types) (tables : List SystemTable) (table : SystemTable) (y : Bor System) → system_at types (length tables) ≡ Some y
     → SystemStands g types table y.now.parameters.items y.now.variables.items y.now.routines.items → AreSystems g types tables
     → AreSystems g types (tables ++ table ∷ [])
@@ -88,7 +88,7 @@ one_system g types tables table y at stands all k z other here there =
     (subst (λ (t : SystemTable). SystemStands g types t y.now.parameters.items y.now.variables.items y.now.routines.items) last.1 stands))
     (last_or_before tables table k other there)
 
--- The tables of the system types before a given one.
+-- The tables of the first system types.
 pub record SystemsSoFar (names : Names) (old new : Types) (before after : List Layout) (tables : List SystemTable) : Type 0 where
   pub builds : Builds names old new before after
   pub stands : (g : GlobalScope) (later : Types) → ScopeStands names old g → AreLaid g old before → Grows new later → AreSystems g later tables

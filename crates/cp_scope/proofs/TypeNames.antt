@@ -1,4 +1,4 @@
--- Names that are entered with their types, one after another.
+-- Names are recorded with the names of their types, one after another.
 use Rattle.std.proofs.Common.{◌≡◌, ◌∷◌, ◌∙◌, Bool, true, false, ℕ, List, [], Option, None, Some, Box, Vec, Global, ap, arith, if◌then◌else◌, length, map, refl, sym, ◌≤◌}
 use Rattle.std.specs.Borrow.{Bor}
 use Rattle.std.specs.Str.{bytes_eq}
@@ -29,7 +29,7 @@ one_more old new y of ys x behind adds =
     ap (λ (o : Option (Bor Name)). name_or o (typed_among ys of.now x behind)) (adds x)
     ∙ one_typed (lookup x old) (bytes_eq x y) (is_among x ys) of behind
 
--- A group before others.
+-- One group more, before the others.
 pub group_more : (old new : List (Name × Bor Name)) (d : Group) (ds : List Group) (x : Name) → NamesMore old new (typed_among d.names (type_name d.type))
     → name_or (lookup x new) (declared_type x ds) ≡ name_or (lookup x old) (declared_type x (d ∷ ds))
 group_more old new d ds x more = more x (declared_type x ds)

@@ -1,4 +1,4 @@
--- What holds for a result that isn't an error.
+-- What holds of a result that isn't refused.
 use Rattle.std.proofs.Common.{◌≡◌, Option, None, Some, Result, Ok, Err, IfOk, OnOk, true, false, is_some, refl}
 
 pub if_ok : {A E : Type 0} {P Q : A → Type 0} (r : Result A E) → ((x : A) → P x → Q x) → IfOk r P → IfOk r Q

@@ -1,5 +1,5 @@
--- The types of values: of chains, of designators that are more than bare names, and of what
--- functions return.
+-- The types of the values of chains, of designators that are more than a bare name, and of function
+-- results.
 use Rattle.std.proofs.Common.{◌≡◌, ◌∷◌, ◌∙◌, ◌≤◌, true, false, Global, Vec, List, [], Option, None, Some, ap, arith, length, map, refl, slice_index_or, subst, sym}
 use Rattle.cp_model.specs.Abstract as a
 use Rattle.cp_model.specs.Abstract.{Name}
@@ -27,7 +27,7 @@ use Rattle.cp_scope.specs.Scopes.{CalleeIs, IsCallee, Selects}
 
 -- ---- Chains
 
--- The operands so far have a value of this type.
+-- The first operands of a chain have a value of this type.
 pub record PartlyChained (t : code.Scope) (of : Option plain.Simple) (left : List Operation) (all : s.Expression) : Type 0 where
   pub so_far : s.Expression
   pub typed : ValueIs t of so_far
@@ -92,7 +92,7 @@ selected_whole d (s.MoreSelectors (s.Indexed is) ss) h =
     let here = selected_whole (erase.indexed d is) ss h in
     here ∙ indexed_whole d is (ap is_part (sym here) ∙ h)
 
--- A designator that is no more than a bare name is that name.
+-- A designator that isn't more than a bare name is that name.
 pub is_name : (d : Designator) → is_part (erase.designator (view.designator d)) ≡ false → erase.designator (view.designator d) ≡ a.Plain d.root.name
 is_name d h =
     let whole = ap erase.designator (view_designator d) in

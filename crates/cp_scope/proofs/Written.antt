@@ -46,7 +46,7 @@ groups_written g (f ∷ fs) = rw (groups_written g fs, view_fields f) refl
 pub record_written : (g : GlobalScope) (at : ℕ) (groups : Vec Fields Global) → recorded groups.items g ≡ written (tree.Record at groups) g
 record_written g at groups = ap (λ t. resolved_type g (erase.type_expression t)) (sym (view_record at groups))
 
--- Names of one type before others.
+-- Names of one type, before other members.
 pub names_written : (types : Types) (xs : List Identifier) (n : ℕ) (t : ResolvedType) (rest : List (Name × ℕ)) (ms : Members) → Stands types n t
     → AreMembers types rest ms → AreMembers types (entries_of xs n ++ rest) (with_members (map erase.name xs) t ms)
 names_written types [] n t rest ms s r = r

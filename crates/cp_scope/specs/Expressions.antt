@@ -14,12 +14,12 @@ abbrev pub is_simple : ResolvedType → Bool
 is_simple (Simple b low high start) = true
 is_simple t = false
 
--- A type, if it is simple.
+-- `Some` has the simple type `t`, and `None` means that `t` isn't simple.
 abbrev pub SimpleIs : Option plain.Simple → ResolvedType → Type 0
 SimpleIs (Some s) t = simple_of s ≡ t
 SimpleIs None t = is_simple t ≡ false
 
--- The type of the value of an expression.
+-- `of` describes the type of the value of the expression `e`.
 abbrev pub ValueIs : code.Scope → Option plain.Simple → syntax.Expression → Type 0
 ValueIs s of e = SimpleIs of (expression_type (environment s) (erase.expression e))
 

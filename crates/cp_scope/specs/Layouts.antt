@@ -1,4 +1,4 @@
--- When layouts say how many words types take, and where their members lie.
+-- When layouts are right about the sizes of types and where their members lie.
 use Rattle.std.specs.Prelude.{◌≡◌, ℕ, List, [], ◌∷◌, Option, None, Some, filter, if◌then◌else◌, length, map, slice_get, ◌+◌}
 use Rattle.cp_model.specs.Abstract.{Name}
 use Rattle.cp_model.specs.Declarations.{declarations, is_component}
@@ -19,7 +19,7 @@ use Rattle.cp_scope.specs.declared.types.TypeRow.{TypeRow}
 use Rattle.cp_scope.specs.declared.types.Types.{Types}
 use Rattle.cp_scope.specs.Standing.{AreMembers, Grows, ScopeStands, Stands, named, row_at}
 
--- A number that is missing if it is too large.
+-- A count is the number `n`, or `None`, which the code uses for a number that is too large.
 abbrev pub Counts : Option ℕ → ℕ → Type 0
 Counts None n = Unit {0}
 Counts (Some m) n = m ≡ n
@@ -29,7 +29,7 @@ PartIs types None None = Unit {0}
 PartIs types (Some p) (Some q) = Counts p.at q.0 × Stands types p.of q.1
 PartIs types _ _ = ⊥
 
--- The layout is that of the type.
+-- The layout is that of the type `t`.
 pub record LayoutIs (g : GlobalScope) (types : Types) (l : Layout) (t : ResolvedType) : Type 0 where
   pub words : Counts l.words (words g t)
   pub parts : (x : Name) → PartIs types (lookup x l.parts) (code.part g t (ByName x ∷ []))
@@ -39,7 +39,7 @@ abbrev pub AreLaid : GlobalScope → Types → List Layout → Type 0
 AreLaid g types layouts =
     (later : Types) → Grows types later → (n : ℕ) (l : Layout) (t : ResolvedType) → slice_get layouts n ≡ Some l → Stands later n t → LayoutIs g later l t
 
--- The layout of members, the first of which lies `at` words after the first word of all.
+-- The layout of the members `ms`, the first of which lies `at` words from the first word.
 pub record MembersLie (g : GlobalScope) (types : Types) (at : ℕ) (ms : Members) (l : Layout) : Type 0 where
   pub words : Counts l.words (at + words_of_members g ms)
   pub parts : (x : Name) → PartIs types (lookup x l.parts) (member_part g at ms x [])
@@ -55,13 +55,13 @@ rights_of g groups = length (filter (λ v. is_component v.1.type) (declarations 
 abbrev pub rights_among : GlobalScope → Parameters → ℕ
 rights_among g p = if is_component (named p.of.name g) then length p.names.items else 0
 
--- The layout of a component of this system type, with these members.
+-- `l` is the layout of a component of this system type, with these members.
 abbrev pub LaysComponent : Names → Types → List Layout → System → List (Name × ℕ) → Layout → Type 0
 LaysComponent names types layouts y members l =
     (g : GlobalScope) (later : Types) (ms : Members) → ScopeStands names types g → Grows types later → AreLaid g types layouts → AreMembers later members ms
     → LayoutIs g later l (ComponentOf (erase.system (view.system y)) ms)
 
--- The layout of the type that this row stands for.
+-- `l` is the layout of the type that this row stands for.
 abbrev pub LaysRow : Names → Types → List Layout → TypeRow → Layout → Type 0
 LaysRow names types layouts r l =
     (g : GlobalScope) (later : Types) (n : ℕ) (t : ResolvedType) → ScopeStands names types g → Grows types later → AreLaid g types layouts

@@ -1,4 +1,4 @@
--- When a table says where the parameters and variables of a routine lie.
+-- When a table is right about where the parameters and variables of a routine lie.
 use Rattle.std.specs.Prelude.{◌≡◌, ◌+◌, ℕ, List, Option, None, Some}
 use Rattle.cp_model.specs.Abstract.{Name}
 use Rattle.cp_model.specs.Declarations.{Variable}
@@ -13,14 +13,14 @@ use Rattle.cp_scope.specs.Layouts.{AreLaid, Counts}
 use Rattle.cp_scope.specs.Standing.{Stands}
 use Rattle.cp_scope.specs.Variables.{AreDeclared, Entry}
 
--- The entry of a parameter or variable says where it lies, whether it is a `var` parameter, and
--- what type it has.
+-- The place, the kind (`var` parameter or not) and the type of a variable, if there is one.
 abbrev pub LocalIs : Types → Option Local → Option (ℕ × Variable) → Type 0
 LocalIs types None None = Unit {0}
 LocalIs types (Some l) (Some q) = Counts l.at q.0 × (l.by_reference ≡ q.1.by_reference) × Stands types l.of q.1.type
 LocalIs types _ _ = ⊥
 
--- The locals' layout, the first of which lies `at` words after the start of the activation.
+-- The layout of the variables `vs`, the first of which lies `at` words from the start of the
+-- activation.
 pub record LocalsLie (g : GlobalScope) (types : Types) (at : ℕ) (vs : List (Name × Variable)) (l : Locals) : Type 0 where
   pub words : Counts l.words (at + locals_words g vs)
   pub names : (x : Name) → LocalIs types (lookup x l.names) (local_at g at vs x)

@@ -1,5 +1,4 @@
--- When a table says what a declared name stands for, and how many components are declared before
--- it.
+-- When a table is right about what a declared name is, and how many components come before it.
 use Rattle.std.specs.Prelude.{◌≡◌, ℕ, List, Option, None, Some}
 use Rattle.cp_model.specs.Abstract.{Monitor, Name, Process}
 use Rattle.cp_model.specs.Components.{count_before}
@@ -16,8 +15,7 @@ abbrev pub system_of : Option TypeRow → Option ℕ
 system_of (Some (row.Component k members)) = Some k
 system_of _ = None
 
--- The entry of a name has the type of its declaration, and the numbers of monitors and processes
--- declared before it.
+-- The name `x` is declared as `v`, after `n.monitors` monitors and `n.processes` processes.
 pub record IsNumbered (types : Types) (vs : List (Name × Variable)) (x : Name) (n : Numbered) (v : Variable) : Type 0 where
   pub type : Stands types n.of v.type
   pub monitors : count_before Monitor x vs ≡ n.monitors

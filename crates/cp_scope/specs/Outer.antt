@@ -1,4 +1,4 @@
--- The outermost scope: when the tables stand for it, and what definitions make of them.
+-- The outermost scope: when the tables stand for it, and how definitions change it.
 use Rattle.std.specs.Prelude.{◌++◌, ◌∷◌, ℕ, ℤ, List, map}
 use Rattle.cp_model.specs.Abstract as a
 use Rattle.cp_model.specs.Abstract.{Definition, Name}
@@ -14,7 +14,7 @@ use Rattle.cp_scope.specs.Standing.{ScopeStands, Stands}
 abbrev pub OuterStands : Outer → GlobalScope → Type 0
 OuterStands outer g = ScopeStands outer.names outer.types g
 
--- If the old tables stand for a scope, the new ones stand for what `f` makes of that scope.
+-- If the old tables stand for a scope `g`, the new ones stand for `f g`.
 abbrev pub Defines : Outer → Outer → (GlobalScope → GlobalScope) → Type 0
 Defines old new f = (g : GlobalScope) → OuterStands old g → OuterStands new (f g)
 
@@ -27,7 +27,7 @@ with_values b k xs g = record g { constants = enumeration_constants b k (map era
 abbrev pub with_type : Name → (GlobalScope → ResolvedType) → GlobalScope → GlobalScope
 with_type x of g = record g { types = (x, of g) ∷ g.types }
 
--- The type with this number gets this name, whatever the number stands for.
+-- The new tables give the name `x` to type number `n`, whatever type that number stands for.
 abbrev pub NamesType : Outer → Outer → Name → ℕ → Type 0
 NamesType old new x n =
     (g : GlobalScope) (t : ResolvedType) → OuterStands old g → Stands old.types n t → OuterStands new (with_type x (λ h. t) g)

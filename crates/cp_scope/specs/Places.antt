@@ -20,11 +20,11 @@ abbrev pub elements_of : Option TypeRow → Option Elements
 elements_of (Some (row.Array low high e)) = Some (record { low = low; high = high; of = e })
 elements_of r = None
 
--- The number of a type, or `None` for no type.
+-- `Some` has the number of the type `t`, and `None` means that there is no type.
 abbrev pub TypeIs : Types → Option ℕ → ResolvedType → Type 0
 TypeIs types None t = t ≡ NoType
 TypeIs types (Some n) t = Stands types n t
 
--- The type of the place of a designator.
+-- `of` describes the type of the place of the designator `d`.
 abbrev pub PlaceIs : Scope → code.Scope → Option ℕ → a.Designator → Type 0
 PlaceIs scope s of d = TypeIs scope.tables.now.types of (place_type (environment s) d)

@@ -1,4 +1,4 @@
--- When a table is that of a routine.
+-- When the table of a routine is right.
 use Rattle.std.specs.Prelude.{◌≡◌, ℕ, List, Option, None, Some, map}
 use Rattle.cp_model.specs.Abstract.{Name, Routine}
 use Rattle.cp_model.specs.Declarations.{declarations}
@@ -18,7 +18,7 @@ use Rattle.cp_scope.specs.Locals.{LocalsLie}
 use Rattle.cp_scope.specs.Standing.{Grows, ScopeStands, Stands}
 use Rattle.cp_scope.specs.Variables.{AreDeclared, declared_entry}
 
--- The type of a result, or that there is none.
+-- The number of the type of the result, or `None` if there is no result.
 abbrev pub ResultIs : GlobalScope → Types → Option ℕ → Option Name → Type 0
 ResultIs g types None None = Unit {0}
 ResultIs g types (Some n) (Some x) = Stands types n (named_type g x)
@@ -28,8 +28,7 @@ pub record MakesResult (names : Names) (old new : Types) (of : Option Identifier
   pub grows : Grows old new
   pub stands : (g : GlobalScope) → ScopeStands names old g → ResultIs g new r (erase.name_if of)
 
--- The table is that of the routine: its name, its parameters and variables, the words of an
--- activation, where the locals lie in it, and the type of the result.
+-- The table is that of the routine `r`, with the layout of its activations.
 pub record RoutineStands (g : GlobalScope) (types : Types) (table : RoutineTable) (r : Routine) : Type 0 where
   pub name : table.name.now ≡ r.name
   pub parameters : AreDeclared types (map declared_entry table.parameters.items) (declarations g r.parameters)
@@ -37,12 +36,12 @@ pub record RoutineStands (g : GlobalScope) (types : Types) (table : RoutineTable
   pub locals : LocalsLie g types (result_words r.result) (code.locals g r) table.locals
   pub result : ResultIs g types table.result r.result
 
--- More types and layouts were added.
+-- More types and layouts are made, and the layouts are right for them.
 pub record Builds (names : Names) (old new : Types) (before after : List Layout) : Type 0 where
   pub grows : Grows old new
   pub laid : (g : GlobalScope) → ScopeStands names old g → AreLaid g old before → AreLaid g new after
 
--- More types and layouts were added, and the table of a routine was made.
+-- In addition, the table of a routine is made.
 pub record MakesRoutine (names : Names) (old new : Types) (before after : List Layout) (text : tree.Routine) (table : RoutineTable) : Type 0 where
   pub builds : Builds names old new before after
   pub stands : (g : GlobalScope) (later : Types) → ScopeStands names old g → AreLaid g old before → Grows new later

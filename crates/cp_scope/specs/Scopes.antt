@@ -43,13 +43,13 @@ IsRoutine g types None None = Unit {0}
 IsRoutine g types (Some t) (Some r) = RoutineStands g types t.now r
 IsRoutine g types _ _ = ⊥
 
--- The words of an activation. A body has none.
+-- The size of an activation in words. A body has none.
 abbrev pub words_of : GlobalScope → Option Routine → ℕ
 words_of g None = 0
 words_of g (Some r) = activation_words g r
 
--- The scope is that of a unit: its tables stand for the unit's text, and the tables of its system
--- type and routine stand for the unit's system type and routine.
+-- The scope is that of a unit: its tables stand for the text, the system type and the routine of
+-- `s`.
 pub record IsScope (scope : Scope) (s : code.Scope) : Type 0 where
   pub parameters : List Parameters
   pub variables : List Fields
@@ -66,12 +66,12 @@ pub record IsScope (scope : Scope) (s : code.Scope) : Type 0 where
 
 -- ---- Calls
 
--- A selector that selects a part: a field, or at least one index.
+-- A selector selects a part if it is a field or has at least one index.
 abbrev pub Selects : syntax.Selector → Type 0
 Selects (syntax.Indexed syntax.NoIndices) = ⊥
 Selects _ = Unit {0}
 
--- The called routine, its number in its system type, and the component that it belongs to.
+-- The called routine, its number in its system type, and its component if that is another one.
 pub record IsCallee (scope : Scope) (s : code.Scope) (found : Callee) (c : calls.Callee) : Type 0 where
   pub routine : IsIndexed s.globals scope.tables.now.types (system_of_callee (environment s) c.of).routines found.routine c.routine
   pub of : ComponentIs scope.tables.now.types (declarations s.globals s.system.parameters) (declarations s.globals s.system.variables) found.of c.of
@@ -81,7 +81,7 @@ CalleeIs scope s None None = Unit {0}
 CalleeIs scope s (Some f) (Some c) = IsCallee scope s f c
 CalleeIs scope s _ _ = ⊥
 
--- A component that a name of the scope means.
+-- `found` is the component `n` that a name of the scope means.
 abbrev pub Names : Scope → code.Scope → Component → components.Component → Type 0
 Names scope s found n =
     IsComponent scope.tables.now.types (declarations s.globals s.system.parameters) (declarations s.globals s.system.variables) found n
@@ -93,7 +93,7 @@ VariableIs types None None = Unit {0}
 VariableIs types (Some n) (Some v) = Stands types n v.type
 VariableIs types _ _ = ⊥
 
--- The variable that holds the result of the routine.
+-- The variable that holds the result of the routine, if it has a result.
 abbrev pub results_of : GlobalScope → Option Routine → List (Name × Variable)
 results_of g None = []
 results_of g (Some r) = result_variable g r.name r.result
@@ -102,7 +102,7 @@ abbrev pub locals_of : GlobalScope → Option Routine → List (Name × Variable
 locals_of g None = []
 locals_of g (Some r) = local_variables g r
 
--- A constant has this value, and a variable has the type with this number.
+-- A constant has this value, and a variable has the type of this number.
 abbrev pub MeaningIs : Types → Meaning → environments.Meaning → Type 0
 MeaningIs types (meaning.Constant v) (environments.IsConstant b n) = value_of v ≡ (b, n)
 MeaningIs types (meaning.Variable of) (environments.IsVariable at v) = Stands types of v.type

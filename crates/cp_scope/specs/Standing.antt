@@ -1,4 +1,4 @@
--- When numbers, rows and names stand for what the meaning says.
+-- When type numbers, rows and names stand for what the meaning of the text says.
 use Rattle.std.specs.Prelude.{◌≡◌, ◌++◌, ℕ, ℤ, List, [], ◌∷◌, Option, None, Some, filter, if◌then◌else◌, map, not, option_map, slice_get, Vec}
 use Rattle.std.specs.Global.{Global}
 use Rattle.std.specs.Borrow.{Bor}
@@ -42,11 +42,11 @@ row_at types n = slice_get types.rows.items n
 abbrev pub system_at : Types → ℕ → Option (Bor System)
 system_at types k = slice_get types.systems.items k
 
--- The name of a field, and the number of its type.
+-- The name of a field and the number of its type.
 abbrev pub entry : Field → Name × ℕ
 entry f = (f.name.now, f.of)
 
--- The number of a type stands for a resolved type.
+-- Type number `n` stands for this resolved type.
 abbrev mutual
   pub Stands : Types → ℕ → ResolvedType → Type 0
   Stands types n (Simple b low high start) = (s : plain.Simple) × (row_at types n ≡ Some (row.Simple s)) × (simple_of s ≡ Simple b low high start)
@@ -63,12 +63,12 @@ abbrev mutual
   AreMembers types (f ∷ fs) (MoreMembers x t ms) = (f.0 ≡ x) × Stands types f.1 t × AreMembers types fs ms
   AreMembers types _ _ = ⊥
 
--- Existing numbers keep their meaning.
+-- Every number that had a row or a system type still has the same one.
 pub record Grows (old new : Types) : Type 0 where
   pub rows : (n : ℕ) (r : TypeRow) → row_at old n ≡ Some r → row_at new n ≡ Some r
   pub systems : (k : ℕ) (s : Bor System) → system_at old k ≡ Some s → system_at new k ≡ Some s
 
--- A type was added, and has the number n.
+-- A type is added and gets the number `n`.
 pub record Adds (old new : Types) (r : TypeRow) (n : ℕ) : Type 0 where
   pub grows : Grows old new
   pub added : row_at new n ≡ Some r
@@ -92,20 +92,21 @@ TypeMeans types _ _ = ⊥
 abbrev pub ConstantsStand : Names → GlobalScope → Type 0
 ConstantsStand names g = (x : Name) → option_map value_of (lookup x names.constants) ≡ lookup x g.constants
 
--- The names stand for those of the outermost scope.
+-- The names stand for those of the outermost scope `g`.
 pub record ScopeStands (names : Names) (table : Types) (g : GlobalScope) : Type 0 where
   pub constants : ConstantsStand names g
   pub types : (x : Name) → TypeMeans table (lookup x names.types) (lookup x g.types)
 
 -- ---- Making
 
--- The number n stands for this type, whatever the names stand for, and existing numbers keep their
--- meaning.
+-- Number `n` is made and stands for `of g` in any scope `g` that the names stand for. Older numbers
+-- keep their meaning.
 pub record Makes (names : Names) (old new : Types) (of : GlobalScope → ResolvedType) (n : ℕ) : Type 0 where
   pub grows : Grows old new
   pub stands : (g : GlobalScope) → ScopeStands names old g → Stands new n (of g)
 
--- The number n stands for an array with this index type and element type, whatever they stand for.
+-- Number `n` is made and stands for the array type of any index and element types that the given
+-- numbers stand for.
 pub record MakesArray (old new : Types) (index element n : ℕ) : Type 0 where
   pub grows : Grows old new
   pub stands : (i e : ResolvedType) → Stands old index i → Stands old element e → Stands new n (array_type i e)
@@ -127,12 +128,12 @@ ranged low high g = resolved_type g (Range (erase.constant low) (erase.constant 
 abbrev pub written : TypeExpression → GlobalScope → ResolvedType
 written t g = resolved_type g (erase.type_expression (view.type_expression t))
 
--- An array of arrays, one level for each index type.
+-- An array of arrays, one for each index type.
 abbrev pub indexed : List TypeExpression → ResolvedType → GlobalScope → ResolvedType
 indexed [] of g = of
 indexed (i ∷ is) of g = array_type (written i g) (indexed is of g)
 
--- The number n stands for such an array of these elements, whatever they stand for.
+-- Number `n` is made and stands for that array of arrays, whatever the element number stands for.
 pub record MakesIndexed (names : Names) (old new : Types) (indices : List TypeExpression) (element n : ℕ) : Type 0 where
   pub grows : Grows old new
   pub stands : (g : GlobalScope) (e : ResolvedType) → ScopeStands names old g → Stands old element e → Stands new n (indexed indices e g)
@@ -142,12 +143,12 @@ pub record MakesIndexed (names : Names) (old new : Types) (indices : List TypeEx
 abbrev pub fields_of : List Fields → GlobalScope → Members
 fields_of groups g = members_of g (erase.fields (view.fields_of (map view.variables groups)))
 
--- The fields of one type.
+-- The fields that these names declare with the type `n`.
 abbrev pub entries_of : List Identifier → ℕ → List (Name × ℕ)
 entries_of xs n = map (λ x. (x.name, n)) xs
 
--- A group adds elements after those of a list. If `rest` stands for `ms`, the added elements
--- followed by `rest` stand for what `make` makes of `ms`.
+-- Entries are added after those that were there. Placed before entries that stand for any `ms`, the
+-- added ones stand for `make g ms`.
 pub record MakesList {E M : Type 0} (are : Types → List E → M → Type 0) (names : Names) (old new : Types) (before after : List E) (make : GlobalScope → M → M)
     : Type 0 where
   pub grows : Grows old new
@@ -156,7 +157,7 @@ pub record MakesList {E M : Type 0} (are : Types → List E → M → Type 0) (n
   pub stands : (g : GlobalScope) (later : Types) (rest : List E) (ms : M) → ScopeStands names old g → Grows new later
       → are later rest ms → are later (added ++ rest) (make g ms)
 
--- For fields, the list stands for members.
+-- `MakesList` for fields, which stand for members.
 abbrev pub MakesFields : Names → Types → Types → List (Name × ℕ) → List (Name × ℕ) → (GlobalScope → Members → Members) → Type 0
 MakesFields = MakesList AreMembers
 

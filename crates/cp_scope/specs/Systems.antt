@@ -1,4 +1,4 @@
--- When a table is that of a system type.
+-- When the table of a system type is right.
 use Rattle.std.specs.Prelude.{◌≡◌, Bool, true, false, ℕ, suc, List, [], ◌∷◌, Option, None, Some, filter, find, if◌then◌else◌, map}
 use Rattle.std.specs.Borrow.{Bor}
 use Rattle.std.specs.Option.{option_or}
@@ -42,7 +42,7 @@ AreRoutines g types _ _ = ⊥
 abbrev pub routines_of : List tree.Routine → List Routine
 routines_of texts = map erase.routine (map view.routine texts)
 
--- The number of the first routine with this name, counting from n.
+-- The number of the first routine named `x`, if the first routine in the list has the number `n`.
 abbrev pub routine_number : Name → ℕ → List Routine → Option ℕ
 routine_number x n [] = None
 routine_number x n (r ∷ rs) = if bytes_eq x r.name then Some n else routine_number x (suc n) rs
@@ -73,7 +73,7 @@ pub record MakesSystem (names : Names) (old new : Types) (before after : List La
 
 -- ---- Routines
 
--- The routine has this table, and its index is the number of routines before it.
+-- `found` has the table of the routine `r` and its index in `rs`.
 pub record IsIndexed (g : GlobalScope) (types : Types) (rs : List Routine) (found : IndexedRoutine) (r : Routine) : Type 0 where
   pub table : RoutineStands g types found.table.now r
   pub index : routine_index r.name rs ≡ found.index
@@ -103,8 +103,8 @@ component_of_name types x p (Some n) = component_with x n p (system_of (row_at t
 abbrev pub component_among : List (Name × Variable) → List (Name × Variable) → Name → Option c.Component
 component_among ps vs x = option_or (c.as_component x true (lookup x ps)) (c.as_component x false (lookup x vs))
 
--- The component has this name and system type, and as many monitors and processes are declared
--- before it as the entry says.
+-- `found` has the name, the system type and the kind of the component `n`, and the numbers of
+-- monitors and processes before it.
 pub record IsComponent (types : Types) (ps vs : List (Name × Variable)) (found : Component) (n : c.Component) : Type 0 where
   pub name : found.name.now ≡ n.name
   pub text : Bor System

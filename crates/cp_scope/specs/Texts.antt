@@ -1,4 +1,4 @@
--- When tables say what the compiler needs to know about a text.
+-- When the tables of a whole text are right.
 use Rattle.std.specs.Prelude.{◌≡◌, ◌≤◌, ℕ, length, List, [], Some, slice_get}
 use Rattle.std.specs.Borrow.{Bor}
 use Rattle.cp_model.specs.Types.{GlobalScope}
@@ -14,7 +14,7 @@ use Rattle.cp_scope.specs.Routines.{Builds}
 use Rattle.cp_scope.specs.Standing.{Grows, ScopeStands, system_at}
 use Rattle.cp_scope.specs.Systems.{SystemStands}
 
--- The table with each number is that of the system type with the same number.
+-- The table of each number is that of the system type of that number.
 abbrev pub AreSystems : GlobalScope → Types → List SystemTable → Type 0
 AreSystems g types tables =
     (k : ℕ) (y : Bor System) (table : SystemTable) → system_at types k ≡ Some y → slice_get tables k ≡ Some table
@@ -25,7 +25,8 @@ pub record MakesSystems (names : Names) (old new : Types) (before after : List L
   pub complete : length old.systems.items ≤ length tables
   pub stands : (g : GlobalScope) (later : Types) → ScopeStands names old g → AreLaid g old before → Grows new later → AreSystems g later tables
 
--- The tables are those of a text with this outermost scope. The initial process has no parameters.
+-- The tables are those of a text with the outermost scope `g`. The initial process has no
+-- parameters.
 pub record TablesStand (g : GlobalScope) (tables : Tables) (text : tree.Tree) : Type 0 where
   pub scope : ScopeStands tables.names tables.types g
   pub laid : AreLaid g tables.types tables.layouts.rows.items

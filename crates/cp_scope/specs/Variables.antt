@@ -1,4 +1,4 @@
--- Declared parameters and variables: when a list of them stands for what groups declare.
+-- Declared parameters and variables: when a list of entries stands for what groups declare.
 use Rattle.std.specs.Prelude.{◌≡◌, Bool, false, ℕ, List, [], ◌∷◌, is_some, map}
 use Rattle.cp_model.specs.Abstract.{Name}
 use Rattle.cp_model.specs.Declarations.{Variable, declarations, declared_group}
@@ -32,7 +32,7 @@ AreDeclared types _ _ = ⊥
 abbrev pub Declares : Names → Types → Types → List Entry → List Entry → (GlobalScope → List (Name × Variable) → List (Name × Variable)) → Type 0
 Declares = MakesList AreDeclared
 
--- ---- Groups before others
+-- ---- Groups before other declarations
 
 abbrev pub with_declared_parameter : Parameters → GlobalScope → List (Name × Variable) → List (Name × Variable)
 with_declared_parameter p g vs = declared_group (is_some p.by_reference) (named p.of.name g) (map erase.name p.names.items) vs
@@ -48,7 +48,7 @@ abbrev pub with_declared_groups : List Fields → GlobalScope → List (Name × 
 with_declared_groups [] g vs = vs
 with_declared_groups (f ∷ fs) g vs = with_declared_group f g (with_declared_groups fs g vs)
 
--- ---- What the meaning declares
+-- ---- What the text declares
 
 abbrev pub parameters_of : GlobalScope → List Parameters → List (Name × Variable)
 parameters_of g groups = declarations g (map erase.parameter_group (map view.parameters groups))

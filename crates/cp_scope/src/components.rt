@@ -1,4 +1,4 @@
-//! Where the members and the rights of a component lie, and what its variables are.
+//! The members and rights of a component, and which of its parameters are rights.
 
 ghost use Rattle.std.specs.Prelude.{IfOk, OnOk, map};
 ghost use Rattle.cp_scope.specs.Components.{MakesComponent, Picks, PicksComponents, RightsLie};
@@ -13,8 +13,8 @@ use cp_model::tree::{Fields, Parameters};
 use cp_names::NameTable;
 use std::alloc::Global;
 
-/// A right to a component: its distance in words from the first word of the component that holds
-/// it, and the number of its type.
+/// A right to a component: its offset in words from the first word of the component that has it,
+/// and the number of its type.
 #[derive(Clone, Copy)]
 pub struct Right {
     pub at: usize,
@@ -22,7 +22,7 @@ pub struct Right {
 }
 
 impl<'t> Types<'t> {
-    // Adds a parameter, if it is a right to a component.
+    // Adds the parameter `d` if it is a right to a component.
     fn pick(&self, components: &mut Vec<Declared<'t>>, d: Declared<'t>) -> Result<(), CompileError>
         ensures { OnOk result (Picks self.now (declared_entry d.entry)
             (map declared_entry components.old.items) (map declared_entry components.new.items)) }
@@ -33,7 +33,7 @@ impl<'t> Types<'t> {
         Ok(())
     }
 
-    /// Returns those of these parameters that are rights to components.
+    /// The declared names in `list` whose types are types of components.
     pub fn components(&self, list: &[Declared<'t>]) -> Result<Vec<Declared<'t>>, CompileError>
         ensures { IfOk result (λ components. PicksComponents self.now (map declared_entry list.now)
             (map declared_entry components.items)) }
@@ -45,7 +45,8 @@ impl<'t> Types<'t> {
         Ok(components)
     }
 
-    /// Returns where the rights to these components lie: after the mark, one after another.
+    /// The rights to these components. They lie one after another, after the mark in the first
+    /// word.
     pub fn rights_to(
         &self,
         components: &[Declared<'t>],
@@ -70,8 +71,8 @@ impl<'t> Types<'t> {
 }
 
 impl<'t> Layouts<'t> {
-    /// Lays out the components of a system type with these parameters and variables: how many words
-    /// they have, and where their members lie.
+    /// The layout of a component of a system type with these parameters and variables: its size in
+    /// words, and where its members lie.
     pub fn own_members(
         &mut self,
         names: &Names<'t>,

@@ -1,18 +1,18 @@
-//! Why a text isn't compiled.
+//! Why a text can't be compiled.
 
 ghost use Rattle.std.specs.Prelude.{◌≡◌};
 ghost use Rattle.cp_scope.specs.declared.error.CompileError.TheVariants as error;
 
 use std::alloc::{AllocError, AllocFailed};
 
-/// Why a text isn't compiled: why its tables can't be made, a query about it can't be answered, or
+/// Why a text can't be compiled: its tables can't be made, a question about it has no answer, or
 /// its code can't be emitted.
 #[derive(Clone, Copy, Debug, PartialEq, Eq)]
 pub enum CompileError {
-    /// Memory ran out.
+    /// Memory ran out, or the text would take too much of it.
     Memory,
-    /// No accepted text has this: a number beyond its limits, a name that is declared twice, or a
-    /// name that means nothing.
+    /// No accepted text leads here. For example, a number exceeds its limits, a name is declared
+    /// twice, or a name means nothing.
     Unaccepted,
 }
 

@@ -23,7 +23,7 @@ use crate::scope::{Callee, Meaning, Scope, refuse_no_index};
 use crate::types::{Base, Simple, TypeRow, Types};
 use cp_model::tree::{Designator, Expression, Operation, Operator, Sign};
 
-/// Returns the first ordinal of a base type.
+/// The first ordinal of a base type.
 pub fn first_ordinal(base: Base) -> i32
     ensures { result ≡ types.first_ordinal (base_of base.entry) }
 {
@@ -33,7 +33,7 @@ pub fn first_ordinal(base: Base) -> i32
     }
 }
 
-/// Returns the last ordinal of a base type. Fails for an enumeration with too many values.
+/// The last ordinal of a base type. An enumeration with too many values is refused.
 pub fn last_ordinal(base: Base) -> Result<i32, CompileError>
     ensures { IfOk result (λ n. n ≡ types.last_ordinal (base_of base.entry)) }
 {
@@ -47,7 +47,7 @@ pub fn last_ordinal(base: Base) -> Result<i32, CompileError>
     }
 }
 
-// The type of all values of a base type, which starts at 0.
+// The simple type that includes all values of a base type, and whose start value is 0.
 fn full_range<'t>(base: Base<'t>) -> Result<Option<Simple<'t>>, CompileError>
     ensures { IfOk result (λ s. SimpleIs s (types.full_range (base_of base.entry))) }
 {
@@ -59,7 +59,7 @@ fn full_range<'t>(base: Base<'t>) -> Result<Option<Simple<'t>>, CompileError>
     }))
 }
 
-/// Returns the base type of the values of a type. For a type that isn't simple it is integer.
+/// The base type of the values of a type. A type that isn't simple counts as the integers.
 pub fn base_type<'t>(of: Option<Simple<'t>>) -> Base<'t>
     ensures { (t : ResolvedType) → SimpleIs of.entry t → base_of result ≡ types.base_of_type t }
 {
@@ -83,7 +83,7 @@ fn operator_type<'t>(operator: Operator) -> Result<Option<Simple<'t>>, CompileEr
     })
 }
 
-// The type of a chain of operands, the first of which has this type.
+// The type of a chain of operands whose first operand has the type `first`.
 fn chain_type<'t>(
     first: Option<Simple<'t>>,
     rest: &[Operation],
@@ -98,8 +98,8 @@ fn chain_type<'t>(
     Ok(of)
 }
 
-// The type of the result of a standard function for an argument of this type. The last function is
-// `chr`.
+// The type of the result of a standard function for an argument of the given type. Any name not
+// listed counts as `chr`.
 fn standard_type<'t>(
     name: &[u8],
     argument: Option<Simple<'t>>,
@@ -139,7 +139,7 @@ fn is_part(d: &Designator) -> Result<bool, CompileError>
 }
 
 impl<'t> Types<'t> {
-    /// Returns a type if it is simple.
+    /// The simple type of the given number, or `None` if the type isn't simple.
     pub fn simple(&self, number: Option<usize>) -> Option<Simple<'t>>
         ensures { (t : ResolvedType) → TypeIs self.now number t → SimpleIs result t }
     {
@@ -178,7 +178,7 @@ impl<'s, 't> Scope<'s, 't> {
         }
     }
 
-    // The type of what a function returns.
+    // The type of the result of a function.
     fn answer_type(&self, callee: &Callee) -> Result<Option<Simple<'t>>, CompileError>
         ensures { IfOk result (λ of. (s : code.Scope) (c : calls.Callee) → IsScope self.now s
             → IsCallee self.now s callee.now c
@@ -202,7 +202,7 @@ impl<'s, 't> Scope<'s, 't> {
         }
     }
 
-    // The type of the result of a call whose first argument has this type.
+    // The type of the result of a call whose first argument has the type `argument`.
     fn call_type(
         &self,
         d: &Designator,
@@ -224,12 +224,12 @@ impl<'s, 't> Scope<'s, 't> {
         }
     }
 
-    /// Returns the type of the value of an expression, if it is simple.
+    /// The type of the value of an expression, or `None` if it isn't simple.
     ///
     /// # Errors
     ///
-    /// `Unaccepted` if an index list is empty, or if an enumeration has too many values. No
-    /// accepted text has either.
+    /// `Unaccepted` if an index list is empty or an enumeration has too many values. No accepted
+    /// text has either.
     pub fn expression_type(&self, e: &Expression) -> Result<Option<Simple<'t>>, CompileError>
         ensures { IfOk result (λ of. (s : code.Scope) → IsScope self.now s
             → ValueIs s of (view.expression e.now)) }

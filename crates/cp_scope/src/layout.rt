@@ -1,4 +1,4 @@
-//! How many words a variable of each type takes, and where the members of records and classes lie.
+//! The size in words of a variable of each type, and where the members of records and classes lie.
 
 ghost use Rattle.std.specs.Prelude.{◌≡◌, ◌∷◌, ◌≤◌, ◌+◌, ◌*◌, [], ℕ, IfOk, OnOk, length, map, option_map, slice_get};
 ghost use Rattle.cp_model.specs.Declarations.{is_component};
@@ -17,29 +17,29 @@ use cp_model::tree::{Parameters, Sort, System};
 use cp_names::NameTable;
 use std::alloc::Global;
 
-/// A part of a variable: its distance in words from the first word, and its type. The distance is
-/// `None` if there are too many words.
+/// A part of a variable: its offset in words from the first word of the variable, and its type. The
+/// offset is `None` if it is too large.
 #[derive(Clone, Copy)]
 pub struct Part {
     pub at: Option<u32>,
     pub of: usize,
 }
 
-/// The words of a type, unless there are too many, and the members of a record or a class.
+/// The size of a type in words, or `None` if it is too large, and the members of a record or class.
 #[derive(Drop)]
 pub struct Layout<'t> {
     pub words: Option<u32>,
     pub parts: NameTable<'t, Part>,
 }
 
-/// The layouts of types, by the numbers of the types.
+/// The layouts of types, by type number.
 #[derive(Drop)]
 pub struct Layouts<'t> {
     pub(crate) alloc: Global,
     pub(crate) rows: Vec<Layout<'t>>,
 }
 
-/// Returns the sum of two numbers of words.
+/// The sum of two sizes, or `None` if it is too large.
 pub fn sum(a: Option<u32>, b: Option<u32>) -> Option<u32>
     ensures { (m n : ℕ) → Counts a m → Counts b n → Counts result (m + n) }
 {
@@ -52,7 +52,7 @@ fn product(count: Option<u32>, words: Option<u32>) -> Option<u32>
     count?.checked_mul(words?)
 }
 
-// A number as a count of words, unless it is too large.
+// Converts a number to a size, or returns `None` if it is too large.
 fn as_count(n: usize) -> Option<u32>
     ensures { Counts result n }
 {
@@ -63,7 +63,7 @@ fn as_count(n: usize) -> Option<u32>
 }
 
 impl<'t> Types<'t> {
-    /// Whether a name is that of a type of components.
+    /// Whether `name` names a type of components.
     pub fn names_component(&self, names: &Names<'t>, name: &[u8]) -> bool
         ensures { (g : GlobalScope) → ScopeStands names.now self.now g → result ≡ is_component
             (named name.now g) }
@@ -74,7 +74,7 @@ impl<'t> Types<'t> {
         }
     }
 
-    // The number of rights to components among parameters of one type.
+    // The number of parameters in a group that are rights to components.
     fn rights_among(&self, names: &Names<'t>, group: &Parameters) -> Option<u32>
         ensures { (g : GlobalScope) → ScopeStands names.now self.now g → Counts result
             (rights_among g group.now) }
@@ -86,7 +86,7 @@ impl<'t> Types<'t> {
         }
     }
 
-    /// Returns the number of rights to components among these parameters.
+    /// The number of parameters in these groups that are rights to components.
     pub fn rights(&self, names: &Names<'t>, groups: &[Parameters]) -> Option<u32>
         ensures { (g : GlobalScope) → ScopeStands names.now self.now g → Counts result
             (rights_of g groups.now) }
@@ -100,7 +100,7 @@ impl<'t> Types<'t> {
 }
 
 impl<'t> Layouts<'t> {
-    /// Creates an empty list of layouts.
+    /// Creates an empty table of layouts.
     pub fn new(alloc: Global) -> Layouts<'t>
         ensures { result.rows.items ≡ [] }
     {
@@ -110,14 +110,14 @@ impl<'t> Layouts<'t> {
         }
     }
 
-    /// Returns the layout of a type, if it has one yet.
+    /// The layout of a type, or `None` if it isn't laid out yet.
     pub fn layout(&self, number: usize) -> Option<&Layout<'t>>
         ensures { option_map (λ l. l.now) result ≡ slice_get self.now.rows.items number }
     {
         self.rows.get(number)
     }
 
-    /// Returns the number of words of a variable of the type, unless there are too many.
+    /// The size in words of a variable of the type, or `None` if it is too large.
     pub fn words(&self, number: usize) -> Option<u32>
         ensures { (g : GlobalScope) (types : Types) (t : ResolvedType)
             → AreLaid g types self.now.rows.items → Stands types number t → Counts result
@@ -126,8 +126,8 @@ impl<'t> Layouts<'t> {
         self.layout(number)?.words
     }
 
-    /// Returns where a member of a record or a class lies in a variable of the type, if it has a
-    /// member with this name. Fails for a type without a layout.
+    /// Where a member of a record or class lies in a variable of the type, or `None` if the type
+    /// has no member of that name. A type without a layout is refused.
     pub fn part(&self, number: usize, name: &[u8]) -> Result<Option<Part>, CompileError>
         ensures { IfOk result (λ p. (g : GlobalScope) (types : Types) (t : ResolvedType)
             → AreLaid g types self.now.rows.items → Stands types number t → PartIs types p
@@ -149,7 +149,8 @@ impl<'t> Layouts<'t> {
         }
     }
 
-    /// Lays out these members, the first of which lies `head` words after the first word of all.
+    /// Lays out these members one after another. The first one lies `head` words from the first
+    /// word.
     pub fn members(
         &self,
         members: &[Field<'t>],
@@ -169,7 +170,8 @@ impl<'t> Layouts<'t> {
         Ok(layout)
     }
 
-    // A class has its members in its variable. A process or a monitor lies elsewhere.
+    // The layout of a component. A class component lies in its variable, with its members. A
+    // process or a monitor lies elsewhere, so its variable takes no words.
     fn component(
         &self,
         names: &Names<'t>,
@@ -189,7 +191,7 @@ impl<'t> Layouts<'t> {
         }
     }
 
-    // The layout of a type, given the layouts of its parts.
+    // The layout of a type whose parts have been laid out already.
     fn row(
         &self,
         names: &Names<'t>,

@@ -1,24 +1,23 @@
-//! Tables of what the names of a text stand for, and of where its variables lie: everything that
-//! the compiler needs to know about a text.
+//! Symbol tables and layouts: what the names of a text stand for, and where its variables lie.
 //!
-//! `Tables::of_tree` makes them for any tree, in two passes over the definitions:
+//! `Tables::of_tree` makes the tables of any tree, in two passes over its definitions:
 //!
 //! - **The outermost scope.** `Outer` has the constants and types that the definitions make, in
-//!   text order. A type is a row of `Types` that refers to the types of its parts by their numbers,
-//!   so a chain of named types of any length is followed without recursion. Only written types
-//!   nest.
-//! - **Layouts and system types.** Once the scope is final, `Layouts` has the words of each type
-//!   and the places of its members, computed from the layouts of its parts. A `SystemTable` has the
+//!   text order. A type is a row of `Types` that refers to the types of its parts by their numbers.
+//!   A chain of named types of any length is therefore followed without recursion, and only written
+//!   types nest.
+//! - **Layouts and system types.** Once the scope is final, `Layouts` computes the size of each
+//!   type and where its members lie from the layouts of its parts. A `SystemTable` has the
 //!   parameters and variables of a system type, where its members and rights lie, which components
-//!   its names mean, and a `RoutineTable` for each routine, which says where its locals lie.
-//! - **Scopes.** A `Scope` is what the code of a unit is compiled with. It says what names,
-//!   designators and calls mean there (`specs/Scopes.antt`), which types places and values have
-//!   (`specs/Places.antt`, `specs/Expressions.antt`), and what numbers units have.
+//!   its names mean, and for each routine a `RoutineTable` with the layout of its locals.
+//! - **Scopes.** A `Scope` is what the code of a unit is compiled with. It knows what names,
+//!   designators and calls mean there (`specs/Scopes.antt`), the types of places and values
+//!   (`specs/Places.antt`, `specs/Expressions.antt`), and the numbers of units.
 //!
-//! Names are borrowed from the tree and found by comparison, in logarithmic time. Numbers and names
-//! stand for what the meaning finds by look-ups alone (`specs/Standing.antt`, and
-//! `specs/Texts.antt` for a whole text). Words and offsets that don't fit their fields are left
-//! out, and refused where they are used: a type may be declared far larger than any variable.
+//! Names are borrowed from the tree and found by comparison, in logarithmic time. Look-ups alone
+//! define what names and numbers stand for (`specs/Standing.antt`, and `specs/Texts.antt` for a
+//! whole text). Sizes and offsets that don't fit their fields are `None`, and refused only when
+//! they are used, because a text may declare a type that is far larger than any variable.
 #![tactic(auto)]
 
 mod components;

@@ -17,9 +17,9 @@ use crate::variables::Declared;
 use cp_names::NameTable;
 use std::alloc::Global;
 
-/// A parameter or variable of a routine: its distance in words from the start of the activation,
-/// whether it is a `var` parameter, and the number of its type. The distance is `None` if there are
-/// too many words.
+/// A parameter or variable of a routine: its offset in words from the first word of the activation,
+/// whether it is a `var` parameter, and the number of its type. The offset is `None` if it is too
+/// large.
 #[derive(Clone, Copy)]
 pub struct Local {
     pub at: Option<u32>,
@@ -27,8 +27,8 @@ pub struct Local {
     pub of: usize,
 }
 
-/// The parameters and variables of a routine, and the words of an activation, unless there are too
-/// many.
+/// The parameters and variables of a routine, and the size of an activation in words, or `None` if
+/// it is too large.
 #[derive(Drop)]
 pub struct Locals<'t> {
     pub words: Option<u32>,
@@ -36,7 +36,7 @@ pub struct Locals<'t> {
 }
 
 impl<'t> Layouts<'t> {
-    /// Returns the words of a parameter or variable in its activation.
+    /// The size in words of a parameter or variable in its activation.
     pub fn local_words(&self, by_reference: bool, of: usize) -> Option<u32>
         ensures { (g : GlobalScope) (types : Types) (v : Variable)
             → AreLaid g types self.now.rows.items → by_reference ≡ v.by_reference
@@ -49,8 +49,8 @@ impl<'t> Layouts<'t> {
         }
     }
 
-    /// Lays out these parameters and variables, the first of which lies `head` words after the
-    /// start of the activation.
+    /// Lays out these parameters and variables one after another. The first one lies `head` words
+    /// from the first word of the activation.
     pub fn locals(
         &self,
         list: &[Declared<'t>],

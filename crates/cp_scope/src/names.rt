@@ -15,7 +15,7 @@ pub struct Value<'t> {
     pub ordinal: i32,
 }
 
-/// The constants and types of the outermost scope. A type has a number in `Types`.
+/// The constants and types of the outermost scope. A type is known by its number in `Types`.
 #[derive(Drop)]
 pub struct Names<'t> {
     pub constants: NameTable<'t, Value<'t>>,
@@ -35,7 +35,7 @@ impl<'t> Names<'t> {
     }
 }
 
-/// Adds a name. Fails if the name is already there.
+/// Adds a name. Fails if the table has the name already.
 pub fn add_name<'t, A: Copy>(
     table: &mut NameTable<'t, A>,
     name: &'t [u8],
@@ -50,7 +50,7 @@ pub fn add_name<'t, A: Copy>(
     Ok(())
 }
 
-/// Adds a name after the others, unless it is already there.
+/// Adds a name after the others, unless the table has it already.
 pub fn add_first<'t, A: Copy>(
     table: &mut NameTable<'t, A>,
     name: &'t [u8],

@@ -1,4 +1,4 @@
-//! Names of parameters and variables, and how components among them are numbered.
+//! The names of parameters and variables, with the numbers of the components among them.
 
 ghost use Rattle.std.specs.Prelude.{◌≡◌, ◌≤◌, IfOk, if◌then◌else◌, map};
 ghost use Rattle.cp_model.specs.Components.{is_component_of, same_sort};
@@ -16,8 +16,8 @@ use cp_model::tree::Sort;
 use cp_names::NameTable;
 use std::alloc::Global;
 
-/// A named parameter or variable: the number of its type, and the numbers of monitors and processes
-/// that are declared before it.
+/// A named parameter or variable: the number of its type, and how many monitors and processes are
+/// declared before it.
 #[derive(Clone, Copy)]
 pub struct Numbered {
     pub of: usize,
@@ -37,7 +37,8 @@ fn is_sort(a: Sort, b: Sort) -> bool
 }
 
 impl<'t> Types<'t> {
-    /// Returns the number of the system type of a type's variables, if they are components.
+    /// The number of the system type of the components of a type, or `None` if it isn't a type of
+    /// components.
     pub fn system_of(&self, number: usize) -> Option<usize>
         ensures { result ≡ system_of (row_at self.now number) }
     {
@@ -47,7 +48,7 @@ impl<'t> Types<'t> {
         }
     }
 
-    /// Whether variables of a type are components of this sort.
+    /// Whether the variables of a type are components of this sort.
     pub fn is_component_of(&self, sort: Sort, number: usize) -> bool
         ensures { (t : ResolvedType) → Stands self.now number t → result ≡ is_component_of
             (erase.sort_of sort) t }
@@ -61,7 +62,7 @@ impl<'t> Types<'t> {
         }
     }
 
-    // 1 if the variables of a type are components of this sort, otherwise 0.
+    // Returns 1 for a component of this sort and 0 otherwise.
     fn component_count(&self, sort: Sort, number: usize) -> usize
         ensures most { result ≤ 1 }
         ensures count { (t : ResolvedType) → Stands self.now number t → result ≡
@@ -74,8 +75,7 @@ impl<'t> Types<'t> {
         }
     }
 
-    /// Returns the names of these parameters or variables, with the numbers of monitors and
-    /// processes that are declared before each.
+    /// The names of these parameters or variables, with the numbers of the components among them.
     pub fn numbered_names(
         &self,
         list: &[Declared<'t>],

@@ -27,8 +27,7 @@ pub struct Outer<'t> {
     pub types: Types<'t>,
 }
 
-// Converts a number to an ordinal. Fails if it doesn't fit, which doesn't happen for an accepted
-// text.
+// Converts a number to an ordinal. No accepted text has one that doesn't fit.
 fn ordinal(n: usize) -> Result<i32, CompileError>
     ensures { IfOk result (λ i. i ≡ pos n) }
 {
@@ -44,7 +43,7 @@ fn value<'t>(base: Base<'t>, ordinal: i32) -> Value<'t>
     Value { base, ordinal }
 }
 
-// A base type itself, which starts at 0.
+// A simple type whose start value is 0.
 fn simple<'t>(base: Base<'t>, low: i32, high: i32) -> Simple<'t>
     ensures { simple_of result ≡ t.Simple (base_of base.entry) low high (pos 0) }
 {
@@ -64,7 +63,7 @@ fn enumeration_value<'t>(base: Base<'t>, number: usize) -> Result<Value<'t>, Com
     Ok(value(base, ordinal))
 }
 
-// An enumeration whose last value has this number.
+// The type of an enumeration whose last value has the number `last`.
 fn enumeration<'t>(base: Base<'t>, last: usize) -> Result<Simple<'t>, CompileError>
     ensures { IfOk result (λ s. simple_of s ≡ t.Simple (base_of base.entry) (pos 0) (pos last)
         (pos 0)) }
@@ -74,14 +73,14 @@ fn enumeration<'t>(base: Base<'t>, last: usize) -> Result<Simple<'t>, CompileErr
 }
 
 impl<'t> Types<'t> {
-    /// Whether variables of a type are components.
+    /// Whether the variables of a type are components.
     pub fn is_component(&self, number: usize) -> bool
         ensures { (t : ResolvedType) → Stands self.now number t → result ≡ is_component t }
     {
         matches!(self.row(number), Some(TypeRow::Component { .. }))
     }
 
-    // Adds the fields for parameters of one type, unless they are rights to components.
+    // Adds the parameters of one group, except rights to components.
     fn add_parameter(
         &mut self,
         names: &Names<'t>,
@@ -98,7 +97,7 @@ impl<'t> Types<'t> {
         Ok(())
     }
 
-    /// Adds the fields for parameters, except for rights to components.
+    /// Adds the parameters of these groups, except rights to components.
     pub fn add_parameters(
         &mut self,
         names: &Names<'t>,
@@ -145,7 +144,7 @@ impl<'t> Outer<'t> {
         add_name(&mut self.names.types, name, of)
     }
 
-    // Adds a base type.
+    // Adds a simple type and its name.
     fn add_base(&mut self, name: &'t [u8], base: Simple<'t>) -> Result<(), CompileError>
         ensures { OnOk result (Defines self.old self.new
             (with_type name.now (λ g. simple_of base.entry))) }
@@ -154,7 +153,7 @@ impl<'t> Outer<'t> {
         self.add_type(name, of)
     }
 
-    /// Creates the scope of the standard names.
+    /// The scope of the standard names.
     pub fn standard(alloc: Global) -> Result<Outer<'t>, CompileError>
         ensures { IfOk result (λ outer. OuterStands outer standard_scope) }
     {
@@ -277,7 +276,7 @@ impl<'t> Outer<'t> {
         Ok(())
     }
 
-    /// Creates the outermost scope of a text.
+    /// The outermost scope of a text.
     pub fn of_tree(alloc: Global, tree: &'t Tree) -> Result<Outer<'t>, CompileError>
         ensures { IfOk result (λ outer. OuterStands outer
             (globals (erase.abstract (view.tree tree.now)))) }

@@ -18,7 +18,7 @@ use crate::scope::{Meaning, Scope};
 use crate::types::{TypeRow, Types};
 use cp_model::tree::{Designator, Index, Selector};
 
-/// An array type: its bounds, and the number of its elements' type.
+/// An array type: its bounds, and the number of the type of its elements.
 #[derive(Clone, Copy)]
 pub struct Elements {
     pub low: i32,
@@ -34,7 +34,7 @@ impl<'t> Types<'t> {
         matches!(self.row(number), Some(TypeRow::Record(_)))
     }
 
-    /// Returns the bounds and the element type of an array type.
+    /// The bounds and element type of an array type, or `None` for another type.
     pub fn elements(&self, number: usize) -> Option<Elements>
         ensures { result ≡ elements_of (row_at self.now number) }
     {
@@ -48,7 +48,7 @@ impl<'t> Types<'t> {
         }
     }
 
-    /// Returns the type of the elements of an array type. `None` stands for no type.
+    /// The type of an element of a value of the type `of`, where `None` stands for no type.
     pub fn element_type(&self, of: Option<usize>) -> Option<usize>
         ensures { (t : ResolvedType) → TypeIs self.now of t → TypeIs self.now result
             (static.element_type t) }
@@ -64,7 +64,7 @@ fn part_type(part: Option<Part>) -> Option<usize>
 }
 
 impl<'s, 't> Scope<'s, 't> {
-    /// Returns the type of a field of a record type. `None` stands for no type.
+    /// The type of a field of a value of the type `of`.
     pub fn field_type(&self, of: Option<usize>, name: &[u8]) -> Result<Option<usize>, CompileError>
         ensures { IfOk result (λ n. (s : code.Scope) (t : ResolvedType) → IsScope self.now s
             → TypeIs self.now.tables.now.types of t → TypeIs self.now.tables.now.types n
@@ -82,7 +82,7 @@ impl<'s, 't> Scope<'s, 't> {
         }
     }
 
-    /// Returns the type of the place that a name means.
+    /// The type of the place that a name means.
     pub fn named_place_type(&self, name: &[u8]) -> Option<usize>
         ensures { (s : code.Scope) → IsScope self.now s → PlaceIs self.now s result
             (a.Plain name.now) }
@@ -92,7 +92,7 @@ impl<'s, 't> Scope<'s, 't> {
             _ => None,
         }
     }
-    // The type of an element, or of an element of an element and so on, one for each index.
+    // The type of the element that is left after indexing once for each of `indices`.
     fn indexed_type(&self, mut of: Option<usize>, indices: &[Index]) -> Option<usize>
         ensures { (s : code.Scope) (d : a.Designator) → PlaceIs self.now s of d → PlaceIs
             self.now s result (erase.indexed d (view.indices_of (map view.index indices.now))) }
@@ -103,7 +103,7 @@ impl<'s, 't> Scope<'s, 't> {
         of
     }
 
-    // The type of a selected part.
+    // The type of the part that a selector selects.
     fn selected_type(
         &self,
         of: Option<usize>,
@@ -119,7 +119,7 @@ impl<'s, 't> Scope<'s, 't> {
         }
     }
 
-    /// Returns the type of the place of a designator, if it has one.
+    /// The type of the place of a designator, or `None` if it has no type.
     pub fn place_type(&self, d: &Designator) -> Result<Option<usize>, CompileError>
         ensures { IfOk result (λ n. (s : code.Scope) → IsScope self.now s → PlaceIs self.now s n
             (erase.designator (view.designator d.now))) }

@@ -55,7 +55,7 @@ pub fn add_fields<'t>(
 }
 
 impl<'t> Names<'t> {
-    /// Returns the value of a written constant, if it has one.
+    /// The value of a written constant, or `None` if its name isn't that of a constant.
     pub fn value(&self, c: &Constant) -> Option<Value<'t>>
         ensures { (g : GlobalScope) → ConstantsStand self.now g
             → option_map value_of result ≡ constant_value g (erase.constant c.now) }
@@ -84,8 +84,8 @@ impl<'t> Types<'t> {
         self.add(subrange_row(names.value(low), names.value(high)))
     }
 
-    /// Returns the number of the type that a name stands for. A name that isn't the name of a type
-    /// gets a new number.
+    /// The number of the type that a name means. A name that means no type gets a new row,
+    /// `Unknown`.
     pub fn named_type(&mut self, names: &Names<'t>, x: &Identifier) -> Result<usize, CompileError>
         ensures { IfOk result (λ n. Makes names.now self.old self.new (named x.now.name) n) }
     {
@@ -95,7 +95,7 @@ impl<'t> Types<'t> {
         }
     }
 
-    // The row of an array type, which has the bounds of its index type.
+    // The row of an array type. Its bounds are those of its index type.
     fn array_row(&self, index: usize, element: usize) -> TypeRow<'t>
         ensures { result ≡ array_row (row_at self.now index) element }
     {
@@ -116,7 +116,7 @@ impl<'t> Types<'t> {
         self.add(row)
     }
 
-    /// Returns the number of a written type.
+    /// The number of a written type, whose rows are added as needed.
     #[cycle(types)]
     pub fn resolve(
         &mut self,
@@ -140,7 +140,7 @@ impl<'t> Types<'t> {
         }
     }
 
-    // An array of arrays, one level for each index type. The innermost array is made first.
+    // Adds an array of arrays, one for each index type. The last one is made first.
     #[cycle(types)]
     fn arrays(
         &mut self,

@@ -1,4 +1,5 @@
-//! A routine: its parameters, where its variables lie, and the type of its result.
+//! What is known of a routine: its parameters and variables, where they lie, and the type of its
+//! result.
 
 ghost use Rattle.std.specs.Prelude.{◌≡◌, ◌++◌, IfOk, map};
 ghost use Rattle.cp_typing.specs.Needs.{result_words};
@@ -16,9 +17,9 @@ use crate::variables::Declared;
 use cp_model::tree::{Identifier, Routine};
 use std::alloc::Global;
 
-/// A routine: its name, its parameters and variables in text order, where they lie in an
-/// activation, and the number of the type of its result, if it is a function. The words of an
-/// activation are those of `locals`.
+/// A routine: its name, its parameters and variables in text order, where they lie in an activation
+/// (`locals` also has the size of the activation), and the number of the type of its result if it
+/// is a function.
 #[derive(Drop)]
 pub struct RoutineTable<'t> {
     pub name: &'t [u8],
@@ -28,7 +29,7 @@ pub struct RoutineTable<'t> {
     pub result: Option<usize>,
 }
 
-// The words of a result.
+// The size of the result in words.
 fn words_of_result(of: &Option<Identifier>) -> u32
     ensures { result ≡ result_words (erase.name_if of.now) }
 {
@@ -38,7 +39,7 @@ fn words_of_result(of: &Option<Identifier>) -> u32
     }
 }
 
-// Parameters, followed by variables.
+// The parameters, followed by the variables.
 fn both<'t>(
     alloc: Global,
     parameters: &[Declared<'t>],
@@ -53,7 +54,7 @@ fn both<'t>(
 }
 
 impl<'t> Types<'t> {
-    // The type of a result.
+    // The number of the type of the result, or `None` for a procedure.
     fn result(
         &mut self,
         names: &Names<'t>,

@@ -27,8 +27,8 @@ use cp_model::tree::{Designator, Selector};
 use cp_names::NameTable;
 
 /// What the code of a unit is compiled with: the tables of its text, its system type, and its
-/// routine, unless the unit is a body. `firsts` has the first unit of each type that was defined
-/// before, by its name, and `first` is the first unit of the system type itself.
+/// routine unless the unit is a body. `firsts` has the first unit of each system type that is
+/// defined before this one, by name, and `first` is the first unit of this one.
 #[derive(Clone, Copy)]
 pub struct Scope<'s, 't> {
     pub(crate) tables: &'s Tables<'t>,
@@ -38,8 +38,8 @@ pub struct Scope<'s, 't> {
     pub(crate) first: u32,
 }
 
-/// What a designator calls: a routine, and the component that it belongs to, unless that is the
-/// running one.
+/// What a designator calls: a routine, and its component if that isn't the calling component
+/// itself.
 #[derive(Clone, Copy)]
 pub struct Callee<'s, 't, 'n> {
     pub routine: IndexedRoutine<'s, 't>,
@@ -61,7 +61,7 @@ fn type_of(found: Option<Numbered>) -> Option<usize>
     Some(found?.of)
 }
 
-/// Refuses an index list without an index. Every index list of a text has one.
+/// Fails if a selector has an empty index list, which no text has.
 pub fn refuse_no_index(selector: &Selector) -> Result<(), CompileError>
     ensures { OnOk result (Selects (view.selector selector.now)) }
 {
@@ -75,7 +75,7 @@ pub fn refuse_no_index(selector: &Selector) -> Result<(), CompileError>
 }
 
 impl<'s, 't> Scope<'s, 't> {
-    /// Creates the scope of a routine, or of the body, of a system type.
+    /// Creates the scope of a routine or of the body of a system type.
     pub fn new(
         tables: &'s Tables<'t>,
         system: &'s SystemTable<'t>,
@@ -100,28 +100,28 @@ impl<'s, 't> Scope<'s, 't> {
         }
     }
 
-    /// Returns the tables of the text.
+    /// The tables of the text.
     pub fn tables(&self) -> &'s Tables<'t>
         ensures { result ≡ self.now.tables }
     {
         self.tables
     }
 
-    /// Returns the table of the system type.
+    /// The table of the system type.
     pub fn system(&self) -> &'s SystemTable<'t>
         ensures { result ≡ self.now.system }
     {
         self.system
     }
 
-    /// Returns the table of the routine, unless the scope is that of a body.
+    /// The table of the routine, or `None` in a body.
     pub fn routine(&self) -> Option<&'s RoutineTable<'t>>
         ensures { result ≡ self.now.routine }
     {
         self.routine
     }
 
-    /// Returns the routine's parameter or variable with this name.
+    /// The parameter or variable of the routine that has this name.
     pub fn local(&self, name: &[u8]) -> Option<Local>
         ensures { (s : code.Scope) → IsScope self.now s → LocalIs self.now.tables.now.types result
             (code.local_in s name.now) }
@@ -129,7 +129,7 @@ impl<'s, 't> Scope<'s, 't> {
         self.routine?.locals.names.find(name)
     }
 
-    /// Returns the component's own member with this name.
+    /// The own member of the component that has this name.
     pub fn member(&self, name: &[u8]) -> Option<Part>
         ensures { (s : code.Scope) → IsScope self.now s → PartIs self.now.tables.now.types result
             (layout.member s.globals s.system name.now) }
@@ -137,7 +137,7 @@ impl<'s, 't> Scope<'s, 't> {
         self.system.members.parts.find(name)
     }
 
-    /// Returns the component's right with this name.
+    /// The right of the component that has this name.
     pub fn right(&self, name: &[u8]) -> Option<Right>
         ensures { (s : code.Scope) → IsScope self.now s → RightIs self.now.tables.now.types result
             (layout.right s.globals s.system name.now) }
@@ -145,7 +145,7 @@ impl<'s, 't> Scope<'s, 't> {
         self.system.rights.find(name)
     }
 
-    // The type of the variable for the result of the routine, if it is a function with this name.
+    // The type of the result variable of a function, if this is the function's name.
     fn result_type(&self, name: &[u8]) -> Option<usize>
         ensures { (s : code.Scope) → IsScope self.now s → VariableIs self.now.tables.now.types
             result (lookup name.now (results_of s.globals s.routine)) }
@@ -157,7 +157,7 @@ impl<'s, 't> Scope<'s, 't> {
         routine.result
     }
 
-    // The type of the routine's parameter, variable or result with this name.
+    // The type of the routine's parameter, variable or result that has this name.
     fn local_type(&self, name: &[u8]) -> Option<usize>
         ensures { (s : code.Scope) → IsScope self.now s → VariableIs self.now.tables.now.types
             result (lookup name.now (locals_of s.globals s.routine)) }
@@ -168,7 +168,7 @@ impl<'s, 't> Scope<'s, 't> {
         }
     }
 
-    // The type of the component's parameter or variable with this name.
+    // The type of the component's parameter or variable that has this name.
     fn permanent_type(&self, name: &[u8]) -> Option<usize>
         ensures { (s : code.Scope) → IsScope self.now s → VariableIs self.now.tables.now.types
             result (lookup name.now (permanent_variables s.globals s.system)) }
@@ -190,8 +190,8 @@ impl<'s, 't> Scope<'s, 't> {
         }
     }
 
-    /// Returns what a name means: a variable or the result of the routine, otherwise a variable of
-    /// the component, otherwise a constant.
+    /// What a name means: a variable of the routine or its result, else a variable of the
+    /// component, else a constant.
     pub fn meaning(&self, name: &[u8]) -> Meaning<'t>
         ensures { (s : code.Scope) → IsScope self.now s → MeaningIs self.now.tables.now.types result
             (meaning (code.environment s) name.now) }
@@ -219,7 +219,7 @@ impl<'s, 't> Scope<'s, 't> {
         }
     }
 
-    // The routine that a name after a component's `.` calls.
+    // The routine that `component.name` calls.
     fn component_callee<'n>(
         &self,
         component: &'n [u8],
@@ -243,7 +243,7 @@ impl<'s, 't> Scope<'s, 't> {
         }
     }
 
-    // What a name followed by one selector calls.
+    // The routine that a name with one selector calls.
     fn selected_callee<'n>(
         &self,
         name: &'n [u8],
@@ -264,8 +264,8 @@ impl<'s, 't> Scope<'s, 't> {
         }
     }
 
-    /// Returns what a designator calls, if it calls a routine. Fails for an index list without an
-    /// index.
+    /// The routine that a designator calls, or `None` if it calls none. An empty index list is
+    /// refused.
     pub fn callee<'n>(&self, d: &'n Designator) -> Result<Option<Callee<'s, 't, 'n>>, CompileError>
         ensures { IfOk result (λ c. (s : code.Scope) → IsScope self.now s → CalleeIs self.now s c
             (calls.callee (code.environment s) (erase.designator (view.designator d.now)))) }

@@ -1,5 +1,5 @@
-//! A system type: its parameters and variables, its routines, and where the members and rights of
-//! its components lie.
+//! What is known of a system type: its parameters, variables and routines, and where the members
+//! and rights of its components lie.
 
 ghost use Rattle.std.specs.Prelude.{◌≡◌, [], IfOk, option_map, slice_get};
 ghost use Rattle.cp_model.specs.Abstract.{Name};
@@ -21,9 +21,8 @@ use cp_names::NameTable;
 use std::alloc::Global;
 
 /// A system type: its parameters, variables and routines in text order, and where the members and
-/// the rights of its components lie. The words of a component are those of `members`. Its
-/// parameters, variables and routines are also found by their names, and so are the names of the
-/// types of its parameters and variables.
+/// rights of its components lie. `members` also has the size of a component. Parameters, variables,
+/// routines and the names of the types of parameters and variables can also be found by name.
 #[derive(Drop)]
 pub struct SystemTable<'t> {
     pub parameters: Vec<Declared<'t>>,
@@ -39,7 +38,7 @@ pub struct SystemTable<'t> {
 }
 
 impl<'t> Layouts<'t> {
-    // The tables of these routines.
+    // Makes the tables of these routines.
     fn routines(
         &mut self,
         names: &Names<'t>,
@@ -117,7 +116,7 @@ pub struct IndexedRoutine<'s, 't> {
 }
 
 /// A component that a parameter or variable names: its name, the number of its system type, whether
-/// it is a parameter, and the numbers of monitors and processes that are declared before it.
+/// it is a parameter, and how many monitors and processes are declared before it.
 #[derive(Clone, Copy)]
 pub struct Component<'n> {
     pub name: &'n [u8],
@@ -127,7 +126,7 @@ pub struct Component<'n> {
     pub processes: usize,
 }
 
-// The component that a parameter or variable names, if it names one.
+// The component that a parameter or variable names, or `None` if it isn't a component.
 fn as_component<'n>(
     types: &Types,
     name: &'n [u8],
@@ -148,14 +147,14 @@ fn as_component<'n>(
 }
 
 impl<'t> SystemTable<'t> {
-    /// Returns the routine with this number, if there is one.
+    /// The routine with this number, if there is one.
     pub fn routine_at(&self, index: usize) -> Option<&RoutineTable<'t>>
         ensures { option_map (λ t. t.now) result ≡ slice_get self.now.routines.items index }
     {
         self.routines.get(index)
     }
 
-    /// Returns the first routine with this name.
+    /// The first routine with this name.
     pub fn routine(&self, name: &[u8]) -> Result<Option<IndexedRoutine<'_, 't>>, CompileError>
         ensures { IfOk result (λ r. RoutineFound self.now name.now r) }
     {
@@ -168,15 +167,14 @@ impl<'t> SystemTable<'t> {
         }
     }
 
-    /// Returns the name of the type that a variable is declared with. It is empty if the type isn't
-    /// a bare name.
+    /// The name of the type with which a variable is declared, empty if the type isn't a bare name.
     pub fn variable_type(&self, name: &[u8]) -> &'t [u8]
         ensures { result.now ≡ name_or (lookup name.now self.now.variable_types) [] }
     {
         self.variable_types.find(name).unwrap_or(&[])
     }
 
-    /// Returns the component that a name means in a component of this system type.
+    /// The component that a name means inside a component of this system type.
     pub fn component<'n>(&self, types: &Types<'t>, name: &'n [u8]) -> Option<Component<'n>>
         ensures { ComponentFound types.now self.now name.now result }
     {

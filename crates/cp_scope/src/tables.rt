@@ -15,8 +15,8 @@ use crate::types::Types;
 use cp_model::tree::Tree;
 use std::alloc::Global;
 
-/// What the compiler needs to know about a text: the names and types of its outermost scope, the
-/// layouts of types, its system types by number, in text order, and the initial process.
+/// What the compiler asks of a text: the names and types of its outermost scope, the layouts of its
+/// types, its system types by their numbers in text order, and the initial process.
 #[derive(Drop)]
 pub struct Tables<'t> {
     pub names: Names<'t>,
@@ -27,7 +27,7 @@ pub struct Tables<'t> {
 }
 
 impl<'t> Layouts<'t> {
-    // The tables of all system types.
+    // Makes the tables of all system types.
     fn systems(
         &mut self,
         names: &Names<'t>,
@@ -47,16 +47,16 @@ impl<'t> Layouts<'t> {
 }
 
 impl<'t> Tables<'t> {
-    /// Returns the table of the system type with this number, if there is one.
+    /// The table of the system type with this number, if there is one.
     pub fn system(&self, number: usize) -> Option<&SystemTable<'t>>
         ensures { option_map (λ t. t.now) result ≡ slice_get self.now.systems.items number }
     {
         self.systems.get(number)
     }
 
-    /// Makes the tables of any text. Fails if memory runs out, if a name is declared twice in the
-    /// outermost scope, if an enumeration has more values than there are ordinals, or if the array
-    /// type of a component's variable has no index type.
+    /// Makes the tables of any text. Fails if memory runs out, a name is declared twice in the
+    /// outermost scope, an enumeration has more values than there are ordinals, or a variable is
+    /// declared as an array without an index type.
     pub fn of_tree(alloc: Global, tree: &'t Tree) -> Result<Tables<'t>, CompileError>
         ensures { IfOk result (λ tables. TablesStand
             (globals (erase.abstract (view.tree tree.now))) tables tree.now) }

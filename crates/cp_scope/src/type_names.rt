@@ -1,4 +1,4 @@
-//! The names of the types that parameters and variables are declared with.
+//! The names of the types with which parameters and variables are declared.
 
 ghost use Rattle.std.specs.Prelude.{◌≡◌, IfOk, OnOk, map};
 ghost use Rattle.cp_model.specs.Erase as erase;
@@ -12,7 +12,7 @@ use cp_model::tree::{Fields, Identifier, Parameters, TypeExpression};
 use cp_names::NameTable;
 use std::alloc::Global;
 
-// The name of a written type, or an empty one if the type isn't a bare name.
+// The name of a written type, empty if the type isn't a bare name.
 fn type_name<'t>(of: &'t TypeExpression) -> Result<&'t [u8], CompileError>
     ensures { IfOk result (λ name.
         name.now ≡ type_name (erase.type_expression (view.type_expression of.now))) }
@@ -43,7 +43,7 @@ fn add_names<'t>(
     Ok(())
 }
 
-/// Returns the name of the type of each parameter that these groups declare.
+/// The name of the type of each parameter that these groups declare.
 pub fn parameter_types<'t>(
     alloc: Global,
     groups: &'t [Parameters],
@@ -58,8 +58,8 @@ pub fn parameter_types<'t>(
     Ok(table)
 }
 
-/// Returns the name of the type of each variable that these groups declare. It is empty if the type
-/// isn't a bare name.
+/// The name of the type of each variable that these groups declare, empty if the type isn't a bare
+/// name.
 pub fn variable_types<'t>(
     alloc: Global,
     groups: &'t [Fields],

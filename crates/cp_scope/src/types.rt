@@ -1,4 +1,4 @@
-//! Types by number: each type has a row, which refers to the types of its parts by their numbers.
+//! Types by number: each has a row, which refers to the types of its parts by their numbers.
 
 ghost use Rattle.std.specs.Prelude.{◌≡◌, [], IfOk, option_map};
 ghost use Rattle.cp_scope.specs.Standing.{Adds, AddsSystem, row_at, system_at};
@@ -32,7 +32,7 @@ pub struct Field<'t> {
     pub of: usize,
 }
 
-/// A row of the table of types. It refers to types and system types by their numbers.
+/// A type. It refers to other types and to system types by their numbers.
 #[derive(Drop)]
 pub enum TypeRow<'t> {
     Simple(Simple<'t>),
@@ -43,17 +43,17 @@ pub enum TypeRow<'t> {
     },
     Record(Vec<Field<'t>>),
     Queue,
-    /// A component has the members that are its own: its parameters except rights to components,
-    /// then its variables.
+    /// A component type, with its own members: its parameters except the rights to components,
+    /// followed by its variables.
     Component {
         system: usize,
         members: Vec<Field<'t>>,
     },
-    /// What is written stands for no type.
+    /// No type, which is what a name that means none and other invalid types stand for.
     Unknown,
 }
 
-/// Types by number, and system types by number, in text order.
+/// Types by their numbers, and system types by theirs. System types are in text order.
 #[derive(Drop)]
 pub struct Types<'t> {
     pub(crate) alloc: Global,
@@ -62,7 +62,7 @@ pub struct Types<'t> {
 }
 
 impl<'t> Types<'t> {
-    /// Creates an empty table of types.
+    /// Creates empty tables of types.
     pub fn new(alloc: Global) -> Types<'t>
         ensures rows { result.rows.items ≡ [] }
         ensures systems { result.systems.items ≡ [] }
@@ -74,14 +74,14 @@ impl<'t> Types<'t> {
         }
     }
 
-    /// Returns the row of the type with this number, if there is one.
+    /// The row of the type with this number, if there is one.
     pub fn row(&self, number: usize) -> Option<&TypeRow<'t>>
         ensures { option_map (λ r. r.now) result ≡ row_at self.now number }
     {
         self.rows.get(number)
     }
 
-    /// Returns the system type with this number, if there is one.
+    /// The system type with this number, if there is one.
     pub fn system(&self, number: usize) -> Option<&'t System>
         ensures { result ≡ system_at self.now number }
     {

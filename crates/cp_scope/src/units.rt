@@ -1,6 +1,6 @@
 //! The numbers of units, and the words of activations.
 //!
-//! Units are numbered in text order: the routines of a system type, then its body.
+//! Units have numbers in text order: the routines of a system type, then its body.
 
 ghost use Rattle.std.specs.Prelude.{◌≡◌, ◌+◌, IfOk};
 ghost use Rattle.cp_model.specs.Calls as calls;
@@ -13,7 +13,7 @@ use crate::error::CompileError;
 use crate::scope::{Callee, Scope};
 use crate::systems::Component;
 
-// The unit that comes `count` units after the first.
+// The unit that comes `count` units after `first`.
 fn unit_after(first: u32, count: usize) -> Result<u32, CompileError>
     ensures { IfOk result (λ n. n ≡ first + count) }
 {
@@ -23,7 +23,7 @@ fn unit_after(first: u32, count: usize) -> Result<u32, CompileError>
 }
 
 impl<'s, 't> Scope<'s, 't> {
-    /// Returns the words of an activation. A body has none.
+    /// The size of an activation in words. A body has none, so its size is 0.
     pub fn words(&self) -> Result<u32, CompileError>
         ensures { IfOk result (λ n. (s : code.Scope) → IsScope self.now s → n ≡ s.words) }
     {
@@ -33,7 +33,7 @@ impl<'s, 't> Scope<'s, 't> {
         }
     }
 
-    /// Returns the first unit of a component's system type.
+    /// The first unit of a component's system type.
     pub fn first_of(&self, c: &Component) -> u32
         ensures { (s : code.Scope) (n : components.Component) → IsScope self.now s
             → Names self.now s c.now n → result ≡ code.first_of s n }
@@ -47,7 +47,7 @@ impl<'s, 't> Scope<'s, 't> {
         self.firsts.find(of).unwrap_or(0)
     }
 
-    /// Returns the unit of a component's body.
+    /// The unit of a component's body.
     pub fn body_of(&self, c: &Component) -> Result<u32, CompileError>
         ensures { IfOk result (λ unit. (s : code.Scope) (n : components.Component)
             → IsScope self.now s → Names self.now s c.now n → unit ≡ code.body_of s n) }
@@ -60,7 +60,7 @@ impl<'s, 't> Scope<'s, 't> {
         unit_after(self.first_of(c), of.routines.len())
     }
 
-    /// Returns the unit of a routine that is called.
+    /// The unit of a called routine.
     pub fn unit_of(&self, callee: &Callee) -> Result<u32, CompileError>
         ensures { IfOk result (λ unit. (s : code.Scope) (c : calls.Callee)
             → IsScope self.now s → IsCallee self.now s callee.now c → unit ≡ code.unit_of s c) }

@@ -18,7 +18,7 @@ pub struct Declared<'t> {
     pub of: usize,
 }
 
-// Adds names with the same type.
+// Adds names of one type.
 fn declare_each<'t>(
     list: &mut Vec<Declared<'t>>,
     names: &'t [Identifier],

@@ -44,7 +44,7 @@ routine_of d _ = d
 
 module _ (G : Ground) (temps : List ℤ) (limit : ℕ) (R : Running) (fs : List machine.Frame) (live place : ℕ) (call : Call) (into next : ℕ)
     (at : operation_at G.program place ≡ Some (op.Function call into next)) (room : R.temp + R.unit.temps ≤ length temps) (behind : live ≤ into) where
-  -- What is known while the call is made, and what is when its value is in its temp.
+  -- What is known while the call is made, and after its value is put into its temp.
   abbrev pub Known : Knowns
   Known = kept_below call.temps live temps R.temp
 
@@ -57,13 +57,13 @@ module _ (G : Ground) (temps : List ℤ) (limit : ℕ) (R : Running) (fs : List 
   other : (n : ℤ) (i : ℕ) → i ≢ R.temp + into → word (answered_temps n) i ≡ word temps i
   other n i d = get_or-set_other temps (R.temp + into) i n (pos 0) d
 
-  -- The base type of the value, of whatever routine was called.
+  -- The base type of the value, whichever routine is called.
   abbrev pub BaseIs : BaseType → Type 0
   BaseIs base =
       (s : System) (r : a.Routine) (t : Name) → slice_get G.texts call.routine ≡ Some (RoutineOf s r) → r.result ≡ Some t
       → base ≡ base_of_type (named_type R.env.globals t)
 
-  -- What a call that is found here leads on to.
+  -- What follows a call that is found here.
   record Answer {A : Type 0} (find : a.Expression → Found A) (For : Knowns → A → ℕ → Type 0) (last low : ℕ) : Type 0 where
     base : BaseType
     user : UserCall
@@ -125,7 +125,7 @@ module _ (G : Ground) (temps : List ℤ) (limit : ℕ) (R : Running) (fs : List 
           let same : t ≡ f.1 = ap (into_or 0) (sym is ∙ (ap (operation_at G.program) next_is ∙ f.3)) in
           omega (arith, same, f.4, temp_is)
 
-  -- What is left, with the value in its place.
+  -- What is left to do, with the value in the place of the call.
   abbrev pub LeftAnswered : List Task → Type 0
   LeftAnswered k =
       (base : BaseType) × BaseIs base × CallsBehind G (into + 1) next

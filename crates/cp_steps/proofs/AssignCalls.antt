@@ -21,7 +21,7 @@ module _ (site : Site) (K : Knowns) where
   StatementAdvances s at last next low =
       Advance site K (λ v. call_in_statement site.env v s) (λ L x after. CodeFor site L x after next low × IsTask x) (λ z. Unit {0}) at last low site.unit.temps
 
-  -- A lone designator that is used.
+  -- A lone designator that is used as a value.
   abbrev pub UsedAdvances : a.Designator → Spot → ResolvedType → ℕ → ℕ → ℕ → ℕ → Type 1
   UsedAdvances d s t at next low high =
       Advance site K (λ v. first_call site.env v (a.Use d))

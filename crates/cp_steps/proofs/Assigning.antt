@@ -35,13 +35,13 @@ use Rattle.cp_steps.proofs.RunningOn.{runs_moved, runs_written}
 use Rattle.cp_steps.proofs.Stepping.{Now, Stepped, faulted, went}
 
 module _ (G : Ground) (s : State) (w : Outside) (before : List ℕ) (o : PrivateState) (i : Task) (k : List Task) (N : Now G s w before o i k) where
-  -- What is to come of a value that is stored in a variable.
+  -- What both sides do when a value is stored in a variable.
   abbrev pub Stores : PrivateState → (Writes → StepResult) → ℕ → BaseType → ℤ → ℤ → ℤ → ℤ → Type 0
   Stores after go n b lower upper start v =
       (l : Location) → in_sight G l.owner ≡ true → lies G (activations o.base o.frames (i ∷ k)) l ≡ Some (n, Simple b lower upper start)
       → PartOf G (after_step s G.p (go ((l, Ordinal v) ∷ []))) before after
 
-  -- The meaning and the machine store one value at one place.
+  -- The meaning and the machine store the same value at the same place.
   pub stores : (after : PrivateState) (go : Writes → StepResult) (b of : BaseType) (lower upper start : ℤ) (n : ℕ) (m : ℤ)
       → (P : Outcome Place) → PlaceAgrees (seen (in_sight G) G (activations o.base o.frames (i ∷ k))) (Simple b lower upper start) P (Ok n)
       → (v : TypedValue) → Agrees of (Gives v) (Ok m)

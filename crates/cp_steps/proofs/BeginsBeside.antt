@@ -38,7 +38,7 @@ abbrev IsReady : Status → Type 0
 IsReady stage.Ready = Unit {0}
 IsReady _ = ⊥
 
--- Whether a process has begun is a matter of the kernel.
+-- The kernel knows whether a process is unstarted.
 unstarted_known : (x : Status) → kernel_status x ≡ stage.Unstarted → x ≡ stage.Unstarted
 unstarted_known stage.Ended e = absurd (subst IsReady e tt)
 unstarted_known stage.Waiting e = absurd (subst IsReady e tt)

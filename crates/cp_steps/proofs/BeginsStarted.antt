@@ -72,7 +72,7 @@ module _ {G : Ground} {s : State} {w : Outside} {before : List ℕ} {o : Private
   distinct : Distinct (permanent_variables (scope G) (system Z))
   distinct = subst (λ (y : System). Distinct (permanent_variables (scope G) y)) (same_system Z) (process_names G Z.stands Z.number P)
 
-  -- What waits is what was passed.
+  -- The words that wait are those that were passed.
   waits_there : (j : ℕ) → j < size → word l.shared (suc P.row.parameters + j) ≡ word us (top Z + 1 + j)
   waits_there j below =
       ap (λ zs. word zs (suc P.row.parameters + j)) shared

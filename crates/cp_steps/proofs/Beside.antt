@@ -33,12 +33,12 @@ abbrev process_in : Owner → ℕ
 process_in (OfProcess p) = p
 process_in _ = 0
 
--- The blocks of all monitors are apart from these shared words.
+-- The blocks of all monitors are separate from these shared words.
 abbrev pub ClearOfMonitors : Ground → ℕ → ℕ → Type 0
 ClearOfMonitors G from count =
     (m : ℕ) (s : System) → system_of_monitor G.setup m ≡ Some s → Apart (monitor_start G.program m) (component_words (scope G) s) from count
 
--- What changed: the store at the process r, and these shared words.
+-- What has changed: the store at the process `r`, and `count` shared words from `from` on.
 pub record Beside (G : Ground) (top r from count : ℕ) (store after : Store) (old new : List ℤ) : Type 0 where
   pub other : G.p ≡ r → ⊥
   pub clear : ClearOfMonitors G from count
@@ -46,7 +46,7 @@ pub record Beside (G : Ground) (top r from count : ℕ) (store after : Store) (o
   pub same : (i : ℕ) → (i < top) ⊎ (G.own ≤ i) → (i < G.own + from) ⊎ (G.own + from + count ≤ i) → word new i ≡ word old i
 
 module _ (G : Ground) (xs : List Activation) (top : ℕ) (stack : Stacked G top xs) (r from count : ℕ) (store after : Store) (old new : List ℤ) (B : Beside G top r from count store after old new) where
-  -- Nothing that lies there is the other process's.
+  -- Nothing that lies in reach belongs to the other process.
   not_other : (l : Location) (v : Part) → lies G xs l ≡ Some v → l.owner ≡ OfProcess r → ⊥
   not_other l v h e = by l.owner l.path h e
     where

@@ -49,7 +49,7 @@ module _ (G : Ground) (F : StandsFor G.program G.setup) (texts : F.texts ≡ G.t
   abbrev running : Running
   running = record { number = P.row.body; unit = P.unit; text = BodyOf P.system; env = env; base = P.row.words; temp = 0; component = 0 }
 
-  -- The same, with what it holds at the start written out.
+  -- The same, with the private state at the start written out.
   abbrev begun : PrivateState
   begun = record o { activity = machine.Running; words = words; place = P.unit.start; base = P.row.words; temp = 0; component = 0; gate = 0; frames = [] }
 

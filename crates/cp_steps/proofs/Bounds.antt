@@ -17,7 +17,7 @@ use Rattle.cp_steps.proofs.Layouts.{farther_some, same_some}
 abbrev pub FitsIn : (Path → Option Part) → GlobalScope → ℕ → Type 0
 FitsIn look g bound = (p : Path) (n : ℕ) (u : ResolvedType) → look p ≡ Some (n, u) → n + words g u ≤ bound
 
--- An index within the bounds is below their number.
+-- The distance of an index within the bounds is less than their number.
 pub index_below : (low high i : ℤ) → within low high i ≡ true → distance low i < count_between low high
 index_below (pos a) (pos b) (pos c) h = Prim.grind (arith, ints, h)
 index_below (pos a) (pos b) (negsuc c) h = Prim.grind (arith, ints, h)

@@ -64,7 +64,7 @@ use Rattle.cp_steps.proofs.Effects.{EffectAgrees}
 
 -- ---- parameters
 
--- A parameter that is passed by value holds simple values alone.
+-- A parameter that is passed by value holds only simple values.
 parameters_plain : (site : Site) (K : Knowns) (ps : List (Name × declared.Variable)) (es : a.Expressions) (xs : List Argument) (at from last low high : ℕ) → ArgumentsFor site K ps es xs at from last low high
     → (g : GlobalScope) (n : ℕ) (x : Name) (k : ℕ) (d : declared.Variable) → local_at g n ps x ≡ Some (k, d) → d.by_reference ≡ false → HoldsValues d.type
 parameters_plain site K [] a.NoExpression [] at from last low high h g n x k d e by_value = absurd (some_is_not_none _ (sym e))
@@ -91,7 +91,7 @@ parameters_plain site K _ _ _ at from last low high h g n x k d e by_value = abs
 
 -- ---- kinds
 
--- The meaning enters a monitor where the machine does.
+-- The meaning enters a monitor if and only if the machine does.
 kinds_agree : (env : Environment) (c : Callee) (x : terms.Target) → TargetFor env c.of x → is_monitor_call c ≡ is_monitor x
 kinds_agree env c x h = by c.of x h
   where
@@ -220,7 +220,7 @@ function_steps G s w before o i l N sees I units v temp after base C j found lef
         both : Called
         both = called (target_is G s w before o i l N sees I v.callee.of C.call.target C.calls.target e)
 
--- A procedure statement, of which no call is left in the arguments.
+-- A procedure statement whose arguments contain no more calls.
 pub procedure_steps : (G : Ground) (s : State) (w : Outside) (before : List ℕ) (o : PrivateState) (d : a.Designator) (es : a.Expressions) (env : Environment) (k : List Task) → StoreInvariant s.store → UnitsStand G
     → (Y : Ready G s w before o (a.Perform d es) env k) (call : Call) (n : ℕ) → operation_at G.program o.place ≡ Some (op.Procedure call n)
     → PerformsBy (site G Y.now.on.running) (known G s w before o (Do (a.Perform d es) env) k Y.now) d es (op.Procedure call n) o.place Y.now.on.left.2.3.0 Y.now.on.left.2.0 Y.now.on.left.2.1

@@ -9,7 +9,7 @@ use Rattle.cp_code.specs.Layout.{local_words}
 use Rattle.cp_code.specs.Sites.{Site, first_parameter, parameters}
 use Rattle.cp_code.specs.TermsFor.{ArgumentsFor, Knowns, SpotFor, TermFor}
 
--- What is known of the temps of a range.
+-- What is known of the temps in a range is kept.
 abbrev pub Keeps : Knowns → Knowns → ℕ → ℕ → Type 0
 Keeps K L low high = (s : ℕ) (m : ℤ) → low ≤ s → s < high → K s m → L s m
 

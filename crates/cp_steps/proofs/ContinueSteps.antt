@@ -120,7 +120,7 @@ module _ (G : Ground) (s : State) (w : Outside) (before : List ℕ) (o : Private
     abbrev cleared : Configuration
     cleared = record (configuration s G.p) { store = store }
 
-    -- The same from the state before.
+    -- The same, from the state before.
     same_end : (after : PrivateState) (st : Store) (l : List Task) → PartOf G (after_step there G.p (own_step (record (configuration there G.p) { store = st; continuation = l }))) before after
         → (m : ℕ) (r : Option ℕ) → PartOf G (after_step s G.p (Gives (record cleared { store = st; continuation = l }, stage.Continues m r))) before after
     same_end after st l h m r =
@@ -134,13 +134,13 @@ module _ (G : Ground) (s : State) (w : Outside) (before : List ℕ) (o : Private
     abbrev resumes : ℕ → Option ℕ → Configuration → StepResult
     resumes m r after = Gives (after, stage.Continues m r)
 
-    -- A procedure.
+    -- The routine is a procedure.
     procedure : frame.routine.result ≡ None → (m : ℕ) (r : Option ℕ) (e : private.Effect)
         → PartOf G (after_step s G.p (and_then (result_returns cleared I.env I.rest frame None) (resumes m r))) before (return_with P (set_word P at (pos 0)) f fs false e).0
     procedure none m r e =
         same_end (leave (set_word P at (pos 0)) f fs) (forget frame.owner store) I.rest (procedure_returns G there w before emptied f fs I.env I.gate I.rest returning none) m r
 
-    -- The queue lies elsewhere than the result.
+    -- The queue and the result have different words.
     result_apart : (t : Name) → frame.routine.result ≡ Some t → word (slice_set P.words at (pos 0)) P.base ≡ word P.words P.base
     result_apart t sets =
         let rest = activations f.base fs I.rest in
@@ -151,7 +151,7 @@ module _ (G : Ground) (s : State) (w : Outside) (before : List ℕ) (o : Private
         (ap (λ e. activation_at (length rest) (activation_of P.base e rest)) frame_is ∙ ap (λ b. if b then Some z else activation_at (length rest) rest) (eq-eqb (length rest) (length rest) refl))
         sets (omega (arith, same)))
 
-    -- A function, which has set its result or not.
+    -- The routine is a function, which has set its result or not.
     function' : (t : Name) → frame.routine.result ≡ Some t → local (scope G) frame.routine frame.routine.name ≡ None → (m : ℕ) (r : Option ℕ) (e : private.Effect)
         → PartOf G (after_step s G.p (and_then (result_returns cleared I.env I.rest frame (Some t)) (resumes m r))) before (return_with P (set_word P at (pos 0)) f fs true e).0
     function' t sets none m r e =
@@ -233,7 +233,7 @@ module _ (G : Ground) (s : State) (w : Outside) (before : List ℕ) (o : Private
           is_gate : IsGate G (Some m)
           is_gate = subst (IsGate G) i I.left.2.2
 
--- Whatever gate is held.
+-- A `continue` step, whichever gate is held.
 pub continue_steps : (G : Ground) (s : State) (w : Outside) (before : List ℕ) (o : PrivateState) (x : Name) (env : Environment) (k : List Task) (d : a.Designator)
     (Y : Ready G s w before o (a.Perform (a.Plain x) (one (a.Use d))) env k) (queue : Spot) (function : Bool)
     → By G s w before o x env k (one (a.Use d)) Y (op.Continue queue function)

@@ -129,7 +129,7 @@ copy_steps G s w before o d e env k Y to from size n there h =
     goes : Writes → StepResult
     goes ws = own_step (with_writes (configuration s G.p) ws k)
 
-    -- The words are copied, and what comes after is left to do.
+    -- The words are copied, and what follows is left to do.
     stored : (p q : Place) (to' from' : ℕ) → PlaceAgrees (seen (in_sight G) G (activations o.base o.frames (i ∷ k))) h.0 (Gives p) (Ok to')
         → PlaceAgrees (seen (in_sight G) G (activations o.base o.frames (i ∷ k))) h.0 (Gives q) (Ok from')
         → PartOf G (after_step s G.p (goes (leaf_writes p.at (read_below s.store q.at) (leaves h.0)))) before (copy_words o to' from' size n).0

@@ -174,7 +174,7 @@ module _ (G : Ground) (xs : List Activation) (top : ℕ) (stack : Stacked G top 
   abbrev pub changed : Store
   changed = put_all (leaf_writes to f (leaves t)) store
 
-  -- What lies in no word of the variable isn't stored.
+  -- A location outside the words of the variable keeps its value.
   kept_apart : (l : Location) (i : ℕ) (w : ResolvedType) → IsCell w → lies G xs l ≡ Some (i, w) → (i < n) ⊎ (n + words (scope G) t ≤ i) → changed l ≡ store l
   kept_apart l i w c there apart =
       leaf_unwritten to f t store l (λ path v leaf e.
@@ -192,7 +192,7 @@ module _ (G : Ground) (xs : List Activation) (top : ℕ) (stack : Stacked G top 
       let p = leaf_is_part (scope G) t path v sound free leaf in
       some_is_not_none _ (sym (ap (lies G xs) e ∙ lies_under G xs to path n p.0 t p.1 is p.3) ∙ none))
 
-  -- The part that holds a word of the variable.
+  -- The part that has the word `k` of the variable.
   leaf_at : (k : ℕ) → k < words (scope G) t → (path : Path) × (u : ResolvedType) × IsSimple u × (part (scope G) t path ≡ Some (k, u)) × (lies G xs (under to path) ≡ Some (n + k, u))
   leaf_at k h = let p = word_is_part (scope G) t k sound free h in (p.0, p.1, p.2, p.3, lies_under G xs to p.0 n k t p.1 is p.3)
 

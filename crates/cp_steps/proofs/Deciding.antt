@@ -76,7 +76,7 @@ SameSort _ _ = ⊥
 other_sort : (z y : a.Sort) → z ≡ y → SameSort z z → SameSort z y
 other_sort z y e h = subst (SameSort z) e h
 
--- What is in the reach of the process, as the meaning has it, is among the words in reach.
+-- What the process may reach in the meaning is among the words in reach.
 abbrev pub Reaches : Ground → State → Type 0
 Reaches G s = (o : Owner) → in_reach G.p (marked_monitors (s.continuation G.p)) o ≡ true → in_sight G o ≡ true
 
@@ -90,7 +90,7 @@ module _ (G : Ground) (s : State) (w : Outside) (before : List ℕ) (o : Private
       → IfPlaced i (Sees G (in_sight G) s.store R.running.env) → Now G s w before o i k
   now_of i k R left ready sees = record { part = part; on = R; left = left; ready = ready; around = around; sees = sees }
 
-  -- A function's name is no parameter or variable of it.
+  -- No parameter or variable of a function has the function's name.
   names : (R : Running) → Runs G (length o.temps) o.limit R o.frames → (f : Frame) (t : Name) → R.env.frame ≡ Some f → f.routine.result ≡ Some t
       → local (scope G) f.routine f.routine.name ≡ None
   names R runs f t is result =
@@ -133,7 +133,7 @@ module _ (G : Ground) (s : State) (w : Outside) (before : List ℕ) (o : Private
   performs (a.Plain x) a.NoExpression env k Y (op.Wait n) there h = wait_steps G s w before o x env k Y n (there, h)
   performs d es env k Y _ there h = absurd h
 
-  -- The `init` of a monitor or a process is the kernel's.
+  -- The `init` of a monitor or a process is a kernel step.
   inits_by_kernel : (x : Name) (es : a.Expressions) (env : Environment) (k : List Task) (Y : Ready G s w before o (a.Init x es) env k) (y : Operation) → operation_at G.program o.place ≡ Some y
       → is_kernel_operation y ≡ true → (Y.now.on.left.2.3.2.system.sort ≡ a.Class → ⊥)
       → (AroundAll G s w → PartOf G (after_step s G.p (executed G s w before o (a.Init x es) env k Y)) before (act G.program w o y).0)

@@ -39,7 +39,8 @@ not_local_at g at (w ∷ vs) x h = by (bytes_eq x w.0) h (not_local_at g (at + l
     by true h go = absurd (some_is_not_none w.1 h)
     by false h go = go h
 
--- What isn't found in two lists is found in neither, and each of them has distinct names where both have.
+-- A name that isn't found in two lists together is found in neither. If the names of both together
+-- are distinct, so are those of each.
 pub absent_first : (y : Name) (vs ws : List (Name × Variable)) → lookup y (vs ++ ws) ≡ None → lookup y vs ≡ None
 absent_first y [] ws h = refl
 absent_first y (v ∷ vs) ws h = by (bytes_eq y v.0) h (absent_first y vs ws)

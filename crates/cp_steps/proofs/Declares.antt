@@ -30,7 +30,7 @@ pub record Declares (G : Ground) (env : Environment) : Type 0 where
   pub monitors : (x : Name) (n : Component) → component_named env x ≡ Some n → n.is_parameter ≡ false → n.system.sort ≡ Monitor → system_of_monitor G.setup (declared_monitor env n) ≡ Some n.system
   pub processes : (x : Name) (n : Component) → component_named env x ≡ Some n → n.is_parameter ≡ false → n.system.sort ≡ Process → system_of_process G.setup (process_number env n) ≡ Some n.system
 
--- The components of a sort are counted in order.
+-- The number of a component is the number of those of its sort before it.
 counted_there : (z : Sort) (x : Name) (v : Variable) (s : System) (vs : List (Name × Variable)) → lookup x vs ≡ Some v → is_component_of z v.type ≡ true → component_in v.type ≡ Some s
     → component_at (filter (λ w. is_component_of z w.1.type) vs) (count_before z x vs) ≡ Some s
 counted_there z x v s [] h sort is = absurd (some_is_not_none v (sym h))
@@ -52,7 +52,7 @@ counted_there z x v s (w ∷ vs) h sort is = by (bytes_eq x w.0) h (counted_ther
         inner false k = k
 
 module _ (G : Ground) (W : WellTyped G.setup) (env : Environment) (there : IsInText G.setup env.system) (globals_are : env.globals ≡ scope G) where
-  -- No component but a class is declared in a system type.
+  -- A system type declares no components except classes.
   of_class : (g : GlobalScope) (before : List System) (z : Sort) (r : System) (v : Variable) (inner : Members) → v.type ≡ ComponentOf r inner → SystemVariable g before z ([], v) → Some r.sort ≡ Some Class
   of_class g before z r v inner type h =
       elim h.1 [
@@ -99,7 +99,7 @@ module _ (G : Ground) (W : WellTyped G.setup) (env : Environment) (there : IsInT
       two_more : (n : ℕ) → 2 + n ≡ suc (suc n)
       two_more n = omega arith
 
--- What runs declares no others.
+-- The environment of a running unit declares no others.
 pub runs_declares : (G : Ground) (F : StandsFor G.program G.setup) → F.texts ≡ G.texts → (temps limit : ℕ) (R : Running) (fs : List machine.Frame) → Runs G temps limit R fs → Declares G R.env
 runs_declares G F texts temps limit R fs h =
     declares G F.typed R.env (subst (IsInText G.setup) (sym h.system) (F.systems R.number R.text (ap (λ ts. slice_get ts R.number) texts ∙ h.text))) h.globals

@@ -119,7 +119,7 @@ module _ (G : Ground) (s : State) (w : Outside) (before : List ℕ) (o : Private
 
   -- If queues lie only in monitors.
   module _ (K : AroundAll G s w) (shared : QueuesShared G xs) where
-    -- The word of the queue, among the shared ones.
+    -- The queue has its word among the shared ones.
     queue_lies : (q : Location) (at : ℕ) → in_sight G q.owner ≡ true → lies G xs q ≡ Some (at, Queue) → lies (kernel_ground G.program G.texts G.setup) [] q ≡ Some (at - w.own, Queue)
     queue_lies q at mine is =
         let lie = all_lie G K.sight in

@@ -32,7 +32,7 @@ use Rattle.cp_steps.proofs.RunningOn.{runs_here, runs_moved}
 use Rattle.cp_steps.proofs.StatementCalls.{own_place}
 use Rattle.cp_steps.proofs.Stepping.{AroundAll, Now, Stepped, both_step, clock_of}
 
--- What a task does that makes no call.
+-- What a task does if it makes no call.
 pub acts_itself : (i : Task) (k : List Task) → call_in_task (a.Literal 0) i ≡ None → procedure_call i ≡ None → action (i ∷ k) ≡ Acts i k
 acts_itself i k none procedure =
     (λ j. elim (none j) as (λ x. Action) [
@@ -59,7 +59,7 @@ module _ (G : Ground) (s : State) (w : Outside) (before : List ℕ) (o : Private
   place_here sees d c t at next low high h n =
       place_agrees (site G N.on.running) (clock_of G s) s.store view _ _ (runs_here G s.store w o (i ∷ k) (clock_of G s) N.around.clock N.on sees) d c t at next low high h n
 
--- A statement of which no call is left to be made.
+-- A statement that has no more calls to make.
 pub record Ready (G : Ground) (s : State) (w : Outside) (before : List ℕ) (o : PrivateState) (st : a.Statement) (env : Environment) (k : List Task) : Type 0 where
   pub now : Now G s w before o (Do st env) k
   pub place : o.place ≡ own_place (site G now.on.running) (held_below now.on.live o.temps now.on.running.temp) st o.place now.on.left.2.0 now.on.left.2.1 now.on.left.2.3
@@ -82,12 +82,12 @@ module _ (G : Ground) (s : State) (w : Outside) (before : List ℕ) (o : Private
       (ap (λ e. action (Do st e ∷ k)) Y.now.on.left.0 ∙ acts_itself (Do st here) k (ap (in_context (λ z. Do z here)) Y.none) procedure)
       private there own P effect
 
-  -- Nothing is left to the kernel, whatever gate is held.
+  -- Nothing is left to the kernel, whichever gate is held.
   pub quietly : (y : Operation) → IsQuietStatement st → IsQuietOperation y → AroundAll G s w → EffectAgrees G w.own executed (act G.program w o y).1
   quietly y statement operation all =
       quiet_agrees G w.own executed (act G.program w o y).1 (statement_quiet (context G.setup s G.p) (configuration s G.p) here k st statement) (operation_quiet G.program w o y operation)
 
-  -- What comes after the statement is left to do.
+  -- What follows the statement is left to do.
   pub goes_next : RunsOn G s.store (go_to Y.now.on.left.2.0 o) k
   goes_next =
       runs_moved G s.store o (Do st env ∷ k) k Y.now.on.left.2.0 Y.now.on.left.2.1 Y.now.on refl refl refl Y.now.on.left.2.4 Y.now.on.left.2.2

@@ -96,7 +96,7 @@ faulted machine.Running h = absurd h
 faulted machine.Waiting h = absurd h
 faulted machine.Ended h = absurd h
 
--- A process that is made ready is in no other private state.
+-- Making a process ready doesn't change its private status.
 pub private_ready : (x : Status) → private_status (made_ready x) ≡ private_status x
 private_ready (Asking m) = refl
 private_ready (Delayed m q) = refl
@@ -119,7 +119,7 @@ pub passed_same : (m p : ℕ) (rs : List ℕ) (u : State) → private_status ((p
 passed_same m p [] u = refl
 passed_same m p (r ∷ rs) u = ready_same r p u.status
 
--- What a ready process is after an effect of its own step.
+-- The private status of a ready process after an effect of its own step.
 abbrev pub private_by : Effect → PrivateStatus
 private_by effect.Ends = Finished
 private_by effect.Waits = Sleeping
@@ -189,9 +189,9 @@ told G own s before ready (Fault n) e r P means (WentOn same on) =
     absurd (on (faulted r.0.activity (subst HasFailed (ap private_status (sym (with_at_here G.p (Faulted n) s.status)) ∙ P.status) tt)))
 told G own s before ready (Fault n) e r P means (Stopped none off) = none
 
--- ---- what leaves when it goes on
+-- ---- what is left if the step continues
 
--- Passing changes no more than words.
+-- Passing changes nothing but words.
 module _ (w : Outside) (to home : ℕ) where
   abbrev OnlyWords : PrivateState → PrivateState → Type 0
   OnlyWords o after = after ≡ record o { words = after.words }
@@ -249,7 +249,7 @@ pub provided_leaves : (b : Bool) (o : PrivateState) (f : fault.Fault) (e : machi
 provided_leaves true o f e r h = h
 provided_leaves false o f e r h = Stopped refl tt
 
--- The arguments are passed first. That changes no activity.
+-- Passing the arguments, which comes first, changes no activity.
 pub passed_leaves : (w : Outside) (from to : ℕ) (xs : List Argument) (o : PrivateState) (e : machine.Effect) (go : PrivateState → Acting) → (HasFaulted o.activity → ⊥)
     → ((p : PrivateState) → (HasFaulted p.activity → ⊥) → LeavesIt e (go p)) → LeavesIt e (when_passed (pass_all w from to xs o) go)
 passed_leaves w from to xs o e go on h = by (pass_all w from to xs o).fault

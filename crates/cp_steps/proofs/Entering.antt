@@ -34,7 +34,7 @@ use Rattle.cp_steps.proofs.Keeping.{keeps_given}
 
 -- ---- one activation more
 
--- What lies with one activation more lies in it, or lay before.
+-- What lies somewhere with one more activation lies in that activation, or lay there before.
 pub lies_with : (G : Ground) (z : Activation) (xs : List Activation) (l : Location) (v : Part) → lies G (z ∷ xs) l ≡ Some v
     → (l.owner ≡ OfActivation G.p (length xs)) ⊎ (lies G xs l ≡ Some v)
 lies_with G z xs l v h = by l.owner l.path h
@@ -53,7 +53,8 @@ lies_with G z xs l v h = by l.owner l.path h
     by (OfMonitor k) (ByName x ∷ p) h = inr h
     by (OfActivation q d) (ByName x ∷ p) h = inner q d x p (nat_eq G.p q) (nat_eq d (length xs)) refl refl h
 
--- The words of a new activation mean what its variables hold: its `var` parameters and result, and its cells.
+-- The words of a new activation mean what its variables hold: its `var` parameters, its result and
+-- its cells.
 pub record Opened (G : Ground) (xs : List Activation) (store : Store) (words : List ℤ) (base : ℕ) (f : Frame) : Type 0 where
   pub frame : ActivationMeans G xs store words base f
   pub cells : (l : Location) (n : ℕ) (t : ResolvedType) → l.owner ≡ OfActivation G.p (length xs) → IsCell t
@@ -179,7 +180,7 @@ entered_on G store after o ws i k R call back s r at c gate place kept live W E 
     held : o.gate ≡ innermost_gate (marked_monitors k)
     held = R.gate ∙ ap innermost_gate (sym W.marks)
 
-    -- The gate that is entered is the innermost one then.
+    -- The gate that is entered becomes the innermost one.
     entered : (g : Option ℕ) → IsGate G g → innermost (gate_number g) o.gate ≡ innermost_gate (marked_monitors (EndCall env g ∷ k))
     entered None h = held
     entered (Some m) h = by m (monitor_numbered G m h)

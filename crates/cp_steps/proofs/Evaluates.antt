@@ -101,7 +101,7 @@ read_then store (Fault f) k = refl
 
 -- ---- places
 
--- Further words of a place.
+-- The place a number of words further on.
 moved_place : (v : View) (n : ℕ) (s : Spot) → place_of v (moved n s) ≡ bind (place_of v s) (λ m. Ok (m + n))
 moved_place v n (Rooted (root.Local at)) = ap Ok (omega arith)
 moved_place v n (Rooted (root.Member at)) = ap Ok (omega arith)
@@ -134,7 +134,7 @@ module _ (site : Site) (clock : Clock) (store : Store) (v : View) (K : Knowns) (
   env : Environment
   env = site.env
 
-  -- What is read of a simple variable is in its word.
+  -- The value read from a simple variable is that of its word.
   read_agrees : (b : BaseType) (low high start : ℤ) (p : Place) (n : ℕ) → lies p.at ≡ Some (n, Simple b low high start) → p.type ≡ Simple b low high start
       → Agrees b (Gives (read store p)) (Ok (word v.words n))
   read_agrees b low high start p n h t = (
@@ -208,7 +208,7 @@ module _ (site : Site) (clock : Clock) (store : Store) (v : View) (K : Knowns) (
         ap (λ m. (place_of_meaning site.env store m).type) n.means ∙ n.type,
       )
 
-  -- What a variable is read as.
+  -- The value that is read from a variable.
   named_read : (x : Name) (r : Root) (t : ResolvedType) → NamesVariable site.env x r t
       → value_of_meaning site.env store (meaning site.env x) ≡ read store (place_of_meaning site.env store (meaning site.env x))
   named_read x (root.Local at) t h =

@@ -15,7 +15,7 @@ use Rattle.cp_steps.proofs.CallsKept.{Keeps, arguments_kept, spot_kept, term_kep
 use Rattle.cp_steps.proofs.NextCalls.{Advance, AllMade, Calling, Learns, call_follows, follows_on, next_in, next_left, next_right}
 use Rattle.cp_steps.proofs.Indexed.{IsIndexed, callee_holds_none, indexed_is_no_call, indexed_is_no_clock}
 
--- What is learnt of one temp keeps what is known of a range without it.
+-- Learning the value of one temp keeps what is known of a range above it.
 pub learnt_above : (K L : Knowns) (kept temp low high : ℕ) → temp < low → Learns K L kept temp → Keeps K L low high
 learnt_above K L kept temp low high p k s m u w h = k s m (inr (omega (arith, p, u))) h
 

@@ -16,7 +16,7 @@ pub monitor_numbered : (G : Ground) (m : ℕ) → IsGate G (Some m) → 1 ≤ m
 monitor_numbered G zero h = absurd (some_is_not_none h.0 (sym h.1))
 monitor_numbered G (suc m) h = omega arith
 
--- What is left names the monitors of the text alone.
+-- What is left to do names only monitors of the text.
 pub gates_there : (G : Ground) (temps : List ℤ) (limit : ℕ) (K : Knowns) (R : Running) (fs : List machine.Frame) (place low : ℕ) (k : List Task) (m : ℕ) (ms : List ℕ)
     → Left G temps limit K R fs place low k → marked_monitors k ≡ m ∷ ms → IsGate G (Some m)
 gates_there G temps limit K R fs place low [] m ms h e = absurd h

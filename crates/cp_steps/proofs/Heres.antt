@@ -44,7 +44,7 @@ module _ (G : Ground) (temps : List ℤ) (limit : ℕ) where
   depth_is b K R [] place low (EndCall env gate ∷ k) h = absurd h
   depth_is b K R [] place low (EndBody gate ∷ k) h = absurd h
 
-  -- The activation that runs.
+  -- The innermost activation.
   pub record Top (b : ℕ) (store : Store) (words : List ℤ) (fs : List machine.Frame) (k : List Task) (f : Frame) : Type 0 where
     pub rest : List Activation
     pub are : activations b fs k ≡ record { base = b; routine = f.routine } ∷ rest
@@ -91,7 +91,7 @@ module _ (G : Ground) (temps : List ℤ) (limit : ℕ) where
 pub found_here : (d : ℕ) (x : Activation) (xs : List Activation) → d ≡ length xs → activation_at d (x ∷ xs) ≡ Some x
 found_here d x xs e = ap (λ b. if b then Some x else activation_at d xs) (eq-eqb d (length xs) e)
 
--- An activation is found below another as it was.
+-- The depth of an activation that is found is less than the number of activations.
 pub found_below : (d : ℕ) (xs : List Activation) (x : Activation) → activation_at d xs ≡ Some x → d < length xs
 found_below d [] x h = absurd (some_is_not_none x (sym h))
 found_below d (y ∷ xs) x h = by (nat_eq d (length xs)) refl (found_below d xs x) h
@@ -128,7 +128,8 @@ lies_behind G y xs l v h = path l.owner l.path h
     path o (ByName x ∷ p) h = owner o x p h
     path o (ByIndex i ∷ p) h = h
 
--- What lies somewhere without activations lies there with them. Components are never the variables of a routine.
+-- What lies somewhere without activations lies there with them too. Components are never variables
+-- of routines.
 pub lies_any : (G : Ground) (xs : List Activation) (l : Location) (v : Part) → lies G [] l ≡ Some v → lies G xs l ≡ Some v
 lies_any G [] l v h = h
 lies_any G (x ∷ xs) l v h = lies_behind G x xs l v (lies_any G xs l v h)
@@ -176,7 +177,8 @@ seen_mine mine G xs l v h = by (mine l.owner) refl h
     by true e h = (e, h)
     by false e h = absurd (some_is_not_none v (sym h))
 
--- A process's step may see the owners that pass the test: its component, its activations, and what they refer to.
+-- A step of a process may see the owners that pass the test: its component, its activations, and
+-- what they refer to.
 pub record Sees (G : Ground) (mine : Owner → Bool) (store : Store) (env : Environment) : Type 0 where
   pub component : mine env.component.owner ≡ true
   pub activations : (d : ℕ) → mine (OfActivation G.p d) ≡ true

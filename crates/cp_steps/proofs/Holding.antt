@@ -46,11 +46,11 @@ live_owner G xs l v d h e = by l.owner l.path h e
 
 -- ---- words beyond the top
 
--- A store that is the same at the owners that are live.
+-- Two stores that are the same for all owners in use.
 abbrev pub SameLive : Ground → List Activation → Store → Store → Type 0
 SameLive G xs store after = (l : Location) → ((d : ℕ) → l.owner ≡ OfActivation G.p d → d < length xs) → after l ≡ store l
 
--- Words that are the same but for the process's own ones beyond the top.
+-- Words that are the same except the process's own ones from `top` on.
 abbrev pub SameBelow : Ground → ℕ → List ℤ → List ℤ → Type 0
 SameBelow G top old new = (i : ℕ) → (i < top) ⊎ (G.own ≤ i) → word new i ≡ word old i
 

@@ -105,7 +105,7 @@ right_is at (w ∷ vs) x k v h = by (bytes_eq x w.0) refl h (right_is (suc at) v
         (omega (arith, place_is), omega (arith, place_is), inl (λ i. (bytes_same x w.0 e i, sym (ap (λ z. z.1) same) i)))
     by false e h go = let r = go h in (omega (arith, r.0), omega (arith, r.1), inr r.2)
 
--- No two rights have one word.
+-- No two rights share a word.
 pub right_same : (at : ℕ) (vs : List (Name × Variable)) (x y : Name) (k : ℕ) (v w : Variable) → right_at at vs x ≡ Some (k, v) → right_at at vs y ≡ Some (k, w) → (x ≡ y) × (v ≡ w)
 right_same at [] x y k v w h g = absurd (some_is_not_none (k, v) (sym h))
 right_same at (z ∷ vs) x y k v w h g = by (bytes_eq x z.0) (bytes_eq y z.0) refl refl h g (right_same (suc at) vs x y k v w)
@@ -186,7 +186,7 @@ module _ (g : GlobalScope) (s : System) (distinct : Distinct (declarations g s.p
   count : rights_in g s + length values ≡ length passed
   count = both_lengths (λ v. is_component v.1.type) passed
 
-  -- Each of the words after the mark is that of a parameter.
+  -- Each word after the mark is that of a parameter.
   pub offset_at : (k : ℕ) → 1 ≤ k → k ≤ length passed → (p : Name × Variable) × IsIn p passed × Offset g s p k
   offset_at k low high = by (nat_lt k (head_words g s)) refl
     where
@@ -211,7 +211,7 @@ module _ (g : GlobalScope) (s : System) (distinct : Distinct (declarations g s.p
       (in_filter (λ v. not (is_component v.1.type)) passed p i (ap not h.0)) h.1 in
       (omega (arith, m.0), omega (arith, m.1, count))
 
-  -- No two have one word.
+  -- No two parameters share a word.
   pub offset_same : (p q : Name × Variable) (k : ℕ) → Offset g s p k → Offset g s q k → p.0 ≡ q.0
   offset_same p q k (inl h) (inl f) = (right_same 1 (rights g s) p.0 q.0 k p.1 q.1 h.1 f.1).0
   offset_same p q k (inl h) (inr f) =
@@ -221,7 +221,7 @@ module _ (g : GlobalScope) (s : System) (distinct : Distinct (declarations g s.p
   offset_same p q k (inr h) (inr f) =
       ap first_name (member_apart g (head_words g s) (reported_members g s) p.0 q.0 [] [] k k p.1.type q.1.type 0 0 h.1 f.1 (cell_head g p.1.type h.2) (cell_head g q.1.type f.2) refl)
 
-  -- A right is that of the parameter of its name.
+  -- A right is that of the parameter with its name.
   pub right_of : (p : Name × Variable) (k : ℕ) (v : Variable) → IsIn p passed → right g s p.0 ≡ Some (k, v) → v ≡ p.1
   right_of p k v i h =
       let r = of_filter (λ z. is_component z.1.type) passed (p.0, v) (right_is 1 (rights g s) p.0 k v h).2 in

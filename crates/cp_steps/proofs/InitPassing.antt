@@ -63,7 +63,7 @@ module _ (G : Ground) (sys : System) (at : Location) (c from : ℕ) (distinct : 
   abbrev pub InitAgrees : List (Name × Variable) → ℕ → PrivateState → List ℤ → Outcome Writes → Passing → Type 0
   InitAgrees ps own x ws O P = PassingAgrees (λ us new. InitBound ps us ws new) (KeptOutside from own ws) x O P
 
-  -- A parameter's value and word, whatever it is.
+  -- The value and the word of a parameter of any type.
   abbrev Meant : Name × Variable → ℕ → StoreValue → ℤ → Type 0
   Meant p k v m =
       ((is_component p.1.type ≡ true) × RightMeans G p.1.type v (c + k) m × IsGiven p.1.type v)
@@ -167,7 +167,7 @@ module _ (G : Ground) (sys : System) (at : Location) (c from : ℕ) (distinct : 
         away i e (inl q) = absurd (omega (arith, e, q))
         away i e (inr q) = absurd (omega (arith, e, q, room))
 
-    -- A simple value.
+    -- The argument is a simple value.
     value_passes : (p : Name × Variable) (ps : List (Name × Variable)) (b of : BaseType) (lower upper start : ℤ) (k : ℕ) (ws : List ℤ) (xs : List Argument)
         → p.1.type ≡ Simple b lower upper start → Distinct (p ∷ ps) → IsIn p (declarations (scope G) sys.parameters) → member (scope G) sys p.0 ≡ Some (k, p.1.type) → from + k < w.own → w.own ≤ length ws
         → (O : Outcome TypedValue) (r : Result ℤ machine.Fault) (more : Outcome Writes) → Agrees of O r

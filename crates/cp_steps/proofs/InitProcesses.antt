@@ -57,7 +57,8 @@ use Rattle.cp_steps.proofs.Stacks.{own_in_whole}
 use Rattle.cp_steps.proofs.Stepping.{AroundAll, beyond, clock_of}
 use Rattle.cp_steps.proofs.Waiting.{parameters_are, process_declared, process_names, process_stands}
 
--- What runs is the `init` of a process, with all words in reach: the name and the arguments in the text, and the operation.
+-- The `init` of a process with all words in reach: the name and the arguments in the text, and the
+-- operation.
 pub record InitOfProcess (G : Ground) (s : State) (w : Outside) (before : List ℕ) (o : PrivateState) : Type 0 where
   pub stands : StandsFor G.program G.setup
   pub texts : stands.texts ≡ G.texts
@@ -113,7 +114,7 @@ module _ {G : Ground} {s : State} {w : Outside} {before : List ℕ} {o : Private
   pub same_system : row_stands.system ≡ system
   same_system = same_some row_stands.system system (sym row_stands.is_system ∙ is)
 
-  -- Where its parameters wait.
+  -- Where the parameters wait.
   abbrev pub to : ℕ
   to = w.own + parameters_start G.program Z.number
 
@@ -179,7 +180,7 @@ module _ {G : Ground} {s : State} {w : Outside} {before : List ℕ} {o : Private
       (in_context_none (a.Init Z.name) (call_in_arguments here (a.Literal 0) Z.given) Z.ready.none) names (λ p i. i)
       (omega (arith, room, Z.ready.now.around.own)) (omega (arith, Z.ready.now.around.own, on.count, own_in_whole G)) refl (λ z q. refl)
 
-  -- The words with the parameters where they wait.
+  -- The words, with the parameters moved to where they wait.
   abbrev pub moved : List ℤ → List ℤ
   moved us = paste (to + 1) (block us (top + 1) (length passed)) us
 
@@ -194,7 +195,7 @@ module _ {G : Ground} {s : State} {w : Outside} {before : List ℕ} {o : Private
   abbrev pub Bound : Writes → List ℤ → Type 0
   Bound ws us = InitBound G system (process_location Z.number) to top names one passed ws o.words us
 
-  -- Both stop at a fault, or the parameters are bound and wait.
+  -- Both sides stop at a fault, or the parameters are bound and wait.
   pub data BothInit (R : StepResult) (M : Acting) : Type 0 where
     BothFault : (n : ℕ) (f : faults.Fault) (us : List ℤ) → R ≡ Fault n → M ≡ fault_in (record o { words = us }) f → n ≡ fault_number f → Kept us → BothInit R M
     BothStart : (ws : Writes) (us : List ℤ) → is_started (s.status Z.number) ≡ false

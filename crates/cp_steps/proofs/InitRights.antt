@@ -43,7 +43,7 @@ module _ (G : Ground) (s : State) (w : Outside) (before : List ℕ) (o : Private
   monitor_held n off sort r =
       subst (λ z. RightOf G n.system z (s.store (name_location here n)) (o.component + off) (word o.words (o.component + off))) sort (right_held G s w before o i l N sees I n off r)
 
-  -- A right to a class that the running component has was set.
+  -- A right to a class that the running component has was given to it.
   class_set : NoClassRights G → (n : Component) (off : ℕ) → n.system.sort ≡ Class → RightTo here n off → IsGivenTo Class (s.store (name_location here n))
   class_set none n off sort r = subst (λ z. IsGivenTo z (s.store (name_location here n))) sort (subst (λ z. IsGiven z (s.store (name_location here n))) r.type (by N.on.runs.component))
     where
@@ -57,7 +57,7 @@ module _ (G : Ground) (s : State) (w : Outside) (before : List ℕ) (o : Private
       by (ProcessLies where' is zero') = absurd (none.0 here.system is off n.name r.variable n.system r.inner lying r.type sort)
       by (MonitorLies m where' is from) = absurd (none.1 m here.system is off n.name r.variable n.system r.inner lying r.type sort)
 
-  -- A right as the meaning and the machine pass it.
+  -- A right, as the meaning and the machine pass it.
   pub given : NoClassRights G → Declares G here → (y : System) (c : ℕ) → (n : Component) → (n.system.sort ≡ Class → y.sort ≡ Class) → (x : t.Target) → TargetFor here (Some n) x → (named : Name) → component_named here named ≡ Some n → (ws : List ℤ)
       → SameBelow G (o.base + (site G N.on.running).words) o.words ws → length ws ≡ length o.words → (k : ℕ) (inner : Members) (at : Location)
       → c + k ≤ length o.words

@@ -69,7 +69,7 @@ init_offsets g site K s same distinct one _ _ _ place next low high h all p i = 
 
 module _ (G : Ground) (xs : List Activation) (top : ℕ) (stack : Stacked G top xs) (at : Location) (c from : ℕ) (s : System) (L : Placed G xs top at c s) (distinct : Distinct (declarations (scope G) s.parameters))
     (one : (p : Name × Variable) → IsIn p (declarations (scope G) s.parameters) → is_component p.1.type ≡ false → (words (scope G) p.1.type ≡ 1) × IsCell p.1.type) where
-  -- The words of its parameters are among those in reach.
+  -- The words of the component's parameters are among those in reach.
   pub component_below : c + length (declarations (scope G) s.parameters) < whole G
   component_below = by (length (declarations (scope G) s.parameters)) refl
     where

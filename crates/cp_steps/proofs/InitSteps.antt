@@ -294,7 +294,8 @@ init_steps G s w before o x es env k I units Y call next there h none declares =
         (in_context_none (a.Init x) (call_in_arguments here (a.Literal 0) es) Y.none) names (λ p i. i)
         (omega (arith, h.2.room, count, Y.now.on.runs.words_fit, Y.now.around.own, Y.now.on.base)) (omega (arith, Y.now.around.own, Y.now.on.count, own_in_whole G)) refl (λ z q. refl))
 
-    -- The mark is tested, the arguments become the parameters, the mark is set, and the body is entered.
+    -- The mark is tested, the arguments become the parameters, the mark is set, and the body is
+    -- entered.
     begins : (off : ℕ) → member here.globals here.system n.name ≡ Some (off, ComponentOf n.system (reported_members here.globals n.system))
         → PartOf G (after_step s G.p (inits (name_location here n) (declarations here.globals n.system.parameters) es)) before (started (o.component + off) call.arguments h.2.runs.unit).0
     begins off f =

@@ -81,7 +81,7 @@ locals_two g (x ∷ xs) ys = let e = locals_two g xs ys in omega (arith, e)
 
 -- ---- targets
 
--- The machine calls where the meaning does, and the same gate is entered.
+-- The machine calls the component that the meaning calls, and enters the same gate.
 pub record TargetIs (G : Ground) (store : Store) (t : calls.Target) (c : Called) (s : System) : Type 0 where
   pub set_is : c.is_set ≡ t.is_callable
   pub there : c.component ≤ whole G
@@ -107,7 +107,8 @@ module _ (G : Ground) (s : State) (w : Outside) (before : List ℕ) (o : Private
       Bound (site G N.on.running) (seen (in_sight G) G (activations o.base o.frames (i ∷ l))) (owner_of_call G k) (o.base + (site G N.on.running).words) (first_parameter v.callee)
       (parameters (site G N.on.running) v.callee) ws o.words new
 
-  -- What is left to show of a routine: its new activation holds its parameters, its start values and no result.
+  -- What remains to be proved of a routine: its new activation holds its parameters, its start
+  -- values and no result.
   abbrev pub Opens : CodeUnit → Type 0
   Opens u =
       (ws : Writes) (new : List ℤ) → length new ≡ length o.words → Bounds ws new
@@ -126,7 +127,7 @@ module _ (G : Ground) (s : State) (w : Outside) (before : List ℕ) (o : Private
     pub caller : CallerAt G call.routine kept live v.callee.routine.result (frame_of o (component_called G.program w o call.target) back) place
     pub opens : Opens runs.unit
 
-  -- What a call does, in the meaning.
+  -- What a call does in the meaning.
   abbrev pub called : Environment → StepResult
   called e = calls.call (context G.setup s G.p) (configuration s G.p) (record v { environment = e }) k
 

@@ -33,7 +33,7 @@ use Rattle.cp_code.specs.StandsFor.{system_of_process}
 use Rattle.cp_model.specs.CallSteps.{is_initialised}
 use Rattle.std.proofs.lemmas.List.{get_or_append_left, get_or-append-add, length-append}
 
--- ---- where what lies in a monitor lies behind the own words
+-- ---- what lies in a monitor, after the own words
 
 module _ (G : Ground) (lie : MonitorsLie G.program G.setup) where
   abbrev all : Ground
@@ -151,7 +151,7 @@ module _ (G : Ground) (sight : G.sight ≡ OwnWords) (lie : MonitorsLie G.progra
           let below = cell_inside G xs top (runs_stacked G store o k R) l n t 0 own (cell_head (scope G) t cell) here in
           subst (CellMeans t (store l)) (sym (before n (omega (arith, below, whole_is)))) (R.data_means.cells l n t own here)
 
-  -- A component that is no monitor's is the process's.
+  -- A component that isn't a monitor's belongs to the process.
   rights_joined : (at : Location) (s : System) (n m : ℕ) (x : Name) (v : Variable) → in_sight H at.owner ≡ true → ComponentLies H at s n → right (scope G) s x ≡ Some (m, v) → member (scope G) s x ≡ None
       → RightMeans H v.type (store (under at (ByName x ∷ []))) (n + m) (word (o.words ++ us) (n + m))
   rights_joined at s n m x v seen cl is none = by (is_shared at.owner) refl

@@ -45,7 +45,7 @@ right_within k (y ∷ vs) x m v h = by (bytes_eq x y.0) h (right_within (suc k) 
         (omega (arith, e), omega (arith, e))
     by false h go = (omega (arith, (go h).0), omega (arith, (go h).1))
 
--- A right of the process's own component, or one of a class.
+-- The place of a right of the process's own component, or of a class.
 pub right_place : (G : Ground) (xs : List Activation) (at : Location) (s : System) (n m : ℕ) (x : Name) (v : declared.Variable)
     → in_sight G at.owner ≡ true → ComponentLies G at s n → right (scope G) s x ≡ Some (m, v)
     → OwnRight G (n + m) ⊎ ((lies G xs at ≡ Some (n, ComponentOf s (reported_members (scope G) s))) × InHead (scope G) (ComponentOf s (reported_members (scope G) s)) m × (1 ≤ m))
@@ -59,7 +59,7 @@ right_place G xs at s n m x v mine (ClassLies sort is) r =
     let w = right_within 1 (rights (scope G) s) x m v r in
     inr (lies_any G xs at _ is, (subst IsClass (sym sort) tt, omega (arith, w.1)), w.0)
 
--- No variable lies at the name of a right that no member has.
+-- No variable has the name of a right, unless it is a member.
 pub right_no_variable : (G : Ground) (xs : List Activation) (at : Location) (s : System) (n : ℕ) (x : Name)
     → ComponentLies G at s n → member (scope G) s x ≡ None
     → lies G xs (under at (ByName x ∷ [])) ≡ None

@@ -95,7 +95,7 @@ module _ (program : Program) (texts : List UnitText) (setup : Setup) where
   stage_next (g ∷ gs) (suc zero) = refl
   stage_next (g ∷ gs) (suc (suc p)) = stage_next gs (suc p)
 
-  -- Fresh processes have begun.
+  -- At the end of a round, fresh processes begin.
   pub kernel_ends_round : (s : State) (k : Kernel) → KernelOf program texts setup s k → KernelOf program texts setup (close_round s) (record k { stages = map next_stage k.stages })
   kernel_ends_round s k K = record {
     word_count = K.word_count;

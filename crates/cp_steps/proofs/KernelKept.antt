@@ -57,7 +57,7 @@ module _ (G : Ground) (monitors processes : ℕ) where
   ready_kept s k r low S =
       stage_kept s k r (made_ready (s.status r)) (resumed (stage_of k.stages r)) low (λ high. ready_means G (s.status r) (stage_of k.stages r) (S.stages r low high)) S
 
-  -- The asker list is the same in both.
+  -- The list of askers is the same in both.
   same_askers : (s : State) (k : Kernel) (m : ℕ) → Stand s k → (gate_of k.gates m).askers ≡ (s.gates m).askers
   same_askers s k m S = ap (λ (g : Gate). g.askers) (S.gates m)
 
@@ -94,7 +94,7 @@ module _ (G : Ground) (monitors processes : ℕ) where
       (ready_kept (meaning.set_gate m (HeldBy (suc r)) (s.gates m).askers s) (steps.set_gate m (HeldBy (suc r)) (s.gates m).askers k) (suc r) (omega arith)
       (gate_kept s k m (HeldBy (suc r)) (s.gates m).askers number (S.askers m) S))
 
-  -- An unstarted process is fresh, in both.
+  -- An unstarted process becomes fresh, in both.
   started_kept : (s : State) (k : Kernel) (r : ℕ) (j : List Task) → IsNumber processes r → Stand s k → Stand (meaning.start_process r j (s.status r) s) (steps.start_process r (stage_of k.stages r) k)
   started_kept s k r j number S = by (s.status r) (stage_of k.stages r) (S.stages r number.0 (omega (arith, number.1, S.stage_count)))
     where
@@ -113,7 +113,7 @@ module _ (G : Ground) (monitors processes : ℕ) where
       by _ _ h = absurd h
 
   module _ (s : State) (k : Kernel) (own p : ℕ) (number : IsNumber processes p) (ready : s.status p ≡ effect.Ready) (S : Stand s k) where
-    -- The kernel knows only that it has begun.
+    -- The kernel knows only that the process has begun.
     pub begun : stage_of k.stages p ≡ Begun
     begun = by (stage_of k.stages p) (subst (λ x. StageMeans G x (stage_of k.stages p)) ready (S.stages p number.0 (omega (arith, number.1, S.stage_count))))
       where
@@ -166,7 +166,7 @@ module _ (G : Ground) (monitors processes : ℕ) where
         subst (λ z. Stand (after_step s p (Gives (c, effect.Starts r j))) (steps.apply_effect own p (machine.Starts z) k)) h.0 (started_kept (with_configuration s p c) k r j h.1 (moved c))
     applied c _ _ h = absurd h
 
-    -- After a step of p.
+    -- The gates and stages after a step of `p`.
     pub kernel_kept : (x : StepResult) (e : machine.Effect) → IsEffectOf G monitors processes own x e → Stand (after_step s p x) (steps.apply_effect own p e k)
     kernel_kept (Gives x) e h = applied x.0 x.1 e h
     kernel_kept (Fault n) e h = subst (λ z. Stand (after_step s p (Fault n)) (steps.apply_effect own p z k)) (sym h) (status_kept (effect.Faulted n) tt)

@@ -62,7 +62,7 @@ module _ (program : Program) (setup : Setup) (F : StandsFor program setup) where
       subst (λ y. BlockStarts g y (monitor_start program m) shared) (system_is program setup F m s is M)
       (subst (λ n. BlockStarts g M.system n shared) (sym (start_is program setup F m M)) (shared_starts program setup F m below.0 below.1 M))
 
-  -- What lies in a monitor.
+  -- The monitor in which a location lies.
   record Found (l : Location) (n : ℕ) (t : ResolvedType) : Type 0 where
     number : ℕ
     system : System

@@ -56,7 +56,7 @@ use Rattle.cp_steps.proofs.Stacks.{Stacked}
 use Rattle.cp_steps.proofs.Stepping.{Around, AroundAll, Stepped, does}
 use Rattle.cp_steps.proofs.Stopping.{Fails, Finishes, On, Stops, act_stops}
 
--- ---- whose step is next
+-- ---- the next step
 
 abbrev pub Due : List Task → Bool
 Due k = holds_gate stage.Ready k || is_kernel_action (action k)
@@ -339,7 +339,8 @@ module _ (program : Program) (setup : Setup) (F : StandsFor program setup) (p ow
       by (stage.Asking m) is = rests (stage.Asking m) is refl (not_begun o program k (asks m (stage_of k.stages o.number) (known (stage.Asking m) is)))
       by (stage.Delayed m q) is = rests (stage.Delayed m q) is refl (not_begun o program k (waits m q (stage_of k.stages o.number) (known (stage.Delayed m q) is)))
 
-  -- So the machine's kernel step makes both those of the state after the meaning's.
+  -- So the machine's kernel step makes the kernel and the private state those of the state after
+  -- the meaning's.
   pub kernel_step_turns : TurningOf program setup F p own (meaning.kernel_step setup s p) before (plain.kernel_step program clock x)
   kernel_step_turns = by which
     where

@@ -18,7 +18,7 @@ use Rattle.cp_steps.proofs.Finding.{some_is_not_none}
 pub same_some : {A : Type 0} (x y : A) → Some x ≡ Some y → x ≡ y
 same_some x y h = ap (λ o. elim o [ None ↦ x | Some z ↦ z ]) h
 
--- What is found farther on.
+-- A part that is found farther on.
 pub farther_some : (k : ℕ) (o : Option Part) (n : ℕ) (u : ResolvedType) → farther k o ≡ Some (n, u)
     → (m : ℕ) × (o ≡ Some (m, u)) × (n ≡ k + m)
 farther_some k None n u h = absurd (some_is_not_none (n, u) (sym h))
@@ -26,7 +26,8 @@ farther_some k (Some x) n u h =
     let e : ◌≡◌ {A = Part} (k + x.0, x.1) (n, u) = same_some (k + x.0, x.1) (n, u) h in
     (x.0, (λ i. Some (x.0, (e i).1)), sym (ap (λ y. y.0) e))
 
--- A look-up that leads on, and then to more.
+-- If a look-up leads to a part, looking up `q` in that part leads to the same as looking up both
+-- paths.
 abbrev pub LeadsOn : (Path → Option Part) → GlobalScope → Path → Path → Type 0
 LeadsOn look g p q = (n m : ℕ) (u w : ResolvedType) → look p ≡ Some (n, u) → part g u q ≡ Some (m, w) → look (p ++ q) ≡ Some (n + m, w)
 
@@ -111,11 +112,11 @@ path_leads G xs o [] q = λ n m u w h e. absurd (some_is_not_none (n, u) (sym h)
 path_leads G xs o (ByName x ∷ p) q = owner_leads G xs o x p q
 path_leads G xs o (ByIndex i ∷ p) q = λ n m u w h e. absurd (some_is_not_none (n, u) (sym h))
 
--- The parts of what lies there lie in it.
+-- The parts of a variable lie in it.
 abbrev pub PartsLie : GlobalScope → (Location → Option Part) → Type 0
 PartsLie g lies = (l : Location) (path : Path) (n m : ℕ) (t u : ResolvedType) → lies l ≡ Some (n, t) → part g t path ≡ Some (m, u) → lies (under l path) ≡ Some (n + m, u)
 
--- The part of a variable lies in it.
+-- A part of a variable lies in that variable.
 pub lies_under : (G : Ground) (xs : List Activation) (l : Location) (q : Path) (n m : ℕ) (t u : ResolvedType) → lies G xs l ≡ Some (n, t) → part (scope G) t q ≡ Some (m, u)
     → lies G xs (under l q) ≡ Some (n + m, u)
 lies_under G xs l q n m t u h e = path_leads G xs l.owner l.path q n m t u h e

@@ -127,7 +127,7 @@ process_left temps = (
   ),
 )
 
--- ---- Inside `run`, behind its call of `go`
+-- ---- Inside `run`, after its call of `go`
 
 abbrev run_frame : Frame
 run_frame = record { owner = OfActivation 2 0; routine = run }

@@ -9,7 +9,7 @@ use Rattle.cp_steps.specs.Left.{Left, Running, Runs, held_below, kept_below, sit
 use Rattle.cp_steps.proofs.CallsKept.{term_kept}
 use Rattle.cp_steps.proofs.CodeKept.{code_kept}
 
--- The temps below a number are as they were.
+-- The temps below number `n` are as before.
 abbrev pub SameBelow : ℕ → List ℤ → List ℤ → Type 0
 SameBelow n ts us = (i : ℕ) → i < n → word us i ≡ word ts i
 
@@ -29,7 +29,7 @@ runs_kept : (G : Ground) (n m limit : ℕ) (R : Running) (fs : List machine.Fram
 runs_kept G n m limit R fs e h = subst (λ z. Runs G z limit R fs) e h
 
 module _ (G : Ground) (ts us : List ℤ) (limit : ℕ) (same_length : length ts ≡ length us) where
-  -- What is left to do does not depend on the temps of later calls.
+  -- What is left to do doesn't depend on the temps of later calls.
   pub left_kept : (K L : Knowns) (R : Running) (fs : List machine.Frame) (place low : ℕ) (k : List Task) → Within K L → SameBelow (R.temp + low) ts us
       → Left G ts limit K R fs place low k → Left G us limit L R fs place low k
   left_kept K L R fs place low [] more same h = absurd h

@@ -34,7 +34,7 @@ use Rattle.cp_steps.proofs.RoundEnds.{part_ends_round, part_wakes}
 use Rattle.cp_steps.proofs.RoundParts.{kernel_turned, part_turned}
 use Rattle.cp_steps.proofs.Tables.{mapped_found}
 
--- ---- who hasn't begun
+-- ---- processes that haven't begun
 
 kernel_not_begun : (x : Status) → HasNotBegun x → HasNotBegun (kernel_status x)
 kernel_not_begun stage.Unstarted h = tt
@@ -65,7 +65,7 @@ unstarted_stage G x g is h = by g (subst (λ z. StageMeans G z g) is h)
     by row.Unstarted h = refl
     by _ h = absurd h
 
--- Private steps of it do nothing.
+-- Private steps of a process that hasn't begun do nothing.
 idle_step : (program : Program) (clock : ℕ) (o : PrivateState) → o.activity ≡ NotBegun → private_step program clock o ≡ o
 idle_step program clock o is =
     ap (λ a. if is_running a then (if is_private o (operation_of program o) then (act_on program (alone clock o) o (operation_of program o)).0 else o) else o) is
@@ -109,7 +109,7 @@ module _ (program : Program) (setup : Setup) (F : StandsFor program setup) (own 
   abbrev held : ℕ → Kernel → List PrivateState → List (List ℕ) → Machine
   held r k os ts = record { program = program; tick = setup.tick; kernel = k; parts = os; transcripts = ts; rounds = r }
 
-  -- What keeps every machine that is spelled out so keeps every one.
+  -- What keeps every machine that is given part by part keeps every machine.
   spelled : (s u : State) (f : Machine → Machine)
       → ((k : Kernel) (os : List PrivateState) (ts : List (List ℕ)) → AllStand program setup F own s k os ts → IsIn program setup F own u (f (held s.rounds k os ts)))
       → (m : Machine) → IsIn program setup F own s m → IsIn program setup F own u (f m)

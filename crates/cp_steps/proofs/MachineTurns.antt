@@ -36,7 +36,7 @@ use Rattle.cp_steps.proofs.KernelTurns.{kernel_turn_is_turn, kernel_turn_keeps_p
 use Rattle.cp_steps.proofs.PrivateSteps.{IsRunning}
 use Rattle.cp_steps.proofs.Tables.{set_elsewhere, set_found, set_there}
 
--- What was written goes to the transcript.
+-- The output of the process is moved to its transcript.
 output_moved : (G : Ground) (s : State) (before : List ℕ) (o : PrivateState) → PartOf G s before o → PartOf G s (before ++ o.output) (record o { output = [] })
 output_moved G s before o P = record {
   number = P.number;
@@ -75,7 +75,7 @@ transcript_there ts p bytes h = λ i. elim (set_there ts (p - 1) bytes h i) as (
 transcript_elsewhere : (ts : List (List ℕ)) (p q : ℕ) (bytes : List ℕ) → (p - 1 ≡ q - 1 → ⊥) → transcript_of (slice_set ts (p - 1) bytes) q ≡ transcript_of ts q
 transcript_elsewhere ts p q bytes d = λ i. elim (set_elsewhere ts (p - 1) (q - 1) bytes d i) as (λ z. List ℕ) [ None ↦ [] | Some b ↦ b ]
 
--- ---- who hasn't begun
+-- ---- processes that haven't begun
 
 abbrev IsNotBegun : PrivateStatus → Type 0
 IsNotBegun parts.NotBegun = Unit {0}
@@ -96,7 +96,7 @@ not_begun_told (stage.Asking m) h = h
 not_begun_told (stage.Delayed m q) h = h
 not_begun_told (stage.Faulted n) h = h
 
--- By a kernel turn of its own nothing happens.
+-- In its own kernel turn, a process that hasn't begun does nothing.
 idle_turn : (program : Program) (n tick : ℕ) (x : Turning) → x.own.activity ≡ machine.NotBegun → kernel_steps program tick n x ≡ x
 idle_turn program zero tick x is = refl
 idle_turn program (suc n) tick x is =

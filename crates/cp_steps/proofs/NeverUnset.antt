@@ -159,7 +159,7 @@ module _ (c : Context) (config : Configuration) where
   same : KeepsSet st st
   same = nothing_changed st
 
-  -- What one frees is the innermost activation.
+  -- A return frees the innermost activation.
   returned : (env : Environment) (k : List Task) (p d : ℕ) → IsFrameOf env.frame (OfActivation p d) → IfGives (λ (after : Configuration). KeepsSet st after.store) (returns config env k)
   returned env k p d owns = by env.frame owns
     where
@@ -183,7 +183,7 @@ module _ (c : Context) (config : Configuration) where
       by None owner = absurd owner
       by (Some f) owner = ends f f.routine.result owner
 
--- The innermost end mark is of an activation.
+-- The innermost end mark is that of an activation.
 innermost_owned : (p : ℕ) (store : Store) (k : List Task) (env : Environment) (gate : Option ℕ) (rest : List Task) → FramesInvariant p store k → innermost_call k ≡ Some (env, gate, rest)
     → IsFrameOf env.frame (OfActivation p (depth rest))
 innermost_owned p store [] env gate rest I e = absurd (some_is_not_none _ (sym e))
@@ -283,7 +283,7 @@ module _ (c : Context) (config : Configuration) (p : ℕ) where
   executed env k (a.While e s) I = nothing_changed store
   executed env k (a.Repeat s e) I = nothing_changed store
 
-  -- A new activation is all that a call writes.
+  -- A call writes nothing but a new activation.
   entered : (u : UserCall) (k : List Task) → SetStill store (call c config u k)
   entered u k =
       either_still store (target c store u.environment u.callee.of).is_callable _ _

@@ -70,7 +70,7 @@ each_at P [] v h i = absurd i
 each_at P (w ∷ vs) v h (inl e) = subst P (sym e) h.0
 each_at P (w ∷ vs) v h (inr i) = each_at P vs v h.1 i
 
--- A name of the first isn't one of the second where all are distinct.
+-- If all names are distinct, no name of the first list is in the second.
 names_apart : (x : Name) (k n : ℕ) (d : Variable) (g : GlobalScope) (ps ws : List (Name × Variable)) → Distinct (ps ++ ws) → local_at g n ps x ≡ Some (k, d) → lookup x ws ≡ None
 names_apart x k n d g [] ws h e = absurd (some_is_not_none _ (sym e))
 names_apart x k n d g (p ∷ ps) ws h e = by (bytes_eq x p.0) refl e (names_apart x k (n + local_words g p.1) d g ps ws h.1)
@@ -139,7 +139,7 @@ module _ (G : Ground) (ys : List Activation) (sys : System) (r : Routine) (u : C
   abbrev variables : List (Name × Variable)
   variables = declarations (scope G) r.variables
 
-  -- What was bound to the parameters.
+  -- The store in which the parameters are bound.
   abbrev bound : Store
   bound = put_all ws (forget (OfActivation G.p (length ys)) store)
 

@@ -52,7 +52,7 @@ right_elsewhere G q own (RecordOf ms) v at to n none h = tt
 right_elsewhere G q own Queue v at to n none h = tt
 right_elsewhere G q own NoType v at to n none h = tt
 
--- No class lies in the first word: there is a mark, or a process's own words.
+-- No class begins at the first word, which is a mark or one of the process's own words.
 pub none_first : (G : Ground) (j : Location) (s : System) → lies G [] j ≡ Some (0, component_type G s) → ⊥
 none_first G j s is = by j.owner j.path is
   where

@@ -32,7 +32,7 @@ pub record NotStarted (q : ℕ) (s u : State) : Type 0 where
   pub fresh : u.status q ≡ Fresh → s.status q ≡ Fresh
   pub continuation : u.continuation q ≡ s.continuation q
 
--- What q owns is as it was.
+-- What `q` owns is as before.
 abbrev pub KeepsOwned : ℕ → State → State → Type 0
 KeepsOwned q s u = (l : Location) → is_own q l.owner ≡ true → u.store l ≡ s.store l
 

@@ -73,7 +73,7 @@ kernel_keeps_set setup s p I = by (kind s p)
 
 -- ---- rights that were given
 
--- A right that was set is one still.
+-- A right that has been set is still set.
 given_still : (G : Ground) (t : ResolvedType) (v w : Value) (at : ℕ) (n : ℤ) → RightMeans G t w at n → (IsSet v → IsSet w) → IsGiven t v → IsGiven t w
 given_still G (ComponentOf s inner) v w at n means set given = by s.sort means given
   where
@@ -134,7 +134,7 @@ rights_still G store after us D set at s m k owner sort is has i x v found none 
 -- ---- steps of others
 
 module _ (G : Ground) (sight : G.sight ≡ OwnWords) (s : State) (before : List ℕ) (o : PrivateState) (I : Invariant s) (p : ℕ) (other : p ≢ G.p) (P : PartOf G s before o) where
-  -- A kernel step of p, after which the shared words mean what the store holds of the monitors.
+  -- A kernel step of `p`, after which the shared words mean what the store holds for the monitors.
   pub kernel_step_beside : (us : List ℤ) → DataMeans (kernel_ground G.program G.texts G.setup) [] is_shared (kernel_step G.setup s p).store us → PartOf G (kernel_step G.setup s p) before o
   kernel_step_beside us D =
       part_beside G s (kernel_step G.setup s p) before o sight S

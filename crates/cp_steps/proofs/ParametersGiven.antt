@@ -60,7 +60,8 @@ module _ (G : Ground) (xs : List Activation) (top : ℕ) (stack : Stacked G top 
 
 -- ---- what it is given
 
--- The parameters were bound for q by another process, and lie among these shared words. Its own words had the start values.
+-- Another process bound the parameters for `q`, and they lie among these shared words. The own
+-- words of `q` had the start values.
 module _ (G : Ground) (q own : ℕ) (s : System) (is : system_of_process G.setup q ≡ Some s) (fits : component_words (scope G) s ≤ own) (distinct : Distinct (permanent_variables (scope G) s))
     (names : Distinct (declarations (scope G) s.parameters))
     (one : (p : Name × Variable) → IsIn p (declarations (scope G) s.parameters) → is_component p.1.type ≡ false → (words (scope G) p.1.type ≡ 1) × IsCell p.1.type)

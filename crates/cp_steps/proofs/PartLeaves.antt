@@ -87,7 +87,7 @@ mutual
 
 -- ---- leaves are parts
 
--- The names of members differ.
+-- The members of a type have distinct names.
 abbrev mutual
   pub Named : ResolvedType → Type 0
   Named (Simple b low high start) = Unit {0}

@@ -20,7 +20,7 @@ use Rattle.cp_steps.proofs.Keeping.{KeepsActivation, activation_kept, activation
 
 -- ---- what runs on
 
--- Data of some owners, whatever else is stored.
+-- The data of some owners means the same, whatever else is stored.
 pub data_beside : (G : Ground) (mine : Owner → Bool) (store after : Store) → ((l : Location) → mine l.owner ≡ true → after l ≡ store l) → (xs : List Activation) (words : List ℤ)
     → DataMeans G xs mine store words → DataMeans G xs mine after words
 data_beside G mine store after same xs words D = record {

@@ -48,7 +48,7 @@ use Rattle.cp_steps.proofs.StartLeaves.{IsSimple, first_name, simple_part}
 use Rattle.cp_steps.proofs.Puts.{bytes_eq_turned, put_all_two}
 use Rattle.cp_steps.proofs.Writing.{changed_other, same_owner_itself}
 
--- Words outside the parameters are as they were.
+-- The words outside the parameters are as before.
 abbrev pub SameOutside : ℕ → ℕ → List ℤ → List ℤ → Type 0
 SameOutside from to ws us = (i : ℕ) → (i < from) ⊎ (to ≤ i) → word us i ≡ word ws i
 
@@ -59,7 +59,8 @@ KeptOutside from to ws us = (length us ≡ length ws) × SameOutside from to ws 
 abbrev pub parameter_at : Owner → Name → Location
 parameter_at n x = under (root n) (ByName x ∷ [])
 
--- A variable of the type in the store, and its words: what it refers to, or the values of its parts.
+-- A variable of the type in the store and its words, which hold the place it refers to or the
+-- values of its parts.
 abbrev pub Has : Bool → GlobalScope → (Location → Option Part) → ResolvedType → Location → Store → List ℤ → ℕ → Type 0
 Has by_reference g lies t l st ws at =
     either by_reference
@@ -91,7 +92,7 @@ put_here n x v st = λ i. if same_owner_itself n i && (bytes_eq-refl x i && true
 put_away : (n : Owner) (x y : Name) (path : Path) (v : StoreValue) (st : Store) → bytes_eq x y ≡ false → put (parameter_at n x) v st (under (parameter_at n y) path) ≡ st (under (parameter_at n y) path)
 put_away n x y path v st h = λ i. if same_owner_itself n i && (h i && same_path [] path) then v else st (under (parameter_at n y) path)
 
--- A parameter stays what it is where its locations and words do.
+-- A parameter keeps its value if its locations and its words keep theirs.
 has_kept : (g : GlobalScope) (lies : Location → Option Part) (d : declared.Variable) (n : Owner) (x : Name) (st after : Store) (old new : List ℤ) (at : ℕ)
     → ((path : Path) → after (under (parameter_at n x) path) ≡ st (under (parameter_at n x) path)) → ((m : ℕ) → m < local_words g d → word new (at + m) ≡ word old (at + m))
     → ParameterHas g lies d (parameter_at n x) st old at → ParameterHas g lies d (parameter_at n x) after new at
@@ -167,7 +168,7 @@ prepend site lies n to at p ps us top ws mid x (Gives more) P distinct room len 
         ap (λ (z : Store). z (under (parameter_at n y) path)) (put_all_two us more st)
         ∙ (B.names y path (put_all us st) g ∙ other y path st (bytes_eq_turned y p.0 e))
 
--- One parameter of one word more.
+-- One parameter more that takes one word.
 prepend_word : (site : Site) (lies : Location → Option Part) (n : Owner) (to at : ℕ) (p : Name × declared.Variable) (ps : List (Name × declared.Variable)) (v : StoreValue) (m : ℤ) (top : ℕ) (ws : List ℤ)
     (x : PrivateState) (O : Outcome Writes) (P : Passing)
     → local_words site.env.globals p.1 ≡ 1 → Distinct (p ∷ ps) → to + at < top → top ≤ length ws
@@ -212,7 +213,7 @@ module _ (site : Site) (clock : Clock) (store : Store) (w : Outside) (K : Knowns
       away i e (inl q) = absurd (omega (arith, e, q))
       away i e (inr q) = absurd (omega (arith, e, q, room))
 
-  -- A simple value.
+  -- The argument is a simple value.
   value_passes : (p : Name × declared.Variable) (ps : List (Name × declared.Variable)) (b of : BaseType) (lower upper start : ℤ) (at : ℕ) (ws : List ℤ) (xs : List Argument)
       → p.1.by_reference ≡ false → p.1.type ≡ Simple b lower upper start → Distinct (p ∷ ps) → to + at < w.own → w.own ≤ length ws
       → (O : Outcome TypedValue) (r : Result ℤ machine.Fault) (more : Outcome Writes) → Agrees of O r
@@ -240,7 +241,7 @@ module _ (site : Site) (clock : Clock) (store : Store) (w : Outside) (K : Knowns
       by true e = prepend_word site lies n to at p ps (Ordinal m) m w.own ws (record o { words = ws }) more (pass_all w to to xs (record o { words = slice_set ws (to + at) m })) one distinct room in_words
           (subst (λ t. either t ((j : Location) × (Ordinal m ≡ Refers j) × (lies j ≡ Some (natural m, p.1.type))) (IsSimple p.1.type × (Ordinal m ≡ Ordinal m))) (sym passive) (subst IsSimple (sym type) tt, refl)) (go m)
 
-  -- What a `var` parameter refers to.
+  -- The argument is what a `var` parameter refers to.
   reference_passes : (p : Name × declared.Variable) (ps : List (Name × declared.Variable)) (at : ℕ) (ws : List ℤ) (xs : List Argument)
       → p.1.by_reference ≡ true → Distinct (p ∷ ps) → to + at < w.own → w.own ≤ length ws → length ws ≡ length o.words
       → (O : Outcome Place) (r : Result ℕ machine.Fault) (more : Outcome Writes) → PlaceAgrees lies p.1.type O r
@@ -258,7 +259,7 @@ module _ (site : Site) (clock : Clock) (store : Store) (w : Outside) (K : Knowns
       (ap (λ t. if t then 1 else words site.env.globals p.1.type) by_reference) distinct room in_words
       (subst (λ t. either t ((j : Location) × (Refers v.at ≡ Refers j) × (lies j ≡ Some (natural (pos m), p.1.type))) (IsSimple p.1.type × (Refers v.at ≡ Ordinal (pos m)))) (sym by_reference) (v.at, refl, h.0)) (go (pos m)))
 
-  -- An array or a record.
+  -- The argument is an array or a record.
   copy_passes : (p : Name × declared.Variable) (ps : List (Name × declared.Variable)) (at : ℕ) (ws : List ℤ) (xs : List Argument)
       → p.1.by_reference ≡ false → IsPlainStructure p.1.type → Distinct (p ∷ ps) → to + (at + words site.env.globals p.1.type) ≤ w.own → w.own ≤ length ws
       → Here site.env clock store (view_of w (record o { words = ws })) K lies
@@ -303,7 +304,7 @@ module _ (site : Site) (clock : Clock) (store : Store) (w : Outside) (K : Knowns
           copied_word ws ws (to + at) from (words site.env.globals p.1.type) m fits (omega (arith, room, in_words))
           ∙ ap ordinal_in (sym (simple_holds u (store (under q.at path)) (word ws (from + m)) simple (H.cells (under q.at path) (from + m) u (parts_lie q.at path from m p.1.type u h.0 there))))
 
-  -- All arguments.
+  -- All arguments together.
   pub passes : (ps : List (Name × declared.Variable)) (es : a.Expressions) (xs : List Argument) (at from next low high : ℕ) (ws : List ℤ)
       → ArgumentsFor site K ps es xs at from next low high → call_in_arguments site.env (a.Literal 0) es ≡ None → Distinct ps
       → to + (at + locals_words site.env.globals ps) ≤ w.own → w.own ≤ length ws → length ws ≡ length o.words → SameOutside to w.own o.words ws

@@ -36,7 +36,7 @@ module _ (G : Ground) (s : State) (before : List ℕ) (o : PrivateState) (part :
   neither defined computed =
       subst (λ (u : State). PartOf G u before (steps.private_step G.program (realtime (clock_of G s)) o)) (sym defined) (subst (PartOf G s before) (sym computed) part)
 
-  -- The machine does nothing where the process doesn't run, and where it holds a gate.
+  -- The machine does nothing if the process doesn't run, or if it holds a gate.
   not_running : (x : Activity) → o.activity ≡ x → machine.is_running x ≡ false → steps.private_step G.program (realtime (clock_of G s)) o ≡ o
   not_running x is none =
       ap (λ b. if b then (if steps.is_private o (operation_at G.program o.place) then (act_on G.program (alone (realtime (clock_of G s)) o) o (operation_at G.program o.place)).0 else o) else o)
@@ -68,7 +68,7 @@ module _ (G : Ground) (s : State) (before : List ℕ) (o : PrivateState) (part :
   runs : o.activity ≡ machine.Running → RunsOn G s.store o (s.continuation G.p)
   runs is = part.runs_on (subst GoesOn (sym is) tt)
 
-  -- The process asks or is delayed: it has entered a monitor.
+  -- The process asks for a gate or is delayed, so it has entered a monitor.
   blocked_rests : (x : Status) → s.status G.p ≡ x → kind_of x (s.continuation G.p) ≡ NoStep → is_in_monitor (s.continuation G.p) ≡ true → o.activity ≡ machine.Running → StepsAlone G s before o
   blocked_rests x is none inside running = by (marked_monitors (s.continuation G.p)) refl inside
     where
@@ -81,7 +81,7 @@ module _ (G : Ground) (s : State) (before : List ℕ) (o : PrivateState) (part :
 
 -- ---- a process that holds no gate
 
--- Only what the process owns is in its reach.
+-- Outside all monitors, only what the process owns is in its reach.
 reach_own : (p : ℕ) (o : Owner) → in_reach p [] o ≡ true → is_own p o ≡ true
 reach_own p (OfProcess q) h = h
 reach_own p (OfActivation q d) h = h
@@ -109,7 +109,7 @@ abbrev pub IsRunning : PrivateStatus → Type 0
 IsRunning parts.Running = Unit {0}
 IsRunning _ = ⊥
 
--- What runs for the meaning runs for the machine, and what doesn't, doesn't.
+-- A process runs in the meaning if and only if it runs in the machine.
 pub running_is : (x : Activity) → IsRunning (status_of x) → x ≡ machine.Running
 running_is machine.Running h = refl
 running_is machine.NotBegun h = absurd h

@@ -46,7 +46,7 @@ use Rattle.cp_steps.proofs.Sparing.{Sparing, SparesAll, StartsOne, ready_spares}
 use Rattle.cp_steps.proofs.Stepping.{Around, AroundAll, acted}
 use Rattle.cp_steps.proofs.Waiting.{waits_apart}
 
--- A process whose next step is the kernel's is ready.
+-- A process whose next step is a kernel step is ready.
 kernel_ready : (x : Status) (k : List Task) → kind_of x k ≡ turns.Kernel → x ≡ stage.Ready
 kernel_ready stage.Ready k e = refl
 kernel_ready _ k e = absurd (subst is_none e tt)
@@ -160,7 +160,7 @@ drop_append : (xs ys : List ℤ) → drop (length xs) (xs ++ ys) ≡ ys
 drop_append [] ys = refl
 drop_append (x ∷ xs) ys = drop_append xs ys
 
--- An effect changes gates and stages alone.
+-- An effect changes only gates and stages.
 pub effect_shared : (own p : ℕ) (e : machine.Effect) (k : Kernel) → (apply_effect own p e k).shared ≡ k.shared
 effect_shared own p machine.NoEffect k = refl
 effect_shared own p (machine.Enters m) k = by (gate_of k.gates m).holder
@@ -182,7 +182,7 @@ effect_shared own p (machine.Starts r) k = by (stage_of k.stages r)
     by Unstarted = refl
     by _ = refl
 
--- The same of a step in the kernel's turn of the process.
+-- The same for a step in the kernel turn of the process.
 pub step_begins : (G : Ground) (s : State) (w : Outside) (before : List ℕ) (x : Turning) → length x.own.words ≡ G.own → (F : StandsFor G.program G.setup) → F.texts ≡ G.texts → PartOf G s before (joined x) → Invariant s
     → Around G s w → Reaches G s → AroundAll G s w → kind s G.p ≡ turns.Kernel → RunsOn G s.store (joined x) (s.continuation G.p)
     → (y : Operation) → operation_at G.program x.own.place ≡ Some y

@@ -52,7 +52,7 @@ sort_same z e h = by (sym e ∙ same_some z Monitor h)
 no_class : (z : Sort) → same_sort Class z ≡ false → z ≡ Class → ⊥
 no_class z h e = true≢false (sym (ap (same_sort Class) e) ∙ h)
 
--- What is passed to one that is no class is no right to a class.
+-- No parameter of a component that isn't a class is a right to a class.
 parameters_without : (g : GlobalScope) (before : List System) (s : System) → same_sort Class s.sort ≡ false → Each (SystemParameter g before s.sort) (declarations g s.parameters) → HasNoClassRight g s
 parameters_without g before s other each m x v r inner found type class' =
     by ((each_in (SystemParameter g before s.sort) (declarations g s.parameters) (x, v) each
@@ -66,7 +66,7 @@ parameters_without g before s other each m x v r inner found type class' =
     by (inl k) = subst SoundType type k.1.0
     by (inr k) = passed k.1
 
--- What is declared as a component of a sort but a class.
+-- What holds of a component whose sort isn't that of classes.
 module _ (setup : Setup) (W : WellTyped setup) (z : Sort) (other : (y : Sort) → same_sort z y ≡ true → same_sort Class y ≡ false) where
   declared_without : (k : ℕ) (s : System) → component_at (components_of setup z) k ≡ Some s → HasNoClassRight (globals setup.tree) s
   declared_without k s h = by found.0.1.type (each_in (InitialVariable (globals setup.tree) (text_systems setup)) (initial_variables setup) found.0 W.initial_variables inside.0).1 inside.1 found.2

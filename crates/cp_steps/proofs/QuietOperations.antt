@@ -37,7 +37,7 @@ pub either_quiet : (b : Bool) (x y : StepResult) → Quietly x → Quietly y →
 either_quiet true x y h k = h
 either_quiet false x y h k = k
 
--- Statements that never leave anything, whatever gate is held.
+-- Statements that never leave anything to the kernel, whichever gate is held.
 abbrev pub IsQuietStatement : Statement → Type 0
 IsQuietStatement (a.Assign d e) = Unit {0}
 IsQuietStatement (a.If e s t) = Unit {0}
@@ -72,7 +72,7 @@ module _ (w : Context) (config : Configuration) (env : Environment) (k : List Ta
 
 -- ---- the machine's
 
--- Operations that never leave anything.
+-- Operations that never leave anything to the kernel.
 abbrev pub IsQuietOperation : Operation → Type 0
 IsQuietOperation (op.Procedure call n) = ⊥
 IsQuietOperation (op.Function call into n) = ⊥

@@ -48,7 +48,7 @@ flat_same f g (x ∷ xs) same = (λ i. same x i ++ flat_map f xs) ∙ ap (λ l. 
 
 -- ---- members
 
--- Only what is a member has a part.
+-- Only members have parts.
 part_named : (g : GlobalScope) (at : ℕ) (ms : Members) (x : Name) (q : Path) (k : ℕ) (u : ResolvedType) → member_part g at ms x q ≡ Some (k, u) → has_member x ms ≡ true
 part_named g at NoMembers x q k u e = absurd (some_is_not_none _ (sym e))
 part_named g at (MoreMembers y t ms) x q k u e = by (bytes_eq x y) e (λ h. part_named g (at + words g t) ms x q k u h)

@@ -32,7 +32,8 @@ use Rattle.cp_steps.proofs.ReportLines.{member_lines_same}
 
 -- ---- what the types of components are
 
--- A component of the initial process: its type is that of a system type of the text, with its own members.
+-- A component of the initial process: its type is that of a system type of the text, with its own
+-- members.
 pub record IsComponent (setup : Setup) (t : ResolvedType) : Type 0 where
   pub system : System
   pub inner : Members
@@ -69,7 +70,7 @@ is_component setup typed z j v h =
     by (ComponentOf r inner) is sort (inr q) = record { system = r; inner = inner; type = is; members = q.2; named = system_named setup typed q.0 r q.1 }
     by _ is sort q = absurd (true≢false (sym sort))
 
--- The component of a number.
+-- The component with this number.
 pub component_of : (vs : List (Name × Variable)) (j : ℕ) (v : Name × Variable) → slice_get vs j ≡ Some v → component_at vs j ≡ component_in v.1.type
 component_of [] j v h = absurd (some_is_not_none v (sym h))
 component_of (u ∷ vs) zero v h = ap (λ o. elim o as (λ z. Option System) [ None ↦ component_in u.1.type | Some w ↦ component_in w.1.type ]) h
@@ -84,7 +85,7 @@ module _ (G : Ground) (store : Store) (ws : List ℤ) (sys : System) (named : Na
   abbrev ms : Members
   ms = reported_members (globals G.setup.tree) sys
 
-  -- A process with its own words in sight.
+  -- The values of a process whose own words are in sight.
   pub process_values : (xs : List Activation) → G.sight ≡ OwnWords → DataMeans G xs (in_sight G) store ws → system_of_process G.setup G.p ≡ Some sys
       → variable_lines store (process_location G.p) ms ≡ visit_members (globals G.setup.tree) (lines_visit ws) [] (head_words (globals G.setup.tree) sys) ms
   process_values xs sight D is =

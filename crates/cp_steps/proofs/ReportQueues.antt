@@ -78,7 +78,7 @@ module _ (g : GlobalScope) (target : ℕ) where
   nothing_more : (xs ys : Text) → xs ≡ [] → ys ≡ [] → xs ++ ys ≡ []
   nothing_more xs ys e f = (λ i. e i ++ ys) ∙ f
 
-  -- ---- beside the queue nothing is told
+  -- ---- other parts give no path
 
   elements_beside : (n : ℕ) (lo : ℤ) (path : Path) (t : ResolvedType) (at : ℕ) → Beside at (n * words g t)
       → ((p : Path) (a : ℕ) → Beside a (words g t) → visit_type g V p a t ≡ [])
@@ -96,7 +96,7 @@ module _ (g : GlobalScope) (target : ℕ) where
       rest (inl h) = inl (omega (arith, h))
       rest (inr h) = inr (Prim.grind (arith, h))
 
-  -- Only of a class do the members lie there.
+  -- Only for a class do the members lie in the variable.
   class_beside : (at : ℕ) (s : System) (ms : Members) (x : Text) → Beside at (words g (ComponentOf s ms)) → (Beside (at + head_words g s) (words_of_members g ms) → x ≡ []) → of_class_text s.sort x ≡ []
   class_beside at s ms x o inner = by s.sort o
     where
@@ -132,7 +132,7 @@ module _ (g : GlobalScope) (target : ℕ) where
         nothing_more _ _ (type_beside (path ++ ByName x ∷ []) at t (first_beside at (words g t) (words_of_members g ms) o))
         (members_beside path (at + words g t) ms (rest_beside at (words g t) (words_of_members g ms) o))
 
-  -- ---- and of the queue its path
+  -- ---- the queue gives its path
 
   -- If one element contains the queue, no other element does.
   elements_found : (n : ℕ) (lo low i : ℤ) (d e m : ℕ) (path : Path) (t : ResolvedType) (at : ℕ) (q : Text) → lo -ℤ low ≡ pos d → i -ℤ low ≡ pos (d + e) → e < n → m < words g t

@@ -86,7 +86,7 @@ module _ (program : Program) (setup : Setup) (F : StandsFor program setup) where
       ap (visit_component g (queue_visit at) (monitor_start program n)) C.type
       ∙ ap (visit_members g (queue_visit at) [] (monitor_start program n + head_words g C.system)) C.members
 
-  -- A variable of the list, and the monitor of its number.
+  -- A variable of the list, and the monitor with its number.
   numbered : (l : ℕ) (u : Name × Variable) (C : IsComponent setup u.1.type) → slice_get (components_of setup Monitor) l ≡ Some u → system_of_monitor setup (1 + l) ≡ Some C.system
   numbered l u C there =
       ap (λ n. system_of_monitor setup n) (first l) ∙ (component_of (components_of setup Monitor) l u there ∙ ap component_in C.type)

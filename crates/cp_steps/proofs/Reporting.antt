@@ -48,7 +48,7 @@ module _ (m : Machine) (setup : Setup) (s : State) (I : IsIn m setup s) (calm : 
 
   -- ---- processes
 
-  -- Its words mean its variables, whether it has begun or not.
+  -- The words of a process mean its variables, whether it has begun or not.
   data_of : (p : ℕ) (o : PrivateState) → PartStands m setup I.stands s p o → (xs : List Activation) × DataMeans (G p o) xs (in_sight (G p o)) s.store o.words
   data_of p o P = by (s.status p) refl
     where

@@ -115,7 +115,7 @@ runs_resulted G store o k R f t v runs is none differs = record {
     room : o.base < length o.words
     room = omega (arith, (found_inside G top (length T.rest) xs z0 stack.stack there0).0, result_inside (scope G) f.routine t is, runs_room G store o k R)
 
-    -- The running function's own: its `var` parameters, and the new result.
+    -- What belongs to the running function: its `var` parameters and the new result.
     own : (rest : List Activation) (g : Frame) (c : ℕ) → g.owner ≡ OfActivation G.p (length T.rest) → ◌≡◌ {A = Activation} (record { base = c; routine = g.routine }) z0
         → ActivationMeans G rest store o.words c g → ActivationMeans G rest after new c g
     own rest g c owner same m = record {

@@ -45,7 +45,7 @@ use Rattle.cp_steps.proofs.Given.{all_kept}
 use Rattle.cp_steps.proofs.Effects.{going, leaves, return_leaves, then_means, told}
 use Rattle.cp_steps.specs.Steps.{act}
 
--- ---- an activation less
+-- ---- one activation less
 
 pub data_behind : (G : Ground) (z : Activation) (xs : List Activation) (store : Store) (words : List ℤ) → DataMeans G (z ∷ xs) (in_sight G) store words → DataMeans G xs (in_sight G) store words
 data_behind G z xs store words D = record {
@@ -54,7 +54,7 @@ data_behind G z xs store words D = record {
   given = D.given;
 }
 
--- The store without an activation that isn't live.
+-- Forgetting an activation that isn't in use keeps the store at everything in use.
 pub forgotten : (G : Ground) (xs : List Activation) (o : Owner) (store : Store) → o ≡ OfActivation G.p (length xs) → SameLive G xs store (forget o store)
 forgotten G xs o store e l h = by (same_owner o l.owner) refl
   where
@@ -64,7 +64,7 @@ forgotten G xs o store e l h = by (same_owner o l.owner) refl
         absurd (omega (arith, h (length xs) owner))
     by false s = refl
 
--- ---- an answer leaves the end marks
+-- ---- the value of a call leaves the end marks as they are
 
 -- What depends only on end marks is the same if the first task has another expression.
 with_answer_same : {A : Type 1} (f : List Task → A) (v : a.Expression) (k : List Task)

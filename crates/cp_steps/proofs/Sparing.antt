@@ -58,7 +58,8 @@ use Rattle.cp_steps.proofs.StartsNone.{call_starts, starts, task_starts}
 use Rattle.cp_steps.proofs.StatementCalls.{own_place, statement_next}
 use Rattle.cp_steps.proofs.Stepping.{Around, AroundAll, IfPlaced, Now}
 
--- What a step does to words that are neither the process's own nor a monitor's: nothing, or it gives another process its parameters.
+-- What a step does to words that belong neither to the process nor to a monitor: nothing, or it
+-- gives another process its parameters.
 pub data Sparing (G : Ground) (s : State) (w : Outside) (before : List ℕ) (o : PrivateState) : Type 0 where
   SparesAll : (y : Operation) → operation_at G.program o.place ≡ Some y → starts (action (s.continuation G.p)) ≡ false → Spares G o.words (act G.program w o y).0.words → Sparing G s w before o
   StartsOne : (Z : InitOfProcess G s w before o) → operation_at G.program o.place ≡ Some (op.InitProcess Z.number Z.passes Z.words Z.next)

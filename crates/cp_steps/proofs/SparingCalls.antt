@@ -1,4 +1,5 @@
--- Calls, and the `init` of a class or a monitor, change no words but the process's own and those of monitors.
+-- Calls and the `init` of a class or a monitor change no words but the process's own and those of
+-- monitors.
 use Rattle.std.proofs.Common.{◌≡◌, ◌⊎◌, inl, inr, ℕ, suc, ◌+◌, ◌≤◌, ◌<◌, ℤ, pos, List, [], length, Bool, true, false, Option, Some, None, refl, ap, sym, subst, ◌∙◌, arith}
 use Rattle.std.specs.Prelude.{if◌then◌else◌, not, slice_get}
 use Rattle.cp_model.specs.Abstract.{Class, Name, Routine, System}

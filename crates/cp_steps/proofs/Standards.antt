@@ -99,7 +99,7 @@ append_more (x ∷ a) b c = ap (λ y. x ∷ y) (append_more a b c)
 abbrev pub one : a.Expression → a.Expressions
 one e = a.MoreExpressions e a.NoExpression
 
--- ---- which one it is
+-- ---- which standard procedure it is
 
 where_true : (b : Bool) (x y : StepResult) → b ≡ true → (if b then x else y) ≡ x
 where_true b x y h = ap (λ z. if z then x else y) h

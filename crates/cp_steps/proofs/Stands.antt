@@ -29,7 +29,8 @@ pub record AllStand (program : Program) (setup : Setup) (F : StandsFor program s
       → PartStands program setup F (own p) p s k (transcript_of ts p) o
   pub invariant : Invariant s
 
--- A machine of the program is in a state where all it holds is that of the state. Process p has `own p` words.
+-- A machine of the program is in a state if everything it holds is that of the state. Process `p`
+-- has `own p` words.
 pub record IsIn (program : Program) (setup : Setup) (F : StandsFor program setup) (own : ℕ → ℕ) (s : State) (m : Machine) : Type 0 where
   pub program_is : m.program ≡ program
   pub tick_is : m.tick ≡ setup.tick

@@ -40,7 +40,8 @@ IfPlaced _ A = A
 abbrev pub clock_of : Ground → State → Clock
 clock_of G s = running_clock G.setup s
 
--- What a step reads beside: the running clock, and how many words are the process's own.
+-- What a step reads besides the private state: the running clock, and the number of the process's
+-- own words.
 pub record Around (G : Ground) (s : State) (w : Outside) : Type 0 where
   pub clock : w.clock ≡ realtime (clock_of G s)
   pub own : w.own ≡ G.own
@@ -80,8 +81,9 @@ does G s x = take_action (context G.setup s G.p) (configuration s G.p) x
 abbrev pub acted : Ground → State → State
 acted G s = after_step s G.p (does G s (action (s.continuation G.p)))
 
--- The machine's operation and the meaning's action are both the kernel's, or neither is. Where neither is, or all words are in reach, the
--- private state after the machine's step is that of the process after the meaning's. With all words in reach both leave the same to the kernel.
+-- The machine's operation and the meaning's action are both kernel steps, or neither is. If neither
+-- is, or if all words are in reach, the private state after the machine's step is that of the
+-- process after the meaning's. With all words in reach, both leave the same to the kernel.
 pub record Stepped (G : Ground) (s : State) (w : Outside) (before : List ℕ) (o : PrivateState) : Type 0 where
   pub operation : Operation
   pub there : operation_at G.program o.place ≡ Some operation
@@ -91,7 +93,8 @@ pub record Stepped (G : Ground) (s : State) (w : Outside) (before : List ℕ) (o
 
 -- ---- what comes of them
 
--- Nothing but the place, the registers, the words, temps and frames of a private state changed.
+-- In the private state, only the place, the registers, the words, the temps and the frames have
+-- changed.
 pub record Quiet (o after : PrivateState) : Type 0 where
   pub number : after.number ≡ o.number
   pub input : after.input ≡ o.input

@@ -1,4 +1,5 @@
--- A process before it begins: its private state, and the parameters that wait for it among the shared words.
+-- A process before it begins: its private state, and the parameters that wait for it among the
+-- shared words.
 --
 -- In the meaning, the start of a process stores its parameters, and its task becomes what is left
 -- to do. Here both happen at the end of the round. So what is claimed of a started process is

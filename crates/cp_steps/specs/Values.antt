@@ -11,7 +11,8 @@ use Rattle.cp_code.specs.Functions.{in_range, standard, unless}
 use Rattle.cp_code.specs.Layout.{distance, natural}
 use Rattle.cp_code.specs.Starts.{word}
 
--- What evaluation reads: the words and temps, where those of the running activation and component begin, and the clock.
+-- What evaluation reads: the words and temps, where those of the running activation and component
+-- begin, and the clock.
 pub record View : Type 0 where
   pub words : List ℤ
   pub temps : List ℤ

@@ -1,4 +1,4 @@
--- Chains of operands and of indices: the terms and spots that they stand for, and their values.
+-- Chains of operands and of indices: what they are as terms and spots, and their values.
 use Rattle.std.proofs.Math.ListN.{get_or, set}
 use Rattle.std.proofs.Common.{arith, Bool, true, false, zero, suc, length, ◌≡◌, ◌+◌, ◌*◌, ℕ, ℤ, map, List, [], ◌∷◌, ◌++◌, Result, Ok, Err, Vec, Global, refl, ap, ◌∙◌}
 use Rattle.cp_model.specs.declared.state.Fault.{Fault}
@@ -19,7 +19,7 @@ use Rattle.cp_threaded.specs.declared.term.Application.TheFolds.{fold-roll-Index
 use Rattle.cp_threaded.specs.Reaches.{applied, capped, capped_result, chain_value, elements_place, offset_of}
 use Rattle.cp_threaded.specs.View.{PlainApplication, PlainIndex, application, application_layer, chain_of, elements_of, index, index_layer, operand, operand_layer, root, spot, spot_layer, term, term_layer}
 
--- The value of a chain starts from the value of its first operand and continues with the others.
+-- The value of a chain is computed from its first operand and then from the others.
 pub value_chain : (v : View) (e : plain.Term) (xs : List PlainApplication)
     → value_of v (chain_of e xs) ≡ bind (value_of v e) (λ x. chain_value v x xs)
 value_chain v e [] = keep (value_of v e)
@@ -35,7 +35,7 @@ value_chain v e (o ∷ os) = value_chain v (plain.Binary o.operator e o.operand)
     after (Ok x) = refl
     after (Err f) = refl
 
--- The location of an element is that of its array, moved as far as the indices lead.
+-- The place of an element is the place of the whole, moved on as far as the indices lead.
 pub place_elements : (v : View) (s : plain.Spot) (is : List PlainIndex)
     → place_of v (elements_of s is) ≡ bind (place_of v s) (λ at. elements_place v at is)
 place_elements v s [] = keep (place_of v s)
@@ -62,7 +62,7 @@ place_elements v s (i ∷ is) = place_elements v (plain.Element s i.low i.high i
     after (Ok x) = last (value_of v i.value) x
     after (Err f) = refl
 
--- Indices lead to the same result from a location that is capped.
+-- Indices lead to the same capped place from a place that is capped itself.
 pub elements_capped : (v : View) (a b : ℕ) (is : List PlainIndex) → capped a ≡ capped b
     → capped_result (elements_place v a is) ≡ capped_result (elements_place v b is)
 elements_capped v a b [] h = ap (λ n. Ok n) h
@@ -117,7 +117,7 @@ pub index_rolled : (low high : ℤ) (size plus : ℕ) (value : Term)
 index_rolled low high size plus value =
     fold-roll-Index PlainApplication plain.Term PlainIndex plain.Spot plain.Term application_layer operand_layer index_layer spot_layer term_layer _
 
--- The last index leads further on.
+-- The last index can lead further on.
 pub elements_moved : (n : ℕ) (s : plain.Spot) (xs : List Index) (j : ℕ) (y d : Index) → suc j ≡ length xs
     → index y ≡ (let i = index (get_or xs j d) in record { low = i.low; high = i.high; size = i.size; plus = i.plus + n; value = i.value })
     → elements_of s (map index (set xs j y)) ≡ moved n (elements_of s (map index xs))

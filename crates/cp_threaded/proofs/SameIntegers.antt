@@ -1,4 +1,4 @@
--- When two integers are the same.
+-- When the comparison of two integers finds them equal.
 use Rattle.std.proofs.Common.{◌≡◌, ℤ, pos, negsuc, Bool, true, false, refl, ap, arith, eqb-true}
 use Prim.{grind}
 use Rattle.cp_model.specs.Integers.{same_integer}

@@ -18,7 +18,7 @@ wide z = cast_signed w64 (cast_unsigned w64 z)
 abbrev pub narrow : ℤ → ℤ
 narrow z = cast_signed w32 (cast_unsigned w32 z)
 
--- An operand that was widened.
+-- An operand that is widened.
 pub widened : (a x : ℤ) → FitsSigned w32 a → mag x < 2 ^ 63 → x ≡ narrow a → wide x ≡ a
 widened a x f h is = to_z-of_z w64 x (record { sfits = h }) ∙ (is ∙ to_z-of_z w32 a f)
 
@@ -26,7 +26,7 @@ pub in_range_wide : (f : ℤ → ℤ → ℤ) (a b x y : ℤ) → wide x ≡ a �
     → in_range (wide (f (wide x) (wide y))) ≡ in_range (f a b)
 in_range_wide f a b x y p q h = (λ i. in_range (wide (f (p i) (q i)))) ∙ ap in_range (to_z-of_z w64 (f a b) h)
 
--- A result in 32 bits that was widened.
+-- A result of 32 bits that is widened.
 pub in_range_narrow : (f : ℤ → ℤ → ℤ) (a b x : ℤ) → FitsSigned w32 a → FitsSigned w32 b → FitsSigned w32 (f a b) → mag x < 2 ^ 63
     → x ≡ narrow (f (narrow a) (narrow b)) → in_range (wide x) ≡ in_range (f a b)
 in_range_narrow f a b x fa fb h within is =
@@ -76,6 +76,6 @@ apart (negsuc n) h = refl
 pub unless_zero_passed : (d : ℤ) (r : Result ℤ Fault) → same_integer d (pos 0) ≡ false → r ≡ unless_zero d r
 unless_zero_passed d r h = λ i. if sym h i then Err fault.DivisionByZero else r
 
--- A bound that was widened to be compared.
+-- A bound that is widened for a comparison.
 pub bounds_wide : {A : Type 0} (P : ℤ → ℤ → ℤ → A) (low high n x y z : ℤ) → x ≡ low → y ≡ high → z ≡ n → P x y z ≡ P low high n
 bounds_wide P low high n x y z p q r = λ i. P (p i) (q i) (r i)

@@ -1,4 +1,4 @@
--- The labels of a `case`, as the labels of the definitions.
+-- The labels of a `case`, as plain data of the definitions.
 use Rattle.std.specs.Prelude.{ℕ, ℤ, List, Option, map}
 use Rattle.cp_code.specs.Programs as code
 use Rattle.cp_code.specs.Tables.{arm_at}

@@ -1,4 +1,5 @@
--- What evaluation reads, as the view of the definitions, and how its locations are capped.
+-- What evaluation reads, as the view of the definitions, and how the code represents places that
+-- are too large.
 use Rattle.std.specs.Prelude.{ℕ, ◌++◌, ◌-◌, ◌^◌, min, List, [], ◌∷◌, Result, Ok, Err, ℤ, ◌+◌, ◌*◌}
 use Rattle.cp_model.specs.declared.state.Fault.{Fault}
 use Rattle.cp_model.specs.declared.state.Fault.TheVariants as fault
@@ -19,7 +20,7 @@ view_of r = record {
   clock = r.clock;
 }
 
--- A location beyond all words is capped to the largest number of 64 bits.
+-- A place that doesn't fit in 64 bits is represented by the greatest number that does.
 abbrev pub capped : ℕ → ℕ
 capped n = min n (2 ^ 64 - 1)
 
@@ -27,20 +28,20 @@ abbrev pub capped_result : Result ℕ Fault → Result ℕ Fault
 capped_result (Ok n) = Ok (capped n)
 capped_result (Err f) = Err f
 
--- The value of an operator with this left operand and its own right operand.
+-- The value of an operator, if its left operand has the value `x`.
 abbrev pub applied : View → ℤ → PlainApplication → Result ℤ Fault
 applied v x o = bind (value_of v o.operand) (λ y. apply o.operator x y)
 
--- The value of a chain whose first operands have this value.
+-- The value of a chain whose first operands have the value `x`.
 abbrev pub chain_value : View → ℤ → List PlainApplication → Result ℤ Fault
 chain_value v x [] = Ok x
 chain_value v x (o ∷ os) = bind (applied v x o) (λ z. chain_value v z os)
 
--- How many words an index with this value leads further.
+-- The distance in words to the part that an index of the value `n` selects.
 abbrev pub offset_of : PlainIndex → ℤ → Result ℕ Fault
 offset_of i n = unless (within i.low i.high n) fault.Index (distance i.low n * i.size + i.plus)
 
--- The location to which indices lead from this one.
+-- The place to which the indices lead, starting from the place `at`.
 abbrev pub elements_place : View → ℕ → List PlainIndex → Result ℕ Fault
 elements_place v at [] = Ok at
 elements_place v at (i ∷ is) =

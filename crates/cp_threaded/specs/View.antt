@@ -1,5 +1,6 @@
--- Threaded code as the plain data of the definitions: chains of operands as terms that group to the
--- left, indices as elements of elements, and with each component the plan that it shares.
+-- Threaded code as the plain data of the definitions. Chains of operands become terms that group to
+-- the left, and indices become elements of elements. Each component has its plan, which components
+-- share in the code.
 use Rattle.std.specs.Prelude.{ℕ, ℤ, List, [], ◌∷◌, Option, Some, None, map, slice_get}
 use Rattle.cp_model.specs.Abstract as a
 use Rattle.cp_model.specs.Erase.{operator_of}
@@ -60,12 +61,12 @@ pub record PlainIndex : Type 0 where
   pub plus : ℕ
   pub value : plain.Term
 
--- Operands with operators between them, which group to the left.
+-- The term for operands with operators between them, which group to the left.
 abbrev pub chain_of : plain.Term → List PlainApplication → plain.Term
 chain_of e [] = e
 chain_of e (x ∷ xs) = chain_of (plain.Binary x.operator e x.operand) xs
 
--- The element of an element, and so on.
+-- The element of an element, and so on, one for each index.
 abbrev pub elements_of : plain.Spot → List PlainIndex → plain.Spot
 elements_of s [] = s
 elements_of s (i ∷ is) = elements_of (plain.Element s i.low i.high i.size i.plus i.value) is
@@ -190,7 +191,7 @@ code_unit u = record {
   frames = u.frames;
 }
 
--- The plan with this number. If there is none, no word is written.
+-- The starts of a plan, of which there are none without a plan.
 abbrev pub plan_or_none : Option Plan → List code.Start
 plan_or_none None = []
 plan_or_none (Some p) = map start p.starts.items

@@ -8,7 +8,7 @@ ghost use Rattle.cp_threaded.specs.Labels.{place_of_label};
 use crate::arm::Arm;
 use std::collections::BTreeMap;
 
-/// Arms in the order of the text, and the place of the first arm with each label.
+/// The arms in text order, and the place of the first arm with each label.
 #[derive(Debug, Drop)]
 pub struct Arms {
     pub(crate) arms: Vec<Arm>,

@@ -1,7 +1,7 @@
-//! The values of terms and the locations of spots, over words.
+//! Evaluates terms and computes the places of spots, over words.
 //!
-//! Words have 32 bits, because the ordinals of a long enumeration and addresses need them. The
-//! results of arithmetic are within -32768..=32767.
+//! Words have 32 bits, which the ordinals of long enumerations and addresses need. The results of
+//! arithmetic lie within -32768..32767.
 
 ghost use Rattle.std.specs.Prelude.{◌≡◌, ℕ, ◌+◌, ◌*◌, ◌<◌, ◌^◌, ◌++◌, length, map};
 ghost use Rattle.cp_code.specs.Functions as functions;
@@ -61,8 +61,7 @@ fn remainder(a: i32, b: i32) -> Result<i32, Fault>
     in_range(i64::from(a % b))
 }
 
-// Applies an operator to two values. `div` truncates toward zero, and `mod` gives the matching
-// remainder.
+// `div` truncates toward zero, and `mod` is its remainder.
 #[inline(always)]
 fn apply(operator: Operator, a: i32, b: i32) -> Result<i32, Fault>
     ensures { result ≡ values.apply (operator_of operator) a b }
@@ -84,7 +83,7 @@ fn apply(operator: Operator, a: i32, b: i32) -> Result<i32, Fault>
     }
 }
 
-// Returns a number if it is within the bounds.
+// Returns `n` if it lies within the bounds.
 fn check_range(n: i64, low: i32, high: i32) -> Result<i32, Fault>
     ensures { result ≡ functions.unless (within low high n) fault.Range n }
 {
@@ -115,7 +114,7 @@ fn standard(function: Function, n: i32) -> Result<i32, Fault>
     }
 }
 
-// Returns a word, or 0 if it is missing.
+// The word at an index, or 0 if there is no such word.
 #[inline(always)]
 fn word(words: &[i32], at: usize) -> i32
     ensures { result ≡ starts.word words.now at }
@@ -126,7 +125,7 @@ fn word(words: &[i32], at: usize) -> i32
     }
 }
 
-// Returns a word as a natural number, or 0 if it is negative.
+// A word as a number that isn't negative. A negative word counts as 0.
 fn natural(n: i32) -> usize
     ensures natural { result ≡ layout.natural n }
     ensures small { result < 2 ^ 32 }
@@ -135,8 +134,8 @@ fn natural(n: i32) -> usize
 }
 
 impl<'a> Reach<'a> {
-    // Returns the word at a location, or 0 if it is missing. The location may be capped to the
-    // largest `usize`.
+    // The word at a place, or 0 if there is no such word. A place that is too large may be given as
+    // the greatest `usize`.
     #[inline(always)]
     fn word(&self, at: usize) -> i32
         ensures word { result
@@ -166,7 +165,7 @@ impl<'a> Reach<'a> {
         self.memory.component as usize + at as usize
     }
 
-    // Returns the temp with this number.
+    // The temp with this number, counted from the first temp of the running activation.
     #[inline(always)]
     fn temp(&self, temp: u32) -> i32
         ensures { result ≡ starts.word self.now.memory.now.temps.items
@@ -186,7 +185,7 @@ impl<'a> Reach<'a> {
         natural(self.word(self.local(parameter))) + plus as usize
     }
 
-    /// Returns the location where a variable begins.
+    /// The place where a variable begins.
     pub fn root_place(&self, root: Root) -> usize
         ensures place { result ≡ values.root_place (view_of self.now) (view.root root) }
         ensures small { result < 2 ^ 33 }
@@ -198,7 +197,7 @@ impl<'a> Reach<'a> {
         }
     }
 
-    // Returns the number of seconds since the start, if it fits in an integer.
+    // The number of seconds since the start. Faults if it is greater than 32767.
     fn realtime(&self) -> Result<i32, Fault>
         ensures { result ≡ values.value_of (view_of self.now) terms.Realtime }
     {
@@ -211,8 +210,8 @@ impl<'a> Reach<'a> {
 }
 
 impl Operand {
-    // Returns the value of an operand that can't be read directly. Most of these are values of
-    // calls and elements, which are tested first.
+    // The value of an operand that the inlined functions don't evaluate. Most of these are values
+    // of calls and elements, so those are matched first.
     #[cycle(value)]
     #[inline(never)]
     fn deep_value(&self, reach: &Reach) -> Result<i32, Fault>
@@ -248,8 +247,8 @@ impl Operand {
         }
     }
 
-    /// Returns the value of an operand. Numbers and the words of variables are tested first, since
-    /// they are the most common.
+    /// Evaluates an operand. Numbers and words of variables are matched first, since they are the
+    /// most common.
     #[cycle(value)]
     #[inline(always)]
     pub fn value(&self, reach: &Reach) -> Result<i32, Fault>
@@ -276,7 +275,7 @@ impl Operand {
 }
 
 impl Application {
-    // Returns the value of the application to a left operand with the value `left`.
+    // The value of the operator, if its left operand has the value `left`.
     #[cycle(value)]
     #[inline(always)]
     fn value_after(&self, left: i32, reach: &Reach) -> Result<i32, Fault>
@@ -292,7 +291,7 @@ impl Application {
     }
 }
 
-// Returns the value of a chain whose first operands have the value `first`.
+// The value of a chain whose first operands have the value `first`.
 #[cycle(value)]
 #[inline(always)]
 fn value_of_chain(first: i32, rest: &[Application], reach: &Reach) -> Result<i32, Fault>
@@ -306,11 +305,11 @@ fn value_of_chain(first: i32, rest: &[Application], reach: &Reach) -> Result<i32
 }
 
 impl Term {
-    /// Returns the value of a term.
+    /// Evaluates a term.
     ///
     /// # Errors
     ///
-    /// The first fault from left to right.
+    /// The first fault that occurs from left to right.
     #[cycle(value)]
     pub fn value(&self, reach: &Reach) -> Result<i32, Fault>
         ensures { result ≡ values.value_of (view_of reach.now) (view.term self.now) }
@@ -318,12 +317,12 @@ impl Term {
         self.value_here(reach)
     }
 
-    /// Returns the same value as `value`, without a call if the operands are numbers and words. It
-    /// is meant for the most common operations.
+    /// Returns the same as `value`. It is inlined, so operands that are numbers or words need no
+    /// call. Use it for the most common operations.
     ///
     /// # Errors
     ///
-    /// The first fault from left to right.
+    /// The first fault that occurs from left to right.
     #[cycle(value)]
     #[inline(always)]
     pub fn value_here(&self, reach: &Reach) -> Result<i32, Fault>
@@ -334,7 +333,7 @@ impl Term {
     }
 }
 
-// Returns how many words an index leads away from the start of its array.
+// The distance in words of the part that an index of the value `n` selects.
 fn offset(i: &Index, n: i32) -> Result<usize, Fault>
     ensures { result ≡ offset_of (view.index i.now) n }
 {
@@ -345,7 +344,7 @@ fn offset(i: &Index, n: i32) -> Result<usize, Fault>
     Ok(distance * i.size as usize + i.plus as usize)
 }
 
-// Returns the location to which indices lead from the location `from`.
+// The place to which the indices lead, starting from the place `from`.
 #[cycle(value)]
 fn place_of_element(from: usize, indices: &[Index], reach: &Reach) -> Result<usize, Fault>
     ensures { result ≡ capped_result
@@ -360,12 +359,12 @@ fn place_of_element(from: usize, indices: &[Index], reach: &Reach) -> Result<usi
 }
 
 impl Spot {
-    /// Returns the location of a variable or of a part of one. A location beyond all words may be
-    /// capped to the largest `usize`.
+    /// The place of a variable or of a part of one. A place that is too large is returned as the
+    /// greatest `usize`.
     ///
     /// # Errors
     ///
-    /// The first fault from left to right.
+    /// The first fault that occurs from left to right.
     #[cycle(value)]
     #[inline(always)]
     pub fn place(&self, reach: &Reach) -> Result<usize, Fault>
@@ -379,7 +378,7 @@ impl Spot {
         place_of_element(from, &self.indices, reach)
     }
 
-    // Returns the word at the spot.
+    // The word at the place of the spot.
     #[cycle(value)]
     #[inline(never)]
     fn word(&self, reach: &Reach) -> Result<i32, Fault>

@@ -1,15 +1,15 @@
-//! The form of a program of the whole language: threaded code, flat enough that a step allocates
-//! nothing and hashes nothing.
+//! The form of a compiled program: threaded code, flat enough that a step needs neither allocation
+//! nor hashing.
 //!
-//! - `term`: expressions as chains of operands, and spots, which give the locations of variables.
-//! - `operation`: operations, each of which is one step and names the operations that may follow.
-//! - `arms`, `search`: where a `case` leads.
-//! - `program`: units of code, the words of components, and the program, which keeps once what
-//!   components of one type share.
-//! - `evaluation`: the values of terms and the locations of spots, over the words in a `reach`.
+//! - `term`: expressions, which are chains of operands, and spots, which are places of variables.
+//! - `operation`: operations, each of which is one step and holds the places to which it leads.
+//! - `arm`, `arms`, `search`: where a `case` leads.
+//! - `program`: units of code, the words of components, and the program. What components of one
+//!   type share is kept once.
+//! - `evaluation`: the values of terms and the places of spots, over the words that `reach` has.
 //!
-//! `specs/View.antt` defines each of these as the plain data of `cp_code`, on which the steps are
-//! defined.
+//! `specs/View.antt` defines these forms as plain data of `cp_code`, which the definitions of steps
+//! are about.
 #![tactic(auto)]
 
 pub mod arm;

@@ -1,5 +1,5 @@
-//! Operations. An operation is one step, and names the place to which it leads. A place is an index
-//! into the program's operations.
+//! Operations. Each is one step and holds the place to which it leads. A place is an index into the
+//! program's operations.
 
 use crate::arms::Arms;
 use crate::term::{Root, Spot, Term};
@@ -7,23 +7,22 @@ use crate::term::{Root, Spot, Term};
 /// The component whose routine is called.
 #[derive(Clone, Copy, Debug, PartialEq, Eq)]
 pub enum Target {
-    /// The running component.
+    /// The running component itself.
     Own,
-    /// A class that is a variable of the running component, at this number of words from its first
-    /// word.
+    /// A class component that is a variable of the running component, at this offset in words.
     Class(u32),
-    /// A class to which this word of the running component holds a right.
+    /// A class component, the right to which is in this word of the running component.
     ClassRight(u32),
     /// The monitor with this number.
     Monitor(u32),
-    /// The monitor whose number is held by this word of the running component.
+    /// The monitor whose number is in this word of the running component.
     MonitorRight(u32),
 }
 
-/// What is passed to the parameter that lies `at` words from the first one.
+/// What is passed to the parameter that lies `at` words from the first word of the new activation.
 #[derive(Debug, Drop)]
 pub enum Argument {
-    /// A value within bounds.
+    /// A value, which must lie within the bounds.
     Value {
         at: u32,
         low: i32,
@@ -47,10 +46,10 @@ pub enum Argument {
 }
 
 /// A call of a unit. The new activation begins `words` words after the caller's first word, and the
-/// arguments are put there. Its temps begin `temps` temps after the caller's first temp.
+/// arguments are put there. Its temps begin after the first `temps` temps of the caller.
 #[derive(Debug, Drop)]
 pub struct Call {
-    /// The number of the unit.
+    /// The number of the called unit.
     pub routine: u32,
     pub target: Target,
     pub arguments: Vec<Argument>,
@@ -58,14 +57,16 @@ pub struct Call {
     pub temps: u32,
 }
 
-/// Where a `case` leads: the place for each number from the lowest label on, or for each label.
+/// Where a `case` leads: the place of each number from the lowest label on, or the place of each
+/// label.
 #[derive(Debug, Drop)]
 pub enum Table {
     Dense { low: i32, places: Vec<Option<u32>> },
     Sparse(Arms),
 }
 
-/// A `for`. Its counter is in the temp `temp`, and its last value is in the next temp.
+/// A `for` statement. The temp with the number `temp` holds the counter, and the next temp the last
+/// value.
 #[derive(Clone, Copy, Debug, PartialEq, Eq)]
 pub struct Counting {
     pub variable: Root,
@@ -122,7 +123,7 @@ pub enum Operation {
         call: Call,
         next: u32,
     },
-    /// Puts the value of the call into a temp.
+    /// Calls a function and puts its value into the temp `into`.
     Function {
         call: Call,
         into: u32,

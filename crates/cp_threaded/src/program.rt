@@ -1,4 +1,4 @@
-//! Programs: operations, units of code, and components.
+//! Programs, which consist of operations, units of code and components.
 
 ghost use Rattle.std.specs.Prelude.{◌≡◌, ◌-◌, length, map, option_map, slice_get};
 ghost use Rattle.cp_threaded.specs.View as view;
@@ -6,8 +6,8 @@ ghost use Rattle.cp_threaded.specs.View.{plans_of};
 
 use crate::operation::Operation;
 
-/// How words start: `count` words with one value, or `count` blocks that are all like the first
-/// one, of `size` words.
+/// How words start: `count` words with one value, or `count` blocks of `size` words like the first
+/// one.
 #[derive(Clone, Copy, Debug, PartialEq, Eq)]
 pub enum Start {
     Fill { at: u32, count: u32, value: i32 },
@@ -15,8 +15,8 @@ pub enum Start {
 }
 
 /// The code of a routine or of the body of a system type: the place of its first operation, how the
-/// words of an activation start, and how many words, temps and frames the activation and all its
-/// calls need.
+/// words of its activations start, and how many words, temps and frames it needs with all that it
+/// calls.
 #[derive(Debug, Drop)]
 pub struct CodeUnit {
     pub start: u32,
@@ -26,19 +26,19 @@ pub struct CodeUnit {
     pub frames: u32,
 }
 
-/// A monitor. Its words lie among the shared words, from `start` on. `plan` is the number of the
-/// plan by which they start.
+/// A monitor. Its words lie among the shared words, from `start` on. They start by the plan with
+/// the number `plan` in the program.
 #[derive(Clone, Copy, Debug, PartialEq, Eq)]
 pub struct Monitor {
     pub start: u32,
-    /// The number of the body's unit.
+    /// The number of the unit of the monitor's body.
     pub body: u32,
     pub words: u32,
     pub plan: u32,
 }
 
-/// A process, which has words of its own. Its arguments wait among the shared words, from
-/// `parameters` on.
+/// A process, which has words of its own. The arguments of its `init` wait among the shared words,
+/// from `parameters` on.
 #[derive(Clone, Copy, Debug, PartialEq, Eq)]
 pub struct Process {
     pub body: u32,
@@ -48,13 +48,14 @@ pub struct Process {
     pub plan: u32,
 }
 
-/// The plan by which the words of the components of one system type start.
+/// The start values of the words of the components of one system type.
 #[derive(Debug, Drop)]
 pub struct Plan {
     pub starts: Vec<Start>,
 }
 
-/// A program. Monitors and processes are each numbered from 1, and the initial process comes first.
+/// A program. Monitors have the numbers from 1 on, and so do processes, of which the first is the
+/// initial one.
 #[derive(Debug, Drop)]
 pub struct Program {
     operations: Vec<Operation>,
@@ -66,7 +67,7 @@ pub struct Program {
 }
 
 impl Program {
-    /// Returns a program with these parts. Plans are referred to by their numbers, from 0.
+    /// Creates a program of these parts. Plans have the numbers from 0 on.
     pub fn new(
         operations: Vec<Operation>,
         units: Vec<CodeUnit>,
@@ -94,7 +95,7 @@ impl Program {
         }
     }
 
-    /// Returns the operation at a place, if there is one.
+    /// The operation at a place, if there is one.
     #[inline(always)]
     pub fn operation(&self, place: u32) -> Option<&Operation>
         ensures { option_map (λ o. view.operation o.now) result ≡ slice_get
@@ -103,7 +104,7 @@ impl Program {
         self.operations.get(place as usize)
     }
 
-    /// Returns the unit with this number, from 0, if there is one.
+    /// The unit with this number, from 0 on, if there is one.
     pub fn unit(&self, number: u32) -> Option<&CodeUnit>
         ensures { option_map (λ u. view.code_unit u.now) result ≡ slice_get
             (view.program self.now).units number }
@@ -111,7 +112,7 @@ impl Program {
         self.units.get(number as usize)
     }
 
-    /// Returns the monitor with this number, from 1, if there is one. The number 0 is read as 1.
+    /// The monitor with this number, from 1 on, if there is one. The number 0 counts as 1.
     pub fn monitor(&self, number: usize) -> Option<&Monitor>
         ensures { option_map (λ m. view.monitor (plans_of self.now) m.now) result ≡ slice_get
             (view.program self.now).monitors (number - 1) }
@@ -119,7 +120,7 @@ impl Program {
         self.monitors.get(number.saturating_sub(1))
     }
 
-    /// Returns the process with this number, from 1, if there is one. The number 0 is read as 1.
+    /// The process with this number, from 1 on, if there is one. The number 0 counts as 1.
     pub fn process(&self, number: usize) -> Option<&Process>
         ensures { option_map (λ p. view.process (plans_of self.now) p.now) result ≡ slice_get
             (view.program self.now).processes (number - 1) }
@@ -127,8 +128,7 @@ impl Program {
         self.processes.get(number.saturating_sub(1))
     }
 
-    /// Returns how the words of a component with this plan start, or nothing if there is no such
-    /// plan.
+    /// The starts of the plan with this number. They are empty if there is no such plan.
     pub fn starts(&self, plan: u32) -> &[Start]
         ensures { map view.start result.now ≡ view.plan_at (plans_of self.now) plan }
     {
@@ -138,21 +138,21 @@ impl Program {
         }
     }
 
-    /// Returns the number of monitors. They are numbered from 1.
+    /// The number of monitors, which is also the greatest number of a monitor.
     pub fn monitors(&self) -> usize
         ensures { result ≡ length (view.program self.now).monitors }
     {
         self.monitors.len()
     }
 
-    /// Returns the number of processes. They are numbered from 1.
+    /// The number of processes, which is also the greatest number of a process.
     pub fn processes(&self) -> usize
         ensures { result ≡ length (view.program self.now).processes }
     {
         self.processes.len()
     }
 
-    /// Returns how many words the monitors and the waiting parameters take.
+    /// The number of shared words, which the monitors and the waiting parameters take.
     pub fn shared_words(&self) -> u32
         ensures { result ≡ (view.program self.now).shared }
     {

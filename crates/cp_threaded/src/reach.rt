@@ -1,9 +1,9 @@
-//! What evaluation reads.
+//! What the evaluation of terms reads.
 
 ghost use Rattle.std.specs.Prelude.{◌+◌, ◌<◌, ◌^◌, length};
 
-/// What a process holds for what runs: its words and temps, and where those of the running
-/// activation and the running component begin.
+/// The memory of a process: its words and temps, and where those of the running activation and
+/// component begin.
 #[derive(Debug, Drop)]
 pub struct Memory {
     pub words: Vec<i32>,
@@ -16,8 +16,8 @@ pub struct Memory {
     pub component: u32,
 }
 
-/// The memory of a process, the shared words, which follow the process's own, and the clock. A
-/// private step has no shared words.
+/// The memory of a process, the shared words, whose places follow those of its own words, and the
+/// clock. A private step has no shared words.
 #[derive(Clone, Copy)]
 pub struct Reach<'a> {
     pub memory: &'a Memory,

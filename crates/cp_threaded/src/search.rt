@@ -1,5 +1,4 @@
-//! Where a `case` leads, as a step looks it up. The time is at most logarithmic in the number of
-//! labels.
+//! The look-up of where a `case` leads, in constant or logarithmic time.
 
 ghost use Rattle.std.specs.Prelude.{◌≡◌, IfOk, map};
 ghost use Rattle.cp_code.specs.Programs as code;
@@ -14,8 +13,7 @@ use std::alloc::{AllocError, Global};
 use std::collections::BTreeMap;
 
 impl Arms {
-    /// Returns arms that are given in the order of the text. If several arms have the same label,
-    /// the first one counts.
+    /// Creates the arms of a `case`, given in text order. The first arm with a label counts.
     pub fn new(alloc: Global, arms: Vec<Arm>) -> Result<Arms, AllocError>
         ensures { IfOk result (λ x. x.arms.items ≡ arms.items) }
     {
@@ -27,7 +25,7 @@ impl Arms {
         Ok(Arms { arms, places })
     }
 
-    /// Returns the place of the first arm with a label, if there is one.
+    /// The place of the first arm with this label, if there is one.
     pub fn place(&self, label: i32) -> Option<u32>
         ensures { result ≡ place_of_label self.now.arms.items label }
     {
@@ -36,7 +34,7 @@ impl Arms {
 }
 
 impl Table {
-    /// Returns the place to which a number leads, if a label matches it.
+    /// The place to which a number leads, if a label matches it.
     pub fn place(&self, n: i32) -> Option<u32>
         ensures { result ≡ place_in (view.table self.now) n }
     {
@@ -47,7 +45,7 @@ impl Table {
     }
 }
 
-// Returns the place of a number in a dense table, whose places begin with the lowest label.
+// The place of a number, where `places` belong to the numbers from `low` on.
 fn dense_place(low: i32, places: &[Option<u32>], n: i32) -> Option<u32>
     ensures { result ≡ place_in (code.Dense low places.now) n }
 {

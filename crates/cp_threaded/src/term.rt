@@ -1,8 +1,8 @@
-//! Expressions and the locations of variables, over words.
+//! Expressions and places of variables, over words.
 //!
-//! A term is a chain: a first operand, and then operators with their right operands, which group to
-//! the left. An operand that is itself a term has a box of its own. A number, a word and a temp are
-//! read directly.
+//! A term is a chain: a first operand, followed by operators with their right operands, which group
+//! to the left. An operand that is itself a term is boxed, while numbers, words and temps are
+//! stored inline.
 
 ghost use Rattle.std.specs.Prelude.{◌≡◌, IfOk, IfSome};
 ghost use Rattle.cp_code.specs.Terms as plain;
@@ -13,15 +13,15 @@ ghost use Rattle.cp_threaded.specs.View as view;
 use cp_model::tree::Operator;
 use std::alloc::{AllocError, Global};
 
-/// Where a variable begins.
+/// The place where a variable begins.
 #[derive(Clone, Copy, Debug, PartialEq, Eq)]
 pub enum Root {
-    /// At this number of words from the first word of the running activation.
+    /// The word at this offset from the first word of the running activation.
     Local(u32),
-    /// At this number of words from the first word of the running component.
+    /// The word at this offset from the first word of the running component.
     Member(u32),
-    /// At `plus` words from the location to which a reference points. The reference is in the word
-    /// `parameter` of the activation.
+    /// The word `plus` words after the one to which the reference in word `parameter` of the
+    /// activation points.
     Through { parameter: u32, plus: u32 },
 }
 
@@ -40,16 +40,16 @@ pub enum Function {
 #[derive(Debug, Drop)]
 pub enum Operand {
     Number(i32),
-    /// This word of the activation.
+    /// A word of the activation.
     Local(u32),
-    /// This word of the component.
+    /// A word of the component.
     Member(u32),
     /// The value of a call, in the temp with this number.
     Made(u32),
-    /// The word `plus` words after the location to which a reference points. The reference is in
-    /// the word `parameter` of the activation.
+    /// The word `plus` words after the one to which the reference in word `parameter` of the
+    /// activation points.
     Through { parameter: u32, plus: u32 },
-    /// The word at a spot.
+    /// The word at a place.
     Item(Box<Spot>),
     Nested(Box<Term>),
     Not(Box<Term>),
@@ -60,7 +60,8 @@ pub enum Operand {
     Realtime,
 }
 
-/// An operator and its right operand. Most right operands are numbers, which are tested first.
+/// An operator and its right operand. Most right operands are numbers, so these have a case of
+/// their own.
 #[cycle(terms)]
 #[derive(Debug, Drop)]
 pub enum Application {
@@ -68,8 +69,8 @@ pub enum Application {
     WithOperand(Operator, Operand),
 }
 
-/// An index, with the bounds of its array, the number of words in an element, and the offset of the
-/// part within the element.
+/// An index: the bounds of the array, the size of an element in words, the offset of a part within
+/// the element, and the value of the index.
 #[cycle(terms)]
 #[derive(Debug, Drop)]
 pub struct Index {
@@ -80,7 +81,7 @@ pub struct Index {
     pub value: Term,
 }
 
-/// The location of a variable, or of a part of one.
+/// The place of a variable or of a part of one.
 #[cycle(terms)]
 #[derive(Debug, Drop)]
 pub struct Spot {
@@ -97,7 +98,7 @@ pub struct Term {
 }
 
 impl Root {
-    /// Returns the root `words` words further on, if its offset still fits in 32 bits.
+    /// The root `words` words further on, if its offset fits in 32 bits.
     pub fn advance(self, words: u32) -> Option<Root>
         ensures { IfSome result (λ r. view.root r ≡ moved_root words (view.root self)) }
     {
@@ -113,7 +114,7 @@ impl Root {
 }
 
 impl Spot {
-    /// Returns the spot of a variable.
+    /// The spot of a whole variable.
     pub fn variable(alloc: Global, root: Root) -> Spot
         ensures { view.spot result ≡ plain.Rooted (view.root root) }
     {
@@ -123,7 +124,7 @@ impl Spot {
         }
     }
 
-    /// Returns the spot of an element of a variable, or of a part of one.
+    /// The spot of an element of this spot.
     pub fn element(self, low: i32, high: i32, size: u32, value: Term) -> Result<Spot, AllocError>
         ensures { IfOk result
             (λ s. view.spot s ≡ plain.Element (view.spot self) low high size 0 (view.term value)) }
@@ -139,7 +140,7 @@ impl Spot {
         Ok(Spot { root, indices })
     }
 
-    /// Returns the spot `words` words further on, if its offset still fits in 32 bits.
+    /// The spot `words` words further on, if its offset fits in 32 bits.
     pub fn advance(self, words: u32) -> Option<Spot>
         ensures { IfSome result (λ s. view.spot s ≡ moved words (view.spot self)) }
     {
@@ -170,7 +171,7 @@ impl Application {
 }
 
 impl Term {
-    // Returns a term with one operand.
+    // A term that consists of one operand.
     fn lone(alloc: Global, first: Operand) -> Term
         ensures { view.term result ≡ view.operand first }
     {
@@ -186,7 +187,7 @@ impl Term {
         Term::lone(alloc, Operand::Number(n))
     }
 
-    /// Returns a term for the value of a call, in the temp with this number.
+    /// The value of a call, in the temp with this number.
     pub fn temp(alloc: Global, temp: u32) -> Term
         ensures { view.term result ≡ plain.Made temp }
     {
@@ -199,7 +200,7 @@ impl Term {
         Term::lone(alloc, Operand::Realtime)
     }
 
-    /// Returns a term for a variable.
+    /// The first word of a variable.
     pub fn variable(alloc: Global, root: Root) -> Term
         ensures { view.term result ≡ plain.Item (plain.Rooted (view.root root)) }
     {
@@ -211,7 +212,7 @@ impl Term {
         Term::lone(alloc, operand)
     }
 
-    /// Returns a term for the word at a spot.
+    /// The word at a place.
     pub fn item(alloc: Global, spot: Spot) -> Result<Term, AllocError>
         ensures { IfOk result (λ t. view.term t ≡ plain.Item (view.spot spot)) }
     {
@@ -221,28 +222,28 @@ impl Term {
         Ok(Term::lone(alloc, Operand::Item(Box::new(alloc, spot)?)))
     }
 
-    /// Returns a term for whether a queue is empty.
+    /// Whether a queue is empty.
     pub fn empty(alloc: Global, queue: Spot) -> Result<Term, AllocError>
         ensures { IfOk result (λ t. view.term t ≡ plain.Empty (view.spot queue)) }
     {
         Ok(Term::lone(alloc, Operand::Empty(Box::new(alloc, queue)?)))
     }
 
-    /// Returns a term for the negation of this truth value.
+    /// The negation of a Boolean term.
     pub fn not(self, alloc: Global) -> Result<Term, AllocError>
         ensures { IfOk result (λ t. view.term t ≡ plain.Not (view.term self)) }
     {
         Ok(Term::lone(alloc, Operand::Not(Box::new(alloc, self)?)))
     }
 
-    /// Returns a term for this value with its sign changed.
+    /// The term with its sign changed.
     pub fn negative(self, alloc: Global) -> Result<Term, AllocError>
         ensures { IfOk result (λ t. view.term t ≡ plain.Negative (view.term self)) }
     {
         Ok(Term::lone(alloc, Operand::Negative(Box::new(alloc, self)?)))
     }
 
-    /// Returns a term for a standard function of this value.
+    /// A standard function applied to the term.
     pub fn standard(self, alloc: Global, function: Function) -> Result<Term, AllocError>
         ensures { IfOk result
             (λ t. view.term t ≡ plain.Standard (view.function function) (view.term self)) }
@@ -251,7 +252,7 @@ impl Term {
         Ok(Term::lone(alloc, Operand::Standard(function, argument)))
     }
 
-    // Returns the term as an operand. A term with only one operand needs no box.
+    // The term as an operand. A term that is just one operand needs no box.
     fn into_operand(self, alloc: Global) -> Result<Operand, AllocError>
         ensures { IfOk result (λ x. view.operand x ≡ view.term self) }
     {
@@ -261,7 +262,7 @@ impl Term {
         Ok(Operand::Nested(Box::new(alloc, self)?))
     }
 
-    /// Returns a term with an operator between this term and a right operand.
+    /// A binary operator, with this term on its left.
     pub fn binary(self, alloc: Global, operator: Operator, right: Term) -> Result<Term, AllocError>
         ensures { IfOk result
             (λ t. view.term t ≡ plain.Binary (operator_of operator) (view.term self)

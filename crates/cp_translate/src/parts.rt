@@ -43,7 +43,7 @@ impl<'s, 't> Translator<'s, 't> {
         })
     }
 
-    /// The field of a variable. Anything that isn't a field of a record is refused.
+    /// The member of a variable that has this name. A name of no member of its type is refused.
     pub fn field(&self, of: MadeSpot, name: &[u8]) -> Result<MadeSpot, CompileError>
         ensures { IfOk result (λ made. (calls : List CodedCall)
             → PartOf self.now.scope calls calls of (λ d. a.Part d name.now) made) }

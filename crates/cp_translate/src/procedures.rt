@@ -118,7 +118,7 @@ impl<'s, 't> Translator<'s, 't> {
         }
     }
 
-    // Emits a `continue`, which lets the first process in a queue continue.
+    // Emits a `continue`, which lets the process in a queue continue.
     fn resume(&self, e: &Expression, low: u32, emitter: &mut Emitter) -> Result<u32, CompileError>
         ensures { IfOk result (λ entry. (s : code.Scope) → IsScope self.now.scope s
             → let c = coded_variable s (erase.expression (tree.expression e.now)) low in

@@ -3,7 +3,7 @@ use Rattle.cp_threaded.specs.Reaches.{capped_result, chain_value, elements_place
 use Rattle.cp_threaded.specs.View as view
 use Rattle.cp_threaded.proofs.+value.Given as goal
 
--- The indices that are left lead to the same location as all of them.
+-- The remaining indices lead from the place so far to the place of all indices.
 abbrev pub invariant-evaluation::place_of_element-loop-i : goal.invariant-evaluation::place_of_element-loop-i
 invariant-evaluation::place_of_element-loop-i l =
     record {
@@ -12,7 +12,7 @@ invariant-evaluation::place_of_element-loop-i l =
           ≡ capped_result (elements_place (view_of l.fn.reach) l.fn.from (map view.index l.fn.indices));
     }
 
--- The applications that are left lead to the same value as all of them.
+-- The remaining operands lead from the value so far to the value of the chain.
 abbrev pub invariant-evaluation::value_of_chain-loop-x : goal.invariant-evaluation::value_of_chain-loop-x
 invariant-evaluation::value_of_chain-loop-x l =
     chain_value (view_of l.reach) l.n (map view.application (drop l.x-index l.rest))

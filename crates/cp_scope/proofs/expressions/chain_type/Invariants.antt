@@ -6,7 +6,7 @@ use Rattle.cp_scope.specs.Expressions.{ValueIs}
 use Rattle.cp_scope.proofs.ValueTypes.{PartlyChained}
 use Rattle.cp_scope.proofs.expressions.chain_type.Given as goal
 
--- the operands before this one have a value of this type
+-- The operands before this one have a value of this type.
 abbrev pub invariant-loop-operation : goal.invariant-loop-operation
 invariant-loop-operation l =
     (s : code.Scope) (e : syntax.Expression) → ValueIs s l.first e

@@ -5,7 +5,7 @@ use Rattle.cp_model.specs.Names.{lookup}
 use Rattle.cp_scope.specs.TypeNames.{name_or, typed_among}
 use Rattle.cp_scope.proofs.type_names.add_names.Given as goal
 
--- the names entered so far and the remaining ones are all of them
+-- The names added so far and the remaining ones are all names.
 abbrev pub invariant-loop-x : goal.invariant-loop-x
 invariant-loop-x l =
     (x behind : Name) → name_or (lookup x l.table) (typed_among (map erase.name (drop l.x-index l.names)) l.of x behind)

@@ -7,7 +7,7 @@ use Rattle.cp_code.specs.Scopes.{declared_type}
 use Rattle.cp_scope.specs.TypeNames.{name_or}
 use Rattle.cp_scope.proofs.type_names.parameter_types.Given as goal
 
--- the groups entered so far and the remaining ones are all of them
+-- The table and the remaining groups give the type names of all groups.
 abbrev pub invariant-loop-group : goal.invariant-loop-group
 invariant-loop-group l =
     (x : Name) → name_or (lookup x l.table) (declared_type x (map erase.parameter_group (map view.parameters (drop l.group-index l.groups))))

@@ -2,7 +2,7 @@ use Rattle.std.proofs.Common.{◌≡◌, ◌++◌, drop, map}
 use Rattle.cp_scope.specs.Variables.{declared_entries, declared_entry}
 use Rattle.cp_scope.proofs.variables.declare_each.Given as goal
 
--- the names declared so far and the remaining ones are all of them
+-- The entries added so far and those of the remaining names are all entries.
 abbrev pub invariant-loop-x : goal.invariant-loop-x
 invariant-loop-x l =
     map declared_entry l.list.items ++ declared_entries (drop l.x-index l.names) l.by_reference l.of

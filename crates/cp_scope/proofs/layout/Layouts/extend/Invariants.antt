@@ -4,7 +4,7 @@ use Rattle.cp_scope.specs.Layouts.{AreLaid}
 use Rattle.cp_scope.specs.Standing.{ScopeStands}
 use Rattle.cp_scope.proofs.layout.Layouts.extend.Given as goal
 
--- the types up to this number have layouts
+-- The first `number` types have layouts.
 abbrev pub invariant-loop-number : goal.invariant-loop-number
 invariant-loop-number l = record {
   count : length l.self.rows.items ≡ l.number;

@@ -10,7 +10,7 @@ pub loop-d-init : goal.loop-d-init
 loop-d-init c = λ g types at vs laid stand counts.
     none_laid g types at vs (map declared_entry c.args.list.now) (record { words = c.args.head; names = c.new.result }) c.new.ensures counts stand
 
--- What is read past the end of a list of declared names.
+-- A placeholder for an index past the end of a list of declared names.
 abbrev nothing : Declared
 nothing = record { name = record { ref_ptr = (0, 0); now = [] }; by_reference = false; of = 0 }
 

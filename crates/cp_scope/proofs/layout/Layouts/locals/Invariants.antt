@@ -8,7 +8,7 @@ use Rattle.cp_scope.specs.Variables.{AreDeclared, declared_entry}
 use Rattle.cp_scope.proofs.LocalsLaid.{PartlyLaid}
 use Rattle.cp_scope.proofs.layout.Layouts.locals.Given as goal
 
--- the remaining variables lie after those laid out so far
+-- The remaining variables lie after those that are laid out.
 abbrev pub invariant-loop-d : goal.invariant-loop-d
 invariant-loop-d l =
     (g : GlobalScope) (types : Types) (at : ℕ) (vs : List (Name × Variable)) → AreLaid g types l.self.rows.items

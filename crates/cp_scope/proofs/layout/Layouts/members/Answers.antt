@@ -12,7 +12,7 @@ loop-member-init c = λ g types at ms laid stand counts.
     none_laid g types at ms (map entry c.args.members.now) c.bare-layout.result c.bare-layout.ensures.parts
     (subst (λ o. Counts o at) (sym c.bare-layout.ensures.words) counts) stand
 
--- What is read past the end of a list of fields.
+-- A placeholder for an index past the end of a list of fields.
 abbrev nothing : Field
 nothing = record { name = record { ref_ptr = (0, 0); now = [] }; of = 0 }
 

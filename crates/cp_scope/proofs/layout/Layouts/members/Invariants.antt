@@ -6,7 +6,7 @@ use Rattle.cp_scope.specs.Standing.{AreMembers, entry}
 use Rattle.cp_scope.proofs.Laying.{PartlyLaid}
 use Rattle.cp_scope.proofs.layout.Layouts.members.Given as goal
 
--- the remaining members lie after those laid out so far
+-- The remaining members lie after those that are laid out.
 abbrev pub invariant-loop-member : goal.invariant-loop-member
 invariant-loop-member l =
     (g : GlobalScope) (types : Types) (at : ℕ) (ms : Members) → AreLaid g types l.self.rows.items → AreMembers types (map entry l.fn.members) ms → Counts l.fn.head at

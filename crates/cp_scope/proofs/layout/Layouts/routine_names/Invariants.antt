@@ -3,6 +3,6 @@ use Rattle.cp_scope.specs.Systems.{routines_of}
 use Rattle.cp_scope.proofs.RoutinesNumbered.{PartlyNamed}
 use Rattle.cp_scope.proofs.layout.Layouts.routine_names.Given as goal
 
--- a name that isn't in the table yet is among the remaining routines
+-- A name that isn't in the table yet is among the remaining routines.
 abbrev pub invariant-loop-i : goal.invariant-loop-i
 invariant-loop-i l = PartlyNamed (routines_of l.fn.texts) l.i (routines_of (drop l.i l.texts)) l.names

@@ -2,7 +2,7 @@ use Rattle.std.proofs.Common.{◌≡◌, length}
 use Rattle.cp_scope.proofs.SystemsMade.{SystemsSoFar}
 use Rattle.cp_scope.proofs.layout.Layouts.systems.Given as goal
 
--- the system types up to this number have tables
+-- The first `number` system types have tables.
 abbrev pub invariant-loop-number : goal.invariant-loop-number
 invariant-loop-number l = record {
   count : length l.tables.items ≡ l.number;

@@ -16,7 +16,7 @@ loop-left-init c = record {
       (sym (drop_all (length c.args.values.now) c.args.values.now (omega arith))) scope;
 }
 
--- One value before others.
+-- One value more, before the others.
 value_in_front : (new : Outer) (b : BaseType) (all : List Identifier) (j k : ℕ) (x : Identifier) (name : Name) (v : BaseType × ℤ) (g : GlobalScope) → k ≡ j + 1
     → k ≤ length all → x ≡ get_or all j x → name ≡ x.name → v ≡ (b, pos j)
     → OuterStands new (with_value name v (with_values b k (drop k all) g)) → OuterStands new (with_values b j (drop j all) g)

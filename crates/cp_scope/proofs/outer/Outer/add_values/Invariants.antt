@@ -3,7 +3,7 @@ use Rattle.cp_scope.specs.Outer.{Defines, with_values}
 use Rattle.cp_scope.specs.Standing.{base_of}
 use Rattle.cp_scope.proofs.outer.Outer.add_values.Given as goal
 
--- the values from this one on have been added
+-- The values from this one on are defined.
 abbrev pub invariant-loop-left : goal.invariant-loop-left
 invariant-loop-left l = record {
   within : l.left ≤ length l.values;

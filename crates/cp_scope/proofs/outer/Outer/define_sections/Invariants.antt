@@ -6,7 +6,7 @@ use Rattle.cp_model.specs.Types.{GlobalScope}
 use Rattle.cp_scope.specs.Outer.{OuterStands}
 use Rattle.cp_scope.proofs.outer.Outer.define_sections.Given as goal
 
--- those defined so far and the remaining ones are all of them
+-- Defining the remaining sections gives the scope that defining all of them gives.
 abbrev pub invariant-loop-section : goal.invariant-loop-section
 invariant-loop-section l =
     (g : GlobalScope) → OuterStands l.fn.self g

@@ -7,7 +7,7 @@ use Rattle.cp_scope.specs.Places.{PlaceIs}
 use Rattle.cp_scope.proofs.Parts.{PartlyIndexed}
 use Rattle.cp_scope.proofs.scope.Scope.indexed_type.Given as goal
 
--- the part selected by the indices so far has this type
+-- The part that the indices so far select has this type.
 abbrev pub invariant-loop-index : goal.invariant-loop-index
 invariant-loop-index l =
     (s : code.Scope) (d : a.Designator) → PlaceIs l.fn.self s l.fn.of d

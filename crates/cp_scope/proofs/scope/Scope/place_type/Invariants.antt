@@ -6,7 +6,7 @@ use Rattle.cp_scope.specs.Scopes.{IsScope}
 use Rattle.cp_scope.proofs.Parts.{PartlySelected}
 use Rattle.cp_scope.proofs.scope.Scope.place_type.Given as goal
 
--- the part selected by the selectors so far has this type
+-- The part that the selectors so far select has this type.
 abbrev pub invariant-loop-selector : goal.invariant-loop-selector
 invariant-loop-selector l =
     (s : code.Scope) → IsScope l.fn.self s

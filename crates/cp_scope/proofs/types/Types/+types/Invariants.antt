@@ -4,7 +4,7 @@ use Rattle.cp_scope.specs.Standing.{MakesIndexed, entry}
 use Rattle.cp_scope.proofs.Groups.{GroupsAdded}
 use Rattle.cp_scope.proofs.types.Types.+types.Given as goal
 
--- the array types made so far are those of the last index types
+-- The array types made so far are those of the last index types.
 abbrev pub invariant-arrays-loop-left : goal.invariant-arrays-loop-left
 invariant-arrays-loop-left l = record {
   within : l.left ≤ length l.indices;
@@ -14,7 +14,7 @@ invariant-arrays-loop-left l = record {
 abbrev pub decreases-arrays-loop-left : goal.decreases-arrays-loop-left
 decreases-arrays-loop-left l = l.left
 
--- the fields added so far, followed by those of the remaining groups, are all of them
+-- The fields added so far and those of the remaining groups are all fields.
 abbrev pub invariant-fields-loop-group : goal.invariant-fields-loop-group
 invariant-fields-loop-group l =
     (added : List (Name × ℕ)) × GroupsAdded l.fn.names l.fn.self l.self (map entry l.fn.fields.items) (map entry l.fields.items) added

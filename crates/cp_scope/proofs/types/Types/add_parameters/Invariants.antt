@@ -4,7 +4,7 @@ use Rattle.cp_scope.specs.Standing.{entry}
 use Rattle.cp_scope.proofs.Groups.{ParametersAdded}
 use Rattle.cp_scope.proofs.types.Types.add_parameters.Given as goal
 
--- the parameters added so far, followed by those of the remaining groups, are all of them
+-- The members added so far and those of the remaining groups are all members.
 abbrev pub invariant-loop-group : goal.invariant-loop-group
 invariant-loop-group l =
     (added : List (Name × ℕ)) × ParametersAdded l.fn.names l.fn.self l.self (map entry l.fn.members.items) (map entry l.members.items) added

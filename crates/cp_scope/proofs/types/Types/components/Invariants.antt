@@ -5,7 +5,7 @@ use Rattle.cp_scope.specs.Variables.{AreDeclared, declared_entry}
 use Rattle.cp_scope.proofs.Picking.{PartlyPicked}
 use Rattle.cp_scope.proofs.types.Types.components.Given as goal
 
--- the components picked so far, followed by the remaining ones, are all of them
+-- The picked entries and the components that remain are all components.
 abbrev pub invariant-loop-d : goal.invariant-loop-d
 invariant-loop-d l =
     (vs : List (Name × Variable)) → AreDeclared l.self (map declared_entry l.fn.list) vs

@@ -3,7 +3,7 @@ use Rattle.cp_scope.specs.Variables.{AreDeclared, Entry, declared_entry, with_de
 use Rattle.cp_scope.proofs.Groups.{Added}
 use Rattle.cp_scope.proofs.types.Types.declare_variables.Given as goal
 
--- the variables added so far, followed by those of the remaining groups, are all of them
+-- The entries added so far and those of the remaining groups are all entries.
 abbrev pub invariant-loop-group : goal.invariant-loop-group
 invariant-loop-group l =
     (added : List Entry) × Added AreDeclared with_declared_groups l.fn.names l.fn.self l.self (map declared_entry l.fn.list.items)

@@ -5,7 +5,7 @@ use Rattle.cp_scope.specs.Variables.{declared_entry}
 use Rattle.cp_scope.proofs.Counting.{PartlyNumbered, all_numbered, none_numbered, one_numbered}
 use Rattle.cp_scope.proofs.types.Types.numbered_names.Goals as goal
 
--- What is read past the end of a list of declared names.
+-- A placeholder for an index past the end of a list of declared names.
 abbrev nothing : Declared
 nothing = record { name = record { ref_ptr = (0, 0); now = [] }; by_reference = false; of = 0 }
 

@@ -5,7 +5,7 @@ use Rattle.cp_scope.specs.Variables.{AreDeclared, declared_entry}
 use Rattle.cp_scope.proofs.Counting.{PartlyNumbered}
 use Rattle.cp_scope.proofs.types.Types.numbered_names.Given as goal
 
--- a name that isn't in the table yet is among the remaining ones
+-- A name that isn't in the table yet is among the remaining ones.
 abbrev pub invariant-loop-d : goal.invariant-loop-d
 invariant-loop-d l = record {
   few_monitors : l.monitors ≤ l.d-index;

@@ -4,7 +4,7 @@ use Rattle.cp_scope.specs.Layouts.{Counts, rights_of}
 use Rattle.cp_scope.specs.Standing.{ScopeStands}
 use Rattle.cp_scope.proofs.types.Types.rights.Given as goal
 
--- the rights counted so far and the remaining ones are all of them
+-- The rights counted so far and those of the remaining groups are all rights.
 abbrev pub invariant-loop-group : goal.invariant-loop-group
 invariant-loop-group l =
     (g : GlobalScope) → ScopeStands l.names l.self g
