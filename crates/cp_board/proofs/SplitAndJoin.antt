@@ -6,7 +6,7 @@ use Rattle.atomic_table.specs.Table.{Splits, Joins}
 use Rattle.atomic_table.proofs.Lists.{at_snoc, set_here, set_else}
 use Rattle.cp_board.specs.declared.view.Shape.{Shape}
 use Rattle.cp_board.specs.declared.view.View.{View}
-use Rattle.cp_board.specs.Views.{is_used_up, first_half, second_half, joined, spent_view}
+use Rattle.cp_board.specs.Views.{is_used_up, first_half, second_half, join_views, spent_view}
 use Rattle.cp_board.specs.Rule.{total, weight, marked_allowance, FitsWords, KeepsRule}
 use Rattle.cp_board.proofs.Totals.{total_split, total_join, total_le}
 use Rattle.cp_board.proofs.DrawLists.{times-append}
@@ -52,7 +52,7 @@ splits p id v of_board two s r at =
     half_marks n false = omega arith
 
 -- a stripe that either seat has marked is marked by both with all their allowance
-joined_marks : (v w : View) (j : ℕ) → marked_allowance j v + marked_allowance j w ≤ marked_allowance j (joined v w)
+joined_marks : (v w : View) (j : ℕ) → marked_allowance j v + marked_allowance j w ≤ marked_allowance j (join_views v w)
 joined_marks v w j = subst (λ (b : Bool). marked_allowance j v + marked_allowance j w ≤ cond b (v.allowance + w.allowance) 0)
     (sym (get_or-or_each v.used_up w.used_up j))
     (by_marks v.allowance w.allowance (is_used_up v j) (is_used_up w j))
@@ -64,7 +64,7 @@ joined_marks v w j = subst (λ (b : Bool). marked_allowance j v + marked_allowan
     by_marks m n false false = omega arith
 
 -- two views of one board fit its words together
-joined_fits : (p : Shape) (words : List ℕ) (v w : View) → v.shape ≡ p → 0 < v.allowance → FitsWords p words v → FitsWords p words w → FitsWords p words (joined v w)
+joined_fits : (p : Shape) (words : List ℕ) (v w : View) → v.shape ≡ p → 0 < v.allowance → FitsWords p words v → FitsWords p words w → FitsWords p words (join_views v w)
 joined_fits p words v w of_board live old theirs = record {
   of_board = λ _. of_board;
   idle = λ n. absurd (omega arith);
@@ -85,10 +85,10 @@ spent_fits p words = record {
 }
 
 pub joins : (p : Shape) (id : ℕ) (v : View) (other : ℕ) (w : View) → v.shape ≡ p → 0 < v.allowance
-    → Joins (KeepsRule p) id v other w (joined v w) spent_view
+    → Joins (KeepsRule p) id v other w (join_views v w) spent_view
 unfolding times_drawn
 joins p id v other w of_board live s r at apart at_other =
-    let both : View = joined v w in
+    let both : View = join_views v w in
     let first : List View = set s.views id both in
     let views : List View = set first other spent_view in
     let was : get_elem? s.views other ≡ some w = sym (set_else s.views id other both apart) ∙ at_other in

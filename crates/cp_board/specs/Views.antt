@@ -58,8 +58,8 @@ or_each (x ∷ xs) [] = x ∷ xs
 or_each (x ∷ xs) (y ∷ ys) = (x || y) ∷ or_each xs ys
 
 -- a join adds the allowances, and combines what was drawn, called and seen
-abbrev pub joined : View → View → View
-joined v w = record {
+abbrev pub join_views : View → View → View
+join_views v w = record {
   shape = v.shape;
   allowance = v.allowance + w.allowance;
   draws = v.draws ++ w.draws;

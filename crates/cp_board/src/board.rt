@@ -14,7 +14,7 @@
 ghost use Rattle.std.specs.Prelude.{◌≡◌, ◌<◌, ◌≤◌, ◌++◌, ◌∷◌, [], true, length, IfOk, IsErr, IfErr, IfSome, None, IsNone, IfNone, IsTrue, ◌↔◌};
 ghost use Rattle.cp_board.specs.Draws.{IsSound, IsWhole};
 ghost use Rattle.cp_board.specs.Models.{IsSeatOf, ChangesOnlyDraws};
-ghost use Rattle.cp_board.specs.Views.{IsDone, KeepsMarks, is_used_up, first_view, first_half, second_half, joined, with_called_stop};
+ghost use Rattle.cp_board.specs.Views.{IsDone, KeepsMarks, is_used_up, first_view, first_half, second_half, join_views, with_called_stop};
 
 use crate::marks::either;
 use crate::seat::Seat;
@@ -226,7 +226,7 @@ impl Board {
         requires first { IsSeatOf self.now first }
         requires second { IsSeatOf self.now second }
         ensures table { result.table ≡ first.table }
-        ensures view { result.view ≡ joined first.view second.view }
+        ensures view { result.view ≡ join_views first.view second.view }
         ensures sound { IsSound self.now.shape.numbers result.view.draws }
         ensures few { length result.view.draws ≤ self.now.shape.numbers }
 

@@ -2,7 +2,7 @@
 //! `specs/Rule.antt`, and what a seat learns from each kind of step is in `specs/Steps.antt`.
 ghost use Rattle.cp_board.specs.Rule.{KeepsRule};
 ghost use Rattle.cp_board.specs.Steps.{DrawsTicket, ReadsStop, CallsStop, LearnsDraws};
-ghost use Rattle.cp_board.specs.Views.{first_view, first_half, second_half, joined, spent_view};
+ghost use Rattle.cp_board.specs.Views.{first_view, first_half, second_half, join_views, spent_view};
 
 use crate::view::{Shape, View};
 use atomic_table::{Join, Play, Split, TableRule};
@@ -55,7 +55,7 @@ impl Split<View> for Halves {
 }
 
 impl Join<View> for Halves {
-    ghost both = { joined };
+    ghost both = { join_views };
 
     ghost spent = { spent_view };
 }

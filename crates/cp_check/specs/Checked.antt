@@ -3,7 +3,7 @@ use Rattle.std.specs.Prelude.{◌≡◌, Result, Ok, Err, Some}
 use Rattle.cp_model.specs.Syntax as s
 use Rattle.cp_model.specs.Erase as erase
 use Rattle.cp_model.specs.States.{Setup}
-use Rattle.cp_model.specs.Rules.{Accepted, told}
+use Rattle.cp_model.specs.Rules.{Accepted, first_violation}
 use Rattle.cp_code.specs.StandsFor.{StandsFor}
 use Rattle.cp_threaded.specs.declared.program.Program.{Program}
 use Rattle.cp_threaded.specs.View as view
@@ -18,5 +18,5 @@ IsProgramOf t program = (setup : Setup) → setup.tree ≡ erase.abstract t → 
 -- the violation is the earliest one of the text.
 abbrev pub Checks : s.Tree → Result Program CheckError → Type 0
 Checks t (Ok program) = Accepted t × IsProgramOf t program
-Checks t (Err (refused.Broken v)) = told t ≡ Some v
+Checks t (Err (refused.Broken v)) = first_violation t ≡ Some v
 Checks t (Err refused.Memory) = Unit {0}

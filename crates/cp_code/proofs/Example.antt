@@ -16,7 +16,7 @@ use Rattle.cp_code.specs.Programs.{CodeUnit}
 use Rattle.cp_code.specs.Sites.{BodyOf, RoutineOf, UnitText}
 use Rattle.cp_code.specs.TermsFor.{nothing_known}
 use Rattle.cp_code.specs.StatementsFor.{CodeFor}
-use Rattle.cp_code.specs.Starts.{Starts, started, unset, word}
+use Rattle.cp_code.specs.Starts.{Starts, carry_out, unset, word}
 use Rattle.cp_code.specs.StandsFor.{UnitStands, body_environment, routine_environment, site_of}
 use Rattle.cp_code.specs.Compile.{unit_texts}
 use Rattle.cp_code.specs.Example.{b, c, d, m, p, get, go, run, add, initial, program, tree}
@@ -105,10 +105,10 @@ nothing_there x h = true≢false (ap is_some (sym h))
 -- A routine without variables and without a result.
 no_starts : (r : Routine) (u : CodeUnit) → declarations g r.variables ≡ [] → r.result ≡ None → u.starts ≡ [] → Starts g r u
 no_starts r u none no_result no_plan = record {
-  length_is = λ base ws. ap (λ plan. length (started base plan ws)) no_plan;
+  length_is = λ base ws. ap (λ plan. length (carry_out base plan ws)) no_plan;
   variables = λ base ws room v i at m path b low high n h. absurd (nothing_there v (subst (λ vs. slice_get vs i ≡ Some v) none h));
   result = λ base ws t room h. absurd (nothing_there t (sym no_result ∙ h));
-  outside = λ base ws i room h other. ap (λ plan. word (started base plan ws) i) no_plan;
+  outside = λ base ws i room h other. ap (λ plan. word (carry_out base plan ws) i) no_plan;
 }
 
 one_more : (base : ℕ) → base + 0 ≡ base

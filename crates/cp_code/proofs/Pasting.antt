@@ -2,7 +2,7 @@
 use Rattle.std.proofs.Common.{◌≡◌, ◌≤◌, ◌<◌, ◌⊎◌, inl, inr, ◌≢◌, ℕ, zero, suc, ◌+◌, ◌*◌, ℤ, pos, List, [], ◌∷◌, ◌++◌, refl, ap, sym, ◌∙◌, length, arith}
 use Rattle.std.specs.Prelude.{replicate, slice_set, slice_index_or}
 use Rattle.std.proofs.lemmas.List.{get_or-set_same, get_or-set_other, length-append, length-set, set-get_or}
-use Rattle.cp_code.specs.Starts.{block, fill, paste, repeated, word}
+use Rattle.cp_code.specs.Starts.{block, fill, paste, repeat_block, word}
 
 pub paste_length : (to : ℕ) (xs ws : List ℤ) → length (paste to xs ws) ≡ length ws
 paste_length to [] ws = refl
@@ -77,10 +77,10 @@ copies_length (suc k) xs = length-append xs (copies k xs) ∙ (omega (arith, cop
 
 -- more blocks like the one that is there
 pub repeated_is_paste : (at size k : ℕ) (xs ws : List ℤ) → length xs ≡ size → block ws at size ≡ xs → at + size + k * size ≤ length ws
-    → repeated at size k ws ≡ paste (at + size) (copies k xs) ws
+    → repeat_block at size k ws ≡ paste (at + size) (copies k xs) ws
 repeated_is_paste at size zero xs ws is stands room = refl
 repeated_is_paste at size (suc k) xs ws is stands room =
-    ap (λ b. repeated (at + size) size k (paste (at + size) b ws)) stands
+    ap (λ b. repeat_block (at + size) size k (paste (at + size) b ws)) stands
     ∙ repeated_is_paste (at + size) size k xs (paste (at + size) xs ws) is
     (ap (block (paste (at + size) xs ws) (at + size)) (sym is) ∙ block_of_paste (at + size) xs ws (omega (arith, room, is)))
     (omega (arith, room, paste_length (at + size) xs ws))

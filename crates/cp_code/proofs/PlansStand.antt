@@ -12,7 +12,7 @@ use Rattle.cp_code.specs.Programs.{Fill, Repeat, Start}
 use Rattle.cp_model.specs.Places.{within}
 pub use Rattle.cp_code.specs.Known.{Plannable, PlannableMembers}
 use Rattle.cp_code.specs.Layout.{head_words}
-use Rattle.cp_code.specs.Starts.{block, fill, paste, repeated, started, started_by, word}
+use Rattle.cp_code.specs.Starts.{block, fill, paste, repeat_block, carry_out, carry_out_start, word}
 use Rattle.cp_code.specs.Plans.{fill_before, fill_unless, plan, plan_of_array, plan_of_class, plan_of_members, repeat_before, start_of}
 use Rattle.cp_code.proofs.Pasting.{block_of_paste, copies, copies_length, fill_is_paste, paste_append, paste_inside, paste_length, paste_outside, paste_same, repeated_is_paste}
 use Rattle.cp_code.proofs.TablesStand.{equal_integers}
@@ -110,40 +110,40 @@ fill_more at k m n ws =
     ∙ ap (paste (at + k) (replicate m n)) (sym (fill_is_paste at k n ws)) ∙ sym (fill_is_paste (at + k) m n (fill at k n ws))
 
 pub fill_before_is : (at count : ℕ) (n : ℤ) (rest : List Start) (base : ℕ) (ws : List ℤ)
-    → started base (fill_before at count n rest) ws ≡ started base rest (fill (base + at) count n ws)
+    → carry_out base (fill_before at count n rest) ws ≡ carry_out base rest (fill (base + at) count n ws)
 fill_before_is at count n [] base ws = refl
 fill_before_is at count n (Repeat behind size more ∷ rest) base ws = refl
 fill_before_is at count n (Fill behind more m ∷ rest) base ws = go (nat_eq behind (at + count) && same_integer m n) refl
   where
     go : (b : Bool) → (nat_eq behind (at + count) && same_integer m n) ≡ b
-        → started base (if b then Fill at (count + more) n ∷ rest else Fill at count n ∷ Fill behind more m ∷ rest) ws
-        ≡ started base rest (fill (base + behind) more m (fill (base + at) count n ws))
+        → carry_out base (if b then Fill at (count + more) n ∷ rest else Fill at count n ∷ Fill behind more m ∷ rest) ws
+        ≡ carry_out base rest (fill (base + behind) more m (fill (base + at) count n ws))
     go false h = refl
     go true h =
         let both = and_parts (nat_eq behind (at + count)) (same_integer m n) h in
         let place : base + at + count ≡ base + behind = omega (arith, eqb-true behind (at + count) both.0) in
-        ap (started base rest) (fill_more (base + at) count more n ws
+        ap (carry_out base rest) (fill_more (base + at) count more n ws
         ∙ ap (λ z. fill z more n (fill (base + at) count n ws)) place
         ∙ ap (λ z. fill (base + behind) more z (fill (base + at) count n ws)) (sym (equal_integers m n both.1)))
 
 fill_unless_is : (zeros : Bool) (at count : ℕ) (n : ℤ) (rest : List Start) (base : ℕ) (ws : List ℤ) → Blank zeros ws (base + at) count
-    → started base (fill_unless zeros at count n rest) ws ≡ started base rest (paste (base + at) (replicate count n) ws)
+    → carry_out base (fill_unless zeros at count n rest) ws ≡ carry_out base rest (paste (base + at) (replicate count n) ws)
 fill_unless_is false at count n rest base ws blank =
-    fill_before_is at count n rest base ws ∙ ap (started base rest) (fill_is_paste (base + at) count n ws)
+    fill_before_is at count n rest base ws ∙ ap (carry_out base rest) (fill_is_paste (base + at) count n ws)
 fill_unless_is true at count (negsuc n) rest base ws blank =
-    fill_before_is at count (negsuc n) rest base ws ∙ ap (started base rest) (fill_is_paste (base + at) count (negsuc n) ws)
+    fill_before_is at count (negsuc n) rest base ws ∙ ap (carry_out base rest) (fill_is_paste (base + at) count (negsuc n) ws)
 fill_unless_is true at count (pos (suc n)) rest base ws blank =
-    fill_before_is at count (pos (suc n)) rest base ws ∙ ap (started base rest) (fill_is_paste (base + at) count (pos (suc n)) ws)
+    fill_before_is at count (pos (suc n)) rest base ws ∙ ap (carry_out base rest) (fill_is_paste (base + at) count (pos (suc n)) ws)
 fill_unless_is true at count (pos zero) rest base ws blank =
-    ap (started base rest) (sym (paste_same (base + at) (replicate count (pos 0)) ws (λ k less.
+    ap (carry_out base rest) (sym (paste_same (base + at) (replicate count (pos 0)) ws (λ k less.
     let inside : k < count = omega (arith, less, length-replicate count (pos 0)) in
     blank refl k inside ∙ sym (get_or-replicate count k (pos 0) (pos 0) inside))))
 
 -- ---- Arrays
 
-started_append : (base : ℕ) (xs ys : List Start) (ws : List ℤ) → started base (xs ++ ys) ws ≡ started base ys (started base xs ws)
+started_append : (base : ℕ) (xs ys : List Start) (ws : List ℤ) → carry_out base (xs ++ ys) ws ≡ carry_out base ys (carry_out base xs ws)
 started_append base [] ys ws = refl
-started_append base (x ∷ xs) ys ws = started_append base xs ys (started_by base x ws)
+started_append base (x ∷ xs) ys ws = started_append base xs ys (carry_out_start base x ws)
 
 abbrev AllZero : List ℤ → Type 0
 AllZero xs = (k : ℕ) → k < length xs → slice_index_or xs k (pos 0) ≡ pos 0
@@ -168,16 +168,16 @@ all_zero_copies (suc k) xs h i less = all_zero_append xs (copies k xs) h (all_ze
 
 -- a planned block, and the blocks after it
 repeat_is : (at size c : ℕ) (xs : List Start) (values : List ℤ) (rest : List Start) (base : ℕ) (ws : List ℤ) → length values ≡ size
-    → started base xs ws ≡ paste (base + at) values ws → base + at + suc c * size ≤ length ws
-    → started base (xs ++ (Repeat at size (suc c) ∷ rest)) ws ≡ started base rest (paste (base + at) (copies (suc c) values) ws)
+    → carry_out base xs ws ≡ paste (base + at) values ws → base + at + suc c * size ≤ length ws
+    → carry_out base (xs ++ (Repeat at size (suc c) ∷ rest)) ws ≡ carry_out base rest (paste (base + at) (copies (suc c) values) ws)
 repeat_is at size c xs values rest base ws is planned room =
     let first = base + at in
     let block_there : block (paste first values ws) first size ≡ values =
     ap (block (paste first values ws) first) (sym is) ∙ block_of_paste first values ws (omega (arith, is, room)) in
     started_append base xs (Repeat at size (suc c) ∷ rest) ws
-    ∙ ap (started base (Repeat at size (suc c) ∷ rest)) planned
-    ∙ ap (λ n. started base rest (repeated first size n (paste first values ws))) (one_less c)
-    ∙ ap (started base rest) (repeated_is_paste first size c values (paste first values ws) is block_there (omega (arith, room, paste_length first values ws))
+    ∙ ap (carry_out base (Repeat at size (suc c) ∷ rest)) planned
+    ∙ ap (λ n. carry_out base rest (repeat_block first size n (paste first values ws))) (one_less c)
+    ∙ ap (carry_out base rest) (repeated_is_paste first size c values (paste first values ws) is block_there (omega (arith, room, paste_length first values ws))
     ∙ ap (λ n. paste (first + n) (copies c values) (paste first values ws)) (sym is)
     ∙ sym (paste_append first values (copies c values) ws))
   where
@@ -185,12 +185,12 @@ repeat_is at size c xs values rest base ws is planned room =
     one_less n = omega arith
 
 repeat_before_is : (zeros : Bool) (at size c : ℕ) (xs : List Start) (values : List ℤ) (rest : List Start) (base : ℕ) (ws : List ℤ) → length values ≡ size
-    → started base xs ws ≡ paste (base + at) values ws → base + at + suc c * size ≤ length ws → Blank zeros ws (base + at) (suc c * size)
-    → started base (repeat_before zeros at size (suc c) xs rest) ws ≡ started base rest (paste (base + at) (copies (suc c) values) ws)
+    → carry_out base xs ws ≡ paste (base + at) values ws → base + at + suc c * size ≤ length ws → Blank zeros ws (base + at) (suc c * size)
+    → carry_out base (repeat_before zeros at size (suc c) xs rest) ws ≡ carry_out base rest (paste (base + at) (copies (suc c) values) ws)
 repeat_before_is false at size c xs values rest base ws is planned room blank = repeat_is at size c xs values rest base ws is planned room
 repeat_before_is true at size c (x ∷ xs) values rest base ws is planned room blank = repeat_is at size c (x ∷ xs) values rest base ws is planned room
 repeat_before_is true at size c [] values rest base ws is planned room blank =
-    ap (started base rest) (sym (paste_same (base + at) (copies (suc c) values) ws (λ k less.
+    ap (carry_out base rest) (sym (paste_same (base + at) (copies (suc c) values) ws (λ k less.
     blank refl k (subst (λ n. k < n) total less) ∙ sym (all_zero_copies (suc c) values zeros k less))))
   where
     total : length (copies (suc c) values) ≡ suc c * size
@@ -216,12 +216,12 @@ blank_behind zeros xs ws at m blank is k less =
 
 abbrev pub Planned : Bool → GlobalScope → ResolvedType → Type 0
 Planned zeros g t = (at : ℕ) (rest : List Start) (base : ℕ) (ws : List ℤ) → base + at + words g t ≤ length ws → Blank zeros ws (base + at) (words g t)
-    → started base (plan zeros g t at rest) ws ≡ started base rest (paste (base + at) (image g t) ws)
+    → carry_out base (plan zeros g t at rest) ws ≡ carry_out base rest (paste (base + at) (image g t) ws)
 
 abbrev pub PlannedMembers : Bool → GlobalScope → Members → Type 0
 PlannedMembers zeros g ms = (at : ℕ) (rest : List Start) (base : ℕ) (ws : List ℤ) → base + at + words_of_members g ms ≤ length ws
     → Blank zeros ws (base + at) (words_of_members g ms)
-    → started base (plan_of_members zeros g ms at rest) ws ≡ started base rest (paste (base + at) (images g ms) ws)
+    → carry_out base (plan_of_members zeros g ms at rest) ws ≡ carry_out base rest (paste (base + at) (images g ms) ws)
 
 array_planned : (zeros : Bool) (g : GlobalScope) (low high : ℤ) (t : ResolvedType) → int_le low high ≡ true → Planned zeros g t → Planned zeros g (ArrayOf low high t)
 array_planned zeros g low high t rises inner at rest base ws room blank =
@@ -232,13 +232,13 @@ array_planned zeros g low high t rises inner at rest base ws room blank =
     size = words g t
 
     go : (c : ℕ) → count_between low high ≡ suc c → (o : Option ℤ) → start_of t ≡ o
-        → started base (plan_of_array zeros at size (count_between low high) o (plan zeros g t at []) rest) ws ≡ started base rest (paste (base + at) (copies (count_between low high) (image g t)) ws)
+        → carry_out base (plan_of_array zeros at size (count_between low high) o (plan zeros g t at []) rest) ws ≡ carry_out base rest (paste (base + at) (copies (count_between low high) (image g t)) ws)
     go c is (Some n) one =
         fill_unless_is zeros at (count_between low high * size) n rest base ws blank
-        ∙ ap (λ xs. started base rest (paste (base + at) xs ws))
+        ∙ ap (λ xs. carry_out base rest (paste (base + at) xs ws))
         (sym (ap (copies (count_between low high)) (uniform g t n one) ∙ copies_of_one (count_between low high) size n))
     go c is None one =
-        subst (λ n. started base (repeat_before zeros at size n (plan zeros g t at []) rest) ws ≡ started base rest (paste (base + at) (copies n (image g t)) ws)) (sym is)
+        subst (λ n. carry_out base (repeat_before zeros at size n (plan zeros g t at []) rest) ws ≡ carry_out base rest (paste (base + at) (copies n (image g t)) ws)) (sym is)
         (repeat_before_is zeros at size c (plan zeros g t at []) (image g t) rest base ws (image_length g t)
         (inner at [] base ws (one_room c (subst (λ n. base + at + n * size ≤ length ws) is room)) (one_blank c is)) (subst (λ n. base + at + n * size ≤ length ws) is room) (subst (λ n. Blank zeros ws (base + at) (n * size)) is blank))
       where
@@ -250,14 +250,14 @@ array_planned zeros g low high t rises inner at rest base ws room blank =
 
 members_planned : (zeros : Bool) (g : GlobalScope) (t : ResolvedType) (ms : Members) → Planned zeros g t → PlannedMembers zeros g ms
     → (at : ℕ) (rest : List Start) (base : ℕ) (ws : List ℤ) → base + at + (words g t + words_of_members g ms) ≤ length ws → Blank zeros ws (base + at) (words g t + words_of_members g ms)
-    → started base (plan zeros g t at (plan_of_members zeros g ms (at + words g t) rest)) ws ≡ started base rest (paste (base + at) (image g t ++ images g ms) ws)
+    → carry_out base (plan zeros g t at (plan_of_members zeros g ms (at + words g t) rest)) ws ≡ carry_out base rest (paste (base + at) (image g t ++ images g ms) ws)
 members_planned zeros g t ms first others at rest base ws room blank =
     let size : length (image g t) ≡ words g t = image_length g t in
     let ws' = paste (base + at) (image g t) ws in
     first at (plan_of_members zeros g ms (at + words g t) rest) base ws (omega (arith, room)) (λ z k less. blank z k (omega (arith, less)))
     ∙ others (at + words g t) rest base ws' (omega (arith, room, paste_length (base + at) (image g t) ws)) later
-    ∙ ap (λ n. started base rest (paste n (images g ms) ws')) (place (length (image g t)) size)
-    ∙ ap (started base rest) (sym (paste_append (base + at) (image g t) (images g ms) ws))
+    ∙ ap (λ n. carry_out base rest (paste n (images g ms) ws')) (place (length (image g t)) size)
+    ∙ ap (carry_out base rest) (sym (paste_append (base + at) (image g t) (images g ms) ws))
   where
     place : (n : ℕ) → n ≡ words g t → base + (at + words g t) ≡ base + at + n
     place n h = omega (arith, h)
@@ -271,12 +271,12 @@ members_planned zeros g t ms first others at rest base ws room blank =
 class_planned : (g : GlobalScope) (s : System) (inner : Members) → PlannedMembers true g inner
     → (at : ℕ) (rest : List Start) (base : ℕ) (ws : List ℤ) → base + at + (head_words g s + words_of_members g inner) ≤ length ws
     → Blank true ws (base + at) (head_words g s + words_of_members g inner)
-    → started base (plan_of_members true g inner (at + head_words g s) rest) ws
-    ≡ started base rest (paste (base + at) (replicate (head_words g s) (pos 0) ++ images g inner) ws)
+    → carry_out base (plan_of_members true g inner (at + head_words g s) rest) ws
+    ≡ carry_out base rest (paste (base + at) (replicate (head_words g s) (pos 0) ++ images g inner) ws)
 class_planned g s inner members at rest base ws room blank =
     members (at + head) rest base ws (omega (arith, room)) (subst (λ n. Blank true ws n (words_of_members g inner)) (apart base at head)
     (blank_part true ws (base + at) (head + words_of_members g inner) head (words_of_members g inner) blank (omega arith)))
-    ∙ ap (started base rest) (sym (paste_append (base + at) zeros (images g inner) ws
+    ∙ ap (carry_out base rest) (sym (paste_append (base + at) zeros (images g inner) ws
     ∙ ap (paste (base + at + length zeros) (images g inner)) none
     ∙ ap (λ n. paste n (images g inner) ws) (place (length zeros) (length-replicate head (pos 0)))))
   where
@@ -311,8 +311,8 @@ component_planned zeros g s inner is members =
 
     go : (sort : Sort) (at : ℕ) (rest : List Start) (base : ℕ) (ws : List ℤ) → base + at + component_words sort (1 + rights_in g s + words_of_members g inner) ≤ length ws
         → Blank true ws (base + at) (component_words sort (1 + rights_in g s + words_of_members g inner))
-        → started base (plan_of_class sort (plan_of_members true g inner (at + head_words g s) rest) rest) ws
-        ≡ started base rest (paste (base + at) (image_of_class sort (replicate (head_words g s) (pos 0) ++ images g inner)) ws)
+        → carry_out base (plan_of_class sort (plan_of_members true g inner (at + head_words g s) rest) rest) ws
+        ≡ carry_out base rest (paste (base + at) (image_of_class sort (replicate (head_words g s) (pos 0) ++ images g inner)) ws)
     go Class at rest base ws room blank =
         class_planned g s inner members at rest base ws (subst (λ n. base + at + n ≤ length ws) total room) (subst (Blank true ws (base + at)) total blank)
     go Process at rest base ws room blank = refl

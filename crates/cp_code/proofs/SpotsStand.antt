@@ -20,7 +20,7 @@ use Rattle.cp_code.specs.Programs.{Call, CodeUnit, Program}
 use Rattle.cp_code.specs.Layout.{farther, member_part, part}
 use Rattle.cp_code.specs.Sites as code
 use Rattle.cp_code.specs.Sites.{IsNoClock, Site, UnitText, first_parameter, parameters}
-use Rattle.cp_code.specs.TermsFor.{Knowns, SpotFor, TermFor, moved}
+use Rattle.cp_code.specs.TermsFor.{Knowns, SpotFor, TermFor, move_spot}
 use Rattle.cp_code.specs.Scopes.{Scope, environment, part_start, root_named, target_of, unit_of}
 use Rattle.cp_code.specs.CodedStatements.{is_result}
 use Rattle.cp_code.specs.CodedTerms.{CodedCall, CodedSpot, CodedTerm, call_of, coded_spot, coded_term, element_part, ordinal_or_zero, root_or_first, term_of_name, used_term, variable_or_number}
@@ -225,7 +225,7 @@ module _ (scope : Scope) (program : Program) (texts : List UnitText) (systems : 
         k.1.0,
         (coded_spot scope d low).spot,
         there ∙ ap (λ z. Some (k.1.0, z)) (sym type),
-        ap (λ n. moved n (coded_spot scope d low).spot) way,
+        ap (λ n. move_spot n (coded_spot scope d low).spot) way,
         subst (λ z. SpotFor site K d (coded_spot scope d low).spot z place next low high) field.is
             (spot low place next high t.0 (structured_has_no_result d (ap is_structured field.is)) (ap is_component field.is) chain room),
       )

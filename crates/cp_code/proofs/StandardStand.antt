@@ -5,7 +5,7 @@ use Rattle.cp_model.specs.Abstract as a
 use Rattle.cp_model.specs.Abstract.{BaseType, Char, Integer}
 use Rattle.cp_model.specs.Types.{base_of_type, first_ordinal, last_ordinal}
 use Rattle.cp_model.specs.Operators.{integer_result}
-use Rattle.cp_model.specs.Outcomes.{provided}
+use Rattle.cp_model.specs.Outcomes.{guard}
 use Rattle.cp_model.specs.Places.{TypedValue, ordinal_of, simple_value, within}
 use Rattle.cp_model.specs.declared.state.Fault.TheVariants as fault
 use Rattle.cp_typing.specs.Judgement as typed
@@ -18,11 +18,11 @@ use Rattle.cp_code.specs.TermsFor.{Agrees, FunctionFor, IsEmptyFunction, result_
 integer_agrees : (n : ℤ) → Agrees Integer (integer_result n) (in_range n)
 integer_agrees n = by (within (negsuc 32767) (pos 32767) n)
   where
-    by : (b : Bool) → Agrees Integer (provided b 3 (simple_value Integer n)) (unless b fault.Overflow n)
+    by : (b : Bool) → Agrees Integer (guard b 3 (simple_value Integer n)) (unless b fault.Overflow n)
     by true = (refl, refl)
     by false = refl
 
-range_agrees : (c : BaseType) (b : Bool) (n : ℤ) → Agrees c (provided b 1 (simple_value c n)) (unless b fault.Range n)
+range_agrees : (c : BaseType) (b : Bool) (n : ℤ) → Agrees c (guard b 1 (simple_value c n)) (unless b fault.Range n)
 range_agrees c true n = (refl, refl)
 range_agrees c false n = refl
 
@@ -36,10 +36,10 @@ pub chr_stands : (of : BaseType) → FunctionFor (function_name typed.Chr) Chr o
 chr_stands of v is = range_agrees Char (within (pos 0) (pos 127) (ordinal_of v)) (ordinal_of v)
 
 shift_agrees : (v : TypedValue) (by : ℤ) (b c : BaseType) → b ≡ c
-    → Agrees c (provided (within (first_ordinal b) (last_ordinal b) (ordinal_of v +ℤ by)) 1 (simple_value b (ordinal_of v +ℤ by)))
+    → Agrees c (guard (within (first_ordinal b) (last_ordinal b) (ordinal_of v +ℤ by)) 1 (simple_value b (ordinal_of v +ℤ by)))
     (unless (within (first_ordinal c) (last_ordinal c) (ordinal_of v +ℤ by)) fault.Range (ordinal_of v +ℤ by))
 shift_agrees v by b c is =
-    subst (λ z. Agrees z (provided (within (first_ordinal b) (last_ordinal b) (ordinal_of v +ℤ by)) 1 (simple_value b (ordinal_of v +ℤ by)))
+    subst (λ z. Agrees z (guard (within (first_ordinal b) (last_ordinal b) (ordinal_of v +ℤ by)) 1 (simple_value b (ordinal_of v +ℤ by)))
     (unless (within (first_ordinal z) (last_ordinal z) (ordinal_of v +ℤ by)) fault.Range (ordinal_of v +ℤ by))) is
     (range_agrees b (within (first_ordinal b) (last_ordinal b) (ordinal_of v +ℤ by)) (ordinal_of v +ℤ by))
 

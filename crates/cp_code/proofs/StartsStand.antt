@@ -17,7 +17,7 @@ use Rattle.cp_typing.proofs.Names.{bytes_eq-refl, lookup_first}
 use Rattle.cp_code.specs.Programs.{Fill, Repeat, Start}
 use Rattle.cp_code.specs.Layout.{activation_words, component_words, head_words, local, local_at, local_words, locals_words, member_part, part}
 use Rattle.cp_code.specs.Plans.{plan_of_component, plan_of_result, plan_of_routine, plan_of_variables}
-use Rattle.cp_code.specs.Starts.{AreZero, Starts, StartsComponent, block, fill, paste, repeated, started, unset, word}
+use Rattle.cp_code.specs.Starts.{AreZero, Starts, StartsComponent, block, fill, paste, repeat_block, carry_out, unset, word}
 use Rattle.cp_code.proofs.CallsStand.{distinct_apart}
 use Rattle.cp_code.proofs.Pasting.{fill_is_paste, paste_append, paste_inside, paste_length, paste_outside}
 use Rattle.cp_code.proofs.PlansStand.{Plannable, PlannableMembers, all_planned, fill_before_is, image, image_length, image_of_class, images, images_length, planned}
@@ -25,17 +25,17 @@ use Rattle.cp_code.proofs.PartsStart.{PartOf, members_start, part_behind, parts_
 
 -- ---- Lengths
 
-repeated_length : (at size k : ℕ) (ws : List ℤ) → length (repeated at size k ws) ≡ length ws
+repeated_length : (at size k : ℕ) (ws : List ℤ) → length (repeat_block at size k ws) ≡ length ws
 repeated_length at size zero ws = refl
 repeated_length at size (suc k) ws =
     repeated_length (at + size) size k (paste (at + size) (block ws at size) ws) ∙ paste_length (at + size) (block ws at size) ws
 
-started_length : (base : ℕ) (xs : List Start) (ws : List ℤ) → length (started base xs ws) ≡ length ws
+started_length : (base : ℕ) (xs : List Start) (ws : List ℤ) → length (carry_out base xs ws) ≡ length ws
 started_length base [] ws = refl
 started_length base (Fill at count n ∷ xs) ws =
     started_length base xs (fill (base + at) count n ws) ∙ ap length (fill_is_paste (base + at) count n ws) ∙ paste_length (base + at) (replicate count n) ws
 started_length base (Repeat at size count ∷ xs) ws =
-    started_length base xs (repeated (base + at) size (count - 1) ws) ∙ repeated_length (base + at) size (count - 1) ws
+    started_length base xs (repeat_block (base + at) size (count - 1) ws) ∙ repeated_length (base + at) size (count - 1) ws
 
 -- ---- Components
 
@@ -49,7 +49,7 @@ module _ (g : GlobalScope) (s : System) (fine : PlannableMembers true (reported_
   abbrev values : List ℤ
   values = images g members
 
-  pasted : (base : ℕ) (ws : List ℤ) → base + component_words g s ≤ length ws → AreZero g s base ws → started base (plan_of_component g s) ws ≡ paste (base + head) values ws
+  pasted : (base : ℕ) (ws : List ℤ) → base + component_words g s ≤ length ws → AreZero g s base ws → carry_out base (plan_of_component g s) ws ≡ paste (base + head) values ws
   pasted base ws room zeros =
       all_planned true g members fine head [] base ws (omega (arith, room))
       (λ is k less. ap (word ws) (apart base head k) ∙ zeros (head + k) (omega (arith, less)))
@@ -60,7 +60,7 @@ module _ (g : GlobalScope) (s : System) (fine : PlannableMembers true (reported_
   -- a word of a part has the start value
   part_word : (base : ℕ) (ws : List ℤ) → base + component_words g s ≤ length ws → AreZero g s base ws → (x : Name) (path : Path) (m i : ℕ) (u : ResolvedType)
       → member_part g head members x path ≡ Some (m, u) → i < words g u
-      → word (started base (plan_of_component g s) ws) (base + (m + i)) ≡ slice_index_or (image g u) i (pos 0)
+      → word (carry_out base (plan_of_component g s) ws) (base + (m + i)) ≡ slice_index_or (image g u) i (pos 0)
   part_word base ws room zeros x path m i u h less =
       let k = members_start g members x path head m u h in
       ap (λ z. word z (base + (m + i))) (pasted base ws room zeros)
@@ -72,16 +72,16 @@ module _ (g : GlobalScope) (s : System) (fine : PlannableMembers true (reported_
       place a b c d e h = omega (arith, h)
 
   lone_word : (base : ℕ) (ws : List ℤ) → base + component_words g s ≤ length ws → AreZero g s base ws → (x : Name) (path : Path) (m : ℕ) (u : ResolvedType)
-      → member_part g head members x path ≡ Some (m, u) → 0 < words g u → word (started base (plan_of_component g s) ws) (base + m) ≡ slice_index_or (image g u) 0 (pos 0)
+      → member_part g head members x path ≡ Some (m, u) → 0 < words g u → word (carry_out base (plan_of_component g s) ws) (base + m) ≡ slice_index_or (image g u) 0 (pos 0)
   lone_word base ws room zeros x path m u h some =
-      ap (word (started base (plan_of_component g s) ws)) (nothing_more base m) ∙ part_word base ws room zeros x path m 0 u h some
+      ap (word (carry_out base (plan_of_component g s) ws)) (nothing_more base m) ∙ part_word base ws room zeros x path m 0 u h some
     where
       nothing_more : (a b : ℕ) → a + b ≡ a + (b + 0)
       nothing_more a b = omega arith
 
   -- the words before the members and after the component stay as they were
   before : (base : ℕ) (ws : List ℤ) → base + component_words g s ≤ length ws → AreZero g s base ws → (i : ℕ) → (i < base + head) ⊎ (base + component_words g s ≤ i)
-      → word (started base (plan_of_component g s) ws) i ≡ word ws i
+      → word (carry_out base (plan_of_component g s) ws) i ≡ word ws i
   before base ws room zeros i where' =
       ap (λ z. word z i) (pasted base ws room zeros) ∙ paste_outside (base + head) i values ws (apart where')
     where
@@ -131,7 +131,7 @@ images_of_length g (v ∷ vs) h =
     length-append (image g v.1.type) (images_of g vs) ∙ omega (arith, image_length g v.1.type, one_value g v h.0, images_of_length g vs h.1)
 
 variables_planned : (g : GlobalScope) (vs : List (Name × Variable)) → Each ByValue vs → (at base : ℕ) (ws : List ℤ) → base + at + locals_words g vs ≤ length ws
-    → started base (plan_of_variables g vs at) ws ≡ paste (base + at) (images_of g vs) ws
+    → carry_out base (plan_of_variables g vs at) ws ≡ paste (base + at) (images_of g vs) ws
 variables_planned g [] h at base ws room = refl
 variables_planned g (v ∷ vs) h at base ws room =
     planned false g v.1.type h.0.1 at (plan_of_variables g vs (at + words g v.1.type)) base ws (omega (arith, room, one_value g v h.0)) (λ is. absurd (true≢false (sym is)))
@@ -251,7 +251,7 @@ module _ (g : GlobalScope) (s : System) (r : Routine) (distinct : Distinct (loca
   with_result None base ws = ws
   with_result (Some t) base ws = slice_set ws (base + 0) unset
 
-  result_planned : (o : Option Name) (rest : List Start) (base : ℕ) (ws : List ℤ) → started base (plan_of_result o rest) ws ≡ started base rest (with_result o base ws)
+  result_planned : (o : Option Name) (rest : List Start) (base : ℕ) (ws : List ℤ) → carry_out base (plan_of_result o rest) ws ≡ carry_out base rest (with_result o base ws)
   result_planned None rest base ws = refl
   result_planned (Some t) rest base ws = fill_before_is 0 1 unset rest base ws
 
@@ -263,7 +263,7 @@ module _ (g : GlobalScope) (s : System) (r : Routine) (distinct : Distinct (loca
   Room base ws = base + activation_words g r ≤ length ws
 
   routine_pasted : (base : ℕ) (ws : List ℤ) → Room base ws
-      → started base (plan_of_routine g r) ws ≡ paste (base + first) (images_of g vs) (with_result r.result base ws)
+      → carry_out base (plan_of_routine g r) ws ≡ paste (base + first) (images_of g vs) (with_result r.result base ws)
   routine_pasted base ws room =
       result_planned r.result (plan_of_variables g vs first) base ws
       ∙ variables_planned g vs values first base (with_result r.result base ws)
@@ -271,7 +271,7 @@ module _ (g : GlobalScope) (s : System) (r : Routine) (distinct : Distinct (loca
 
   cell : (base : ℕ) (ws : List ℤ) → Room base ws → (v : Name × Variable) (i at m : ℕ) (path : Path) (b : BaseType) (low high n : ℤ)
       → slice_get vs i ≡ Some v → local g r v.0 ≡ Some (at, v.1) → part g v.1.type path ≡ Some (m, Simple b low high n)
-      → word (started base (plan_of_routine g r) ws) (base + (at + m)) ≡ n
+      → word (carry_out base (plan_of_routine g r) ws) (base + (at + m)) ≡ n
   cell base ws room v i at m path b low high n is lies there =
       let w = some_found vs i v is in
       let none : lookup v.0 ps ≡ None =
@@ -294,7 +294,7 @@ module _ (g : GlobalScope) (s : System) (r : Routine) (distinct : Distinct (loca
       nothing_more a = omega arith
 
   no_variable : (base : ℕ) (ws : List ℤ) (i : ℕ) → Room base ws → (i < base + first) ⊎ (base + activation_words g r ≤ i)
-      → word (started base (plan_of_routine g r) ws) i ≡ word (with_result r.result base ws) i
+      → word (carry_out base (plan_of_routine g r) ws) i ≡ word (with_result r.result base ws) i
   no_variable base ws i room where' =
       ap (λ z. word z i) (routine_pasted base ws room) ∙ paste_outside (base + first) i (images_of g vs) (with_result r.result base ws) (apart where')
     where

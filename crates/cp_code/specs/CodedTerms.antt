@@ -23,7 +23,7 @@ use Rattle.cp_code.specs.Terms.{Abs, Argument, Binary, Chr, Copy, Element, Empty
 use Rattle.cp_code.specs.Programs.{Call}
 use Rattle.cp_code.specs.Layout.{local_words, member, part, right}
 use Rattle.cp_code.specs.Sites.{first_parameter}
-use Rattle.cp_code.specs.TermsFor.{moved}
+use Rattle.cp_code.specs.TermsFor.{move_spot}
 use Rattle.cp_code.specs.Scopes.{Scope, environment, part_start, right_start, root_named, target_of, unit_of}
 
 -- ---- What is made
@@ -90,7 +90,7 @@ name_or_item scope d s low = record { term = Item s.spot; calls = s.calls; temps
 -- ---- Parts
 
 abbrev pub field_part : GlobalScope → ResolvedType → Name → CodedSpot → CodedSpot
-field_part g t x s = record s { spot = moved (part_start (part g t (ByName x ∷ []))) s.spot }
+field_part g t x s = record s { spot = move_spot (part_start (part g t (ByName x ∷ []))) s.spot }
 
 abbrev pub element_part : GlobalScope → ResolvedType → CodedSpot → CodedTerm → CodedSpot
 element_part g (ArrayOf low high t) s i =

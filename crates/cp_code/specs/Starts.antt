@@ -33,36 +33,36 @@ fill at (suc k) n ws = fill (suc at) k n (slice_set ws at n)
 
 -- The words after the block of `size` words at `at` has been copied a number of times, each copy
 -- after the one before.
-abbrev pub repeated : ℕ → ℕ → ℕ → List ℤ → List ℤ
-repeated at size zero ws = ws
-repeated at size (suc k) ws = repeated (at + size) size k (paste (at + size) (block ws at size) ws)
+abbrev pub repeat_block : ℕ → ℕ → ℕ → List ℤ → List ℤ
+repeat_block at size zero ws = ws
+repeat_block at size (suc k) ws = repeat_block (at + size) size k (paste (at + size) (block ws at size) ws)
 
-abbrev pub started_by : ℕ → Start → List ℤ → List ℤ
-started_by base (Fill at count n) ws = fill (base + at) count n ws
-started_by base (Repeat at size count) ws = repeated (base + at) size (count - 1) ws
+abbrev pub carry_out_start : ℕ → Start → List ℤ → List ℤ
+carry_out_start base (Fill at count n) ws = fill (base + at) count n ws
+carry_out_start base (Repeat at size count) ws = repeat_block (base + at) size (count - 1) ws
 
 -- The words after a plan has been carried out, counted from a base.
-abbrev pub started : ℕ → List Start → List ℤ → List ℤ
-started base [] ws = ws
-started base (s ∷ ss) ws = started base ss (started_by base s ws)
+abbrev pub carry_out : ℕ → List Start → List ℤ → List ℤ
+carry_out base [] ws = ws
+carry_out base (s ∷ ss) ws = carry_out base ss (carry_out_start base s ws)
 
 -- ---- Activations
 
 -- The plan gives each simple part of a variable its start value and marks the result as unset. It
 -- changes no parameter and nothing outside the activation.
 pub record Starts (g : GlobalScope) (r : Routine) (u : CodeUnit) : Type 0 where
-  pub length_is : (base : ℕ) (ws : List ℤ) → length (started base u.starts ws) ≡ length ws
+  pub length_is : (base : ℕ) (ws : List ℤ) → length (carry_out base u.starts ws) ≡ length ws
   pub variables : (base : ℕ) (ws : List ℤ) → base + activation_words g r ≤ length ws
       → (v : Name × Variable) (i at m : ℕ) (path : Path) (b : BaseType) (low high n : ℤ)
       → slice_get (declarations g r.variables) i ≡ Some v → local g r v.0 ≡ Some (at, v.1)
       → part g v.1.type path ≡ Some (m, Simple b low high n)
-      → word (started base u.starts ws) (base + (at + m)) ≡ n
+      → word (carry_out base u.starts ws) (base + (at + m)) ≡ n
   pub result : (base : ℕ) (ws : List ℤ) (t : Name) → base + activation_words g r ≤ length ws → r.result ≡ Some t
-      → word (started base u.starts ws) base ≡ unset
+      → word (carry_out base u.starts ws) base ≡ unset
   pub outside : (base : ℕ) (ws : List ℤ) (i : ℕ) → base + activation_words g r ≤ length ws
       → (i < base + (result_words r.result + locals_words g (declarations g r.parameters))) ⊎ (base + activation_words g r ≤ i)
       → ((t : Name) → r.result ≡ Some t → i ≡ base → ⊥)
-      → word (started base u.starts ws) i ≡ word ws i
+      → word (carry_out base u.starts ws) i ≡ word ws i
 
 -- ---- Components
 
@@ -72,18 +72,18 @@ AreZero g s base ws = (i : ℕ) → i < component_words g s → word ws (base + 
 -- If all words were 0, the plan gives each simple part of a member its start value. Marks, rights
 -- and queues stay 0, and nothing outside the component changes.
 pub record StartsComponent (g : GlobalScope) (s : System) (plan : List Start) : Type 0 where
-  pub length_is : (base : ℕ) (ws : List ℤ) → length (started base plan ws) ≡ length ws
+  pub length_is : (base : ℕ) (ws : List ℤ) → length (carry_out base plan ws) ≡ length ws
   pub cells : (base : ℕ) (ws : List ℤ) → base + component_words g s ≤ length ws → AreZero g s base ws
       → (x : Name) (path : Path) (m : ℕ) (b : BaseType) (low high n : ℤ)
       → member_part g (head_words g s) (reported_members g s) x path ≡ Some (m, Simple b low high n)
-      → word (started base plan ws) (base + m) ≡ n
+      → word (carry_out base plan ws) (base + m) ≡ n
   pub head : (base : ℕ) (ws : List ℤ) (room : base + component_words g s ≤ length ws) (i : ℕ) → AreZero g s base ws → i < head_words g s
-      → word (started base plan ws) (base + i) ≡ pos 0
+      → word (carry_out base plan ws) (base + i) ≡ pos 0
   pub queues : (base : ℕ) (ws : List ℤ) (room : base + component_words g s ≤ length ws) (x : Name) (path : Path) (m : ℕ) → AreZero g s base ws
       → member_part g (head_words g s) (reported_members g s) x path ≡ Some (m, Queue)
-      → word (started base plan ws) (base + m) ≡ pos 0
+      → word (carry_out base plan ws) (base + m) ≡ pos 0
   pub heads : (base : ℕ) (ws : List ℤ) (room : base + component_words g s ≤ length ws) (x : Name) (path : Path) (m i : ℕ) (r : System) (inner : Members) → AreZero g s base ws
       → member_part g (head_words g s) (reported_members g s) x path ≡ Some (m, ComponentOf r inner) → r.sort ≡ Class
-      → i < head_words g r → word (started base plan ws) (base + (m + i)) ≡ pos 0
+      → i < head_words g r → word (carry_out base plan ws) (base + (m + i)) ≡ pos 0
   pub outside : (base : ℕ) (ws : List ℤ) (room : base + component_words g s ≤ length ws) (i : ℕ) → AreZero g s base ws → (i < base) ⊎ (base + component_words g s ≤ i)
-      → word (started base plan ws) i ≡ word ws i
+      → word (carry_out base plan ws) i ≡ word ws i

@@ -40,15 +40,15 @@ nothing_known t n = ⊥
 
 -- ---- Parts of a spot
 
-abbrev pub moved_root : ℕ → Root → Root
-moved_root n (Local at) = Local (at + n)
-moved_root n (Member at) = Member (at + n)
-moved_root n (Through at plus) = Through at (plus + n)
+abbrev pub move_root : ℕ → Root → Root
+move_root n (Local at) = Local (at + n)
+move_root n (Member at) = Member (at + n)
+move_root n (Through at plus) = Through at (plus + n)
 
 -- The spot `n` words further on.
-abbrev pub moved : ℕ → Spot → Spot
-moved n (Rooted r) = Rooted (moved_root n r)
-moved n (Element s low high size plus e) = Element s low high size (plus + n) e
+abbrev pub move_spot : ℕ → Spot → Spot
+move_spot n (Rooted r) = Rooted (move_root n r)
+move_spot n (Element s low high size plus e) = Element s low high size (plus + n) e
 
 -- ---- Structured values
 
@@ -127,7 +127,7 @@ abbrev mutual
   SpotFor site K (a.Plain x) (Rooted r) t place next low high = (place ≡ next) × NamesVariable site.env x r t
   SpotFor site K (a.Part d x) s t place next low high =
       (ms : Members) × (plus : ℕ) × (of : Spot) × (part site.env.globals (RecordOf ms) (ByName x ∷ []) ≡ Some (plus, t))
-      × (s ≡ moved plus of) × SpotFor site K d of (RecordOf ms) place next low high
+      × (s ≡ move_spot plus of) × SpotFor site K d of (RecordOf ms) place next low high
   SpotFor site K (a.At d e) (Element of lower upper size plus i) t place next low high =
       (b : BaseType) × (between : ℕ) × (middle : ℕ) × (size ≡ words site.env.globals t) × (plus ≡ 0)
       × (low ≤ middle) × (middle ≤ high)

@@ -9,7 +9,7 @@ use Rattle.cp_code.specs.Programs as code
 use Rattle.cp_code.specs.Plans.{fill_before}
 use Rattle.cp_threaded.specs.declared.program.Start.{Start}
 use Rattle.cp_threaded.specs.View as view
-use Rattle.cp_emit.specs.Drafts.{Joins, closed, starts_of}
+use Rattle.cp_emit.specs.Drafts.{Joins, drop_repeat, starts_of}
 
 pub one_more : (xs ys : List Start) (x : Start) → ys ≡ xs ++ x ∷ [] → starts_of ys ≡ view.start x ∷ starts_of xs
 one_more xs ys x is = ap starts_of is ∙ ap (map view.start) (reverse-append xs (x ∷ []))
@@ -31,7 +31,7 @@ pub length_planned : (xs : List Start) → length (starts_of xs) ≡ length xs
 length_planned xs = length-map (reverse xs) view.start ∙ length-reverse xs
 
 pub one_closed : (xs ys : List Start) (o : Option Start) (n m k : ℕ) → length xs ≡ n → k ≡ length ys → xs ≡ ys ++ option_to_list o
-    → MatchOption o ((m ≡ 0) × (k ≡ 0)) (λ _. k + 1 ≡ m) → starts_of ys ≡ closed n (starts_of xs)
+    → MatchOption o ((m ≡ 0) × (k ≡ 0)) (λ _. k + 1 ≡ m) → starts_of ys ≡ drop_repeat n (starts_of xs)
 one_closed xs ys o n m k is long all cases =
     taken ys o long all cases ∙ sym (ap (λ b. if b then drop 1 (starts_of xs) else starts_of xs) (eq-eqb (length (starts_of xs)) n (length_planned xs ∙ is)))
   where
@@ -48,6 +48,6 @@ is_false false h = refl
 pub differs : (m n : ℕ) → (m ≡ n → ⊥) → nat_eq m n ≡ false
 differs m n h = is_false (nat_eq m n) (no_eqb h)
 
-pub none_closed : (xs : List Start) (n : ℕ) → (length xs ≡ n → ⊥) → starts_of xs ≡ closed n (starts_of xs)
+pub none_closed : (xs : List Start) (n : ℕ) → (length xs ≡ n → ⊥) → starts_of xs ≡ drop_repeat n (starts_of xs)
 none_closed xs n h =
     sym (ap (λ b. if b then drop 1 (starts_of xs) else starts_of xs) (differs (length (starts_of xs)) n (λ e. h (sym (length_planned xs) ∙ e))))

@@ -9,7 +9,7 @@ use Rattle.cp_typing.specs.Words.{words}
 use Rattle.cp_code.specs.Layout.{head_words}
 use Rattle.cp_code.specs.Programs.{Fill, Repeat, Start}
 use Rattle.cp_code.specs.Plans.{fill_before, fill_unless, plan, plan_of_array, plan_of_class, plan_of_members, repeat_before, start_of}
-use Rattle.cp_emit.specs.Drafts.{closed}
+use Rattle.cp_emit.specs.Drafts.{drop_repeat}
 use Rattle.cp_emit.proofs.Drafting.{differs}
 
 module _ (a s c : ℕ) (rest : List Start) where
@@ -73,10 +73,10 @@ array_repeated g t at size count rest = plan_joined at size count rest false g t
 
 -- If its words are 0 before, an array is repeated unless nothing is planned for its first element.
 pub array_closed : (g : GlobalScope) (t : ResolvedType) (at size count n : ℕ) (rest : List Start) → length (Repeat at size count ∷ rest) ≡ n
-    → closed n (plan true g t at (Repeat at size count ∷ rest)) ≡ repeat_before true at size count (plan true g t at []) rest
-array_closed g t at size count n rest is = ap (closed n) (plan_joined at size count rest true g t at []) ∙ go (plan true g t at [])
+    → drop_repeat n (plan true g t at (Repeat at size count ∷ rest)) ≡ repeat_before true at size count (plan true g t at []) rest
+array_closed g t at size count n rest is = ap (drop_repeat n) (plan_joined at size count rest true g t at []) ∙ go (plan true g t at [])
   where
-    go : (xs : List Start) → closed n (xs ++ Repeat at size count ∷ rest) ≡ repeat_before true at size count xs rest
+    go : (xs : List Start) → drop_repeat n (xs ++ Repeat at size count ∷ rest) ≡ repeat_before true at size count xs rest
     go [] = ap (λ b. if b then rest else Repeat at size count ∷ rest) (eq-eqb (length (Repeat at size count ∷ rest)) n is)
     go (x ∷ xs) =
         let all = x ∷ xs ++ Repeat at size count ∷ rest in

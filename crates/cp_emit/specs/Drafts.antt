@@ -12,12 +12,12 @@ use Rattle.cp_emit.specs.declared.draft.Work.TheVariants as work
 abbrev pub starts_of : List Start → List code.Start
 starts_of xs = map view.start (reverse xs)
 
-abbrev pub planned : Draft → List code.Start
-planned d = starts_of d.starts.items
+abbrev pub plan_of : Draft → List code.Start
+plan_of d = starts_of d.starts.items
 
 -- The first start is removed if there are exactly `n`.
-abbrev pub closed : ℕ → List code.Start → List code.Start
-closed n xs = if nat_eq (length xs) n then drop 1 xs else xs
+abbrev pub drop_repeat : ℕ → List code.Start → List code.Start
+drop_repeat n xs = if nat_eq (length xs) n then drop 1 xs else xs
 
 -- The end of an array is left to be planned, if its words are 0 before.
 abbrev pub with_end : Bool → ℕ → List Work → List Work

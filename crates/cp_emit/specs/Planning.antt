@@ -10,7 +10,7 @@ use Rattle.cp_emit.specs.declared.draft.Draft.{Draft}
 use Rattle.cp_emit.specs.declared.draft.Work.{Work}
 use Rattle.cp_emit.specs.declared.draft.Work.TheVariants as work
 use Rattle.cp_emit.specs.declared.plan.Planner.{Planner}
-use Rattle.cp_emit.specs.Drafts.{closed, planned}
+use Rattle.cp_emit.specs.Drafts.{drop_repeat, plan_of}
 use Rattle.cp_emit.specs.StartValues.{AreStartValues}
 
 abbrev pub types_of : Planner → Types
@@ -26,7 +26,7 @@ pub record Knows (p : Planner) (g : GlobalScope) : Type 0 where
 abbrev pub Done : Bool → GlobalScope → Types → Work → List Start → List Start → Type 0
 Done zeros g types (work.Variable of at) now after =
     (t : ResolvedType) × Stands types of t × (after ≡ plan zeros g t at now)
-Done zeros g types (work.EndOfArray n) now after = after ≡ closed n now
+Done zeros g types (work.EndOfArray n) now after = after ≡ drop_repeat n now
 
 -- Doing all this work, the last piece first, turns the plan `now` into the plan `after`.
 abbrev pub AllDone : Bool → GlobalScope → Types → List Work → List Start → List Start → Type 0
@@ -38,5 +38,5 @@ AllDone zeros g types (w ∷ ws) now after =
 -- The new draft leads to the same plan as the old one would if `f` were applied to the plan so far.
 abbrev pub Leaves : Bool → GlobalScope → Types → Draft → Draft → (List Start → List Start) → Type 0
 Leaves zeros g types old new f =
-    (after : List Start) → AllDone zeros g types old.left.items (f (planned old)) after
-    → AllDone zeros g types new.left.items (planned new) after
+    (after : List Start) → AllDone zeros g types old.left.items (f (plan_of old)) after
+    → AllDone zeros g types new.left.items (plan_of new) after

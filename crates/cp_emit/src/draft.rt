@@ -3,7 +3,7 @@
 ghost use Rattle.std.specs.Prelude.{◌≡◌, [], ◌∷◌, IfOk, OnOk, length, map};
 ghost use Rattle.cp_code.specs.Plans.{fill_before, fill_unless};
 ghost use Rattle.cp_code.specs.Programs as code;
-ghost use Rattle.cp_emit.specs.Drafts.{Joins, closed, planned, with_end};
+ghost use Rattle.cp_emit.specs.Drafts.{Joins, drop_repeat, plan_of, with_end};
 ghost use Rattle.cp_threaded.specs.View as view;
 
 use cp_scope::CompileError;
@@ -61,8 +61,8 @@ impl Draft {
 
     /// Plans `count` words that all start with `value`, before those planned so far.
     pub fn fill(&mut self, at: u32, count: u32, value: i32) -> Result<(), CompileError>
-        ensures starts { OnOk result (planned self.new
-            ≡ fill_before at count value (planned self.old)) }
+        ensures starts { OnOk result (plan_of self.new
+            ≡ fill_before at count value (plan_of self.old)) }
         ensures left { self.new.left ≡ self.old.left }
     {
         let first = Start::Fill { at, count, value };
@@ -89,8 +89,8 @@ impl Draft {
         count: u32,
         value: i32,
     ) -> Result<(), CompileError>
-        ensures starts { OnOk result (planned self.new
-            ≡ fill_unless zeros at count value (planned self.old)) }
+        ensures starts { OnOk result (plan_of self.new
+            ≡ fill_unless zeros at count value (plan_of self.old)) }
         ensures left { self.new.left ≡ self.old.left }
     {
         if zeros && value == 0 {
@@ -102,8 +102,8 @@ impl Draft {
     /// Plans, before everything planned so far, that the block of `size` words at `at` is repeated,
     /// for `count` blocks in all.
     pub fn repeat(&mut self, at: u32, size: u32, count: u32) -> Result<(), CompileError>
-        ensures starts { OnOk result (planned self.new
-            ≡ code.Repeat at size count ∷ planned self.old) }
+        ensures starts { OnOk result (plan_of self.new
+            ≡ code.Repeat at size count ∷ plan_of self.old) }
         ensures left { self.new.left ≡ self.old.left }
     {
         self.starts.push(Start::Repeat { at, size, count })?;
@@ -126,7 +126,7 @@ impl Draft {
 
     /// Removes the first start if exactly `count` starts are planned.
     pub fn close(&mut self, count: usize)
-        ensures starts { planned self.new ≡ closed count (planned self.old) }
+        ensures starts { plan_of self.new ≡ drop_repeat count (plan_of self.old) }
         ensures left { self.new.left ≡ self.old.left }
     {
         if self.starts.len() == count {
@@ -136,7 +136,7 @@ impl Draft {
 
     /// Returns the plan, with its first start first.
     pub fn into_starts(self) -> Vec<Start>
-        ensures { map view.start result.items ≡ planned self }
+        ensures { map view.start result.items ≡ plan_of self }
     {
         let Draft {
             mut starts,

@@ -8,7 +8,7 @@ ghost use Rattle.std.specs.Prelude.{◌≡◌, ◌∷◌, ◌++◌, ◌+◌, [],
 ghost use Rattle.cp_code.specs.Layout.{local_words};
 ghost use Rattle.cp_code.specs.Plans.{plan, plan_of_members, start_of};
 ghost use Rattle.cp_code.specs.Programs as code;
-ghost use Rattle.cp_emit.specs.Drafts.{planned};
+ghost use Rattle.cp_emit.specs.Drafts.{plan_of};
 ghost use Rattle.cp_emit.specs.Planning.{AllDone, Done, Knows, Leaves, types_of};
 ghost use Rattle.cp_emit.specs.StartValues.{HasParts};
 ghost use Rattle.cp_emit.specs.declared.draft.Work.TheVariants as work;
@@ -242,9 +242,9 @@ impl<'a, 't> Planner<'a, 't> {
     fn step(&self, zeros: bool, next: Work, draft: &mut Draft) -> Result<(), CompileError>
         ensures { OnOk result ((g : GlobalScope) (between after : List code.Start)
             → Knows self.now g
-            → Done zeros g (types_of self.now) next (planned draft.old) between
+            → Done zeros g (types_of self.now) next (plan_of draft.old) between
             → AllDone zeros g (types_of self.now) draft.old.left.items between after
-            → AllDone zeros g (types_of self.now) draft.new.left.items (planned draft.new) after) }
+            → AllDone zeros g (types_of self.now) draft.new.left.items (plan_of draft.new) after) }
     {
         match next {
             Work::Variable { of, at } => self.plan_variable(zeros, of, at, draft),
@@ -258,8 +258,8 @@ impl<'a, 't> Planner<'a, 't> {
     // Does all the work that is left.
     pub(crate) fn run(&self, zeros: bool, draft: &mut Draft) -> Result<(), CompileError>
         ensures { OnOk result ((g : GlobalScope) (after : List code.Start) → Knows self.now g
-            → AllDone zeros g (types_of self.now) draft.old.left.items (planned draft.old) after
-            → planned draft.new ≡ after) }
+            → AllDone zeros g (types_of self.now) draft.old.left.items (plan_of draft.old) after
+            → plan_of draft.new ≡ after) }
     {
         for _turn in 0..u64::MAX {
             match draft.left.pop() {

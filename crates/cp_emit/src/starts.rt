@@ -5,7 +5,7 @@ ghost use Rattle.cp_code.specs.Layout.{locals_words};
 ghost use Rattle.cp_code.specs.Plans.{fill_before, plan_of_component, plan_of_members, plan_of_routine};
 ghost use Rattle.cp_code.specs.Starts.{unset};
 ghost use Rattle.cp_emit.specs.ComponentPlans.{ArePlans};
-ghost use Rattle.cp_emit.specs.Drafts.{planned};
+ghost use Rattle.cp_emit.specs.Drafts.{plan_of};
 ghost use Rattle.cp_emit.specs.Planning.{Knows, types_of};
 ghost use Rattle.cp_model.specs.Abstract.{Name, Routine, System};
 ghost use Rattle.cp_model.specs.Declarations.{Variable, declarations};
@@ -34,8 +34,8 @@ fn result_words(is_function: bool) -> u32
 
 // Plans, before the variables of a function, that its result isn't set.
 fn mark_result(is_function: bool, draft: &mut Draft) -> Result<(), CompileError>
-    ensures { OnOk result (planned draft.new ≡
-        (if is_function then fill_before 0 1 unset (planned draft.old) else planned draft.old)) }
+    ensures { OnOk result (plan_of draft.new ≡
+        (if is_function then fill_before 0 1 unset (plan_of draft.old) else plan_of draft.old)) }
 {
     if is_function {
         draft.fill(0, 1, UNSET)?;
@@ -53,7 +53,7 @@ impl<'a, 't> Planner<'a, 't> {
     ) -> Result<Draft, CompileError>
         ensures { IfOk result (λ draft. (g : GlobalScope) (ms : Members) → Knows self.now g
             → AreMembers (types_of self.now) (map entry members.now) ms
-            → planned draft ≡ plan_of_members zeros g ms at []) }
+            → plan_of draft ≡ plan_of_members zeros g ms at []) }
     {
         let mut draft = Draft::new(self.alloc);
         self.leave_members(zeros, members, at, &mut draft)?;

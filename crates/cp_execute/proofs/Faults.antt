@@ -4,7 +4,7 @@ use Rattle.std.specs.Result.{is_err}
 use Rattle.std.proofs.lemmas.List.{take_all}
 use Rattle.cp_model.specs.Syntax as s
 use Rattle.cp_model.specs.Grammar.{Reads, nesting_limit}
-use Rattle.cp_model.specs.Rules.{Accepted, told}
+use Rattle.cp_model.specs.Rules.{Accepted, first_violation}
 use Rattle.cp_model.specs.RulesJudged.{least}
 use Rattle.cp_model.specs.Spelling.{Spells}
 use Rattle.cp_model.specs.declared.rules.Violation.{Violation}
@@ -19,7 +19,7 @@ use Rattle.cp_syntax.specs.Refusals.{HasNoTree}
 use Rattle.cp_execute.specs.declared.refusal.Refusal.{Refusal}
 use Rattle.cp_execute.specs.declared.refusal.Refusal.TheVariants as refusal
 use Rattle.cp_execute.specs.Executed.{IsFault, IsFaultOfAccepted, IsFaultOrOfInput, RefusesInput, RefusesText, front}
-use Rattle.cp_execute.specs.Cutting.{judged}
+use Rattle.cp_execute.specs.Cutting.{judge_input}
 use Rattle.cp_execute.specs.Texts.{IsAccepted, IsTextOf, Refuses}
 use Rattle.cp_execute.proofs.TextRefusals.{of_known}
 
@@ -49,7 +49,7 @@ not_scanned xs tokens cause.Size at le h f = Prim.omega (arith, le, f.0)
 not_parsed : (xs : List ℕ) (t : s.Tree) (tokens : List Token) → IsTextOf xs t → Spells xs tokens → HasNoTree tokens → ⊥
 not_parsed xs t tokens is h none = none t (subst (λ (ts : List Token). Reads ts t) (one_list xs is.tokens tokens is.spelled h) is.reads)
 
-not_told : (t : s.Tree) (v : Violation) → Accepted t → told t ≡ Some v → ⊥
+not_told : (t : s.Tree) (v : Violation) → Accepted t → first_violation t ≡ Some v → ⊥
 not_told t v accepted e = clash (sym (ap (λ (vs : List Violation). least None vs) accepted) ∙ e)
   where
     clash : None ≡ Some v → ⊥
@@ -66,7 +66,7 @@ is_fault xs t (refusal.Unexpected at) is h = not_parsed xs t h.0 is.text h.1 h.2
 is_fault xs t (refusal.Unfinished at) is h = not_parsed xs t h.0 is.text h.1 h.2.0
 is_fault xs t (refusal.TooDeep at) is h = not_parsed xs t h.0 is.text h.1 h.2.0
 is_fault xs t (refusal.Check rule at) is h =
-    not_told t (record { rule = rule; at = at }) is.accepted (subst (λ (u : s.Tree). told u ≡ Some (record { rule = rule; at = at })) (one_tree xs h.0 t h.1 is.text) h.2)
+    not_told t (record { rule = rule; at = at }) is.accepted (subst (λ (u : s.Tree). first_violation u ≡ Some (record { rule = rule; at = at })) (one_tree xs h.0 t h.1 is.text) h.2)
 is_fault xs t (refusal.InputByte at) is h = h
 is_fault xs t refusal.InputSize is h = h
 
@@ -92,7 +92,7 @@ text_fault xs t refusal.InputSize is h = h
 
 -- ---- refusals of an input
 
-input_fault : (ys : List ℕ) (e : Refusal) → RefusesInput ys e → IsFault e ⊎ (judged (front ys) ≡ Err e)
+input_fault : (ys : List ℕ) (e : Refusal) → RefusesInput ys e → IsFault e ⊎ (judge_input (front ys) ≡ Err e)
 input_fault ys refusal.Read h = inl tt
 input_fault ys refusal.Memory h = inl tt
 input_fault ys (refusal.Scan c at) h = inr h

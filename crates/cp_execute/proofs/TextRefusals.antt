@@ -4,7 +4,7 @@ use Rattle.std.proofs.lemmas.Bool.Decides.{nat_tests}
 use Rattle.std.specs.Prelude.{if◌then◌else◌, nat_le}
 use Rattle.cp_execute.specs.declared.refusal.Refusal.{Refusal}
 use Rattle.cp_execute.specs.declared.refusal.Refusal.TheVariants as refusal
-use Rattle.cp_execute.specs.Cutting.{judged, judged_from}
+use Rattle.cp_execute.specs.Cutting.{judge_input, judged_from}
 use Rattle.cp_execute.specs.Executed.{RefusesInput, RefusesText}
 use Rattle.cp_model.specs.View as view
 use Rattle.cp_model.specs.Rules.{Accepted}
@@ -73,14 +73,14 @@ known_accepted (Ok t) bytes h = h.accepted
 
 -- ---- known inputs
 
-judged_within : (bytes : List ℕ) → judged bytes ≡ Ok tt → length bytes ≤ 1048576
+judged_within : (bytes : List ℕ) → judge_input bytes ≡ Ok tt → length bytes ≤ 1048576
 judged_within bytes e = by (nat_le (length bytes) 1048576) refl e
   where
     by : (b : Bool) → nat_le (length bytes) 1048576 ≡ b → (if b then judged_from 0 bytes else Err refusal.InputSize) ≡ Ok tt → length bytes ≤ 1048576
     by true f e = Prim.grind (arith, nat_tests, f)
     by false f e = absurd (Prim.grind (arith, e))
 
-pub input_known : (known : Option (List ℕ)) (bytes : List ℕ) → IfSome known (λ xs. bytes ≡ take 1048577 xs) → judged bytes ≡ Ok tt
+pub input_known : (known : Option (List ℕ)) (bytes : List ℕ) → IfSome known (λ xs. bytes ≡ take 1048577 xs) → judge_input bytes ≡ Ok tt
     → IfSome known (λ ys. bytes ≡ ys)
 input_known None bytes k e = tt
 input_known (Some ys) bytes k e = whole bytes ys k (judged_within bytes e)
@@ -95,19 +95,19 @@ judged_from_writes at (b ∷ bs) e = by (nat_le b 127) (judged_from_writes (suc 
     by false later e = Prim.grind (arith, e)
 
 -- An input is never refused because of a write.
-pub judged_writes : (bytes : List ℕ) (e : Refusal) → judged bytes ≡ Err e → e ≡ refusal.Write → ⊥
+pub judged_writes : (bytes : List ℕ) (e : Refusal) → judge_input bytes ≡ Err e → e ≡ refusal.Write → ⊥
 judged_writes bytes e h w = by (nat_le (length bytes) 1048576) (h ∙ ap (λ (r : Refusal). Err r) w)
   where
     by : (b : Bool) → (if b then judged_from 0 bytes else Err refusal.InputSize) ≡ Err refusal.Write → ⊥
     by true e = judged_from_writes 0 bytes e
     by false e = Prim.grind (arith, e)
 
-pub input_refused : (known : Option (List ℕ)) (bytes : List ℕ) (e : Refusal) → IfSome known (λ xs. bytes ≡ take 1048577 xs) → judged bytes ≡ Err e
+pub input_refused : (known : Option (List ℕ)) (bytes : List ℕ) (e : Refusal) → IfSome known (λ xs. bytes ≡ take 1048577 xs) → judge_input bytes ≡ Err e
     → IfSome known (λ ys. RefusesInput ys e)
 input_refused None bytes e k h = tt
-input_refused (Some ys) bytes e k h = by e (subst (λ (bs : List ℕ). judged bs ≡ Err e) k h)
+input_refused (Some ys) bytes e k h = by e (subst (λ (bs : List ℕ). judge_input bs ≡ Err e) k h)
   where
-    by : (e : Refusal) → judged (take 1048577 ys) ≡ Err e → RefusesInput ys e
+    by : (e : Refusal) → judge_input (take 1048577 ys) ≡ Err e → RefusesInput ys e
     by refusal.Read h = tt
     by refusal.Memory h = tt
     by (refusal.Scan c at) h = h

@@ -10,8 +10,8 @@ abbrev pub judged_from : ℕ → List ℕ → Result (Unit {0}) Refusal
 judged_from at [] = Ok tt
 judged_from at (b ∷ bs) = if nat_le b 127 then judged_from (suc at) bs else Err (refusal.InputByte at)
 
-abbrev pub judged : List ℕ → Result (Unit {0}) Refusal
-judged input = if nat_le (length input) 1048576 then judged_from 0 input else Err refusal.InputSize
+abbrev pub judge_input : List ℕ → Result (Unit {0}) Refusal
+judge_input input = if nat_le (length input) 1048576 then judged_from 0 input else Err refusal.InputSize
 
 -- An input is its first part, and then, after a byte 28, the rest.
 abbrev pub front_part : List ℕ → List ℕ

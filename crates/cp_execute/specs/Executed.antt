@@ -13,7 +13,7 @@ use Rattle.cp_execute.specs.declared.refusal.Refusal.TheVariants as refusal
 use Rattle.cp_execute.specs.declared.running.Run.{Run}
 use Rattle.cp_execute.specs.declared.execute.Job.{Job}
 use Rattle.cp_execute.specs.declared.execute.Job.TheVariants as job
-use Rattle.cp_execute.specs.Cutting.{judged}
+use Rattle.cp_execute.specs.Cutting.{judge_input}
 use Rattle.cp_execute.specs.Texts.{IsAccepted}
 use Rattle.cp_execute.specs.Texts as texts
 
@@ -67,7 +67,7 @@ RefusesText xs e = texts.Refuses (front xs) e
 abbrev pub RefusesInput : List ℕ → Refusal → Type 0
 RefusesInput ys refusal.Read = Unit {0}
 RefusesInput ys refusal.Memory = Unit {0}
-RefusesInput ys e = judged (front ys) ≡ Err e
+RefusesInput ys e = judge_input (front ys) ≡ Err e
 
 -- A run is refused because of the text or, if that is accepted, because of the input. Running out
 -- of memory says nothing.
@@ -88,7 +88,7 @@ IsFaultOfAccepted text e = (xs : List ℕ) (t : s.Tree) → text ≡ Some xs →
 -- The run of a known text that is accepted is refused only with a fault or because of the input.
 abbrev pub IsFaultOrOfInput : Option (List ℕ) → Option (List ℕ) → Refusal → Type 0
 IsFaultOrOfInput text input e =
-    (xs ys : List ℕ) (t : s.Tree) → text ≡ Some xs → input ≡ Some ys → IsAccepted xs t → IsFault e ⊎ (judged (front ys) ≡ Err e)
+    (xs ys : List ℕ) (t : s.Tree) → text ≡ Some xs → input ≡ Some ys → IsAccepted xs t → IsFault e ⊎ (judge_input (front ys) ≡ Err e)
 
 -- ---- jobs
 

@@ -2,7 +2,7 @@
 use Rattle.std.specs.Prelude.{◌≡◌, ◌≤◌, ℕ, List, Some, length}
 use Rattle.cp_model.specs.Syntax as s
 use Rattle.cp_model.specs.Grammar.{Reads}
-use Rattle.cp_model.specs.Rules.{Accepted, told}
+use Rattle.cp_model.specs.Rules.{Accepted, first_violation}
 use Rattle.cp_model.specs.Spelling.{Spells}
 use Rattle.cp_model.specs.declared.token.Token.{Token}
 use Rattle.cp_scan.specs.Laws.{TellsFirstCause, longest_text}
@@ -34,6 +34,6 @@ Refuses text (refusal.Scan cause at) = TellsFirstCause text (scan.Refused cause 
 Refuses text (refusal.Unexpected at) = RefusesTokens text (syntax.Unexpected at)
 Refuses text (refusal.Unfinished at) = RefusesTokens text (syntax.Unfinished at)
 Refuses text (refusal.TooDeep at) = RefusesTokens text (syntax.TooDeep at)
-Refuses text (refusal.Check rule at) = (t : s.Tree) × IsTextOf text t × (told t ≡ Some (record { rule = rule; at = at }))
+Refuses text (refusal.Check rule at) = (t : s.Tree) × IsTextOf text t × (first_violation t ≡ Some (record { rule = rule; at = at }))
 Refuses text refusal.Memory = Unit {0}
 Refuses text e = ⊥

@@ -2,7 +2,7 @@
 
 ghost use Rattle.std.specs.Prelude.{◌≡◌, ◌≤◌, ◌+◌, ℕ, suc, IfOk, Some, drop, length, slice_get, take};
 ghost use Rattle.cp_model.specs.Input.{cut};
-ghost use Rattle.cp_execute.specs.Cutting.{AreParts, after_separator, front_part, judged};
+ghost use Rattle.cp_execute.specs.Cutting.{AreParts, after_separator, front_part, judge_input};
 
 use crate::refusal::Refusal;
 use std::alloc::{AllocError, Global};
@@ -20,7 +20,7 @@ const SEPARATOR: u8 = 28;
 ///
 /// I4 (`InputSize`) or I3 (`InputByte`), checked in this order.
 pub fn check_input(input: &[u8]) -> Result<(), Refusal>
-    ensures { result ≡ judged input.now }
+    ensures { result ≡ judge_input input.now }
 {
     if LONGEST_INPUT < input.len() {
         return Err(Refusal::InputSize);

@@ -19,7 +19,7 @@ use Rattle.cp_model.specs.States as model
 
 pub parted_as : (k : Kernel) (x y : Private) (input : List ℕ) (shared : List ℤ) (e : Effect)
     → length y.memory.words.items ≡ length x.memory.words.items
-    → plain.parted (length x.memory.words.items) (turning k x input) (states.joined y input shared, e)
+    → plain.part_words (length x.memory.words.items) (turning k x input) (states.join y input shared, e)
     ≡ record {
       kernel = plain.apply_effect (length x.memory.words.items) x.number e (record (kernel_of k) { shared = shared });
       own = states.private_of y input;
@@ -31,7 +31,7 @@ parted_as k x y input shared e same =
     let rest : drop own (ws ++ shared) ≡ shared = ap (λ n. drop n (ws ++ shared)) (sym same) ∙ drop-append_seam ws shared in
     λ i. record {
       kernel = plain.apply_effect own x.number e (record (kernel_of k) { shared = rest i });
-      own = record (states.joined y input shared) { words = first i };
+      own = record (states.join y input shared) { words = first i };
     }
 
 pub kernel_same : (k mid : Kernel) → mid.gates ≡ k.gates → mid.stages ≡ k.stages
@@ -40,7 +40,7 @@ kernel_same k mid gates stages =
     λ i. record { shared = mid.shared.items; gates = map states.gate (gates i).items; stages = map states.stage (stages i).items }
 
 pub step_due : (program : Program) (clock : ℕ) (x : plain.Turning) → plain.is_due program x ≡ true
-    → plain.kernel_step program clock x ≡ plain.parted (length x.own.words) x (step_with program (plain.outside clock x) (plain.joined x))
+    → plain.kernel_step program clock x ≡ plain.part_words (length x.own.words) x (step_with program (plain.outside clock x) (plain.join_words x))
 step_due program clock x due = rw due refl
 
 -- The words of a vector that was lent as a slice of the same length.

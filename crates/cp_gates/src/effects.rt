@@ -22,7 +22,7 @@ fn index(number: u32) -> usize
 }
 
 fn resumed_stage(stage: Stage) -> Stage
-    ensures { stage_view result ≡ plain.resumed (stage_view stage) }
+    ensures { stage_view result ≡ plain.resume_stage (stage_view stage) }
 {
     match stage {
         Stage::Asking(_) | Stage::Delayed { .. } => Stage::Begun,

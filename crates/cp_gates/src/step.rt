@@ -4,7 +4,7 @@
 ghost use Rattle.std.specs.Prelude.{◌≡◌, ◌≢◌, ◌≤◌, ◌+◌, ◌-◌, ◌*◌, ◌++◌, true, ℕ, List, length};
 ghost use Rattle.cp_process.specs.Rooms.{HasRoomFor, KeepsRoom};
 ghost use Rattle.cp_process.specs.States.{private_of};
-ghost use Rattle.cp_process.specs.States.{effect, joined};
+ghost use Rattle.cp_process.specs.States.{effect, join};
 ghost use Rattle.cp_steps.specs.KernelSteps as plain;
 ghost use Rattle.cp_steps.specs.Steps.{step_with};
 ghost use Rattle.cp_threaded.specs.View as view;
@@ -47,8 +47,8 @@ fn act(
 ) -> Effect
     requires { HasRoomFor private.old 1 }
     ensures step { let x = turning kernel.old private.old input.now in
-        (joined private.new input.now kernel.new.shared.items, effect result) ≡ step_with
-        (view.program program.now) (plain.outside clock x) (plain.joined x) }
+        (join private.new input.now kernel.new.shared.items, effect result) ≡ step_with
+        (view.program program.now) (plain.outside clock x) (plain.join_words x) }
     ensures own { length private.new.memory.words.items ≡ length private.old.memory.words.items }
     ensures number { private.new.number ≡ private.old.number }
     ensures output { KeepsRoom private.old private.new }

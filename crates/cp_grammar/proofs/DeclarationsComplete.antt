@@ -4,7 +4,7 @@ use Rattle.cp_model.specs.Languages.{symbol, symbol_at, identifier, optional, ea
 use Rattle.cp_model.specs.Syntax as s
 use Rattle.cp_model.specs.View.{statements_of}
 use Rattle.cp_model.specs.GrammarTypes.{names, type_expression}
-use Rattle.cp_model.specs.Grammar.{body, variable_group, variables, parameter_group, parameters, routine_word, result_type, routine, sort_symbol, system, defined, constant_definition, type_definition, section}
+use Rattle.cp_model.specs.Grammar.{body, variable_group, variables, parameter_group, parameters, routine_word, result_type, routine, sort_symbol, system, definition, constant_definition, type_definition, section}
 use Rattle.cp_model.specs.declared.token.Token.{Token}
 use Rattle.cp_model.specs.declared.token.Kind.{Kind}
 use Rattle.cp_model.specs.declared.token.Kind.TheVariants as kind
@@ -16,7 +16,7 @@ use Rattle.cp_model.specs.declared.tree.ConstantDefinition.{ConstantDefinition}
 use Rattle.cp_model.specs.declared.tree.Sort.{Sort}
 use Rattle.cp_model.specs.declared.tree.Sort.TheVariants as sort
 use Rattle.cp_grammar.specs.Kinds.{is_symbol, is_name}
-use Rattle.cp_grammar.specs.Reading.{Reader, kind_at, tail, optional_symbol, repeated, one_or_more, separated_by}
+use Rattle.cp_grammar.specs.Reading.{Reader, kind_at, tail, optional_symbol, repeat_while, one_or_more, separated_by}
 use Rattle.cp_grammar.specs.Names.{identifier_of, names_of}
 use Rattle.cp_grammar.specs.Types.{group_of, type_at}
 use Rattle.cp_grammar.specs.Statements.{Deeper, statements_from, block_of, deeper_at}
@@ -200,7 +200,7 @@ written_reads : (p : Reader s.TypeExpression) (d : Option Deeper) (t : s.TypeExp
 unfolding written_type
 written_reads p d t ts rest h = rw h refl
 
-defined_reads : (limit : ℕ) (x : s.Defined) (ts rest : List Token) → defined limit x ts rest → ends_type (kind_at rest) ≡ true
+defined_reads : (limit : ℕ) (x : s.Defined) (ts rest : List Token) → definition limit x ts rest → ends_type (kind_at rest) ≡ true
     → defined_of (type_at limit) (deeper_at limit) ts ≡ Ok (x, rest)
 defined_reads limit (s.Written t) ts rest h ends =
     by_defined (type_at limit) (deeper_at limit) (kind_at ts) (written_type (type_at limit) (deeper_at limit)) (s.Written t) ts rest refl
@@ -274,7 +274,7 @@ section_reads limit (s.Types (d ∷ ds)) ts rest h stop =
 
 pub sections_reads : (limit : ℕ) (xs : List s.Section) (ts rest : List Token) → each (section limit) xs ts rest → is_name (kind_at rest) ≡ false
     → begins_section (kind_at rest) ≡ false
-    → repeated begins_section (section_of (type_at limit) (deeper_at limit)) [] ts ≡ Ok (xs, rest)
+    → repeat_while begins_section (section_of (type_at limit) (deeper_at limit)) [] ts ≡ Ok (xs, rest)
 sections_reads limit xs ts rest h no_name stop =
     each_reads (section limit) (section_of (type_at limit) (deeper_at limit)) NoName begins_section (section_begins limit)
     (λ x k go. section_is_no_name k go) (section_shrinks limit) xs

@@ -3,7 +3,7 @@
 use Rattle.std.proofs.Common.{ℕ, zero, suc, ◌<◌, ◌≤◌, List, [], ◌∷◌, length, Option, Some, None, arith}
 use Rattle.cp_model.specs.Languages.{optional}
 use Rattle.cp_model.specs.Syntax as s
-use Rattle.cp_model.specs.Grammar.{body, variable_group, variables, parameter_group, parameters, routine_word, result_type, routine, sort_symbol, system, defined, constant_definition, type_definition, section}
+use Rattle.cp_model.specs.Grammar.{body, variable_group, variables, parameter_group, parameters, routine_word, result_type, routine, sort_symbol, system, definition, constant_definition, type_definition, section}
 use Rattle.cp_model.specs.declared.token.Token.{Token}
 use Rattle.cp_model.specs.declared.token.Kind.TheVariants as kind
 use Rattle.cp_model.specs.declared.token.Symbol.{Symbol}
@@ -119,7 +119,7 @@ system_shrinks limit y ts rest h =
       body_shrinks limit y.body h4.0 rest h4.2,
     )
 
-defined_shrinks : (limit : ℕ) (d : s.Defined) (ts rest : List Token) → defined limit d ts rest → length rest ≤ length ts
+defined_shrinks : (limit : ℕ) (d : s.Defined) (ts rest : List Token) → definition limit d ts rest → length rest ≤ length ts
 defined_shrinks limit (s.Written t) ts rest h = omega (arith, type_shrinks t limit ts rest h)
 defined_shrinks limit (s.Enumeration xs) ts rest h =
     omega (

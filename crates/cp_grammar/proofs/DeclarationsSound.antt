@@ -1,9 +1,9 @@
 -- What is read as a declaration or as a whole text is allowed by the grammar.
 use Rattle.std.proofs.Common.{◌≡◌, ℕ, Bool, true, false, cond, List, [], ◌∷◌, Option, Some, None, refl}
-use Rattle.cp_model.specs.Languages.{Language, symbol, identifier, ◌⋅◌, optional, each, separated}
+use Rattle.cp_model.specs.Languages.{Language, symbol, identifier, ◌⋅◌, optional, each, separated_list}
 use Rattle.cp_model.specs.Syntax as s
 use Rattle.cp_model.specs.GrammarTypes.{type_expression}
-use Rattle.cp_model.specs.Grammar.{body, variable_group, variables, parameter_group, parameters, routine_word, result_type, routine, sort_symbol, system, defined, constant_definition, type_definition, section}
+use Rattle.cp_model.specs.Grammar.{body, variable_group, variables, parameter_group, parameters, routine_word, result_type, routine, sort_symbol, system, definition, constant_definition, type_definition, section}
 use Rattle.cp_model.specs.declared.token.Token.{Token}
 use Rattle.cp_model.specs.declared.token.Kind.{Kind}
 use Rattle.cp_model.specs.declared.token.Kind.TheVariants as kind
@@ -13,7 +13,7 @@ use Rattle.cp_model.specs.declared.tree.ConstantDefinition.{ConstantDefinition}
 use Rattle.cp_model.specs.declared.tree.Sort.{Sort}
 use Rattle.cp_model.specs.declared.tree.Sort.TheVariants as sort
 use Rattle.cp_grammar.specs.Kinds.{is_symbol, is_name}
-use Rattle.cp_grammar.specs.Reading.{Reader, pure, refuse, kind_at, place_at, tail, repeated}
+use Rattle.cp_grammar.specs.Reading.{Reader, pure, refuse, kind_at, place_at, tail, repeat_while}
 use Rattle.cp_grammar.specs.Types.{group_of}
 use Rattle.cp_grammar.specs.Statements.{Deeper, block_of}
 use Rattle.cp_grammar.specs.Declarations.{constant_definition_of, parameter_group_of, some_parameters_of, parameters_of, result_type_of, Heading, heading_from, heading_of, begins_routine, variable_group_of, some_variables_of, variables_of, body_of, routine_of, routines_of, system_from, system_type, enumeration_of, written_type, defined_by, defined_of, type_definition_of, section_by, section_of, begins_section}
@@ -44,7 +44,7 @@ parameter_group_sound ts = ensures_then _ _ _ _ (optional_sound symbol.Var ts) (
     let made : parameter_group (record { by_reference = v; names = xs; of = t }) ts t4 = (t1, h1, (t2, h2, (t3, (p3, h3), h4))) in made))))
 
 pub between_parentheses : (ps : List s.Parameters) (ts rest : List Token)
-    → (symbol symbol.OpenParenthesis ⋅ separated symbol.Semicolon parameter_group ps ⋅ symbol symbol.CloseParenthesis) ts rest → parameters ps ts rest
+    → (symbol symbol.OpenParenthesis ⋅ separated_list symbol.Semicolon parameter_group ps ⋅ symbol symbol.CloseParenthesis) ts rest → parameters ps ts rest
 between_parentheses [] ts rest h = absurd h.2.1
 between_parentheses (p ∷ ps) ts rest h = h
 
@@ -202,24 +202,24 @@ module _ (limit : ℕ) (p : Reader s.TypeExpression) (ok : SoundType limit p) (d
       (tail ts, (place_at ts, head ts (kind.Symbol (sort_symbol sort)) k), (t1, h1, (t2, (p2, h2), (t3, h3, (t4, h4, h5))))) in made)))))
 
   system_type_sound : (sort : Sort) (ts : List Token) → kind_at ts ≡ Some (kind.Symbol (sort_symbol sort))
-      → Ensures (system_type p deeper sort ts) (λ d rest. defined limit d ts rest)
+      → Ensures (system_type p deeper sort ts) (λ d rest. definition limit d ts rest)
   unfolding system_type
   system_type_sound sort ts k = ensures_then (system_from p deeper sort ts) (λ y. pure (s.SystemType y)) (λ y rest. system limit y ts rest) _
       (system_sound sort ts k) (λ y rest h. h)
 
   enumeration_sound : (ts : List Token) → kind_at ts ≡ Some (kind.Symbol symbol.OpenParenthesis)
-      → Ensures (enumeration_of p deeper ts) (λ d rest. defined limit d ts rest)
+      → Ensures (enumeration_of p deeper ts) (λ d rest. definition limit d ts rest)
   unfolding enumeration_of
   enumeration_sound ts k = ensures_then _ _ _ _ (names_sound (tail ts)) (λ xs t1 h1.
       ensures_then _ _ _ _ (expect_sound symbol.CloseParenthesis t1) (λ p2 t2 h2.
-      let made : defined limit (s.Enumeration xs) ts t2 =
+      let made : definition limit (s.Enumeration xs) ts t2 =
       (tail ts, (place_at ts, head ts (kind.Symbol symbol.OpenParenthesis) k), (t1, h1, (p2, h2))) in made))
 
-  written_sound : (ts : List Token) → Ensures (written_type p deeper ts) (λ d rest. defined limit d ts rest)
+  written_sound : (ts : List Token) → Ensures (written_type p deeper ts) (λ d rest. definition limit d ts rest)
   unfolding written_type
   written_sound ts = ensures_then (p ts) (λ t. pure (s.Written t)) (λ t rest. type_expression limit t ts rest) _ (ok ts) (λ t rest h. h)
 
-  defined_by_sound : (ts : List Token) (k : Option Kind) → kind_at ts ≡ k → Ensures (defined_by p deeper k ts) (λ d rest. defined limit d ts rest)
+  defined_by_sound : (ts : List Token) (k : Option Kind) → kind_at ts ≡ k → Ensures (defined_by p deeper k ts) (λ d rest. definition limit d ts rest)
   unfolding defined_by
   defined_by_sound ts (Some (kind.Symbol symbol.Process)) k = system_type_sound sort.Process ts k
   defined_by_sound ts (Some (kind.Symbol symbol.Monitor)) k = system_type_sound sort.Monitor ts k
@@ -227,7 +227,7 @@ module _ (limit : ℕ) (p : Reader s.TypeExpression) (ok : SoundType limit p) (d
   defined_by_sound ts (Some (kind.Symbol symbol.OpenParenthesis)) k = enumeration_sound ts k
   defined_by_sound ts _ k = written_sound ts
 
-  defined_sound : Sound (defined_of p deeper) (defined limit)
+  defined_sound : Sound (defined_of p deeper) (definition limit)
   unfolding defined_of
   defined_sound ts = defined_by_sound ts (kind_at ts) refl
 
@@ -251,6 +251,6 @@ module _ (limit : ℕ) (p : Reader s.TypeExpression) (ok : SoundType limit p) (d
       types_section limit ds ts (tail ts) rest (place_at ts, head ts (kind.Symbol symbol.Type) k) h)
   section_by_sound ts _ k = tt
 
-  pub sections_sound : Sound (repeated begins_section (section_of p deeper) []) (each (section limit))
+  pub sections_sound : Sound (repeat_while begins_section (section_of p deeper) []) (each (section limit))
   unfolding section_of
   sections_sound = each_sound (section limit) begins_section (section_of p deeper) (λ ts k. section_by_sound ts (kind_at ts) refl)

@@ -8,7 +8,7 @@ use Rattle.cp_model.specs.declared.token.Symbol.TheVariants as symbol
 use Rattle.cp_model.specs.declared.tree.Sort.{Sort}
 use Rattle.cp_model.specs.declared.tree.Sort.TheVariants as sort
 use Rattle.cp_grammar.specs.Kinds.{is_symbol, is_name}
-use Rattle.cp_grammar.specs.Reading.{Reader, pure, refuse, repeated}
+use Rattle.cp_grammar.specs.Reading.{Reader, pure, refuse, repeat_while}
 use Rattle.cp_grammar.specs.Statements.{Deeper, block_of}
 use Rattle.cp_grammar.specs.Declarations.{constant_definition_of, parameter_group_of, some_parameters_of, parameters_of, result_type_of, Heading, heading_from, heading_of, begins_routine, variable_group_of, some_variables_of, variables_of, body_of, routine_of, routines_of, system_from, system_type, enumeration_of, written_type, defined_by, defined_of, type_definition_of, section_by, section_of, begins_section}
 use Rattle.cp_grammar.proofs.Steady.{Cut, Mode, Anywhere, Before, start_of, Steady, Has, imply, before, then, then_any, finish, pure_steady, refuse_steady, take_steady, kind_steady, kind_before, symbol_steady, expect_steady, optional_steady, SteadyInner}
@@ -160,7 +160,7 @@ module _ {c : Cut} (m : Mode) (d d' : Option Deeper) (rd : SteadyInner c (Deeper
         (some_has type_definition_levels)) (λ ds. refl))
     section_by_steady _ = refuse_steady
 
-    pub sections_steady : Steady c m Anywhere (Has (each_levels section_levels)) (repeated begins_section (section_of p d) [])
-        (repeated begins_section (section_of q d') [])
+    pub sections_steady : Steady c m Anywhere (Has (each_levels section_levels)) (repeat_while begins_section (section_of p d) [])
+        (repeat_while begins_section (section_of q d') [])
     unfolding section_of
     sections_steady = each_steady section_levels begins_section refl some_section (before (kind_steady section_by_steady))

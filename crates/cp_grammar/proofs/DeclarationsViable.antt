@@ -2,7 +2,7 @@
 use Rattle.std.proofs.Common.{◌≡◌, ℕ, suc, Bool, true, false, cond, List, [], ◌∷◌, ◌++◌, Option, Some, None, refl}
 use Rattle.cp_model.specs.Languages.{Language, token, symbol_at, each}
 use Rattle.cp_model.specs.Syntax as s
-use Rattle.cp_model.specs.Grammar.{body, variable_group, variables, parameter_group, parameters, routine_word, result_type, routine, sort_symbol, system, defined, constant_definition, type_definition, section}
+use Rattle.cp_model.specs.Grammar.{body, variable_group, variables, parameter_group, parameters, routine_word, result_type, routine, sort_symbol, system, definition, constant_definition, type_definition, section}
 use Rattle.cp_model.specs.declared.token.Token.{Token}
 use Rattle.cp_model.specs.declared.token.Kind.{Kind}
 use Rattle.cp_model.specs.declared.token.Kind.TheVariants as kind
@@ -12,7 +12,7 @@ use Rattle.cp_model.specs.declared.tree.Identifier.{Identifier}
 use Rattle.cp_model.specs.declared.tree.Sort.{Sort}
 use Rattle.cp_model.specs.declared.tree.Sort.TheVariants as sort
 use Rattle.cp_grammar.specs.Kinds.{is_symbol, is_name}
-use Rattle.cp_grammar.specs.Reading.{Reader, ◌>>=◌, pure, refuse, take_token, by_kind, kind_at, expect, optional_symbol, repeated, one_or_more, separated_by}
+use Rattle.cp_grammar.specs.Reading.{Reader, ◌>>=◌, pure, refuse, take_token, by_kind, kind_at, expect, optional_symbol, repeat_while, one_or_more, separated_by}
 use Rattle.cp_grammar.specs.Names.{identifier_of, names_of}
 use Rattle.cp_grammar.specs.Statements.{Deeper, block_of}
 use Rattle.cp_grammar.specs.Declarations.{constant_definition_of, parameter_group_of, some_parameters_of, parameters_of, result_type_of, heading_from, heading_of, begins_routine, variable_group_of, some_variables_of, variables_of, body_of, routine_of, routines_of, system_from, system_type, enumeration_of, written_type, defined_by, defined_of, type_definition_of, section_by, section_of, begins_section}
@@ -152,24 +152,24 @@ module _ (limit : ℕ) (made : Inhabited (body limit)) (d : Option Deeper) (okd 
         (λ b m4 rest h m3 h4 m2 h3 m1 h2 m0 h1 ts t. (m0, (at, t), (m1, h1, (m2, (q, h2), (m3, h3, (m4, h4, h)))))))))))
 
     system_type_viable : (x : Sort) (ts : List Token) → kind_at ts ≡ Some (kind.Symbol (sort_symbol x))
-        → ViableAt (defined limit) (system_type p d x ts) ts
+        → ViableAt (definition limit) (system_type p d x ts) ts
     unfolding system_type
-    system_type_viable x ts k = then_at (system limit) (defined limit) (system_from p d x ts) (λ y. pure (s.SystemType y)) ts (system_viable x ts k)
+    system_type_viable x ts k = then_at (system limit) (definition limit) (system_from p d x ts) (λ y. pure (s.SystemType y)) ts (system_viable x ts k)
         (λ y. pure_viable (s.SystemType y) (λ mid ts h. h))
 
     enumeration_viable : (ts : List Token) → kind_at ts ≡ Some (kind.Symbol symbol.OpenParenthesis)
-        → ViableAt (defined limit) (enumeration_of p d ts) ts
+        → ViableAt (definition limit) (enumeration_of p d ts) ts
     unfolding enumeration_of
-    enumeration_viable ts k = take_at (defined limit) (kind.Symbol symbol.OpenParenthesis)
+    enumeration_viable ts k = take_at (definition limit) (kind.Symbol symbol.OpenParenthesis)
         (λ _. names_of >>= λ xs. expect symbol.CloseParenthesis >>= λ _. pure (s.Enumeration xs)) ts k
         (λ at. then names_viable (λ xs. finish (λ _. s.Enumeration xs) (expect_viable symbol.CloseParenthesis)
         (λ q m1 rest h m0 h1 ts t. (m0, (at, t), (m1, h1, (q, h))))))
 
-    written_viable : Viable (written_type p d) (defined limit)
+    written_viable : Viable (written_type p d) (definition limit)
     unfolding written_type
     written_viable = finish (λ t. s.Written t) v (λ t ts rest h. h)
 
-    defined_by_viable : (ts : List Token) (k : Option Kind) → kind_at ts ≡ k → ViableAt (defined limit) (defined_by p d k ts) ts
+    defined_by_viable : (ts : List Token) (k : Option Kind) → kind_at ts ≡ k → ViableAt (definition limit) (defined_by p d k ts) ts
     unfolding defined_by
     defined_by_viable ts (Some (kind.Symbol symbol.Process)) k = system_type_viable sort.Process ts k
     defined_by_viable ts (Some (kind.Symbol symbol.Monitor)) k = system_type_viable sort.Monitor ts k
@@ -207,6 +207,6 @@ module _ (limit : ℕ) (made : Inhabited (body limit)) (d : Option Deeper) (okd 
         (λ ds mid rest h ts t. types_section limit ds ts mid rest (at, t) h))
     section_by_viable ts _ k = from_start (section limit) some_section ts
 
-    pub sections_viable : Viable (repeated begins_section (section_of p d) []) (each (section limit))
+    pub sections_viable : Viable (repeat_while begins_section (section_of p d) []) (each (section limit))
     unfolding section_of
     sections_viable = each_viable (section limit) begins_section (by_kind (section_by p d)) (λ ts k. section_by_viable ts (kind_at ts) refl)

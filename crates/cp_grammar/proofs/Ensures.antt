@@ -1,11 +1,11 @@
 -- What a reader that succeeds ensures.
 use Rattle.std.proofs.Common.{◌≡◌, ℕ, zero, suc, Bool, true, false, cond, List, [], ◌∷◌, ◌++◌, length, Option, Some, None, Ok, Err, refl, sym, subst}
-use Rattle.cp_model.specs.Languages.{Language, never, symbol, symbol_at, optional, each, each_behind, separated}
+use Rattle.cp_model.specs.Languages.{Language, never, symbol, symbol_at, optional, each, each_behind, separated_list}
 use Rattle.cp_model.specs.declared.token.Token.{Token}
 use Rattle.cp_model.specs.declared.token.Kind.{Kind}
 use Rattle.cp_model.specs.declared.token.Symbol.{Symbol}
 use Rattle.cp_grammar.specs.Kinds.{is_symbol}
-use Rattle.cp_grammar.specs.Reading.{Outcome, Reader, and_then, ◌>>=◌, pure, refuse, take_token, kind_at, place_at, tail, expect, optional_symbol, inside, repeat, repeated, one_or_more, separated_by}
+use Rattle.cp_grammar.specs.Reading.{Outcome, Reader, and_then, ◌>>=◌, pure, refuse, take_token, kind_at, place_at, tail, expect, optional_symbol, inside, repeat, repeat_while, one_or_more, separated_by}
 use Rattle.cp_grammar.proofs.Tokens.{head_symbol}
 
 abbrev pub Ensures : {A : Type 0} → Outcome A → (A → List Token → Type 0) → Type 0
@@ -85,15 +85,15 @@ module _ {A : Type 0} (f : A → Language) (x : Symbol) where
   behind_push [] a ts mid next rest h k g = (next, subst (λ (t : List Token). symbol x t next) (sym h) k, (rest, g, refl))
   behind_push (y ∷ ys) a ts mid next rest h k g = (h.0, h.1, (h.2.0, h.2.1, behind_push ys a h.2.0 mid next rest h.2.2 k g))
 
-  pub separated_push : (items : List A) (a : A) (ts mid next rest : List Token) → separated x f items ts mid → symbol x mid next → f a next rest
-      → separated x f (items ++ a ∷ []) ts rest
+  pub separated_push : (items : List A) (a : A) (ts mid next rest : List Token) → separated_list x f items ts mid → symbol x mid next → f a next rest
+      → separated_list x f (items ++ a ∷ []) ts rest
   separated_push [] a ts mid next rest h k g = absurd h
   separated_push (y ∷ ys) a ts mid next rest h k g = (h.0, h.1, behind_push ys a h.0 mid next rest h.2 k g)
 
-  pub separated_sound : (item : Reader A) → Sound item f → Sound (separated_by x item) (separated x f)
-  separated_sound item ok ts = ensures_then (item ts) (λ a. repeated (is_symbol x) (take_token >>= λ _. item) (a ∷ [])) (λ a rest. f a ts rest) _
+  pub separated_sound : (item : Reader A) → Sound item f → Sound (separated_by x item) (separated_list x f)
+  separated_sound item ok ts = ensures_then (item ts) (λ a. repeat_while (is_symbol x) (take_token >>= λ _. item) (a ∷ [])) (λ a rest. f a ts rest) _
       (ok ts)
-      (λ a mid h. repeat_sound (is_symbol x) (take_token >>= λ _. item) (λ items rest. separated x f items ts rest)
+      (λ a mid h. repeat_sound (is_symbol x) (take_token >>= λ _. item) (λ items rest. separated_list x f items ts rest)
       (λ items at g c. ensures_weaker (item (tail at)) (λ a rest. f a (tail at) rest) _ (ok (tail at))
       (λ a rest one. separated_push items a ts at (tail at) rest g (place_at at, head_symbol at x c) one))
       (length mid) (a ∷ []) mid (mid, h, refl))
@@ -114,13 +114,13 @@ module _ {A : Type 0} (f : A → Language) where
 
   pub each_sound : (goes_on : Option Kind → Bool) (item : Reader A)
       → ((ts : List Token) → goes_on (kind_at ts) ≡ true → Ensures (item ts) (λ a rest. f a ts rest))
-      → Sound (repeated goes_on item []) (each f)
+      → Sound (repeat_while goes_on item []) (each f)
   each_sound goes_on item ok ts = repeat_sound goes_on item (λ items rest. each f items ts rest)
       (λ items at g c. ensures_weaker (item at) (λ a rest. f a at rest) _ (ok at c) (λ a rest one. each_push items a ts at rest g one))
       (length ts) [] ts refl
 
   pub some_sound : (goes_on : Option Kind → Bool) (item : Reader A) → Sound item f → Sound (one_or_more goes_on item) (some f)
-  some_sound goes_on item ok ts = ensures_then (item ts) (λ a. repeated goes_on item (a ∷ [])) (λ a rest. f a ts rest) _ (ok ts)
+  some_sound goes_on item ok ts = ensures_then (item ts) (λ a. repeat_while goes_on item (a ∷ [])) (λ a rest. f a ts rest) _ (ok ts)
       (λ a mid h. repeat_sound goes_on item (λ items rest. some f items ts rest)
       (λ items at g c. ensures_weaker (item at) (λ a rest. f a at rest) _ (ok at) (λ a rest one. some_push items a ts at rest g one))
       (length mid) (a ∷ []) mid (mid, h, refl))

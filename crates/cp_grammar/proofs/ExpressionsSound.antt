@@ -1,6 +1,6 @@
 -- What is read as an expression is allowed by the grammar.
 use Rattle.std.proofs.Common.{◌≡◌, ℕ, zero, suc, Bool, true, false, cond, List, [], ◌∷◌, ◌++◌, length, Option, Some, None, refl, sym, ap, subst}
-use Rattle.cp_model.specs.Languages.{symbol, symbol_at, ◌⋅◌, opens, each, each_behind, separated}
+use Rattle.cp_model.specs.Languages.{symbol, symbol_at, ◌⋅◌, opens, each, each_behind, separated_list}
 use Rattle.cp_model.specs.Syntax as s
 use Rattle.cp_model.specs.Syntax.{chain_of}
 use Rattle.cp_model.specs.View.{PlacedIndex, expressions_of, selectors_of, indices_of}
@@ -15,7 +15,7 @@ use Rattle.cp_model.specs.declared.tree.Operator.TheVariants as operator
 use Rattle.cp_model.specs.declared.tree.Sign.{Sign}
 use Rattle.cp_model.specs.declared.tree.Sign.TheVariants as sign
 use Rattle.cp_grammar.specs.Kinds.{is_symbol}
-use Rattle.cp_grammar.specs.Reading.{Reader, ◌>>=◌, pure, refuse, take_token, kind_at, place_at, tail, if_some, repeated}
+use Rattle.cp_grammar.specs.Reading.{Reader, ◌>>=◌, pure, refuse, take_token, kind_at, place_at, tail, if_some, repeat_while}
 use Rattle.cp_grammar.specs.Expressions.{product_operator, sum_operator, relation_operator, sign_of, goes_on, operation_of, chain_from, term_of, signed_term, simple_of, expression_of, expressions_from, index_of, indices_from, begins_selector, field_of, indexed_of, selector_by, selector_of, designator_of, arguments_of, optional_arguments_of, call_or_part, named_of, parenthesized_of, not_of, factor_by, factor_of, inner_at, factor_at, expression_at}
 use Rattle.cp_grammar.specs.Laws.{ExpressionsAreSound}
 use Rattle.cp_grammar.proofs.Tokens.{head, head_symbol, is_symbol_refl}
@@ -56,7 +56,7 @@ module _ (room : ℕ) (operators : Option Kind → Option Operator) (class : Ope
       → Ensures (chain_from operators operand e ts) (λ x rest. expression room x start rest × L x)
   unfolding chain_from
   chain_sound start ts e h l =
-      ensures_then (repeated (goes_on operators operand) (operation_of operators operand) [] ts) (λ os. pure (chain_of e os))
+      ensures_then (repeat_while (goes_on operators operand) (operation_of operators operand) [] ts) (λ os. pure (chain_of e os))
       (λ os rest. expression room (chain_of e os) start rest × L (chain_of e os)) _
       (repeat_sound (goes_on operators operand) (operation_of operators operand)
       (λ os rest. expression room (chain_of e os) start rest × L (chain_of e os))
@@ -116,7 +116,7 @@ pub behind_expressions : (room : ℕ) (es : List s.Expression) (ts rest : List T
 behind_expressions room [] ts rest h = h
 behind_expressions room (e ∷ es) ts rest h = (h.0, h.1, (h.2.0, h.2.1, behind_expressions room es h.2.0 rest h.2.2))
 
-pub separated_expressions : (room : ℕ) (es : List s.Expression) (ts rest : List Token) → separated symbol.Comma (expression room) es ts rest
+pub separated_expressions : (room : ℕ) (es : List s.Expression) (ts rest : List Token) → separated_list symbol.Comma (expression room) es ts rest
     → expressions room (expressions_of es) ts rest
 separated_expressions room [] ts rest h = h
 separated_expressions room (e ∷ es) ts rest h = (h.0, h.1, behind_expressions room es h.0 rest h.2)
@@ -154,7 +154,7 @@ module _ (room : ℕ) (f : Reader s.Expression) (ok : SoundFactor room f) where
   indices_sound : (ts : List Token) → is_symbol symbol.OpenBracket (kind_at ts) ≡ true
       → Ensures (indices_from f ts) (λ is rest. indices room (indices_of is) ts rest)
   unfolding indices_from
-  indices_sound ts k = ensures_then (index_of f ts) (λ i. repeated (is_symbol symbol.Comma) (index_of f) (i ∷ [])) _ _
+  indices_sound ts k = ensures_then (index_of f ts) (λ i. repeat_while (is_symbol symbol.Comma) (index_of f) (i ∷ [])) _ _
       (index_sound symbol.OpenBracket ts k)
       (λ i mid h. repeat_sound (is_symbol symbol.Comma) (index_of f) (λ is rest. indices room (indices_of is) ts rest)
       (λ is at g c. ensures_weaker (index_of f at) (λ i rest. IndexAt symbol.Comma i at rest) _ (index_sound symbol.Comma at c)
@@ -214,7 +214,7 @@ module _ (room : ℕ) (inner : Option (Reader s.Expression)) (ok : SoundInner So
   selector_by_sound ts (Some (kind.Symbol symbol.OpenBracket)) k = indexed_sound ts (rw k (is_symbol_refl symbol.OpenBracket))
   selector_by_sound ts _ k = tt
 
-  selectors_sound : (ts : List Token) → Ensures (repeated begins_selector (selector_of inner) [] ts)
+  selectors_sound : (ts : List Token) → Ensures (repeat_while begins_selector (selector_of inner) [] ts)
       (λ xs rest. selectors room (selectors_of xs) ts rest)
   unfolding selector_of
   selectors_sound ts = ensures_weaker _ _ _ (each_sound (selector room) begins_selector (selector_of inner)

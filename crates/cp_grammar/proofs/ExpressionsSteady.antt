@@ -11,7 +11,7 @@ use Rattle.cp_model.specs.declared.token.Symbol.TheVariants as symbol
 use Rattle.cp_model.specs.declared.tree.Operator.{Operator}
 use Rattle.cp_model.specs.declared.tree.Sign.{Sign}
 use Rattle.cp_grammar.specs.Kinds.{is_symbol}
-use Rattle.cp_grammar.specs.Reading.{Reader, ◌>>=◌, pure, take_token, refuse, expect, if_some, repeated}
+use Rattle.cp_grammar.specs.Reading.{Reader, ◌>>=◌, pure, take_token, refuse, expect, if_some, repeat_while}
 use Rattle.cp_grammar.specs.Expressions.{product_operator, sum_operator, relation_operator, sign_of, goes_on, operation_of, chain_from, term_of, signed_term, simple_of, expression_of, expressions_from, index_of, indices_from, begins_selector, field_of, indexed_of, selector_by, selector_of, designator_of, arguments_of, optional_arguments_of, call_or_part, named_of, parenthesized_of, not_of, factor_by, factor_of}
 use Rattle.cp_grammar.proofs.Tokens.{no_symbol}
 use Rattle.cp_grammar.proofs.Steady.{Cut, Mode, Anywhere, Before, start_of, Steady, Has, imply, before, then, then_any, finish, pure_steady, refuse_steady, take_steady, kind_steady, symbol_steady, if_some_steady, expect_steady, SteadyInner, opening_steady}
@@ -167,9 +167,9 @@ indexed_has depth (i ∷ is) l h = ap (λ (l : List ℕ). l ++ 0 ∷ []) h
 
 module _ {c : Cut} (m : Mode) (depth : ℕ) (i i' : Option (Reader s.Expression)) (r : SteadyInner c (Related c) m depth i i') where
   indices_behind : (m : Mode) (f f' : Reader s.Expression) → Related c m (suc depth) f f' → (at : ℕ)
-      → Steady c m Anywhere (IndicesHave depth) ((expression_of f >>= λ e. pure (record { at = at; value = e })) >>= λ i. repeated
+      → Steady c m Anywhere (IndicesHave depth) ((expression_of f >>= λ e. pure (record { at = at; value = e })) >>= λ i. repeat_while
       (is_symbol symbol.Comma) (index_of f) (i ∷ []))
-      ((expression_of f' >>= λ e. pure (record { at = at; value = e })) >>= λ i. repeated (is_symbol symbol.Comma) (index_of f') (i ∷ []))
+      ((expression_of f' >>= λ e. pure (record { at = at; value = e })) >>= λ i. repeat_while (is_symbol symbol.Comma) (index_of f') (i ∷ []))
   indices_behind m f f' r at =
       then {g = λ i. expression_levels (suc depth) i.value}
       (finish (λ e. record { at = at; value = e }) (expression_of_steady (suc depth) r) (λ e. refl)) (λ i.
@@ -181,7 +181,7 @@ module _ {c : Cut} (m : Mode) (depth : ℕ) (i i' : Option (Reader s.Expression)
   indexed_steady : Steady c m Before (Has (selector_levels depth)) (indexed_of i) (indexed_of i')
   unfolding indexed_of indices_from index_of
   indexed_steady = opening_steady (Has (selector_levels depth)) (Related c) depth
-      (λ f at. ((expression_of f >>= λ e. pure (record { at = at; value = e })) >>= λ i. repeated (is_symbol symbol.Comma) (index_of f)
+      (λ f at. ((expression_of f >>= λ e. pure (record { at = at; value = e })) >>= λ i. repeat_while (is_symbol symbol.Comma) (index_of f)
       (i ∷ [])) >>= λ is. expect symbol.CloseBracket >>= λ _. pure (s.Indexed (indices_of is)))
       (λ m f f' r at. then_any (indices_behind m f f' r at)
       (λ is l h. finish (λ _. s.Indexed (indices_of is)) (expect_steady symbol.CloseBracket) (λ _. indexed_has depth is l h))) m i i' r

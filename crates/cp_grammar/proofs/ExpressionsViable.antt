@@ -13,7 +13,7 @@ use Rattle.cp_model.specs.declared.token.Symbol.TheVariants as symbol
 use Rattle.cp_model.specs.declared.tree.Operator.{Operator}
 use Rattle.cp_model.specs.declared.tree.Sign.{Sign}
 use Rattle.cp_grammar.specs.Kinds.{is_symbol}
-use Rattle.cp_grammar.specs.Reading.{Outcome, Reader, and_then, ◌>>=◌, pure, refuse, take_token, kind_at, expect, if_some, repeated}
+use Rattle.cp_grammar.specs.Reading.{Outcome, Reader, and_then, ◌>>=◌, pure, refuse, take_token, kind_at, expect, if_some, repeat_while}
 use Rattle.cp_grammar.specs.Names.{identifier_of}
 use Rattle.cp_grammar.specs.Expressions.{product_operator, sum_operator, relation_operator, sign_of, goes_on, operation_of, chain_from, term_of, signed_term, simple_of, expression_of, expressions_from, index_of, indices_from, begins_selector, field_of, indexed_of, selector_by, selector_of, designator_of, arguments_of, optional_arguments_of, call_or_part, named_of, parenthesized_of, not_of, factor_by, factor_of, inner_at, factor_at, expression_at}
 use Rattle.cp_grammar.proofs.Tokens.{is_symbol_is}
@@ -134,7 +134,7 @@ module _ (room : ℕ) {f : Reader s.Expression} (v : ViableFactor room f) where
       → ViableAt (λ is. indices room (indices_of is)) (indices_from f ts) ts
   unfolding indices_from
   indices_viable ts k = then_at (IndexIs symbol.OpenBracket) (λ is. indices room (indices_of is)) (index_of f ts)
-      (λ i. repeated (is_symbol symbol.Comma) (index_of f) (i ∷ [])) ts (index_viable symbol.OpenBracket ts k)
+      (λ i. repeat_while (is_symbol symbol.Comma) (index_of f) (i ∷ [])) ts (index_viable symbol.OpenBracket ts k)
       (λ i. imply (Behind (IndexIs symbol.OpenBracket) i (λ is. indices room (indices_of is)))
       (repeated_viable (is_symbol symbol.Comma) (index_of f) (IndexIs symbol.Comma) (λ is. indices room (indices_of is))
       (λ is i ts mid rest h l. indices_push room is i ts mid l.0 rest h l.1 l.2)

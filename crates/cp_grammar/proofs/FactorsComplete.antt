@@ -1,7 +1,7 @@
 -- What the grammar allows as a factor, a designator or a list of expressions is read.
 use Rattle.std.proofs.Common.{◌≡◌, ℕ, zero, suc, ◌≤◌, true, false, List, [], ◌∷◌, ◌++◌, length, Option, Some, Ok, refl, sym, ap, ◌∙◌, append_assoc, arith}
 use Rattle.std.proofs.lemmas.List.{append-nil}
-use Rattle.cp_model.specs.Languages.{token, symbol, symbol_at, identifier, ◌⋅◌, each, each_behind, separated}
+use Rattle.cp_model.specs.Languages.{token, symbol, symbol_at, identifier, ◌⋅◌, each, each_behind, separated_list}
 use Rattle.cp_model.specs.Syntax as s
 use Rattle.cp_model.specs.View.{PlacedIndex, expressions_of, selectors_of, indices_of}
 use Rattle.cp_model.specs.GrammarExpressions.{expression, expressions, more_expressions, designator, selectors, selector, indices, more_indices, arguments}
@@ -11,7 +11,7 @@ use Rattle.cp_model.specs.declared.token.Kind.TheVariants as kind
 use Rattle.cp_model.specs.declared.token.Symbol.TheVariants as symbol
 use Rattle.cp_model.specs.declared.tree.Identifier.{Identifier}
 use Rattle.cp_grammar.specs.Kinds.{is_symbol}
-use Rattle.cp_grammar.specs.Reading.{Reader, kind_at, repeat, repeated}
+use Rattle.cp_grammar.specs.Reading.{Reader, kind_at, repeat, repeat_while}
 use Rattle.cp_grammar.specs.Expressions.{expression_of, expressions_from, index_of, indices_from, begins_selector, field_of, indexed_of, selector_by, selector_of, designator_of, arguments_of, optional_arguments_of, call_or_part, named_of, parenthesized_of, not_of, factor_by, factor_of, inner_at, factor_at, expression_at, designator_at, optional_arguments_at}
 use Rattle.cp_grammar.specs.Laws.{ExpressionsAreComplete}
 use Rattle.cp_grammar.proofs.Tokens.{is_symbol_refl, kind_of, kind_of_symbol, token_shrinks, expect_reads}
@@ -38,7 +38,7 @@ listed_behind room s.NoExpressions ts rest h = h
 listed_behind room (s.MoreExpressions e es) ts rest h = (h.0, h.1, (h.2.0, h.2.1, listed_behind room es h.2.0 rest h.2.2))
 
 listed_separated : (room : ℕ) (es : s.Expressions) (ts rest : List Token) → expressions room es ts rest
-    → separated symbol.Comma (expression room) (listed es) ts rest
+    → separated_list symbol.Comma (expression room) (listed es) ts rest
 listed_separated room s.NoExpressions ts rest h = h
 listed_separated room (s.MoreExpressions e es) ts rest h = (h.0, h.1, listed_behind room es h.0 rest h.2)
 
@@ -210,7 +210,7 @@ DesignatorReads d = (room : ℕ) (ts rest : List Token) → designator room d ts
     → designator_at room ts ≡ Ok (d, rest)
 
 designator_reads : (inner : Option (Reader s.Expression)) (x : Identifier) (xs : List s.Selector) (ts mid rest : List Token) → identifier x ts mid
-    → repeated begins_selector (selector_of inner) [] mid ≡ Ok (xs, rest)
+    → repeat_while begins_selector (selector_of inner) [] mid ≡ Ok (xs, rest)
     → designator_of inner ts ≡ Ok (s.Designate x (selectors_of xs), rest)
 unfolding designator_of
 designator_reads inner x xs ts mid rest t h = rw (identifier_reads x ts mid t, h) refl

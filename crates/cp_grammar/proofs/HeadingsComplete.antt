@@ -4,7 +4,7 @@ use Rattle.cp_model.specs.Languages.{symbol, symbol_at, identifier, optional, ea
 use Rattle.cp_model.specs.Syntax as s
 use Rattle.cp_model.specs.View.{statements_of}
 use Rattle.cp_model.specs.GrammarTypes.{names, type_expression}
-use Rattle.cp_model.specs.Grammar.{body, variable_group, variables, parameter_group, parameters, routine_word, result_type, routine, sort_symbol, system, defined, constant_definition, type_definition, section}
+use Rattle.cp_model.specs.Grammar.{body, variable_group, variables, parameter_group, parameters, routine_word, result_type, routine, sort_symbol, system, definition, constant_definition, type_definition, section}
 use Rattle.cp_model.specs.declared.token.Token.{Token}
 use Rattle.cp_model.specs.declared.token.Kind.{Kind}
 use Rattle.cp_model.specs.declared.token.Kind.TheVariants as kind
@@ -16,7 +16,7 @@ use Rattle.cp_model.specs.declared.tree.ConstantDefinition.{ConstantDefinition}
 use Rattle.cp_model.specs.declared.tree.Sort.{Sort}
 use Rattle.cp_model.specs.declared.tree.Sort.TheVariants as sort
 use Rattle.cp_grammar.specs.Kinds.{is_symbol, is_name}
-use Rattle.cp_grammar.specs.Reading.{Reader, kind_at, tail, optional_symbol, repeated, one_or_more, separated_by}
+use Rattle.cp_grammar.specs.Reading.{Reader, kind_at, tail, optional_symbol, repeat_while, one_or_more, separated_by}
 use Rattle.cp_grammar.specs.Names.{identifier_of, names_of}
 use Rattle.cp_grammar.specs.Types.{group_of, type_at}
 use Rattle.cp_grammar.specs.Statements.{Deeper, statements_from, block_of, deeper_at}

@@ -1,13 +1,13 @@
 -- A list of the grammar is read, if each of its items is.
 use Rattle.std.proofs.Common.{◌≡◌, ℕ, zero, suc, ◌<◌, ◌≤◌, Bool, true, false, List, [], ◌∷◌, ◌++◌, length, Option, Some, Ok, refl, sym, ap, ◌∙◌, append_assoc, arith}
 use Rattle.std.proofs.lemmas.List.{append-nil}
-use Rattle.cp_model.specs.Languages.{Language, each, each_behind, separated}
+use Rattle.cp_model.specs.Languages.{Language, each, each_behind, separated_list}
 use Rattle.cp_model.specs.declared.token.Token.{Token}
 use Rattle.cp_model.specs.declared.token.Kind.{Kind}
 use Rattle.cp_model.specs.declared.token.Kind.TheVariants as kind
 use Rattle.cp_model.specs.declared.token.Symbol.{Symbol}
 use Rattle.cp_grammar.specs.Kinds.{is_symbol}
-use Rattle.cp_grammar.specs.Reading.{Reader, and_then, ◌>>=◌, take_token, kind_at, repeat, repeated, one_or_more, separated_by}
+use Rattle.cp_grammar.specs.Reading.{Reader, and_then, ◌>>=◌, take_token, kind_at, repeat, repeat_while, one_or_more, separated_by}
 use Rattle.cp_grammar.proofs.Tokens.{is_symbol_refl, kind_of_symbol, symbol_shrinks}
 use Rattle.cp_grammar.proofs.Ensures.{some}
 
@@ -34,7 +34,7 @@ module _ {A : Type 0} (f : A → Language) where
       omega (arith, symbol_shrinks x ts h.0 h.1, shrinks a h.0 h.2.0 h.2.1, behind_shrinks x shrinks items h.2.0 rest h.2.2)
 
   pub separated_shrinks : (x : Symbol) → ((a : A) (ts rest : List Token) → f a ts rest → length rest ≤ length ts)
-      → (items : List A) (ts rest : List Token) → separated x f items ts rest → length rest ≤ length ts
+      → (items : List A) (ts rest : List Token) → separated_list x f items ts rest → length rest ≤ length ts
   separated_shrinks x shrinks [] ts rest h = absurd h
   separated_shrinks x shrinks (a ∷ items) ts rest h = omega (arith, shrinks a ts h.0 h.1, behind_shrinks x shrinks items h.0 rest h.2)
 
@@ -84,7 +84,7 @@ module _ {A : Type 0} (f : A → Language) (item : Reader A) (Follows : A → Op
         ∙ behind_reads items all.1 h.2.0 rest n (found ++ a ∷ []) h.2.2 ends stop less
         ∙ ap (λ (l : List A). Ok (l, rest)) (append_assoc found (a ∷ []) items)
 
-    pub separated_reads : (items : List A) → Each ItemReads items → (ts rest : List Token) → separated x f items ts rest
+    pub separated_reads : (items : List A) → Each ItemReads items → (ts rest : List Token) → separated_list x f items ts rest
         → ((a : A) → Follows a (kind_at rest)) → is_symbol x (kind_at rest) ≡ false → separated_by x item ts ≡ Ok (items, rest)
     separated_reads [] all ts rest h ends stop = absurd h
     separated_reads (a ∷ items) all ts rest h ends stop =
@@ -112,7 +112,7 @@ module _ {A : Type 0} (f : A → Language) (item : Reader A) (Follows : A → Op
         ∙ ap (λ (l : List A). Ok (l, rest)) (append_assoc found (a ∷ []) items)
 
     pub each_reads : (items : List A) → Each ItemReads items → (ts rest : List Token) → each f items ts rest
-        → ((a : A) → Follows a (kind_at rest)) → goes_on (kind_at rest) ≡ false → repeated goes_on item [] ts ≡ Ok (items, rest)
+        → ((a : A) → Follows a (kind_at rest)) → goes_on (kind_at rest) ≡ false → repeat_while goes_on item [] ts ≡ Ok (items, rest)
     each_reads items all ts rest h ends stop = each_reads_from items all ts rest (length ts) [] h ends stop (omega arith)
 
     pub some_reads : (items : List A) → Each ItemReads items → (ts rest : List Token) → some f items ts rest

@@ -1,6 +1,6 @@
 -- Names and constants of the grammar are read.
 use Rattle.std.proofs.Common.{◌≡◌, ◌<◌, ◌≤◌, false, List, length, Ok, refl, arith}
-use Rattle.cp_model.specs.Languages.{identifier, separated}
+use Rattle.cp_model.specs.Languages.{identifier, separated_list}
 use Rattle.cp_model.specs.GrammarExpressions.{constant}
 use Rattle.cp_model.specs.GrammarTypes.{names}
 use Rattle.cp_model.specs.declared.token.Token.{Token}
@@ -51,11 +51,11 @@ constant_shrinks (written.Named x) ts rest h = identifier_shrinks x ts rest h
 constant_is_no_more : (c : Constant) (ts rest : List Token) → constant c ts rest → length rest ≤ length ts
 constant_is_no_more c ts rest h = omega (arith, constant_shrinks c ts rest h)
 
-pub constants_reads : (cs : List Constant) (ts rest : List Token) → separated symbol.Comma constant cs ts rest
+pub constants_reads : (cs : List Constant) (ts rest : List Token) → separated_list symbol.Comma constant cs ts rest
     → is_symbol symbol.Comma (kind_at rest) ≡ false → constants_of ts ≡ Ok (cs, rest)
 unfolding constants_of
 constants_reads cs ts rest h stop = separated_reads constant constant_of (λ x k. Unit {0}) symbol.Comma (λ x. tt) constant_is_no_more cs
     (each_of (ItemReads constant constant_of (λ x k. Unit {0})) (λ c ts rest h u. constant_reads c ts rest h) cs) ts rest h (λ x. tt) stop
 
-pub constants_shrink : (cs : List Constant) (ts rest : List Token) → separated symbol.Comma constant cs ts rest → length rest ≤ length ts
+pub constants_shrink : (cs : List Constant) (ts rest : List Token) → separated_list symbol.Comma constant cs ts rest → length rest ≤ length ts
 constants_shrink cs ts rest h = separated_shrinks constant symbol.Comma constant_is_no_more cs ts rest h

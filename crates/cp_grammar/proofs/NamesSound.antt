@@ -1,6 +1,6 @@
 -- What is read as a name or a constant is allowed by the grammar.
 use Rattle.std.proofs.Common.{◌≡◌, List, Option, Some, refl}
-use Rattle.cp_model.specs.Languages.{identifier, separated}
+use Rattle.cp_model.specs.Languages.{identifier, separated_list}
 use Rattle.cp_model.specs.GrammarExpressions.{constant}
 use Rattle.cp_model.specs.GrammarTypes.{names}
 use Rattle.cp_model.specs.declared.token.Token.{Token}
@@ -41,6 +41,6 @@ pub constant_sound : Sound constant_of constant
 unfolding constant_of
 constant_sound ts = constant_by_sound ts (kind_at ts) refl
 
-pub constants_sound : Sound constants_of (separated symbol.Comma constant)
+pub constants_sound : Sound constants_of (separated_list symbol.Comma constant)
 unfolding constants_of
 constants_sound = separated_sound constant symbol.Comma constant_of constant_sound

@@ -1,6 +1,6 @@
 -- A partly read name or constant can be completed.
 use Rattle.std.proofs.Common.{◌≡◌, ℕ, List, [], ◌∷◌, Option, Some, refl}
-use Rattle.cp_model.specs.Languages.{Language, token, identifier, separated}
+use Rattle.cp_model.specs.Languages.{Language, token, identifier, separated_list}
 use Rattle.cp_model.specs.GrammarExpressions.{constant}
 use Rattle.cp_model.specs.GrammarTypes.{names}
 use Rattle.cp_model.specs.declared.token.Token.{Token}
@@ -62,6 +62,6 @@ pub constant_viable : Viable constant_of constant
 unfolding constant_of
 constant_viable = kind_viable constant_by some_constant constant_by_viable
 
-pub constants_viable : Viable constants_of (separated symbol.Comma constant)
+pub constants_viable : Viable constants_of (separated_list symbol.Comma constant)
 unfolding constants_of
 constants_viable = separated_viable constant symbol.Comma constant_viable

@@ -1,6 +1,6 @@
 -- What the grammar allows as a list of statements or arms is read.
 use Rattle.std.proofs.Common.{◌≡◌, ℕ, zero, suc, ◌≤◌, true, false, List, [], ◌∷◌, length, Option, Some, Ok, refl, sym, ap, ◌∙◌, arith}
-use Rattle.cp_model.specs.Languages.{symbol_at, identifier, each_behind, separated}
+use Rattle.cp_model.specs.Languages.{symbol_at, identifier, each_behind, separated_list}
 use Rattle.cp_model.specs.Syntax as s
 use Rattle.cp_model.specs.View.{LabelledStatement, expressions_of, statements_of, arms_of}
 use Rattle.cp_model.specs.GrammarExpressions.{arguments}
@@ -102,7 +102,7 @@ listed_behind room s.NoStatements ts rest h = h
 listed_behind room (s.MoreStatements x xs) ts rest h = (h.0, h.1, (h.2.0, h.2.1, listed_behind room xs h.2.0 rest h.2.2))
 
 listed_separated : (room : ℕ) (xs : s.Statements) (ts rest : List Token) → statements room xs ts rest
-    → separated symbol.Semicolon (statement room) (listed_statements xs) ts rest
+    → separated_list symbol.Semicolon (statement room) (listed_statements xs) ts rest
 listed_separated room s.NoStatements ts rest h = h
 listed_separated room (s.MoreStatements x xs) ts rest h = (h.0, h.1, listed_behind room xs h.0 rest h.2)
 
@@ -132,7 +132,7 @@ arms_behind room s.NoArms ts rest h = h
 arms_behind room (s.MoreArms labels x a) ts rest h =
     let f = h.2 in let g = f.2 in (h.0, h.1, (g.2.0, (f.0, f.1, (g.0, g.1, g.2.1)), arms_behind room a g.2.0 rest g.2.2))
 
-arms_separated : (room : ℕ) (a : s.Arms) (ts rest : List Token) → arms room a ts rest → separated symbol.Semicolon (arm room) (listed_arms a) ts rest
+arms_separated : (room : ℕ) (a : s.Arms) (ts rest : List Token) → arms room a ts rest → separated_list symbol.Semicolon (arm room) (listed_arms a) ts rest
 arms_separated room s.NoArms ts rest h = h
 arms_separated room (s.MoreArms labels x a) ts rest h = let g = h.2 in (g.2.0, (h.0, h.1, (g.0, g.1, g.2.1)), arms_behind room a g.2.0 rest g.2.2)
 

@@ -1,6 +1,6 @@
 -- What the grammar allows as a statement is read.
 use Rattle.std.proofs.Common.{◌≡◌, ℕ, zero, suc, ◌≤◌, true, false, List, [], ◌∷◌, length, Option, Some, Ok, refl, sym, ap, ◌∙◌, arith}
-use Rattle.cp_model.specs.Languages.{symbol_at, identifier, each_behind, separated}
+use Rattle.cp_model.specs.Languages.{symbol_at, identifier, each_behind, separated_list}
 use Rattle.cp_model.specs.Syntax as s
 use Rattle.cp_model.specs.View.{LabelledStatement, expressions_of, statements_of, arms_of}
 use Rattle.cp_model.specs.GrammarExpressions.{arguments}

@@ -1,6 +1,6 @@
 -- A statement consists of no more tokens than there are.
 use Rattle.std.proofs.Common.{ℕ, zero, suc, ◌≤◌, length, arith, List}
-use Rattle.cp_model.specs.Languages.{separated}
+use Rattle.cp_model.specs.Languages.{separated_list}
 use Rattle.cp_model.specs.Syntax as s
 use Rattle.cp_model.specs.GrammarStatements.{direction_symbol, init_item, statement, statements, more_statements, arms, more_arms}
 use Rattle.cp_model.specs.declared.token.Token.{Token}
@@ -14,7 +14,7 @@ use Rattle.cp_grammar.proofs.ExpressionsShrink.{expression_shrinks, designator_s
 pub init_item_shrinks : (room : ℕ) (i : s.InitItem) (ts rest : List Token) → init_item room i ts rest → length rest ≤ length ts
 init_item_shrinks room i ts rest h = omega (arith, identifier_shrinks i.component ts h.0 h.1, arguments_shrink i.arguments room h.0 rest h.2)
 
-init_items_shrink : (room : ℕ) (is : List s.InitItem) (ts rest : List Token) → separated symbol.Comma (init_item room) is ts rest
+init_items_shrink : (room : ℕ) (is : List s.InitItem) (ts rest : List Token) → separated_list symbol.Comma (init_item room) is ts rest
     → length rest ≤ length ts
 init_items_shrink room is ts rest h = separated_shrinks (init_item room) symbol.Comma (init_item_shrinks room) is ts rest h
 

@@ -1,6 +1,6 @@
 -- What is read as a statement is allowed by the grammar.
 use Rattle.std.proofs.Common.{◌≡◌, ℕ, zero, suc, Bool, true, false, List, [], ◌∷◌, Option, Some, refl, sym, ◌∙◌}
-use Rattle.cp_model.specs.Languages.{Language, symbol, ◌⋅◌, each_behind, separated}
+use Rattle.cp_model.specs.Languages.{Language, symbol, ◌⋅◌, each_behind, separated_list}
 use Rattle.cp_model.specs.Syntax as s
 use Rattle.cp_model.specs.View.{LabelledStatement, expressions_of, statements_of, arms_of}
 use Rattle.cp_model.specs.GrammarExpressions.{constant, expression, designator}
@@ -38,20 +38,20 @@ behind_statements : (room : ℕ) (xs : List s.Statement) (ts rest : List Token) 
 behind_statements room [] ts rest h = h
 behind_statements room (x ∷ xs) ts rest h = (h.0, h.1, (h.2.0, h.2.1, behind_statements room xs h.2.0 rest h.2.2))
 
-pub separated_statements : (room : ℕ) (xs : List s.Statement) (ts rest : List Token) → separated symbol.Semicolon (statement room) xs ts rest
+pub separated_statements : (room : ℕ) (xs : List s.Statement) (ts rest : List Token) → separated_list symbol.Semicolon (statement room) xs ts rest
     → statements room (statements_of xs) ts rest
 separated_statements room [] ts rest h = h
 separated_statements room (x ∷ xs) ts rest h = (h.0, h.1, behind_statements room xs h.0 rest h.2)
 
 abbrev pub arm : ℕ → LabelledStatement → Language
-arm room a = separated symbol.Comma constant a.labels ⋅ symbol symbol.Colon ⋅ statement room a.body
+arm room a = separated_list symbol.Comma constant a.labels ⋅ symbol symbol.Colon ⋅ statement room a.body
 
 behind_arms : (room : ℕ) (xs : List LabelledStatement) (ts rest : List Token) → each_behind symbol.Semicolon (arm room) xs ts rest
     → more_arms room (arms_of xs) ts rest
 behind_arms room [] ts rest h = h
 behind_arms room (x ∷ xs) ts rest h = let a = h.2.1 in (h.0, h.1, (a.0, a.1, (a.2.0, a.2.1, (h.2.0, a.2.2, behind_arms room xs h.2.0 rest h.2.2))))
 
-pub separated_arms : (room : ℕ) (xs : List LabelledStatement) (ts rest : List Token) → separated symbol.Semicolon (arm room) xs ts rest
+pub separated_arms : (room : ℕ) (xs : List LabelledStatement) (ts rest : List Token) → separated_list symbol.Semicolon (arm room) xs ts rest
     → arms room (arms_of xs) ts rest
 separated_arms room [] ts rest h = h
 separated_arms room (x ∷ xs) ts rest h = let a = h.1 in (a.0, a.1, (a.2.0, a.2.1, (h.0, a.2.2, behind_arms room xs h.0 rest h.2)))

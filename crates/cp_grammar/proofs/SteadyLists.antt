@@ -6,7 +6,7 @@ use Rattle.cp_model.specs.declared.token.Token.{Token}
 use Rattle.cp_model.specs.declared.token.Kind.{Kind}
 use Rattle.cp_model.specs.declared.token.Symbol.{Symbol}
 use Rattle.cp_grammar.specs.Kinds.{is_symbol}
-use Rattle.cp_grammar.specs.Reading.{Reader, ◌>>=◌, pure, take_token, kind_at, repeat, repeated, one_or_more, separated_by}
+use Rattle.cp_grammar.specs.Reading.{Reader, ◌>>=◌, pure, take_token, kind_at, repeat, repeat_while, one_or_more, separated_by}
 use Rattle.cp_grammar.proofs.Tokens.{no_symbol}
 use Rattle.cp_grammar.proofs.Steady.{Cut, Mode, Start, Anywhere, Before, At, Tame, tame_imply, tame_then, Like, like_imply, like_then, Steady, Has, at_cut, imply, then, pure_steady, take_steady}
 
@@ -80,7 +80,7 @@ module _ {A : Type 0} (goes_on : Option Kind → Bool) (none : goes_on None ≡ 
             (omega (arith, sum, size, some x))))
 
     pub repeated_steady : (xs : List A) (l : List ℕ) → Holds xs l
-        → Steady c m Anywhere (Found l) (repeated goes_on item xs) (repeated goes_on item' xs)
+        → Steady c m Anywhere (Found l) (repeat_while goes_on item xs) (repeat_while goes_on item' xs)
     repeated_steady xs l h = record {
       tame = λ ts k. repeat_tame item s.tame (length ts) xs l h ts;
       tame' = λ ts k. repeat_tame item' s.tame' (length ts) xs l h ts;
@@ -122,7 +122,7 @@ module _ {A : Type 0} (g : A → List ℕ) where
   module _ (goes_on : Option Kind → Bool) (none : goes_on None ≡ false)
       (some : (x : A) → 0 < length (g x)) {c : Cut} {m : Mode} {item item' : Reader A} where
     pub each_steady : Steady c m Before (Has g) item item'
-        → Steady c m Anywhere (Has (each_levels g)) (repeated goes_on item []) (repeated goes_on item' [])
+        → Steady c m Anywhere (Has (each_levels g)) (repeat_while goes_on item []) (repeat_while goes_on item' [])
     each_steady s = repeated_steady goes_on none g some EachHas each_grows item item' s [] [] refl
 
     pub some_steady : {w : Start} → Steady c m w (Has g) item item' → Steady c m Before (Has g) item item'

@@ -4,7 +4,7 @@ use Rattle.cp_model.specs.Languages.{symbol}
 use Rattle.cp_model.specs.Syntax as s
 use Rattle.cp_model.specs.declared.token.Token.{Token}
 use Rattle.cp_model.specs.declared.token.Symbol.TheVariants as symbol
-use Rattle.cp_grammar.specs.Reading.{Outcome, Reader, repeated}
+use Rattle.cp_grammar.specs.Reading.{Outcome, Reader, repeat_while}
 use Rattle.cp_grammar.specs.Types.{type_at}
 use Rattle.cp_grammar.specs.Statements.{Deeper, deeper_at}
 use Rattle.cp_grammar.specs.Declarations.{variables_of, body_of, routines_of, section_of, begins_section}
@@ -15,7 +15,7 @@ use Rattle.cp_grammar.proofs.HeadingsComplete.{block_begins}
 use Rattle.cp_grammar.proofs.DeclarationsComplete.{variables_begin, variables_reads, body_reads, routines_reads, sections_reads}
 
 text_go : (p : Reader s.TypeExpression) (d : Option Deeper) (t : s.Tree) (ts t1 t2 t3 t4 : List Token)
-    → repeated begins_section (section_of p d) [] ts ≡ Ok (t.sections, t1) → variables_of p t1 ≡ Ok (t.variables, t2)
+    → repeat_while begins_section (section_of p d) [] ts ≡ Ok (t.sections, t1) → variables_of p t1 ≡ Ok (t.variables, t2)
     → routines_of p d t2 ≡ Ok (t.routines, t3) → body_of d t3 ≡ Ok (t.body, t4) → symbol symbol.Dot t4 [] → text_of p d ts ≡ Ok (t, [])
 unfolding text_of tree_of
 text_go p d t ts t1 t2 t3 t4 h1 h2 h3 h4 h5 = rw (h1, h2, h3, h4, expect_reads symbol.Dot h5.0 t4 [] h5.1) refl

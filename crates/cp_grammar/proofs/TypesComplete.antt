@@ -1,6 +1,6 @@
 -- What the grammar allows as a type is read.
 use Rattle.std.proofs.Common.{◌≡◌, ℕ, zero, suc, ◌<◌, ◌≤◌, true, false, List, [], ◌∷◌, length, Option, Some, Ok, refl, ap, ◌∙◌, arith}
-use Rattle.cp_model.specs.Languages.{symbol_at, identifier, each_behind, separated}
+use Rattle.cp_model.specs.Languages.{symbol_at, identifier, each_behind, separated_list}
 use Rattle.cp_model.specs.Syntax as s
 use Rattle.cp_model.specs.View.{types_of, fields_of}
 use Rattle.cp_model.specs.GrammarExpressions.{constant}
@@ -126,7 +126,7 @@ types_behind room s.NoTypes ts rest h = h
 types_behind room (s.MoreTypes x xs) ts rest h = (h.0, h.1, (h.2.0, h.2.1, types_behind room xs h.2.0 rest h.2.2))
 
 types_separated : (room : ℕ) (xs : s.TypeExpressions) (ts rest : List Token) → types room xs ts rest
-    → separated symbol.Comma (type_expression room) (listed_types xs) ts rest
+    → separated_list symbol.Comma (type_expression room) (listed_types xs) ts rest
 types_separated room s.NoTypes ts rest h = h
 types_separated room (s.MoreTypes x xs) ts rest h = (h.0, h.1, types_behind room xs h.0 rest h.2)
 
@@ -155,7 +155,7 @@ fields_behind room (s.MoreFields xs t gs) ts rest h = let f = h.2 in let g = f.2
     (h.0, h.1, (g.2.0, (f.0, f.1, (g.0, g.1, g.2.1)), fields_behind room gs g.2.0 rest g.2.2))
 
 fields_separated : (room : ℕ) (gs : s.FieldGroups) (ts rest : List Token) → fields room gs ts rest
-    → separated symbol.Semicolon (group room) (listed_fields gs) ts rest
+    → separated_list symbol.Semicolon (group room) (listed_fields gs) ts rest
 fields_separated room s.NoFields ts rest h = h
 fields_separated room (s.MoreFields xs t gs) ts rest h = let g = h.2 in (g.2.0, (h.0, h.1, (g.0, g.1, g.2.1)), fields_behind room gs g.2.0 rest g.2.2)
 

@@ -1,6 +1,6 @@
 -- What is read as a type is allowed by the grammar.
 use Rattle.std.proofs.Common.{◌≡◌, ℕ, zero, suc, List, [], ◌∷◌, Option, Some, refl}
-use Rattle.cp_model.specs.Languages.{Language, symbol, identifier, ◌⋅◌, each_behind, separated}
+use Rattle.cp_model.specs.Languages.{Language, symbol, identifier, ◌⋅◌, each_behind, separated_list}
 use Rattle.cp_model.specs.Syntax as s
 use Rattle.cp_model.specs.View.{types_of, fields_of}
 use Rattle.cp_model.specs.GrammarExpressions.{constant}
@@ -27,7 +27,7 @@ behind_types : (room : ℕ) (xs : List s.TypeExpression) (ts rest : List Token) 
 behind_types room [] ts rest h = h
 behind_types room (x ∷ xs) ts rest h = (h.0, h.1, (h.2.0, h.2.1, behind_types room xs h.2.0 rest h.2.2))
 
-pub separated_types : (room : ℕ) (xs : List s.TypeExpression) (ts rest : List Token) → separated symbol.Comma (type_expression room) xs ts rest
+pub separated_types : (room : ℕ) (xs : List s.TypeExpression) (ts rest : List Token) → separated_list symbol.Comma (type_expression room) xs ts rest
     → types room (types_of xs) ts rest
 separated_types room [] ts rest h = h
 separated_types room (x ∷ xs) ts rest h = (h.0, h.1, behind_types room xs h.0 rest h.2)
@@ -41,7 +41,7 @@ behind_fields room [] ts rest h = h
 behind_fields room (x ∷ xs) ts rest h = let g = h.2.1 in
     (h.0, h.1, (g.0, g.1, (g.2.0, g.2.1, (h.2.0, g.2.2, behind_fields room xs h.2.0 rest h.2.2))))
 
-pub separated_fields : (room : ℕ) (xs : List s.Variables) (ts rest : List Token) → separated symbol.Semicolon (group room) xs ts rest
+pub separated_fields : (room : ℕ) (xs : List s.Variables) (ts rest : List Token) → separated_list symbol.Semicolon (group room) xs ts rest
     → fields room (fields_of xs) ts rest
 separated_fields room [] ts rest h = h
 separated_fields room (x ∷ xs) ts rest h = let g = h.1 in (g.0, g.1, (g.2.0, g.2.1, (h.0, g.2.2, behind_fields room xs h.0 rest h.2)))

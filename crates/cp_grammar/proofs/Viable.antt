@@ -1,13 +1,13 @@
 -- What was read before a reader stopped can be completed: there are tokens that make it whole.
 use Rattle.std.proofs.Common.{◌≡◌, ℕ, zero, suc, ◌⊎◌, inl, inr, Bool, true, false, cond, List, [], ◌∷◌, ◌++◌, length, Option, Some, None, Ok, Err, refl, sym, ap, subst, ◌∙◌, append_assoc}
-use Rattle.cp_model.specs.Languages.{Language, token, symbol, symbol_at, ◌⋅◌, optional, each, separated}
+use Rattle.cp_model.specs.Languages.{Language, token, symbol, symbol_at, ◌⋅◌, optional, each, separated_list}
 use Rattle.cp_model.specs.declared.token.Token.{Token}
 use Rattle.cp_model.specs.declared.token.Kind.{Kind}
 use Rattle.cp_model.specs.declared.token.Kind.TheVariants as kind
 use Rattle.cp_model.specs.declared.token.Symbol.{Symbol}
 use Rattle.cp_grammar.specs.declared.stop.Stop.TheVariants.{Memory, Wrong, Deep}
 use Rattle.cp_grammar.specs.Kinds.{is_symbol}
-use Rattle.cp_grammar.specs.Reading.{Outcome, Reader, and_then, ◌>>=◌, pure, refuse, take_token, by_kind, kind_at, expect, optional_symbol, inside, repeat, repeated, one_or_more, separated_by}
+use Rattle.cp_grammar.specs.Reading.{Outcome, Reader, and_then, ◌>>=◌, pure, refuse, take_token, by_kind, kind_at, expect, optional_symbol, inside, repeat, repeat_while, one_or_more, separated_by}
 use Rattle.cp_grammar.proofs.Tokens.{is_symbol_is}
 use Rattle.cp_grammar.proofs.Ensures.{some, separated_push, each_push, some_push}
 
@@ -214,13 +214,13 @@ module _ {A : Type 0} (goes_on : Option Kind → Bool) (item : Reader A) (L : A 
           imply {N = Further (xs ++ x ∷ [])} (Behind L x (Further xs)) (record { some = further_some (xs ++ x ∷ []); at = again (xs ++ x ∷ []) })
           (λ ys mid rest f ts l start h. f start (push xs x start ts mid h l)))
 
-  pub repeated_viable : (xs : List A) → Viable (repeated goes_on item xs) (Further xs)
+  pub repeated_viable : (xs : List A) → Viable (repeat_while goes_on item xs) (Further xs)
   repeated_viable xs = record { some = further_some xs; at = λ ts. repeat_at (length ts) xs ts }
 
 module _ {A : Type 0} (f : A → Language) where
-  pub separated_viable : (x : Symbol) {item : Reader A} → Viable item f → Viable (separated_by x item) (separated x f)
+  pub separated_viable : (x : Symbol) {item : Reader A} → Viable item f → Viable (separated_by x item) (separated_list x f)
   separated_viable x {item} v = then v (λ a.
-      imply (Behind f a (separated x f)) (repeated_viable (is_symbol x) (take_token >>= λ _. item) (λ a. symbol x ⋅ f a) (separated x f)
+      imply (Behind f a (separated_list x f)) (repeated_viable (is_symbol x) (take_token >>= λ _. item) (λ a. symbol x ⋅ f a) (separated_list x f)
       (λ xs a ts mid rest h l. separated_push f x xs a ts mid l.0 rest h l.1 l.2)
       (λ ts e. take_at (λ a. symbol x ⋅ f a) (kind.Symbol x) (λ _. item) ts (is_symbol_is x (kind_at ts) e)
       (λ at. imply (Behind (symbol_at x) at (λ a. symbol x ⋅ f a)) v (λ a mid rest l ts t. (mid, (at, t), l))))
@@ -228,7 +228,7 @@ module _ {A : Type 0} (f : A → Language) where
       (λ ys mid rest g ts h. g ts (mid, h, refl)))
 
   pub each_viable : (goes_on : Option Kind → Bool) (item : Reader A) → ((ts : List Token) → goes_on (kind_at ts) ≡ true → ViableAt f (item ts) ts)
-      → Viable (repeated goes_on item []) (each f)
+      → Viable (repeat_while goes_on item []) (each f)
   each_viable goes_on item ok = imply (each f) (repeated_viable goes_on item f (each f)
       (λ xs a ts mid rest h l. each_push f xs a ts mid rest h l) ok []) (λ ys mid rest g. g mid refl)
 

@@ -1,11 +1,11 @@
 -- What the grammar allows within some number of levels, it allows within more.
 use Rattle.std.proofs.Common.{ℕ, zero, suc, ◌≤◌, List, [], ◌∷◌, arith}
-use Rattle.cp_model.specs.Languages.{Language, opens, each, each_behind, separated}
+use Rattle.cp_model.specs.Languages.{Language, opens, each, each_behind, separated_list}
 use Rattle.cp_model.specs.Syntax as s
 use Rattle.cp_model.specs.GrammarExpressions.{expression, expressions, more_expressions, designator, selectors, selector, indices, more_indices, arguments}
 use Rattle.cp_model.specs.GrammarTypes.{type_expression, types, more_types, fields, more_fields}
 use Rattle.cp_model.specs.GrammarStatements.{init_item, statement, statements, more_statements, arms, more_arms}
-use Rattle.cp_model.specs.Grammar.{body, variable_group, variables, routine, system, defined, type_definition, section, text}
+use Rattle.cp_model.specs.Grammar.{body, variable_group, variables, routine, system, definition, type_definition, section, text}
 use Rattle.cp_model.specs.declared.token.Token.{Token}
 use Rattle.cp_model.specs.declared.token.Symbol.{Symbol}
 
@@ -24,7 +24,7 @@ module _ {A : Type 0} (f g : A → Language) (k : (a : A) (ts rest : List Token)
   behind_wider x [] ts rest h = h
   behind_wider x (a ∷ items) ts rest h = (h.0, h.1, (h.2.0, k a h.0 h.2.0 h.2.1, behind_wider x items h.2.0 rest h.2.2))
 
-  separated_wider : (x : Symbol) (items : List A) (ts rest : List Token) → separated x f items ts rest → separated x g items ts rest
+  separated_wider : (x : Symbol) (items : List A) (ts rest : List Token) → separated_list x f items ts rest → separated_list x g items ts rest
   separated_wider x [] ts rest h = h
   separated_wider x (a ∷ items) ts rest h = (h.0, k a ts h.0 h.1, behind_wider x items h.0 rest h.2)
 
@@ -285,7 +285,7 @@ module _ (limit wide : ℕ) (le : limit ≤ wide) where
         ),
       )
 
-  defined_wider : (d : s.Defined) (ts rest : List Token) → defined limit d ts rest → defined wide d ts rest
+  defined_wider : (d : s.Defined) (ts rest : List Token) → definition limit d ts rest → definition wide d ts rest
   defined_wider (s.Written t) ts rest h = type_wider t limit wide le ts rest h
   defined_wider (s.Enumeration values) ts rest h = h
   defined_wider (s.SystemType y) ts rest h = system_wider y ts rest h

@@ -9,7 +9,7 @@ use Rattle.cp_model.specs.declared.tree.ConstantDefinition.{ConstantDefinition}
 use Rattle.cp_model.specs.declared.tree.Sort.{Sort}
 use Rattle.cp_model.specs.declared.tree.Sort.TheVariants as sort
 use Rattle.cp_grammar.specs.Kinds.{is_symbol, is_name}
-use Rattle.cp_grammar.specs.Reading.{Reader, ◌>>=◌, pure, refuse, take_token, by_kind, expect, optional_symbol, repeated, one_or_more, separated_by}
+use Rattle.cp_grammar.specs.Reading.{Reader, ◌>>=◌, pure, refuse, take_token, by_kind, expect, optional_symbol, repeat_while, one_or_more, separated_by}
 use Rattle.cp_grammar.specs.Names.{identifier_of, names_of, constant_of}
 use Rattle.cp_grammar.specs.Types.{group_of}
 use Rattle.cp_grammar.specs.Statements.{Deeper, block_of}
@@ -80,7 +80,7 @@ module _ (type_reader : Reader s.TypeExpression) (deeper : Option Deeper) where
       pure (record { entry = h.entry; name = h.name; parameters = h.parameters; result_type = h.result_type; variables = vs; body = b })
 
   unfoldable pub routines_of : Reader (List s.Routine)
-  routines_of = repeated begins_routine routine_of []
+  routines_of = repeat_while begins_routine routine_of []
 
   -- ---- types
 

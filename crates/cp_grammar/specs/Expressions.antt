@@ -13,7 +13,7 @@ use Rattle.cp_model.specs.declared.tree.Operator.TheVariants as operator
 use Rattle.cp_model.specs.declared.tree.Sign.{Sign}
 use Rattle.cp_model.specs.declared.tree.Sign.TheVariants as sign
 use Rattle.cp_grammar.specs.Kinds.{is_symbol}
-use Rattle.cp_grammar.specs.Reading.{Reader, ◌>>=◌, pure, refuse, take_token, by_kind, expect, if_some, inside, repeated, one_or_more, separated_by}
+use Rattle.cp_grammar.specs.Reading.{Reader, ◌>>=◌, pure, refuse, take_token, by_kind, expect, if_some, inside, repeat_while, one_or_more, separated_by}
 use Rattle.cp_grammar.specs.Names.{identifier_of}
 
 -- ---- operators
@@ -58,7 +58,7 @@ module _ (operators : Option Kind → Option Operator) (operand : Reader s.Expre
 
   -- The operations after the first operand, grouped to the left.
   unfoldable pub chain_from : s.Expression → Reader s.Expression
-  chain_from first = repeated goes_on operation_of [] >>= λ os. pure (chain_of first os)
+  chain_from first = repeat_while goes_on operation_of [] >>= λ os. pure (chain_of first os)
 
 -- ---- from terms to lists of expressions, given a reader of factors
 
@@ -112,7 +112,7 @@ module _ (inner : Option (Reader s.Expression)) where
   selector_of = by_kind selector_by
 
   unfoldable pub designator_of : Reader s.Designator
-  designator_of = identifier_of >>= λ root. repeated begins_selector selector_of [] >>= λ ss. pure (s.Designate root (selectors_of ss))
+  designator_of = identifier_of >>= λ root. repeat_while begins_selector selector_of [] >>= λ ss. pure (s.Designate root (selectors_of ss))
 
   unfoldable pub arguments_of : Reader (List s.Expression)
   arguments_of = inside inner (λ f. take_token >>= λ _. expressions_from f >>= λ es. expect symbol.CloseParenthesis >>= λ _. pure es)

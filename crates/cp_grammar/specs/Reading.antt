@@ -89,16 +89,16 @@ repeat goes_on item (suc n) found =
     by_kind (λ k. if goes_on k then (item >>= λ x. repeat goes_on item n (found ++ x ∷ [])) else pure found)
 
 -- Each item takes at least one token, so the number of tokens is a sufficient bound.
-abbrev pub repeated : {A : Type 0} → (Option Kind → Bool) → Reader A → List A → Reader (List A)
-repeated goes_on item found = λ ts. repeat goes_on item (length ts) found ts
+abbrev pub repeat_while : {A : Type 0} → (Option Kind → Bool) → Reader A → List A → Reader (List A)
+repeat_while goes_on item found = λ ts. repeat goes_on item (length ts) found ts
 
 -- One item, and more as long as `goes_on` holds for the next token.
 abbrev pub one_or_more : {A : Type 0} → (Option Kind → Bool) → Reader A → Reader (List A)
-one_or_more goes_on item = item >>= λ x. repeated goes_on item (x ∷ [])
+one_or_more goes_on item = item >>= λ x. repeat_while goes_on item (x ∷ [])
 
 -- One or more items, with this symbol between them.
 abbrev pub separated_by : {A : Type 0} → Symbol → Reader A → Reader (List A)
-separated_by x item = item >>= λ a. repeated (is_symbol x) (take_token >>= λ _. item) (a ∷ [])
+separated_by x item = item >>= λ a. repeat_while (is_symbol x) (take_token >>= λ _. item) (a ∷ [])
 
 -- ---- what a function that reads ensures
 

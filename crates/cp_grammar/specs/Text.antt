@@ -3,7 +3,7 @@ use Rattle.std.specs.Prelude.{ℕ, [], Option, Some, None}
 use Rattle.cp_model.specs.Syntax as s
 use Rattle.cp_model.specs.declared.token.Kind.{Kind}
 use Rattle.cp_model.specs.declared.token.Symbol.TheVariants as symbol
-use Rattle.cp_grammar.specs.Reading.{Reader, ◌>>=◌, pure, refuse, by_kind, expect, repeated}
+use Rattle.cp_grammar.specs.Reading.{Reader, ◌>>=◌, pure, refuse, by_kind, expect, repeat_while}
 use Rattle.cp_grammar.specs.Types.{type_at}
 use Rattle.cp_grammar.specs.Statements.{Deeper, deeper_at}
 use Rattle.cp_grammar.specs.Declarations.{variables_of, body_of, routines_of, section_of, begins_section}
@@ -16,7 +16,7 @@ at_end t (Some k) = refuse
 module _ (type_reader : Reader s.TypeExpression) (deeper : Option Deeper) where
   -- A text up to its `.`.
   unfoldable pub tree_of : Reader s.Tree
-  tree_of = repeated begins_section (section_of type_reader deeper) [] >>= λ ss. variables_of type_reader >>= λ vs.
+  tree_of = repeat_while begins_section (section_of type_reader deeper) [] >>= λ ss. variables_of type_reader >>= λ vs.
       routines_of type_reader deeper >>= λ rs. body_of deeper >>= λ b. expect symbol.Dot >>= λ _.
       pure (record { sections = ss; variables = vs; routines = rs; body = b })
 

@@ -12,10 +12,10 @@ use Rattle.cp_model.specs.declared.rules.ArrayPart.{ArrayPart}
 use Rattle.cp_model.specs.declared.rules.Mode.TheVariants as mode
 use Rattle.cp_model.specs.declared.rules.Rule.TheVariants.{C2}
 use Rattle.cp_model.specs.declared.tree.Identifier.{Identifier}
-use Rattle.cp_model.specs.RulesJudged.{Judged, Sound, Broken, Violations, also, both, then_judge, meaning_of, provided}
+use Rattle.cp_model.specs.RulesJudged.{Judged, Sound, Broken, Violations, also, both, then_judge, meaning_of, guard}
 use Rattle.cp_model.specs.RulesEnvironment.{Environment, agree, c1_named, c4_c9_named}
 use Rattle.cp_model.specs.RulesNames.{before_selectors, c2_array, c2_index, first_token, member_of}
-use Rattle.cp_model.specs.RulesExpressions.{designated, indexed, judge, select, selected}
+use Rattle.cp_model.specs.RulesExpressions.{designate, apply_indices, judge, select, apply_selectors}
 use Rattle.cp_model.specs.RulesNeeds.{need_called}
 use Rattle.cp_judge.specs.EntitiesNamed as names
 
@@ -32,7 +32,7 @@ covers_member : (env : Environment) (at : ℕ) (x : Identifier) (known : Option 
 covers_member env at x known (Sound e) c = subst (λ k. Covers (names.member env at x k) (member_of env at x e)) (sym c) (covers_meaning (member_of env at x e))
 covers_member env at x known (Broken v vs) c = tt
 
-covers_agreed : (fits : Bool) (at : ℕ) (part : ArrayPart) → Covers (names.element_of (Some part)) (provided fits C2 at (entity.Variable part.element part.access))
+covers_agreed : (fits : Bool) (at : ℕ) (part : ArrayPart) → Covers (names.element_of (Some part)) (guard fits C2 at (entity.Variable part.element part.access))
 covers_agreed true at part = refl
 covers_agreed false at part = tt
 
@@ -47,7 +47,7 @@ covers_element env at place known (Sound e) i c =
     subst (λ k. Covers (names.element env at k) (both (c2_array env at e) i (c2_index env place))) (sym c) (covers_index env place (c2_array env at e) i)
 covers_element env at place known (Broken v vs) i c = tt
 
-covers_elements : (env : Environment) (known : Option Entity) (j : Judged Entity) (is : s.Indices) → Covers known j → Covers (names.elements env known is) (indexed env j is)
+covers_elements : (env : Environment) (known : Option Entity) (j : Judged Entity) (is : s.Indices) → Covers known j → Covers (names.elements env known is) (apply_indices env j is)
 covers_elements env known j s.NoIndices c = c
 covers_elements env known j (s.MoreIndices at i is) c =
     let element = both (then_judge j (c2_array env at)) (judge env mode.Value i) (c2_index env (first_token i)) in
@@ -57,7 +57,7 @@ covers_part : (env : Environment) (known : Option Entity) (j : Judged Entity) (y
 covers_part env known j (s.Field at x) c = covers_member env at x known j c
 covers_part env known j (s.Indexed is) c = covers_elements env known j is c
 
-covers_parts : (env : Environment) (known : Option Entity) (j : Judged Entity) (ss : s.Selectors) → Covers known j → Covers (names.parts env known ss) (selected env j ss)
+covers_parts : (env : Environment) (known : Option Entity) (j : Judged Entity) (ss : s.Selectors) → Covers known j → Covers (names.parts env known ss) (apply_selectors env j ss)
 covers_parts env known j s.NoSelectors c = c
 covers_parts env known j (s.MoreSelectors y ys) c = covers_parts env (names.part env known y) (select env j y) ys (covers_part env known j y c)
 
@@ -73,7 +73,7 @@ covers_root : (env : Environment) (x : Identifier) (ss : s.Selectors) (j : Judge
 covers_root env x ss (Sound e) = covers_first env x ss e
 covers_root env x ss (Broken v vs) = tt
 
-pub covers : (env : Environment) (d : s.Designator) → Covers (names.designated_entity env d) (designated env d)
+pub covers : (env : Environment) (d : s.Designator) → Covers (names.designated_entity env d) (designate env d)
 covers env (s.Designate x ss) = covers_parts env (meaning_of (c1_named env x)) (then_judge (c1_named env x) (before_selectors env x ss)) ss (covers_root env x ss (c1_named env x))
 
 -- what is covered by something that isn't a routine has no need
@@ -86,5 +86,5 @@ no_need env known (Sound e) c h = of e (subst (λ k. names.is_routine k ≡ fals
     of _ g = refl
 no_need env known (Broken v vs) c h = refl
 
-pub needs_nothing : (env : Environment) (d : s.Designator) → names.is_routine (names.designated_entity env d) ≡ false → need_called env (designated env d) ≡ 0
-needs_nothing env d = no_need env (names.designated_entity env d) (designated env d) (covers env d)
+pub needs_nothing : (env : Environment) (d : s.Designator) → names.is_routine (names.designated_entity env d) ≡ false → need_called env (designate env d) ≡ 0
+needs_nothing env d = no_need env (names.designated_entity env d) (designate env d) (covers env d)

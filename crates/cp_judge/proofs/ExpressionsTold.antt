@@ -64,7 +64,7 @@ pub result_told : (env : Environment) (t0 t1 t2 : Option Violation) (c : Option 
 result_told env t0 t1 t2 None t jc ja h g = both_left (result_of env) t0 t1 t2 jc ja t h g
 result_told env t0 t1 t2 (Some c) None jc ja h g = both_right (result_of env) t0 t1 t2 jc ja (Some (callee env c)) h g
 result_told env t0 t1 t2 (Some c) (Some t) jc ja h g =
-    both_some (result_of env) t0 t1 t2 jc ja t2 (callee env c) t (Some (n.given env t c.gives)) h g (refl, refl)
+    both_some (result_of env) t0 t1 t2 jc ja t2 (callee env c) t (Some (n.given_type env t c.gives)) h g (refl, refl)
 
 -- ---- arguments
 

@@ -33,7 +33,7 @@ argument_named env u (s.Signed sign at e) x h = absurd (cc)
 argument_named env u (s.Binary a o at b) x h = absurd (cc)
 
 pub argument_unnamed : (env : Environment) (u : ℕ) (e : s.Expression) → None ≡ parts.name_alone e
-    → st.component_argument env u e ≡ also (violation C12 (first_token e) ∷ []) (st.unwanted env e)
+    → st.component_argument env u e ≡ also (violation C12 (first_token e) ∷ []) (st.surplus_argument env e)
 argument_unnamed env u (s.Designated (s.Designate y s.NoSelectors)) h = absurd (cc)
 argument_unnamed env u (s.Designated (s.Designate y (s.MoreSelectors z zs))) h = refl
 argument_unnamed env u (s.Number at n) h = refl
@@ -44,7 +44,7 @@ argument_unnamed env u (s.Not at e) h = refl
 argument_unnamed env u (s.Signed sign at e) h = refl
 argument_unnamed env u (s.Binary a o at b) h = refl
 
-pub unwanted_some : (env : Environment) (e : s.Expression) (d : s.Designator) → Some d ≡ designator_in e → st.unwanted env e ≡ parts.unwanted_designator env d
+pub unwanted_some : (env : Environment) (e : s.Expression) (d : s.Designator) → Some d ≡ designator_in e → st.surplus_argument env e ≡ parts.unwanted_designator env d
 unwanted_some env (s.Designated z) d h = let same : z ≡ d = cc in ap (parts.unwanted_designator env) same
 unwanted_some env (s.Number at n) d h = absurd (cc)
 unwanted_some env (s.Character at n) d h = absurd (cc)
@@ -54,7 +54,7 @@ unwanted_some env (s.Not at e) d h = absurd (cc)
 unwanted_some env (s.Signed sign at e) d h = absurd (cc)
 unwanted_some env (s.Binary a o at b) d h = absurd (cc)
 
-pub unwanted_none : (env : Environment) (e : s.Expression) → None ≡ designator_in e → st.unwanted env e ≡ judge env mode.Value e
+pub unwanted_none : (env : Environment) (e : s.Expression) → None ≡ designator_in e → st.surplus_argument env e ≡ judge env mode.Value e
 unwanted_none env (s.Designated z) h = absurd (cc)
 unwanted_none env (s.Number at n) h = refl
 unwanted_none env (s.Character at n) h = refl

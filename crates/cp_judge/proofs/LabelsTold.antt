@@ -6,7 +6,7 @@ use Rattle.std.specs.Ordering.{is_eq, nat_cmp, int_cmp, int_eq, ordering_then}
 use Rattle.std.specs.declared.cmp.Ordering.{Ordering}
 use Rattle.std.specs.declared.cmp.Ordering.TheVariants.{Less, Equal, Greater}
 use Rattle.std.proofs.lemmas.Bool.Decides.{nat_tests}
-use Rattle.cp_model.specs.RulesJudged.{Judged, Sound, Broken, also, meaning_of, provided, then_judge, unless, violations_of}
+use Rattle.cp_model.specs.RulesJudged.{Judged, Sound, Broken, also, meaning_of, guard, then_judge, unless, violations_of}
 use Rattle.cp_model.specs.declared.rules.Rule.TheVariants.{C2, C3}
 use Rattle.cp_model.specs.RulesEnvironment.{Environment}
 use Rattle.cp_model.specs.RulesStatements.{Label, arms, c2_c3_label, fits_selector, is_among, labels, more_seen, selector_base, statement, with_label}
@@ -132,7 +132,7 @@ more_same as' bs (Broken v vs) same = same
 
 label_told : (base : Option ℕ) (at : ℕ) (as' bs : List Label) (j : Judged Label) → SameLabels as' bs
     → then_judge j (c2_c3_label base as' at) ≡ then_judge j (c2_c3_label base bs at)
-label_told base at as' bs (Sound c) same = ap (λ r. also (unless (fits_selector base c) C2 at) (provided (not r) C3 at c)) (same c)
+label_told base at as' bs (Sound c) same = ap (λ r. also (unless (fits_selector base c) C2 at) (guard (not r) C3 at c)) (same c)
 label_told base at as' bs (Broken v vs) same = refl
 
 pub labels_told : (env : Environment) (base : Option ℕ) (as' bs : List Label) (cs : List Constant) → SameLabels as' bs

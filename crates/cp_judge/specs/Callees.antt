@@ -45,13 +45,13 @@ wants_if env e (Some c) = wants_of env c.wants
 
 -- The type of what a call gives, if what is called and the type of the first argument are known.
 abbrev pub result_if : r.Environment → Option Callee → Option ℕ → Option ℕ
-result_if env (Some c) (Some t) = Some (n.given env t c.gives)
+result_if env (Some c) (Some t) = Some (n.given_type env t c.gives)
 result_if env c t = None
 
 -- The routine that is called after a `.`. One without `entry` can't be called, and only the number
 -- of its arguments is judged.
 abbrev pub entry_function : r.Environment → Rule → Identifier → ℕ → RoutineRow → Judged n.Callee
-entry_function env rule x count row = if row.entry then n.function_called env rule x count row else n.counted env x count row
+entry_function env rule x count row = if row.entry then n.function_called env rule x count row else n.inner_callee env x count row
 
 abbrev pub entry_procedure : r.Environment → Identifier → ℕ → RoutineRow → Judged n.Callee
-entry_procedure env x count row = if row.entry then n.procedure_called env x count row else n.counted env x count row
+entry_procedure env x count row = if row.entry then n.procedure_called env x count row else n.inner_callee env x count row

@@ -13,11 +13,11 @@ use Rattle.cp_model.specs.RulesEnvironment.{Environment}
 use Rattle.cp_model.specs.RulesNames.{Callee, value_of, c2_c5_c8_named, c2_indexed, function_of, c2_array}
 use Rattle.cp_judge.specs.Arguments.{type_rule}
 use Rattle.cp_judge.specs.Tells.{Tells}
-use Rattle.cp_model.specs.RulesExpressions.{judge, designated, argument, mode_of, first_operand}
+use Rattle.cp_model.specs.RulesExpressions.{judge, designate, argument, mode_of, first_operand}
 
 -- The type of a designator.
 abbrev pub type_of_designator : Environment → Mode → s.Designator → Judged ℕ
-type_of_designator env m d = then_judge (designated env d) (value_of env m d)
+type_of_designator env m d = then_judge (designate env d) (value_of env m d)
 
 abbrev pub judge_use : Environment → Mode → s.Designator → Judged ℕ
 judge_use env m d = also (c2_c5_c8_named env m d) (type_of_designator env m d)
@@ -27,7 +27,7 @@ abbrev pub function_if : Environment → Mode → s.Designator → ℕ → Judge
 function_if env m d n j = then_judge j (function_of env m d n)
 
 abbrev pub callee_of : Environment → Mode → s.Designator → ℕ → Judged Callee
-callee_of env m d n = also (c2_indexed env m d) (function_if env m d n (designated env d))
+callee_of env m d n = also (c2_indexed env m d) (function_if env m d n (designate env d))
 
 -- The operators after an operand that was judged, and their right operands.
 abbrev pub TellsChain : Environment → Option Violation → Option Violation → Option ℕ → Option ℕ → List s.Operation → Type 0

@@ -9,10 +9,10 @@ use Rattle.cp_model.specs.declared.rules.Rule.TheVariants.{C12}
 use Rattle.cp_model.specs.declared.rules.Mode.TheVariants as mode
 use Rattle.cp_model.specs.declared.rules.ParameterRow.{ParameterRow}
 use Rattle.cp_model.specs.declared.rules.SystemRow.{SystemRow}
-use Rattle.cp_model.specs.RulesJudged.{Judged, Violations, also, then_judge, provided}
+use Rattle.cp_model.specs.RulesJudged.{Judged, Violations, also, then_judge, guard}
 use Rattle.cp_model.specs.RulesEnvironment.{Environment, agree, c1_named, parameters_from, system_row}
 use Rattle.cp_model.specs.RulesNames.{first_token, c2_c5_c8_named, c8_named}
-use Rattle.cp_model.specs.RulesExpressions.{judge, designated}
+use Rattle.cp_model.specs.RulesExpressions.{judge, designate}
 use Rattle.cp_model.specs.RulesStatements as st
 
 abbrev pub system : Environment → Identifier → Judged ℕ
@@ -22,13 +22,13 @@ abbrev pub component : Environment → Identifier → ℕ → Judged SystemRow
 component env x count = then_judge (system env x) (st.c12_count env x count)
 
 abbrev pub unwanted_designator : Environment → s.Designator → Judged ℕ
-unwanted_designator env d = also (c2_c5_c8_named env mode.Value d) (then_judge (designated env d) (st.unused env d))
+unwanted_designator env d = also (c2_c5_c8_named env mode.Value d) (then_judge (designate env d) (st.surplus_name env d))
 
 abbrev pub name_argument : Environment → ℕ → Identifier → Judged ℕ
 name_argument env u x = also (c8_named env mode.Value x) (then_judge (c1_named env x) (st.c12_passed env u x))
 
 abbrev pub simple_agrees : Environment → ℕ → s.Expression → ℕ → Judged ℕ
-simple_agrees env u e t = provided (agree env u t) C12 (first_token e) t
+simple_agrees env u e t = guard (agree env u t) C12 (first_token e) t
 
 abbrev pub simple_argument : Environment → ℕ → s.Expression → Judged ℕ
 simple_argument env u e = then_judge (judge env mode.Value e) (simple_agrees env u e)

@@ -7,10 +7,10 @@ use Rattle.cp_model.specs.declared.rules.Rule.TheVariants.{C2, C4, C10}
 use Rattle.cp_model.specs.declared.rules.Mode.TheVariants as mode
 use Rattle.cp_model.specs.declared.rules.Returns.{Returns}
 use Rattle.cp_model.specs.declared.rules.Returns.TheVariants as returns
-use Rattle.cp_model.specs.RulesJudged.{Judged, Violations, violation, violations_of, breaks, also, then_judge, provided}
+use Rattle.cp_model.specs.RulesJudged.{Judged, Violations, violation, violations_of, breaks, also, then_judge, guard}
 use Rattle.cp_model.specs.RulesEnvironment.{Environment, is_component, is_simple, c1_named}
 use Rattle.cp_model.specs.RulesNames as n
-use Rattle.cp_model.specs.RulesExpressions.{judge, designated}
+use Rattle.cp_model.specs.RulesExpressions.{judge, designate}
 use Rattle.cp_model.specs.RulesStatements as st
 
 -- The left side is a part of the result of the function that is being defined.
@@ -34,7 +34,7 @@ abbrev pub procedure_if : Environment → s.Designator → ℕ → Judged Entity
 procedure_if env d count j = then_judge j (n.procedure_of env d count)
 
 abbrev pub procedure_called : Environment → s.Designator → ℕ → Judged n.Callee
-procedure_called env d count = also (n.c2_indexed env mode.Value d) (procedure_if env d count (designated env d))
+procedure_called env d count = also (n.c2_indexed env mode.Value d) (procedure_if env d count (designate env d))
 
 -- ---- `for`
 
@@ -45,7 +45,7 @@ abbrev pub plain_variable : Environment → Identifier → Judged ℕ
 plain_variable env v = also (n.c8_named env mode.Variable v) (plain_name env v)
 
 abbrev pub simple_variable : Environment → Identifier → Judged ℕ
-simple_variable env v = then_judge (plain_variable env v) (λ t. provided (is_simple env t) C2 v.at t)
+simple_variable env v = then_judge (plain_variable env v) (λ t. guard (is_simple env t) C2 v.at t)
 
 abbrev pub for_header : Environment → Identifier → s.Expression → s.Expression → Violations
 for_header env v a b =

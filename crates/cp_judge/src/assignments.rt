@@ -86,7 +86,7 @@ fn names_changeable(env: &Environment, told: &mut Option<Violation>, d: &Designa
 }
 
 fn other_left(env: &Environment, told: &mut Option<Violation>, d: &Designator) -> Option<usize>
-    ensures { Tells told.old told.new result (st.other_left env.now (designator d.now)) }
+    ensures { Tells told.old told.new result (st.other_left_side env.now (designator d.now)) }
 {
     let fits = names_changeable(env, told, d);
     let t = type_of_designator(env, told, Mode::Variable, d);
@@ -95,7 +95,7 @@ fn other_left(env: &Environment, told: &mut Option<Violation>, d: &Designator) -
 
 // The type of a left side.
 fn left(env: &Environment, told: &mut Option<Violation>, d: &Designator) -> Option<usize>
-    ensures { Tells told.old told.new result (st.left env.now (designator d.now)) }
+    ensures { Tells told.old told.new result (st.left_side env.now (designator d.now)) }
 {
     match find_entity(env, &d.root) {
         Some(Entity::UnfinishedRoutine(row)) => {
@@ -197,7 +197,7 @@ pub fn judge_assignment(
     e: &Expression,
 )
     ensures { told.new ≡ least told.old
-        (st.assigned env.now (designator d.now) at (expression e.now)) }
+        (st.assignment env.now (designator d.now) at (expression e.now)) }
 {
     let a = left(env, told, d);
     let b = right(env, told, is_component_type(env, a), e);

@@ -125,7 +125,7 @@ fn judge_missing_entry(
     count: usize,
     row: RoutineRow,
 ) -> Option<Callee>
-    ensures { TellsWherever told.old told.new result (λ env. n.counted env x.now count row) }
+    ensures { TellsWherever told.old told.new result (λ env. n.inner_callee env x.now count row) }
 {
     let rule = if row.count == count {
         Rule::C5

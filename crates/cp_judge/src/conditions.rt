@@ -3,7 +3,7 @@
 ghost use Rattle.std.specs.Prelude.{◌≡◌, ◌++◌, [], ◌∷◌, map, ℕ, Option, None, Some};
 ghost use Rattle.cp_model.specs.RulesEnvironment as r;
 ghost use Rattle.cp_model.specs.RulesNames as n;
-ghost use Rattle.cp_model.specs.RulesJudged.{Judged, least, meaning_of, provided};
+ghost use Rattle.cp_model.specs.RulesJudged.{Judged, least, meaning_of, guard};
 ghost use Rattle.cp_model.specs.declared.rules.Rule.TheVariants.{C2};
 ghost use Rattle.cp_model.specs.declared.rules.Mode.TheVariants as mode;
 ghost use Rattle.cp_model.specs.RulesStatements as st;
@@ -22,7 +22,7 @@ use cp_model::tree::{Expression, Identifier};
 
 // C2: the type isn't one that is wanted.
 fn require_type(told: &mut Option<Violation>, fits: bool, at: usize, t: usize) -> Option<usize>
-    ensures { Tells told.old told.new result (provided fits C2 at t) }
+    ensures { Tells told.old told.new result (guard fits C2 at t) }
 {
     if fits {
         return Some(t);

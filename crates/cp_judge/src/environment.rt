@@ -6,7 +6,7 @@ ghost use Rattle.cp_model.specs.Names.{lookup};
 ghost use Rattle.cp_model.specs.RulesEnvironment as r;
 ghost use Rattle.cp_model.specs.RulesTypes as types;
 ghost use Rattle.cp_judge.specs.Environments.{with_members, with_parameters, with_routine, with_system};
-ghost use Rattle.cp_names.specs.Tables.{AreDistinct, seen};
+ghost use Rattle.cp_names.specs.Tables.{AreDistinct, entry_view};
 
 use cp_model::rules::{
     Entity, Member, ParameterRow, Part, Region, Returns, RoutineRow, Structure, SystemRow, TypeRow,
@@ -106,7 +106,7 @@ impl<'t> Environment<'t> {
 
     /// The visible name with this number, and what it stands for.
     pub fn name(&self, number: usize) -> Option<(&'t [u8], Entity)>
-        ensures { option_map seen result ≡ slice_get self.now.names number }
+        ensures { option_map entry_view result ≡ slice_get self.now.names number }
     {
         self.names.get(number)
     }

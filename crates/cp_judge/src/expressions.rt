@@ -136,7 +136,7 @@ pub fn judge_designator(
     told: &mut Option<Violation>,
     d: &Designator,
 ) -> Option<Entity>
-    ensures { Tells told.old told.new result (x.designated env.now (designator d.now)) }
+    ensures { Tells told.old told.new result (x.designate env.now (designator d.now)) }
 {
     let mut part = root(env, told, d);
     for s in &d.selectors {
@@ -173,7 +173,7 @@ fn select_elements(
     indices: &[Index],
 ) -> Option<Entity>
     ensures { (t : Option Violation) (j : Judged EntityValue) → Tells t told.old part j
-        → Tells t told.new result (x.indexed env.now j (indices_of (map index indices.now))) }
+        → Tells t told.new result (x.apply_indices env.now j (indices_of (map index indices.now))) }
 {
     let mut part = part;
     for i in indices {
@@ -249,7 +249,7 @@ fn judge_callee(
     ensures callee { TellsCallee env.now told.old told.new result.callee
         (parts.callee_of env.now mode (designator d.now) count) }
     ensures wants { wants_of env.now result.wants ≡ x.wants_in env.now
-        (x.designated env.now (designator d.now))
+        (x.designate env.now (designator d.now))
         (parts.callee_of env.now mode (designator d.now) count) }
 {
     let no_value = no_indexed_value(env, told, mode, d);

@@ -107,7 +107,7 @@ fn unused_entity(
     d: &Designator,
     entity: Entity,
 ) -> Option<usize>
-    ensures { Tells told.old told.new result (st.unused env.now (designator d.now) entity) }
+    ensures { Tells told.old told.new result (st.surplus_name env.now (designator d.now) entity) }
 {
     let in_place = anywhere(env, told, last_name(d), entity);
     answer_if(in_place, Some(INTEGER))
@@ -119,8 +119,8 @@ fn unused_designator(
     d: &Designator,
 ) -> Option<usize>
     ensures { Tells told.old told.new result
-        (then_judge (x.designated env.now (designator d.now))
-        (st.unused env.now (designator d.now))) }
+        (then_judge (x.designate env.now (designator d.now))
+        (st.surplus_name env.now (designator d.now))) }
 {
     let entity = expressions::judge_designator(env, told, d)?;
     unused_entity(env, told, d, entity)
@@ -145,7 +145,7 @@ fn unwanted_argument(
     told: &mut Option<Violation>,
     e: &Expression,
 ) -> Option<usize>
-    ensures { Tells told.old told.new result (st.unwanted env.now (expression e.now)) }
+    ensures { Tells told.old told.new result (st.surplus_argument env.now (expression e.now)) }
 {
     match designator_of(e) {
         Some(d) => unwanted_designator(env, told, d),

@@ -1,7 +1,7 @@
 //! The labels of a `case`.
 
 ghost use Rattle.std.specs.Prelude.{◌≡◌, ◌++◌, [], ◌∷◌, OnOk, map, not, Option, None, Some};
-ghost use Rattle.cp_model.specs.RulesJudged.{least, then_judge, provided, violations_of};
+ghost use Rattle.cp_model.specs.RulesJudged.{least, then_judge, guard, violations_of};
 ghost use Rattle.cp_model.specs.RulesStatements as st;
 ghost use Rattle.cp_model.specs.RulesTypes as types;
 ghost use Rattle.cp_model.specs.declared.rules.Rule.TheVariants as rules;
@@ -73,7 +73,7 @@ fn once(
     label: (usize, i32),
 ) -> Option<(usize, i32)>
     ensures { Tells told.old told.new result
-        (provided (not (st.is_among label seen.now)) rules.C3 at label) }
+        (guard (not (st.is_among label seen.now)) rules.C3 at label) }
 {
     if seen.has(label) {
         return tell_violation(told, Rule::C3, at);

@@ -107,7 +107,7 @@ fn need_of_indices(env: &Environment, indices: &[Index]) -> usize
 // judged only if the names stand for a routine. With indices they never do, since no array contains
 // components.
 fn need_of_callee(env: &Environment, d: &Designator) -> usize
-    ensures { result ≡ n.need_called env.now (x.designated env.now (designator d.now)) }
+    ensures { result ≡ n.need_called env.now (x.designate env.now (designator d.now)) }
 {
     if is_routine(find_designated_entity(env, d)) {
         need_if_called(env, designation(env, d))
@@ -118,7 +118,7 @@ fn need_of_callee(env: &Environment, d: &Designator) -> usize
 
 // What a designator stands for, if nothing is broken in it.
 fn designation(env: &Environment, d: &Designator) -> Option<Entity>
-    ensures { result ≡ meaning_of (x.designated env.now (designator d.now)) }
+    ensures { result ≡ meaning_of (x.designate env.now (designator d.now)) }
 {
     let mut told = None;
     judge_designator(env, &mut told, d)

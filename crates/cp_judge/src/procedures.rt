@@ -43,7 +43,7 @@ fn judge_callee(
     ensures callee { TellsCallee env.now told.old told.new result.callee
         (parts.procedure_called env.now (designator d.now) count) }
     ensures wants { wants_of env.now result.wants ≡ x.wants_in env.now
-        (x.designated env.now (designator d.now))
+        (x.designate env.now (designator d.now))
         (parts.procedure_called env.now (designator d.now) count) }
 {
     let no_value = no_indexed_value(env, told, Mode::Value, d);
@@ -64,7 +64,7 @@ pub fn judge_call(
     list: &[Expression],
 )
     ensures { told.new ≡ least told.old
-        (st.performed env.now (designator d.now) (expressions_of (map expression list.now))) }
+        (st.call_statement env.now (designator d.now) (expressions_of (map expression list.now))) }
 {
     names_fit(env, told, Mode::Value, d);
     let called = judge_callee(env, told, d, list.len());

@@ -4,7 +4,7 @@
 ghost use Rattle.std.specs.Prelude.{◌≡◌};
 ghost use Rattle.cp_model.specs.RulesJudged.{earlier, least, unless};
 ghost use Rattle.cp_judge.specs.Tells.{Tells, TellsFirst, TellsOf};
-ghost use Rattle.cp_model.specs.RulesJudged.{breaks, provided};
+ghost use Rattle.cp_model.specs.RulesJudged.{breaks, guard};
 
 use cp_model::rules::{Rule, Violation};
 

@@ -17,7 +17,7 @@ use cp_model::tree::{Designator, Expression, Identifier, Selector};
 
 /// The type of what a call gives, if its first argument is of the type `argument`.
 pub fn result_type(env: &Environment, argument: usize, gives: Gives) -> usize
-    ensures { result ≡ n.given env.now argument gives }
+    ensures { result ≡ n.given_type env.now argument gives }
 {
     match gives {
         Gives::Value(t) => t,

@@ -17,7 +17,7 @@ use Rattle.cp_machine.specs.Ends.{RoundEnds}
 use Rattle.cp_machine.specs.Made.{Stands, TurnsMade}
 use Rattle.cp_machine.specs.MachineOf.{input_at, input_of, machine_with}
 use Rattle.cp_machine.specs.Runs.{AreSame, RoundsMade, TurnsTaken}
-use Rattle.cp_machine.specs.Turned.{moment_of, turned, with_turned}
+use Rattle.cp_machine.specs.Turned.{moment_of, take_turn, with_turn_taken}
 use Rattle.cp_machine.specs.declared.setting.Setting.{Setting}
 use Rattle.cp_machine.proofs.Lists.{got_below, got_snoc, none_some, some_is}
 use Rattle.cp_machine.proofs.Results.{got_left}
@@ -96,7 +96,7 @@ turn_stands : (t : ℕ) (m : Machine) (inputs : List Bytes) (i : ℕ) (ys zs : L
     → IsTurned m.program (clock m) t k k' y z (input_at inputs i)
     → ((j : ℕ) (x : Private) → slice_get zs j ≡ Some x → ((j ≡ i) × (z ≡ x)) ⊎ ((j ≢ i) × (slice_get ys j ≡ Some x)))
     → Stands m inputs ys k → Stands (kernel_turn t m (suc i)) inputs zs k'
-turn_stands t m inputs i ys zs y z k k' here number turned each was =
+turn_stands t m inputs i ys zs y z k k' here number take_turn each was =
     let o : PrivateState = private_of y (input_at inputs i) in
     let after : Turning = kernel_steps m.program (clock m) t (record { kernel = m.kernel; own = o }) in
     let new : PrivateState = record after.own { output = [] } in
@@ -106,9 +106,9 @@ turn_stands t m inputs i ys zs y z k k' here number turned each was =
     let same : kernel_steps m.program (clock m) t (turning k y (input_at inputs i)) ≡ after =
     ap (λ (q : steps.Kernel). kernel_steps m.program (clock m) t (record { kernel = q; own = o })) was.kernel in
     let transcripts : transcripts_of k' ≡ slice_set m.transcripts (suc i - 1) (transcript_of m.transcripts (suc i) ++ after.own.output) =
-    turned.moves.transcripts
+    take_turn.moves.transcripts
     ∙ (λ j. slice_set (was.transcripts j) (number j - 1) (transcript_of (was.transcripts j) (number j) ++ (same j).own.output)) in
-    let own : private_of z (input_at inputs i) ≡ new = turned.own ∙ ap (λ (w : Turning). record w.own { output = [] }) same in
+    let own : private_of z (input_at inputs i) ≡ new = take_turn.own ∙ ap (λ (w : Turning). record w.own { output = [] }) same in
     let parts : (j : ℕ) (x : Private) → slice_get zs j ≡ Some x → slice_get (slice_set m.parts (suc i - 1) new) j ≡ Some (private_of x (input_at inputs j)) =
     λ j x e.
     ⊎_elim
@@ -121,18 +121,18 @@ turn_stands t m inputs i ys zs y z k k' here number turned each was =
     set_apart m.parts (suc i - 1) j new (λ f. h.0 (f ∙ at)) ∙ was.parts j x h.1)
     (each j x e) in
     subst (λ (u : Machine). Stands u inputs zs k') (sym next)
-    (record { kernel = turned.kernel ∙ ap (λ (w : Turning). w.kernel) same; transcripts = transcripts; parts = parts })
+    (record { kernel = take_turn.kernel ∙ ap (λ (w : Turning). w.kernel) same; transcripts = transcripts; parts = parts })
 
 pub turn_made : (t : ℕ) (m : Machine) (inputs : List Bytes) (i : ℕ) (ys zs : List Private) (y z : Private) (k k' : Kernel)
     → slice_get ys i ≡ Some y → y.number ≡ suc i → IsTurned m.program (clock m) t k k' y z (input_at inputs i)
     → ((j : ℕ) (x : Private) → slice_get zs j ≡ Some x → ((j ≡ i) × (z ≡ x)) ⊎ ((j ≢ i) × (slice_get ys j ≡ Some x)))
     → TurnsMade t m inputs i ys k → TurnsMade t m inputs (suc i) zs k'
-turn_made t m inputs i ys zs y z k k' here number turned each was =
+turn_made t m inputs i ys zs y z k k' here number take_turn each was =
     let kept : Remains m (kernel_turns t m (numbers_from 1 i)) = turns_remain t i m in
     let turned' : IsTurned (kernel_turns t m (numbers_from 1 i)).program (clock (kernel_turns t m (numbers_from 1 i))) t k k' y z (input_at inputs i) =
     subst (λ (c : ℕ). IsTurned (kernel_turns t m (numbers_from 1 i)).program c t k k' y z (input_at inputs i))
     (λ j. suc (sym kept.rounds j) / sym kept.tick j)
-    (subst (λ (program : Program). IsTurned program (clock m) t k k' y z (input_at inputs i)) (sym kept.program) turned) in
+    (subst (λ (program : Program). IsTurned program (clock m) t k k' y z (input_at inputs i)) (sym kept.program) take_turn) in
     subst (λ (u : Machine). Stands u inputs zs k') (sym (turns_next t i m))
     (turn_stands t (kernel_turns t m (numbers_from 1 i)) inputs i ys zs y z k k' (was.parts i y here) number turned' each was)
 
@@ -150,22 +150,22 @@ mapped_get f (z ∷ xs) (suc i) x e = mapped_get f xs i x e
 -- The item at an index once the private turns are made.
 pub turned_at : (g : Setting) (t rounds i : ℕ) (xs : List Private) (k : Kernel) (x y : Private) → slice_get xs i ≡ Some x
     → private_of y (input_at g.inputs.items i)
-    ≡ turned (view.program g.program) t (moment_of g.tick.rounds rounds) (private_of x (input_at g.inputs.items i))
-    → slice_get (with_turned t (machine_with g rounds xs k)).parts i ≡ Some (private_of y (input_at g.inputs.items i))
+    ≡ take_turn (view.program g.program) t (moment_of g.tick.rounds rounds) (private_of x (input_at g.inputs.items i))
+    → slice_get (with_turn_taken t (machine_with g rounds xs k)).parts i ≡ Some (private_of y (input_at g.inputs.items i))
 turned_at g t rounds i xs k x y here is =
-    mapped_get (turned (view.program g.program) t (moment_of g.tick.rounds rounds)) (parts_of (input_of g.inputs.items) 1 xs) i
+    mapped_get (take_turn (view.program g.program) t (moment_of g.tick.rounds rounds)) (parts_of (input_of g.inputs.items) 1 xs) i
     (private_of x (input_at g.inputs.items i)) (part_at g.inputs.items i xs x here)
     ∙ ap (λ (o : PrivateState). Some o) (sym is)
 
 pub process_made : (g : Setting) (t rounds : ℕ) (xs : List Private) (k0 : Kernel) (ys : List Private) (x y z : Private) (k k' : Kernel)
     → slice_get xs (length ys) ≡ Some x
     → private_of y (input_at g.inputs.items (length ys))
-    ≡ turned (view.program g.program) t (moment_of g.tick.rounds rounds) (private_of x (input_at g.inputs.items (length ys)))
+    ≡ take_turn (view.program g.program) t (moment_of g.tick.rounds rounds) (private_of x (input_at g.inputs.items (length ys)))
     → y.number ≡ suc (length ys)
     → IsTurned (view.program g.program) (moment_of g.tick.rounds rounds).clock t k k' y z (input_at g.inputs.items (length ys))
     → TurnsTaken g t rounds xs k0 ys k → TurnsTaken g t rounds xs k0 (ys ++ z ∷ []) k'
 process_made g t rounds xs k0 ys x y z k k' here is number turn was =
-    let m : Machine = with_turned t (machine_with g rounds xs k0) in
+    let m : Machine = with_turn_taken t (machine_with g rounds xs k0) in
     let inputs = g.inputs.items in
     let i : ℕ = length ys in
     let none : i ≤ i = Prim.omega arith in
@@ -205,9 +205,9 @@ same_machine a b p t k o ts r = λ i. record {
 -- All turns of a round are made.
 all_turns : (g : Setting) (t rounds : ℕ) (xs : List Private) (k0 : Kernel) (zs : List Private) (k : Kernel) → length zs ≡ length xs
     → TurnsTaken g t rounds xs k0 zs k
-    → machine_with g rounds zs k ≡ kernel_turns t (with_turned t (machine_with g rounds xs k0)) (numbers_from 1 (length xs))
+    → machine_with g rounds zs k ≡ kernel_turns t (with_turn_taken t (machine_with g rounds xs k0)) (numbers_from 1 (length xs))
 all_turns g t rounds xs k0 zs k count made =
-    let m : Machine = with_turned t (machine_with g rounds xs k0) in
+    let m : Machine = with_turn_taken t (machine_with g rounds xs k0) in
     let n : ℕ = length zs in
     let kept : Remains m (kernel_turns t m (numbers_from 1 n)) = turns_remain t n m in
     let all : length (kernel_turns t m (numbers_from 1 n)).parts ≡ length zs =
@@ -231,7 +231,7 @@ round_made g t rounds xs k0 zs k ws k' count made ends =
 -- ---- Nothing made
 
 pub none_taken : (g : Setting) (t rounds : ℕ) (xs ys : List Private) (k : Kernel) → length ys ≡ 0 → TurnsTaken g t rounds xs k ys k
-none_taken g t rounds xs [] k none = none_made t (with_turned t (machine_with g rounds xs k)) g.inputs.items k refl refl
+none_taken g t rounds xs [] k none = none_made t (with_turn_taken t (machine_with g rounds xs k)) g.inputs.items k refl refl
 none_taken g t rounds xs (y ∷ ys) k none = absurd (Prim.omega (arith, none))
 
 -- Other room changes nothing.
@@ -250,7 +250,7 @@ no_round_made g t rounds xs k ys k' same =
 pub same_start : (g : Setting) (t rounds : ℕ) (xs : List Private) (k k1 : Kernel) (ys : List Private) (k' : Kernel) → kernel_of k1 ≡ kernel_of k
     → transcripts_of k1 ≡ transcripts_of k → TurnsTaken g t rounds xs k1 ys k' → TurnsTaken g t rounds xs k ys k'
 same_start g t rounds xs k k1 ys k' e f made =
-    subst (λ (m : Machine). TurnsMade t (with_turned t m) g.inputs.items (length ys) ys k')
+    subst (λ (m : Machine). TurnsMade t (with_turn_taken t m) g.inputs.items (length ys) ys k')
     (same_machine (machine_with g rounds xs k1) (machine_with g rounds xs k) refl refl e refl f refl) made
 
 -- A round made after more room was reserved.

@@ -7,7 +7,7 @@ use Rattle.cp_steps.specs.KernelSteps.{kernel_steps}
 use Rattle.cp_steps.specs.Machines.{Machine, after_kernel_turn, clock, kernel_turn, kernel_turns, phased_round, phased_rounds, private_turn, private_turns, wake, wake_one}
 use Rattle.cp_steps.specs.PrivateStates.{PrivateState}
 use Rattle.cp_steps.specs.Steps.{private_steps}
-use Rattle.cp_machine.specs.Turned.{moment_of, turned, with_turned, woken}
+use Rattle.cp_machine.specs.Turned.{moment_of, take_turn, with_turn_taken, woken}
 
 -- ---- Lists
 
@@ -66,7 +66,7 @@ all_turns t n m e =
     ap (λ (j : ℕ). private_turns t m (numbers_from 1 j)) e ∙ turns_from t m m.parts [] 1 refl
 
 -- The private turns of a round, with the waking before them, are one map.
-pub private_turns_made : (t n : ℕ) (m : Machine) → n ≡ length m.parts → private_turns t (wake m) (numbers_from 1 n) ≡ with_turned t m
+pub private_turns_made : (t n : ℕ) (m : Machine) → n ≡ length m.parts → private_turns t (wake m) (numbers_from 1 n) ≡ with_turn_taken t m
 private_turns_made t n m e = by (nat_eq (suc m.rounds % m.tick) 0)
   where
     by : (b : Bool) → private_turns t (if b then record m { parts = map wake_one m.parts } else m) (numbers_from 1 n)
@@ -177,5 +177,5 @@ rounds_after t (suc m) n ps a =
     let e : suc m + n ≡ suc (m + n) = Prim.omega arith in
     ap (λ (q : ℕ). phased_rounds t ps q a) e ∙ rounds_after t m n ps (phased_round t ps a)
 
-pub turned_count : (t : ℕ) (m : Machine) → length (with_turned t m).parts ≡ length m.parts
-turned_count t m = mapped_length (turned m.program t (moment_of m.tick m.rounds)) m.parts
+pub turned_count : (t : ℕ) (m : Machine) → length (with_turn_taken t m).parts ≡ length m.parts
+turned_count t m = mapped_length (take_turn m.program t (moment_of m.tick m.rounds)) m.parts

@@ -12,7 +12,7 @@ use Rattle.cp_machine.specs.Made.{AfterPrivateTurn, TurnsMade}
 use Rattle.cp_machine.specs.MachineOf.{input_at, machine_with}
 use Rattle.cp_machine.specs.Numbers.{AreNumbered}
 use Rattle.cp_machine.specs.Runs.{TurnsTaken}
-use Rattle.cp_machine.specs.Turned.{moment_of, turned, with_turned}
+use Rattle.cp_machine.specs.Turned.{moment_of, take_turn, with_turn_taken}
 use Rattle.cp_machine.specs.Waves.{Appends, AreResults}
 use Rattle.cp_machine.specs.declared.moment.Moment.{Moment}
 use Rattle.cp_machine.specs.declared.setting.Setting.{Setting}
@@ -26,7 +26,7 @@ module _ (g : Setting) (t : ℕ) (w : Moment) (xs : List Private) (k : Kernel) w
   no_wave stages asking =
       let none : length xs ≡ length xs - 0 = Prim.omega arith in
       record {
-        made = λ rounds time. none_made t (with_turned t (machine_with g rounds xs k)) g.inputs.items k refl refl;
+        made = λ rounds time. none_made t (with_turn_taken t (machine_with g rounds xs k)) g.inputs.items k refl refl;
         ready = record {
           bound = Prim.omega arith;
           numbers = λ i x e. absurd (none_some x e);
@@ -44,8 +44,8 @@ module _ (g : Setting) (t : ℕ) (w : Moment) (xs : List Private) (k : Kernel) w
       → MakesTurns g t w from ys zs k1 k2
       → ((rounds : ℕ) → w ≡ moment_of g.tick.rounds rounds → TurnsTaken g t rounds xs k zs k2)
   turns_made from ys zs k1 k2 was turns rounds time =
-      subst (λ (n : ℕ). TurnsMade t (with_turned t (machine_with g rounds xs k)) g.inputs.items n zs k2) (sym turns.count)
-      (turns.turns (with_turned t (machine_with g rounds xs k)) refl time (was.made rounds time))
+      subst (λ (n : ℕ). TurnsMade t (with_turn_taken t (machine_with g rounds xs k)) g.inputs.items n zs k2) (sym turns.count)
+      (turns.turns (with_turn_taken t (machine_with g rounds xs k)) refl time (was.made rounds time))
 
   -- The kernel turns of all processes in ys, the private turns of one more wave, and room for their
   -- kernel turns.
@@ -69,7 +69,7 @@ module _ (g : Setting) (t : ℕ) (w : Moment) (xs : List Private) (k : Kernel) w
       let asking : HasRoomForAskers k3 (length xs - length zs) = room_kept k2 k3 (length xs - length zs) gates asked in
       record {
         made = λ rounds time.
-            let m = with_turned t (machine_with g rounds xs k) in
+            let m = with_turn_taken t (machine_with g rounds xs k) in
             more_made t m g.inputs.items (length zs) zs next k3
             (λ j z e.
             ⊎_elim (λ (old : slice_get zs j ≡ Some z). inl old)
@@ -81,7 +81,7 @@ module _ (g : Setting) (t : ℕ) (w : Moment) (xs : List Private) (k : Kernel) w
             inr (
               Prim.omega (arith, low, first),
               turned_at g t rounds j xs k x.0 z x.1
-                  (r.given.turned x.0 x.1 ∙ ap (λ (u : Moment). turned (view.program g.program) t u (private_of x.0 (input_at g.inputs.items j))) time),
+                  (r.given.turned x.0 x.1 ∙ ap (λ (u : Moment). take_turn (view.program g.program) t u (private_of x.0 (input_at g.inputs.items j))) time),
             ))
             (more.each j z e))
             (kept_made t m g.inputs.items (length zs) zs k2 k3 kernel transcripts
@@ -121,7 +121,7 @@ module _ (g : Setting) (t : ℕ) (w : Moment) (xs : List Private) (k : Kernel) w
       let none : length ys ≡ length ys - 0 = Prim.omega arith in
       record {
         made = λ rounds time.
-            let m = with_turned t (machine_with g rounds xs k) in
+            let m = with_turn_taken t (machine_with g rounds xs k) in
             more_made t m g.inputs.items 0 [] ys k1
             (λ j z e.
             let below = got_below ys j z e in
@@ -129,7 +129,7 @@ module _ (g : Setting) (t : ℕ) (w : Moment) (xs : List Private) (k : Kernel) w
             inr (
               Prim.omega arith,
               turned_at g t rounds j xs k x.0 z x.1
-                  ((all.each j z e).turned x.0 x.1 ∙ ap (λ (u : Moment). turned (view.program g.program) t u (private_of x.0 (input_at g.inputs.items j))) time),
+                  ((all.each j z e).turned x.0 x.1 ∙ ap (λ (u : Moment). take_turn (view.program g.program) t u (private_of x.0 (input_at g.inputs.items j))) time),
             ))
             (none_made t m g.inputs.items k1 kernel transcripts);
         ready = record {

@@ -9,7 +9,7 @@ use Rattle.cp_threaded.specs.View as view
 use Rattle.cp_machine.specs.Made.{AfterPrivateTurn, TurnsMade}
 use Rattle.cp_machine.specs.Numbers.{AreNumbered}
 use Rattle.cp_machine.specs.MachineOf.{machine_with}
-use Rattle.cp_machine.specs.Turned.{moment_of, with_turned}
+use Rattle.cp_machine.specs.Turned.{moment_of, with_turn_taken}
 use Rattle.cp_machine.specs.declared.moment.Moment.{Moment}
 use Rattle.cp_machine.specs.declared.setting.Setting.{Setting}
 
@@ -46,7 +46,7 @@ pub record AreTurned (g : Setting) (t : ℕ) (w : Moment) (xs ys : List Private)
 -- has are made, and the kernel turns of those below index `from`. All other turns can be made.
 pub record WavesMade (g : Setting) (t : ℕ) (w : Moment) (xs : List Private) (k : Kernel) (from : ℕ) (ys : List Private) (k' : Kernel) : Type 0 where
   pub made : (rounds : ℕ) → w ≡ moment_of g.tick.rounds rounds
-      → TurnsMade t (with_turned t (machine_with g rounds xs k)) g.inputs.items from ys k'
+      → TurnsMade t (with_turn_taken t (machine_with g rounds xs k)) g.inputs.items from ys k'
   pub ready : IsReadyFrom t from ys k'
   pub within : length ys ≤ length xs
   pub stages : length k'.stages.items ≡ length xs

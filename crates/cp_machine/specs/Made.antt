@@ -17,7 +17,7 @@ use Rattle.cp_machine.specs.declared.setting.Setting.{Setting}
 -- what its kernel turn writes.
 pub record AfterPrivateTurn (g : Setting) (t : ℕ) (w : Moment) (xs : List Private) (i : ℕ) (y : Private) : Type 0 where
   pub turned : (x : Private) → slice_get xs i ≡ Some x
-      → private_of y (input_at g.inputs.items i) ≡ plain.turned (view.program g.program) t w (private_of x (input_at g.inputs.items i))
+      → private_of y (input_at g.inputs.items i) ≡ plain.take_turn (view.program g.program) t w (private_of x (input_at g.inputs.items i))
   pub number : (x : Private) → slice_get xs i ≡ Some x → y.number ≡ x.number
   pub room : HasRoomFor y t
 

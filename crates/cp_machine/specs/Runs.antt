@@ -11,7 +11,7 @@ use Rattle.cp_steps.specs.Machines.{phased_rounds}
 use Rattle.cp_machine.specs.Made.{TurnsMade}
 use Rattle.cp_machine.specs.MachineOf.{machine_with}
 use Rattle.cp_machine.specs.Numbers.{AreNumbered}
-use Rattle.cp_machine.specs.Turned.{moment_of, with_turned}
+use Rattle.cp_machine.specs.Turned.{moment_of, with_turn_taken}
 use Rattle.cp_machine.specs.declared.moment.Moment.{Moment}
 use Rattle.cp_machine.specs.declared.parts.Parts.{Parts}
 use Rattle.cp_machine.specs.declared.setting.Setting.{Setting}
@@ -36,7 +36,7 @@ pub record AreSame (xs : List Private) (k : Kernel) (ys : List Private) (k' : Ke
 -- In the round after the first `rounds` rounds, the processes of ys have made both turns. xs and k
 -- are those at the start of the round.
 abbrev pub TurnsTaken : Setting → ℕ → ℕ → List Private → Kernel → List Private → Kernel → Type 0
-TurnsTaken g t rounds xs k ys k' = TurnsMade t (with_turned t (machine_with g rounds xs k)) g.inputs.items (length ys) ys k'
+TurnsTaken g t rounds xs k ys k' = TurnsMade t (with_turn_taken t (machine_with g rounds xs k)) g.inputs.items (length ys) ys k'
 
 -- n more rounds are made after the first `rounds` rounds.
 abbrev pub RoundsMade : Setting → ℕ → ℕ → ℕ → List Private → Kernel → List Private → Kernel → Type 0

@@ -15,15 +15,15 @@ after_turn turned true o = turned o
 after_turn turned false o = o
 
 -- How many bytes a private turn has written at most, if a turn writes at most `most` bytes.
-abbrev pub written : ℕ → Bool → ℕ
-written most true = most
-written most false = 0
+abbrev pub bytes_written : ℕ → Bool → ℕ
+bytes_written most true = most
+bytes_written most false = 0
 
 -- How many bytes a process may still write in a round of two turns, the private turn and then the
 -- kernel turn, of at most `most` bytes each.
-abbrev pub unwritten : ℕ → Bool → ℕ
-unwritten most true = most
-unwritten most false = most + most
+abbrev pub bytes_to_write : ℕ → Bool → ℕ
+bytes_to_write most true = most
+bytes_to_write most false = most + most
 
 -- y holds what comes from the private state at index i.
 abbrev pub ComesOf : (PrivateState → PrivateState) → List ℕ → List Private → ℕ → Bool → Private → Type 0
@@ -32,16 +32,16 @@ ComesOf turned input xs i made y =
 
 -- Its turn has written at most `most` bytes.
 abbrev pub IsShort : ℕ → List Private → ℕ → Bool → Private → Type 0
-IsShort most xs i made y = (x : Private) → slice_get xs i ≡ Some x → vec_len y.output ≤ vec_len x.output + written most made
+IsShort most xs i made y = (x : Private) → slice_get xs i ≡ Some x → vec_len y.output ≤ vec_len x.output + bytes_written most made
 
 -- There is room for all that it may still write.
 abbrev pub HasRoomLeft : ℕ → Bool → Private → Type 0
-HasRoomLeft most made y = vec_len y.output + unwritten most made ≤ vec_capacity y.output
+HasRoomLeft most made y = vec_len y.output + bytes_to_write most made ≤ vec_capacity y.output
 
 -- `turned` is the turn of t steps in this setting, which writes at most `most` bytes, and `input`
 -- is the input at each index.
 pub record IsCourseOf (turned : Moment → PrivateState → PrivateState) (input : ℕ → List ℕ) (most : ℕ) (g : Setting) (t : ℕ) : Type 0 where
-  pub steps : (w : Moment) (o : PrivateState) → turned w o ≡ plain.turned (view.program g.program) t w o
+  pub steps : (w : Moment) (o : PrivateState) → turned w o ≡ plain.take_turn (view.program g.program) t w o
   pub inputs : (i : ℕ) → input i ≡ input_at g.inputs.items i
   pub bytes : most ≡ 11 * t
 

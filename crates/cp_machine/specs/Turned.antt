@@ -14,9 +14,9 @@ abbrev pub woken : Bool → PrivateState → PrivateState
 woken wakes o = if wakes then wake_one o else o
 
 -- What a private turn of at most t steps makes of a private state.
-abbrev pub turned : Program → ℕ → Moment → PrivateState → PrivateState
-turned program t w o = private_steps program w.clock t (woken w.wakes o)
+abbrev pub take_turn : Program → ℕ → Moment → PrivateState → PrivateState
+take_turn program t w o = private_steps program w.clock t (woken w.wakes o)
 
 -- The machine after all private turns of a round.
-abbrev pub with_turned : ℕ → Machine → Machine
-with_turned t m = record m { parts = map (turned m.program t (moment_of m.tick m.rounds)) m.parts }
+abbrev pub with_turn_taken : ℕ → Machine → Machine
+with_turn_taken t m = record m { parts = map (take_turn m.program t (moment_of m.tick m.rounds)) m.parts }

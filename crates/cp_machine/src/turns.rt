@@ -27,7 +27,7 @@ pub(crate) fn turn_in_place(
 )
     requires room { HasRoomFor private.old turn.steps }
     ensures turned { let input = input_at setting.now.inputs.items (p - 1) in
-        private_of private.new input ≡ plain.turned (view.program setting.now.program)
+        private_of private.new input ≡ plain.take_turn (view.program setting.now.program)
         turn.steps moment (private_of private.old input) }
     ensures number { private.new.number ≡ private.old.number }
     ensures length { vec_len private.new.output ≤ vec_len private.old.output + 11 * turn.steps }

@@ -66,7 +66,8 @@ fn all_waves<'x, R: Threads + Wait + Sync, G: TurnGate>(
     requires stages { length kernel.stages.items ≡ length privates.now.items }
     requires asking { HasRoomForAskers kernel (length privates.now.items) }
     ensures made { IfOk result (λ r. (rounds : ℕ)
-        → moment ≡ moment_of setting.now.tick.rounds rounds → TurnsTaken setting.now plan.now.turn.steps rounds privates.now.items kernel r.1.items
+        → moment ≡ moment_of setting.now.tick.rounds rounds
+        → TurnsTaken setting.now plan.now.turn.steps rounds privates.now.items kernel r.1.items
         r.0) }
     ensures numbers { IfOk result (λ r. AreNumbered r.1.items) }
     ensures count { IfOk result (λ r. length r.1.items ≡ length privates.now.items) }

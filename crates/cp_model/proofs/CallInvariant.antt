@@ -8,7 +8,7 @@ use Rattle.cp_model.specs.Declarations.{Variable, declarations}
 use Rattle.cp_model.specs.Locations.{ByName, Location, OfActivation, Owner, same_location, under}
 use Rattle.cp_model.specs.Stores.{Absent, ClassRight, Initialised, MonitorRight, Ordinal, QueueHolds, Reference, Store, Value, Writes, forget, put, put_all}
 use Rattle.cp_model.specs.Leaves.{Leaf, leaves}
-use Rattle.cp_model.specs.Outcomes.{Fault, Gives, Outcome, and_then, provided}
+use Rattle.cp_model.specs.Outcomes.{Fault, Gives, Outcome, and_then, guard}
 use Rattle.cp_model.specs.Environments.{Environment}
 use Rattle.cp_model.specs.Places.{TypedValue, ordinal_in, ordinal_of, referent, within}
 use Rattle.cp_model.specs.Expressions.{place, value}
@@ -96,7 +96,7 @@ writes_new : (t : Owner → Bool) (o : Owner) (at : Location) (x : ResolvedType)
     → IfGives (CallWrites t o) (writes_of at x v)
 writes_new t o at (Simple b low high start) v h = go (within low high (ordinal_of v))
   where
-    go : (y : Bool) → IfGives (CallWrites t o) (provided y 1 ((at, Ordinal (ordinal_of v)) ∷ []))
+    go : (y : Bool) → IfGives (CallWrites t o) (guard y 1 ((at, Ordinal (ordinal_of v)) ∷ []))
     go true = (h, tt)
     go false = tt
 writes_new t o at (ArrayOf low high e) v h = zip_new t o at (leaves (ArrayOf low high e)) v.values h

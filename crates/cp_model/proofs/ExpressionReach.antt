@@ -9,7 +9,7 @@ use Rattle.cp_model.specs.Types.{ArrayOf, ComponentOf, NoType, Queue, RecordOf, 
 use Rattle.cp_model.specs.Declarations.{Variable}
 use Rattle.cp_model.specs.Locations.{Location, Owner, Path}
 use Rattle.cp_model.specs.Stores.{Absent, ClassRight, Initialised, MonitorRight, Ordinal, QueueHolds, Reference, Store, Value}
-use Rattle.cp_model.specs.Outcomes.{Fault, Gives, Outcome, and_then, provided}
+use Rattle.cp_model.specs.Outcomes.{Fault, Gives, Outcome, and_then, guard}
 use Rattle.cp_model.specs.Environments.{Environment, Frame, IsConstant, IsUnknown, IsVariable, Meaning, constant_or_unknown, local_or, local_variables, meaning, permanent_variables, variable_or}
 use Rattle.cp_model.specs.Places.{Place, element_place, ordinal_of, place_of_meaning, read, referent, value_of_meaning, within}
 use Rattle.cp_model.specs.Operators.{Clock, integer_result, realtime, standard_function}
@@ -94,7 +94,7 @@ place_of_meaning_same t a b env (IsVariable l v) h = rw h refl
 pub read_same : (t : Owner → Bool) (a b : Store) (p : Place) → PlaceIn t p → read (mix t a b) p ≡ read a p
 read_same t a b p h = rw h refl
 
-provided_in : {A : Type 0} (Q : A → Type 0) (b : Bool) (n : ℕ) (x : A) → Q x → IfGives Q (provided b n x)
+provided_in : {A : Type 0} (Q : A → Type 0) (b : Bool) (n : ℕ) (x : A) → Q x → IfGives Q (guard b n x)
 provided_in Q true n x h = h
 provided_in Q false n x h = tt
 

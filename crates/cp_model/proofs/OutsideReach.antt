@@ -12,7 +12,7 @@ use Rattle.cp_model.specs.Step.{step_of}
 use Rattle.cp_model.specs.States.{Free, HeldBy, Holder, Setup, State, Unset, configuration, context, is_set, is_started, processes, set_status, with_at, with_configuration}
 use Rattle.cp_model.specs.Gates.{apply_effect, enter, made_ready, make_ready, pass_to, set_gate, start_process}
 use Rattle.cp_model.specs.Turns.{Kernel, Kind, NoStep, Private, after_step, if_kernel, if_private, kernel_step, kernel_turn, kind, kind_of, private_step, private_turn, step}
-use Rattle.cp_model.specs.Rounds.{Event, KernelTurn, PrivateStep, after_closing, all_turns, awakened, close_round, replay_event, replay_round, run, sequential_round, wake}
+use Rattle.cp_model.specs.Rounds.{Event, KernelTurn, PrivateStep, after_closing, all_turns, wake_status, close_round, replay_event, replay_round, run, sequential_round, wake}
 use Rattle.cp_model.specs.Reach.{in_reach}
 use Rattle.cp_model.specs.Invariant.{ContinuationInvariant, EnvironmentIn, FrameIn, FramesInvariant, Invariant, IsActivation, IsBlocked, NoneBeyond, StoreInvariant, TaskIn, TasksInReach}
 use Rattle.cp_model.specs.Parts.{is_own}

@@ -13,7 +13,7 @@ use Rattle.cp_model.specs.Step.{step_of}
 use Rattle.cp_model.specs.States.{Free, HeldBy, Holder, Setup, State, Unset, configuration, context, count_components, initial_variables, is_in, is_set, is_started, processes, set_status, with_configuration}
 use Rattle.cp_model.specs.Gates.{apply_effect, enter, made_ready, make_ready, pass_to, set_gate, start_process}
 use Rattle.cp_model.specs.Turns.{Kernel, Kind, NoStep, Private, after_step, if_kernel, if_private, kernel_step, kernel_turn, kind, kind_of, private_step, private_turn, step}
-use Rattle.cp_model.specs.Rounds.{after_own_turn, awakened, own_parts, owner_process, wake}
+use Rattle.cp_model.specs.Rounds.{after_own_turn, wake_status, own_parts, owner_process, wake}
 use Rattle.cp_model.specs.Invariant.{Invariant}
 use Rattle.cp_model.specs.Parts.{HasBegun, HasNotBegun, SameKernelPart, SamePrivateState, is_own, kernel_status, private_status}
 use Rattle.cp_model.proofs.StateMaps.{differ, is_foreign, own_apart, with_at_here, with_at_there}

@@ -13,7 +13,7 @@ use Rattle.cp_model.specs.Step.{step_of}
 use Rattle.cp_model.specs.States.{Free, HeldBy, Holder, Setup, State, Unset, configuration, context, count_components, initial_variables, is_in, is_set, is_started, processes, set_status, with_configuration}
 use Rattle.cp_model.specs.Gates.{apply_effect, enter, made_ready, make_ready, pass_to, set_gate, start_process}
 use Rattle.cp_model.specs.Turns.{Kernel, Kind, NoStep, Private, after_step, if_kernel, if_private, kernel_step, kernel_turn, kind, kind_of, private_step, private_turn, step}
-use Rattle.cp_model.specs.Rounds.{after_own_turn, awakened, own_parts, owner_process, wake}
+use Rattle.cp_model.specs.Rounds.{after_own_turn, wake_status, own_parts, owner_process, wake}
 use Rattle.cp_model.specs.Invariant.{Invariant}
 use Rattle.cp_model.specs.Parts.{HasBegun, HasNotBegun, SameKernelPart, SamePrivateState, is_own, kernel_status, private_status}
 use Rattle.cp_model.proofs.StateMaps.{differ, is_foreign, own_apart, with_at_here, with_at_there}
@@ -144,7 +144,7 @@ module _ (setup : Setup) where
   pub wake_kernel_part : (s : State) → SameKernelPart s (wake setup s)
   wake_kernel_part s = go (nat_eq (suc s.rounds % setup.tick) 0)
     where
-      at : (x : Status) → kernel_status (awakened x) ≡ kernel_status x
+      at : (x : Status) → kernel_status (wake_status x) ≡ kernel_status x
       at Unstarted = refl
       at Fresh = refl
       at Ready = refl
@@ -154,6 +154,6 @@ module _ (setup : Setup) where
       at (Delayed m q) = refl
       at (Faulted n) = refl
 
-      go : (b : Bool) → SameKernelPart s (if b then record s { status = λ p. awakened (s.status p) } else s)
+      go : (b : Bool) → SameKernelPart s (if b then record s { status = λ p. wake_status (s.status p) } else s)
       go true = record { gates = refl; status = λ p. at (s.status p); monitor_store = λ l m e. refl; unbegun_store = λ p a l h. refl; unbegun_continuation = λ p a. refl }
       go false = record { gates = refl; status = λ p. refl; monitor_store = λ l m e. refl; unbegun_store = λ p a l h. refl; unbegun_continuation = λ p a. refl }

@@ -8,7 +8,7 @@ use Rattle.cp_model.specs.Step.{step_of}
 use Rattle.cp_model.specs.States.{Free, HeldBy, Holder, Setup, State, Unset, configuration, context, set_status, with_configuration}
 use Rattle.cp_model.specs.Gates.{apply_effect, enter, pass_to, start_process}
 use Rattle.cp_model.specs.Turns.{Kernel, Kind, NoStep, Private, after_step, if_kernel, if_private, kernel_step, kernel_turn, kind, private_step, private_turn, step}
-use Rattle.cp_model.specs.Rounds.{awakened, wake}
+use Rattle.cp_model.specs.Rounds.{wake_status, wake}
 
 module _ (setup : Setup) where
   pass_count : (m : ℕ) (qs : List ℕ) (v : State) → (pass_to m qs v).rounds ≡ v.rounds
@@ -61,7 +61,7 @@ module _ (setup : Setup) where
   pub wake_count : (s : State) → (wake setup s).rounds ≡ s.rounds
   wake_count s = go (nat_eq (suc s.rounds % setup.tick) 0)
     where
-      go : (b : Bool) → (if b then record s { status = λ p. awakened (s.status p) } else s).rounds ≡ s.rounds
+      go : (b : Bool) → (if b then record s { status = λ p. wake_status (s.status p) } else s).rounds ≡ s.rounds
       go true = refl
       go false = refl
 

@@ -12,7 +12,7 @@ use Rattle.cp_model.specs.Step.{step_of}
 use Rattle.cp_model.specs.States.{Free, HeldBy, Holder, Setup, State, Unset, configuration, context, is_set, is_started, processes, set_status, with_at, with_configuration}
 use Rattle.cp_model.specs.Gates.{apply_effect, enter, made_ready, make_ready, pass_to, set_gate, start_process}
 use Rattle.cp_model.specs.Turns.{Kernel, Kind, NoStep, Private, after_step, if_kernel, if_private, kernel_step, kernel_turn, kind, kind_of, private_step, private_turn, step}
-use Rattle.cp_model.specs.Rounds.{Event, KernelTurn, PrivateStep, after_closing, all_turns, awakened, close_round, replay_event, replay_round, run, sequential_round, wake}
+use Rattle.cp_model.specs.Rounds.{Event, KernelTurn, PrivateStep, after_closing, all_turns, wake_status, close_round, replay_event, replay_round, run, sequential_round, wake}
 use Rattle.cp_model.specs.Reach.{in_reach}
 use Rattle.cp_model.specs.Invariant.{ContinuationInvariant, EnvironmentIn, FrameIn, FramesInvariant, Invariant, IsActivation, IsBlocked, NoneBeyond, StoreInvariant, TaskIn, TasksInReach}
 use Rattle.cp_model.specs.Parts.{is_own}
@@ -283,7 +283,7 @@ module _ (setup : Setup) where
   pub wake_keeps : (s : State) → Invariant s → Invariant (wake setup s)
   wake_keeps s i = go (nat_eq (suc s.rounds % setup.tick) 0)
     where
-      at : (x : Status) → IsBlocked (awakened x) → IsBlocked x
+      at : (x : Status) → IsBlocked (wake_status x) → IsBlocked x
       at Unstarted h = h
       at Fresh h = h
       at Ready h = h
@@ -293,7 +293,7 @@ module _ (setup : Setup) where
       at (Delayed m q) h = h
       at (Faulted n) h = h
 
-      flat : (x : Status) → awakened x ≡ Unstarted → x ≡ Unstarted
+      flat : (x : Status) → wake_status x ≡ Unstarted → x ≡ Unstarted
       flat Unstarted h = refl
       flat Fresh h = h
       flat Ready h = h
@@ -303,7 +303,7 @@ module _ (setup : Setup) where
       flat (Delayed m q) h = h
       flat (Faulted n) h = h
 
-      go : (b : Bool) → Invariant (if b then record s { status = λ p. awakened (s.status p) } else s)
+      go : (b : Bool) → Invariant (if b then record s { status = λ p. wake_status (s.status p) } else s)
       go true = record {
         store = i.store;
         continuations = i.continuations;

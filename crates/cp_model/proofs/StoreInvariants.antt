@@ -10,7 +10,7 @@ use Rattle.cp_model.specs.Locations.{ByIndex, ByName, Location, OfActivation, Of
 use Rattle.cp_model.specs.Stores.{Absent, ClassRight, Initialised, MonitorRight, Ordinal, QueueHolds, Reference, Store, Value, Writes, forget, put, put_all}
 use Rattle.cp_model.specs.Leaves.{Leaf, below_step, component_leaves, integers_from, leaves, leaves_of_members}
 use Rattle.cp_model.specs.Integers.{count_between}
-use Rattle.cp_model.specs.Outcomes.{provided}
+use Rattle.cp_model.specs.Outcomes.{guard}
 use Rattle.cp_model.specs.Environments.{Environment}
 use Rattle.cp_model.specs.Places.{TypedValue, ordinal_in, ordinal_of, within}
 use Rattle.cp_model.specs.Continuations.{Do, EndBody, EndCall, EndProcess, ForNext, RepeatTest, Task, WhileTest, depth, marked_monitors, push}
@@ -252,7 +252,7 @@ zip_keeps_store at (p ∷ ps) (v ∷ vs) = (tt, zip_keeps_store at ps vs)
 pub writes_keep_store : (at : Location) (s : ResolvedType) (v : TypedValue) → IfGives AllKeepStore (writes_of at s v)
 writes_keep_store at (Simple b low high start) v = go (within low high (ordinal_of v))
   where
-    go : (x : Bool) → IfGives AllKeepStore (provided x 1 ((at, Ordinal (ordinal_of v)) ∷ []))
+    go : (x : Bool) → IfGives AllKeepStore (guard x 1 ((at, Ordinal (ordinal_of v)) ∷ []))
     go true = (tt, tt)
     go false = tt
 writes_keep_store at (ArrayOf low high e) v = zip_keeps_store at (leaves (ArrayOf low high e)) v.values

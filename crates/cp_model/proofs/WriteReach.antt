@@ -7,7 +7,7 @@ use Rattle.cp_model.specs.Declarations.{Variable}
 use Rattle.cp_model.specs.Locations.{ByName, Location, Owner, under}
 use Rattle.cp_model.specs.Stores.{Ordinal, Store, Value, Writes, put, put_all}
 use Rattle.cp_model.specs.Leaves.{Leaf, leaves}
-use Rattle.cp_model.specs.Outcomes.{Outcome, provided}
+use Rattle.cp_model.specs.Outcomes.{Outcome, guard}
 use Rattle.cp_model.specs.Places.{TypedValue, ordinal_in, ordinal_of, within}
 use Rattle.cp_model.specs.Assignments.{starting_writes, writes_of}
 use Rattle.cp_model.specs.Arguments.{bind}
@@ -38,7 +38,7 @@ pub writes_in : (t : Owner → Bool) (at : Location) (s : ResolvedType) (v : Typ
     → IfGives (WritesIn t) (writes_of at s v)
 writes_in t at (Simple b low high start) v h = go (within low high (ordinal_of v))
   where
-    go : (x : Bool) → IfGives (WritesIn t) (provided x 1 ((at, Ordinal (ordinal_of v)) ∷ []))
+    go : (x : Bool) → IfGives (WritesIn t) (guard x 1 ((at, Ordinal (ordinal_of v)) ∷ []))
     go true = (h, tt)
     go false = tt
 writes_in t at (ArrayOf low high e) v h = zip_in t at (leaves (ArrayOf low high e))

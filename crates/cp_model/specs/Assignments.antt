@@ -6,13 +6,13 @@ use Rattle.cp_model.specs.Declarations.{Variable}
 use Rattle.cp_model.specs.Locations.{ByName, Location, under}
 use Rattle.cp_model.specs.Stores.{Ordinal, Writes}
 use Rattle.cp_model.specs.Leaves.{leaves}
-use Rattle.cp_model.specs.Outcomes.{Gives, Outcome, provided}
+use Rattle.cp_model.specs.Outcomes.{Gives, Outcome, guard}
 use Rattle.cp_model.specs.Places.{TypedValue, ordinal_in, ordinal_of, within}
 
 -- A simple value beyond the bounds of its place is fault 1. A structured value is copied leaf by
 -- leaf.
 abbrev pub writes_of : Location → ResolvedType → TypedValue → Outcome Writes
-writes_of at (Simple b low high start) v = provided (within low high (ordinal_of v)) 1 ((at, Ordinal (ordinal_of v)) ∷ [])
+writes_of at (Simple b low high start) v = guard (within low high (ordinal_of v)) 1 ((at, Ordinal (ordinal_of v)) ∷ [])
 writes_of at t v = Gives (zip (map (λ leaf. under at leaf.0) (leaves t)) (map (λ x. Ordinal (ordinal_in x)) v.values))
 
 -- The writes that give variables at a location their start values.

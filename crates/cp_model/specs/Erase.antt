@@ -65,24 +65,24 @@ operator_of operator.Divide = a.Divide
 operator_of operator.Modulo = a.Modulo
 operator_of operator.And = a.And
 
-abbrev pub signed : Sign → a.Expression → a.Expression
-signed sign.Plus e = a.Positive e
-signed sign.Minus e = a.Negative e
+abbrev pub with_sign : Sign → a.Expression → a.Expression
+with_sign sign.Plus e = a.Positive e
+with_sign sign.Minus e = a.Negative e
 
 -- a call without arguments, which no text contains, becomes a bare name
-abbrev pub called : a.Designator → a.Expressions → a.Expression
-called d a.NoExpression = a.Use d
-called d es = a.Call d es
+abbrev pub call_or_name : a.Designator → a.Expressions → a.Expression
+call_or_name d a.NoExpression = a.Use d
+call_or_name d es = a.Call d es
 
 abbrev mutual
   pub expression : s.Expression → a.Expression
   expression (s.Number at n) = a.Literal n
   expression (s.Character at n) = a.Letter n
   expression (s.Designated d) = a.Use (designator d)
-  expression (s.Call d es) = called (designator d) (expressions es)
+  expression (s.Call d es) = call_or_name (designator d) (expressions es)
   expression (s.Parenthesized at e) = expression e
   expression (s.Not at e) = a.Not (expression e)
-  expression (s.Signed sign at e) = signed sign (expression e)
+  expression (s.Signed sign at e) = with_sign sign (expression e)
   expression (s.Binary l o at r) = a.Binary (operator_of o) (expression l) (expression r)
 
   pub expressions : s.Expressions → a.Expressions
@@ -90,19 +90,19 @@ abbrev mutual
   expressions (s.MoreExpressions e es) = a.MoreExpressions (expression e) (expressions es)
 
   pub designator : s.Designator → a.Designator
-  designator (s.Designate x ss) = selected (a.Plain x.name) ss
+  designator (s.Designate x ss) = with_selectors (a.Plain x.name) ss
 
-  pub selected : a.Designator → s.Selectors → a.Designator
-  selected d s.NoSelectors = d
-  selected d (s.MoreSelectors y ys) = selected (select d y) ys
+  pub with_selectors : a.Designator → s.Selectors → a.Designator
+  with_selectors d s.NoSelectors = d
+  with_selectors d (s.MoreSelectors y ys) = with_selectors (select d y) ys
 
   pub select : a.Designator → s.Selector → a.Designator
   select d (s.Field at x) = a.Part d x.name
-  select d (s.Indexed is) = indexed d is
+  select d (s.Indexed is) = with_indices d is
 
-  pub indexed : a.Designator → s.Indices → a.Designator
-  indexed d s.NoIndices = d
-  indexed d (s.MoreIndices at e is) = indexed (a.At d (expression e)) is
+  pub with_indices : a.Designator → s.Indices → a.Designator
+  with_indices d s.NoIndices = d
+  with_indices d (s.MoreIndices at e is) = with_indices (a.At d (expression e)) is
 
 -- ---- statements
 
@@ -173,16 +173,16 @@ system y = record {
   body = statements y.body.list;
 }
 
-abbrev pub defined : Identifier → s.Defined → a.Definition
-defined x (s.Written t) = a.TypeDef x.name (type_expression t)
-defined x (s.Enumeration values) = a.EnumDef x.name (map name values)
-defined x (s.SystemType y) = a.SystemDef x.name (system y)
+abbrev pub definition : Identifier → s.Defined → a.Definition
+definition x (s.Written t) = a.TypeDef x.name (type_expression t)
+definition x (s.Enumeration values) = a.EnumDef x.name (map name values)
+definition x (s.SystemType y) = a.SystemDef x.name (system y)
 
 abbrev pub constant_definition : ConstantDefinition → a.Definition
 constant_definition d = a.ConstantDef d.name.name (constant d.value)
 
 abbrev pub type_definition : s.TypeDefinition → a.Definition
-type_definition d = defined d.name d.defined
+type_definition d = definition d.name d.defined
 
 abbrev pub section : s.Section → List a.Definition
 section (s.Constants ds) = map constant_definition ds

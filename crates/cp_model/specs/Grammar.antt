@@ -13,7 +13,7 @@
 --   body    = "begin" list "end"
 -- No level is open between declarations, so each declaration has the whole limit.
 use Rattle.std.specs.Prelude.{◌≡◌, ℕ, List, [], ◌∷◌, ◌++◌, Option, Some, None}
-use Rattle.cp_model.specs.Languages.{Language, empty, never, symbol, symbol_at, identifier, ◌⋅◌, opens, optional, each, separated}
+use Rattle.cp_model.specs.Languages.{Language, empty, never, symbol, symbol_at, identifier, ◌⋅◌, opens, optional, each, separated_list}
 use Rattle.cp_model.specs.GrammarExpressions.{constant}
 use Rattle.cp_model.specs.GrammarTypes.{names, type_expression}
 use Rattle.cp_model.specs.GrammarStatements.{statements}
@@ -41,7 +41,7 @@ parameter_group p = optional symbol.Var p.by_reference ⋅ names p.names ⋅ sym
 
 abbrev pub parameters : List s.Parameters → Language
 parameters [] = empty
-parameters (p ∷ ps) = symbol symbol.OpenParenthesis ⋅ separated symbol.Semicolon parameter_group (p ∷ ps) ⋅ symbol symbol.CloseParenthesis
+parameters (p ∷ ps) = symbol symbol.OpenParenthesis ⋅ separated_list symbol.Semicolon parameter_group (p ∷ ps) ⋅ symbol symbol.CloseParenthesis
 
 -- a routine with a result type is a function
 abbrev pub routine_word : Option Identifier → Language
@@ -67,16 +67,16 @@ system limit y =
     symbol (sort_symbol y.sort) ⋅ parameters y.parameters ⋅ symbol symbol.Semicolon
     ⋅ variables limit y.variables ⋅ each (routine limit) y.routines ⋅ body limit y.body
 
-abbrev pub defined : ℕ → s.Defined → Language
-defined limit (s.Written t) = type_expression limit t
-defined limit (s.Enumeration values) = symbol symbol.OpenParenthesis ⋅ names values ⋅ symbol symbol.CloseParenthesis
-defined limit (s.SystemType y) = system limit y
+abbrev pub definition : ℕ → s.Defined → Language
+definition limit (s.Written t) = type_expression limit t
+definition limit (s.Enumeration values) = symbol symbol.OpenParenthesis ⋅ names values ⋅ symbol symbol.CloseParenthesis
+definition limit (s.SystemType y) = system limit y
 
 abbrev pub constant_definition : ConstantDefinition → Language
 constant_definition d = identifier d.name ⋅ symbol symbol.Equal ⋅ constant d.value ⋅ symbol symbol.Semicolon
 
 abbrev pub type_definition : ℕ → s.TypeDefinition → Language
-type_definition limit d = identifier d.name ⋅ symbol symbol.Equal ⋅ defined limit d.defined ⋅ symbol symbol.Semicolon
+type_definition limit d = identifier d.name ⋅ symbol symbol.Equal ⋅ definition limit d.defined ⋅ symbol symbol.Semicolon
 
 -- at least one definition after the word
 abbrev pub definitions : {A : Type 0} → Symbol → (A → Language) → List A → Language

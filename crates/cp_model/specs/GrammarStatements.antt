@@ -12,7 +12,7 @@
 --   arm  = constant { "," constant } ":" stat
 -- An `else` belongs to the nearest `if` before it that has none.
 use Rattle.std.specs.Prelude.{◌≡◌, ℕ, Bool, true, false, List}
-use Rattle.cp_model.specs.Languages.{Language, empty, never, symbol, symbol_at, identifier, ◌⋅◌, ◌▸◌, opens, separated}
+use Rattle.cp_model.specs.Languages.{Language, empty, never, symbol, symbol_at, identifier, ◌⋅◌, ◌▸◌, opens, separated_list}
 use Rattle.cp_model.specs.GrammarExpressions.{constant, expression, designator, arguments}
 use Rattle.cp_model.specs.Syntax as s
 use Rattle.cp_model.specs.declared.token.Symbol.{Symbol}
@@ -51,7 +51,7 @@ abbrev mutual
   statement room (s.For v a d b x) =
       opens room (λ r. symbol symbol.For ⋅ identifier v ⋅ symbol symbol.Assign ⋅ expression r a ⋅ symbol (direction_symbol d) ⋅ expression r b ⋅ symbol symbol.Do ⋅ statement r x)
   statement room (s.Cycle l) = opens room (λ r. symbol symbol.Cycle ⋅ statements r l ⋅ symbol symbol.End)
-  statement room (s.Init at is) = symbol_at symbol.Init at ⋅ separated symbol.Comma (init_item room) is
+  statement room (s.Init at is) = symbol_at symbol.Init at ⋅ separated_list symbol.Comma (init_item room) is
 
   -- one or more, with semicolons between
   pub statements : ℕ → s.Statements → Language
@@ -65,9 +65,9 @@ abbrev mutual
   -- one or more, with semicolons between
   pub arms : ℕ → s.Arms → Language
   arms room s.NoArms = never
-  arms room (s.MoreArms labels x a) = separated symbol.Comma constant labels ⋅ symbol symbol.Colon ⋅ statement room x ⋅ more_arms room a
+  arms room (s.MoreArms labels x a) = separated_list symbol.Comma constant labels ⋅ symbol symbol.Colon ⋅ statement room x ⋅ more_arms room a
 
   pub more_arms : ℕ → s.Arms → Language
   more_arms room s.NoArms = empty
   more_arms room (s.MoreArms labels x a) =
-      symbol symbol.Semicolon ⋅ separated symbol.Comma constant labels ⋅ symbol symbol.Colon ⋅ statement room x ⋅ more_arms room a
+      symbol symbol.Semicolon ⋅ separated_list symbol.Comma constant labels ⋅ symbol symbol.Colon ⋅ statement room x ⋅ more_arms room a

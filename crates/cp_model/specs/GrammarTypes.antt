@@ -4,7 +4,7 @@
 --          | "record" fields { ";" fields } "end"
 --   fields = NAME { "," NAME } ":" type
 use Rattle.std.specs.Prelude.{ℕ, List}
-use Rattle.cp_model.specs.Languages.{Language, empty, never, symbol, symbol_at, identifier, ◌⋅◌, opens, separated}
+use Rattle.cp_model.specs.Languages.{Language, empty, never, symbol, symbol_at, identifier, ◌⋅◌, opens, separated_list}
 use Rattle.cp_model.specs.GrammarExpressions.{constant}
 use Rattle.cp_model.specs.Syntax as s
 use Rattle.cp_model.specs.declared.token.Symbol.TheVariants as symbol
@@ -12,7 +12,7 @@ use Rattle.cp_model.specs.declared.tree.Identifier.{Identifier}
 
 -- one name or more
 abbrev pub names : List Identifier → Language
-names = separated symbol.Comma identifier
+names = separated_list symbol.Comma identifier
 
 abbrev mutual
   pub type_expression : ℕ → s.TypeExpression → Language

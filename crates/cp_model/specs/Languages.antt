@@ -66,6 +66,6 @@ each_behind separator f [] = empty
 each_behind separator f (x ∷ xs) = symbol separator ⋅ f x ⋅ each_behind separator f xs
 
 -- one or more, with a symbol between them
-abbrev pub separated : {A : Type 0} → Symbol → (A → Language) → List A → Language
-separated separator f [] = never
-separated separator f (x ∷ xs) = f x ⋅ each_behind separator f xs
+abbrev pub separated_list : {A : Type 0} → Symbol → (A → Language) → List A → Language
+separated_list separator f [] = never
+separated_list separator f (x ∷ xs) = f x ⋅ each_behind separator f xs

@@ -7,12 +7,12 @@ use Rattle.std.specs.Str.{bytes_eq}
 use Rattle.cp_model.specs.Types.{first_ordinal, last_ordinal}
 use Rattle.cp_model.specs.Integers.{same_integer}
 use Rattle.cp_model.specs.Stores.{QueueHolds, Value}
-use Rattle.cp_model.specs.Outcomes.{Fault, Gives, Outcome, provided}
+use Rattle.cp_model.specs.Outcomes.{Fault, Gives, Outcome, guard}
 use Rattle.cp_model.specs.Places.{TypedValue, base_of_value, head_value, ordinal_of, simple_value, truth_value, within}
 
 -- An integer beyond -32768..32767 is fault 3.
 abbrev pub integer_result : ℤ → Outcome TypedValue
-integer_result n = provided (within (negsuc 32767) (pos 32767) n) 3 (simple_value Integer n)
+integer_result n = guard (within (negsuc 32767) (pos 32767) n) 3 (simple_value Integer n)
 
 -- A zero divisor is fault 4.
 abbrev pub with_divisor : ℤ → Outcome TypedValue → Outcome TypedValue
@@ -37,10 +37,10 @@ apply_operator AtLeast a b = Gives (truth_value (int_le (ordinal_of b) (ordinal_
 -- ---- Standard functions
 
 -- `succ` and `pred` move within the base type. Moving past its ends is fault 1.
-abbrev pub shifted : TypedValue → ℤ → Outcome TypedValue
-shifted v d =
+abbrev pub shift : TypedValue → ℤ → Outcome TypedValue
+shift v d =
     let n = ordinal_of v +ℤ d in
-    provided (within (first_ordinal (base_of_value v)) (last_ordinal (base_of_value v)) n) 1 (simple_value (base_of_value v) n)
+    guard (within (first_ordinal (base_of_value v)) (last_ordinal (base_of_value v)) n) 1 (simple_value (base_of_value v) n)
 
 abbrev pub is_empty_queue : Value → Bool
 is_empty_queue (QueueHolds (Some p)) = false
@@ -50,11 +50,11 @@ is_empty_queue _ = true
 abbrev pub standard_function : Name → TypedValue → Outcome TypedValue
 standard_function f v =
     if bytes_eq f (codes "abs") then integer_result (pos (nat_abs (ordinal_of v)))
-    else if bytes_eq f (codes "succ") then shifted v (pos 1)
-    else if bytes_eq f (codes "pred") then shifted v (negsuc 0)
+    else if bytes_eq f (codes "succ") then shift v (pos 1)
+    else if bytes_eq f (codes "pred") then shift v (negsuc 0)
     else if bytes_eq f (codes "ord") then integer_result (ordinal_of v)
     else if bytes_eq f (codes "empty") then Gives (truth_value (is_empty_queue (head_value v)))
-    else provided (within (pos 0) (pos 127) (ordinal_of v)) 1 (simple_value Char (ordinal_of v))
+    else guard (within (pos 0) (pos 127) (ordinal_of v)) 1 (simple_value Char (ordinal_of v))
 
 -- ---- The clock
 

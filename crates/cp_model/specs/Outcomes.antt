@@ -11,6 +11,6 @@ and_then (Fault f) go = Fault f
 and_then (Gives x) go = go x
 
 -- A value if a test passes, otherwise a fault.
-abbrev pub provided : {A : Type 0} → Bool → ℕ → A → Outcome A
-provided true f x = Gives x
-provided false f x = Fault f
+abbrev pub guard : {A : Type 0} → Bool → ℕ → A → Outcome A
+guard true f x = Gives x
+guard false f x = Fault f

@@ -6,7 +6,7 @@ use Rattle.cp_model.specs.Types.{ArrayOf, Members, MoreMembers, NoMembers, NoTyp
 use Rattle.cp_model.specs.Locations.{ByIndex, ByName, Location, under}
 use Rattle.cp_model.specs.Stores.{Absent, Ordinal, Reference, Store, Value}
 use Rattle.cp_model.specs.Leaves.{leaves}
-use Rattle.cp_model.specs.Outcomes.{Fault, Outcome, provided}
+use Rattle.cp_model.specs.Outcomes.{Fault, Outcome, guard}
 use Rattle.cp_model.specs.Environments.{Environment, IsConstant, IsVariable, Meaning}
 
 pub record Place : Type 0 where
@@ -72,7 +72,7 @@ within low high n = int_le low n && int_le n high
 
 -- An index beyond the bounds is fault 2.
 abbrev pub element_place : Location → ResolvedType → ℤ → Outcome Place
-element_place at (ArrayOf low high t) i = provided (within low high i) 2 (record { at = under at (ByIndex i ∷ []); type = t })
+element_place at (ArrayOf low high t) i = guard (within low high i) 2 (record { at = under at (ByIndex i ∷ []); type = t })
 element_place at _ i = Fault 2
 
 abbrev pub indexed_place : Place → ℤ → Outcome Place

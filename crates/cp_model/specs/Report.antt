@@ -72,8 +72,8 @@ abbrev pub hex_digit : ℕ → ℕ
 hex_digit n = if nat_lt n 10 then 48 + n else 87 + n
 
 -- The bytes 32 to 126, except the apostrophe and the backslash, stand for themselves.
-abbrev pub escaped : ℕ → Text
-escaped b =
+abbrev pub escape : ℕ → Text
+escape b =
     if nat_le 32 b && nat_le b 126 && not (nat_eq b 39) && not (nat_eq b 92)
     then b ∷ []
     else 92 ∷ hex_digit (b / 16) ∷ hex_digit (b % 16) ∷ []
@@ -91,7 +91,7 @@ status_text setup (Faulted n) = codes "fault " ++ natural n
 abbrev pub process_text : Setup → State → ℕ → Name → Members → Text
 process_text setup s p x ps =
     line (codes "process " ++ (natural p ++ (codes " " ++ (x ++ (codes " " ++ status_text setup (s.status p))))))
-    ++ (line (codes "out '" ++ (flat_map escaped (s.transcript p) ++ codes "'"))
+    ++ (line (codes "out '" ++ (flat_map escape (s.transcript p) ++ codes "'"))
     ++ variable_lines s.store (process_location p) ps)
 
 abbrev pub processes_text : Setup → State → ℕ → List (Name × Variable) → Text

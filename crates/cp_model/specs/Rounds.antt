@@ -9,13 +9,13 @@ use Rattle.cp_model.specs.Turns.{kernel_turn, private_step, private_turn}
 
 -- ---- Waking and closing
 
-abbrev pub awakened : Status → Status
-awakened Waiting = Ready
-awakened x = x
+abbrev pub wake_status : Status → Status
+wake_status Waiting = Ready
+wake_status x = x
 
 -- If the number of the round is a multiple of the tick, every waiting process becomes ready.
 abbrev pub wake : Setup → State → State
-wake setup s = if nat_eq (suc s.rounds % setup.tick) 0 then record s { status = λ p. awakened (s.status p) } else s
+wake setup s = if nat_eq (suc s.rounds % setup.tick) 0 then record s { status = λ p. wake_status (s.status p) } else s
 
 abbrev pub after_closing : Status → Status
 after_closing Fresh = Ready

@@ -19,7 +19,7 @@ use Rattle.cp_model.specs.declared.rules.Position.TheVariants as position
 use Rattle.cp_model.specs.declared.rules.Part.TheVariants as part
 use Rattle.cp_model.specs.RulesJudged.{Violations, violation, unless, least, IsAmong, violations_of}
 use Rattle.cp_model.specs.RulesEnvironment.{Environment, Text, Names, Members, simple_row, declare, c1_declared, entity_of, is_process, standard_environment}
-use Rattle.cp_model.specs.RulesTypes.{constant, type_placed, add_type, capped, is_within}
+use Rattle.cp_model.specs.RulesTypes.{constant, type_placed, add_type, cap_words, is_within}
 use Rattle.cp_model.specs.RulesStatements.{statements}
 use Rattle.cp_model.specs.RulesNeeds.{need_statements}
 use Rattle.cp_model.specs.RulesDeclarations.{Declared, declare_each, heading, variables, routines}
@@ -79,7 +79,7 @@ define_system env x y =
     let all = routines own.env y.sort y.routines in
     let body_need = need_statements all.env y.body.list in
     let count = length head.rows in
-    let words = capped (1 + count + own.words + (if is_process y.sort then body_need else 0)) in
+    let words = cap_words (1 + count + own.words + (if is_process y.sort then body_need else 0)) in
     let row : TypeRow = record { structure = structure.System (length all.env.systems); words = words; has_queues = false } in
     let system : SystemRow = record { sort = y.sort; first = length env.parameters; count = count; words = words; body_need = body_need; members = length all.env.members } in
     record {
@@ -136,5 +136,5 @@ Accepted t = violations t ≡ []
 
 -- the violation that is reported: at the earliest place where a rule is broken, and there of the
 -- lowest rule
-abbrev pub told : s.Tree → Option Violation
-told t = least None (violations t)
+abbrev pub first_violation : s.Tree → Option Violation
+first_violation t = least None (violations t)

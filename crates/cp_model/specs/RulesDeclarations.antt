@@ -22,9 +22,9 @@ use Rattle.cp_model.specs.declared.rules.Position.{Position}
 use Rattle.cp_model.specs.declared.rules.Position.TheVariants as position
 use Rattle.cp_model.specs.declared.rules.Part.{Part}
 use Rattle.cp_model.specs.declared.rules.Part.TheVariants as part
-use Rattle.cp_model.specs.RulesJudged.{Judged, Sound, Broken, Violations, violation, unless, breaks, also, then_judge, provided, violations_of, meaning_of}
+use Rattle.cp_model.specs.RulesJudged.{Judged, Sound, Broken, Violations, violation, unless, breaks, also, then_judge, guard, violations_of, meaning_of}
 use Rattle.cp_model.specs.RulesEnvironment.{Environment, integer, row_of, is_simple, system_row, is_process, no_routine, declare, c1_declared, entity_of}
-use Rattle.cp_model.specs.RulesTypes.{named_type, type_placed, capped, is_within}
+use Rattle.cp_model.specs.RulesTypes.{named_type, type_placed, cap_words, is_within}
 use Rattle.cp_model.specs.RulesStatements.{statements}
 use Rattle.cp_model.specs.RulesNeeds.{need_statements}
 
@@ -152,7 +152,7 @@ allows_parameter env None row = true
 -- of a system type. C8: a parameter with queues, which breaks only C8
 abbrev pub c7_c8_parameter : Environment → Option Sort → ℕ → ℕ → Judged ℕ
 c7_c8_parameter env of at t =
-    if (row_of env t).has_queues then breaks C8 at else provided (allows_parameter env of (row_of env t).structure) C7 at t
+    if (row_of env t).has_queues then breaks C8 at else guard (allows_parameter env of (row_of env t).structure) C7 at t
 
 -- C7: `var` before a parameter of a system type. C11: `var` parameter of a function
 abbrev pub var_rule : Option Sort → Bool → Option Rule
@@ -214,7 +214,7 @@ heading env of is_function (g ∷ gs) =
 
 -- C11: a result type that isn't simple. C8: a result type with queues
 abbrev pub c8_c11_result : Environment → ℕ → ℕ → Judged ℕ
-c8_c11_result env at t = also (unless (not (row_of env t).has_queues) C8 at) (provided (is_simple env t) C11 at t)
+c8_c11_result env at t = also (unless (not (row_of env t).has_queues) C8 at) (guard (is_simple env t) C11 at t)
 
 abbrev pub result_type : Environment → Option Identifier → Option (Judged ℕ)
 result_type env None = None
@@ -254,7 +254,7 @@ routine env y r =
       region = record { sort = y; part = part_of r.entry };
     })) head.bound in
     let locals = variables inside.env position.RoutineVariable r.variables in
-    let need = capped (1 + result_words answer + head.words + locals.words + need_statements locals.env r.body.list) in
+    let need = cap_words (1 + result_words answer + head.words + locals.words + need_statements locals.env r.body.list) in
     record {
       env = declare r.name (entity.Routine (length env.routines)) (record locals.env {
         names = env.names;

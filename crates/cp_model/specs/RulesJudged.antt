@@ -85,6 +85,6 @@ both (Sound x) b k = then_judge b (k x)
 both (Broken v vs) b k = Broken v (vs ++ violations_of b)
 
 -- sound with this meaning if the test holds, otherwise a violation
-abbrev pub provided : {A : Type 0} → Bool → Rule → ℕ → A → Judged A
-provided true rule at x = Sound x
-provided false rule at x = breaks rule at
+abbrev pub guard : {A : Type 0} → Bool → Rule → ℕ → A → Judged A
+guard true rule at x = Sound x
+guard false rule at x = breaks rule at

@@ -26,7 +26,7 @@ use Rattle.cp_model.specs.declared.rules.Mode.{Mode}
 use Rattle.cp_model.specs.declared.rules.Mode.TheVariants as mode
 use Rattle.cp_model.specs.declared.rules.Standard.{Standard}
 use Rattle.cp_model.specs.declared.rules.Standard.TheVariants as standard
-use Rattle.cp_model.specs.RulesJudged.{Judged, Sound, Broken, Violations, violation, unless, breaks, also, then_judge, provided}
+use Rattle.cp_model.specs.RulesJudged.{Judged, Sound, Broken, Violations, violation, unless, breaks, also, then_judge, guard}
 use Rattle.cp_model.specs.RulesEnvironment.{Environment, Members, integer, boolean, char, row_of, base_of, agree, is_component, routine_of, parameters_from, members_in, Text, c1_named, c4_unfinished, c9_standard, c4_c9_named}
 use Rattle.cp_model.specs.Names.{lookup}
 
@@ -91,7 +91,7 @@ c2_array env at e = breaks C2 at
 
 -- C2: an index doesn't agree with the array's index type. The element is a part of the same variable
 abbrev pub c2_index : Environment → ℕ → ArrayPart → ℕ → Judged Entity
-c2_index env at part t = provided (agree env part.index t) C2 at (entity.Variable part.element part.access)
+c2_index env at part t = guard (agree env part.index t) C2 at (entity.Variable part.element part.access)
 
 -- what a name stands for before its parts are selected. If no part is, the use of the name judges
 -- it
@@ -170,14 +170,14 @@ wants_of env r = map want.Parameter (parameters_from env r.first r.count)
 -- for a name of another sort
 abbrev pub function_gives : Rule → Identifier → Bool → Returns → Judged Gives
 function_gives rule x fits returns.Nothing = breaks (if fits then rule else C2) x.at
-function_gives rule x fits (returns.Value t) = provided fits C2 x.at (gives.Value t)
+function_gives rule x fits (returns.Value t) = guard fits C2 x.at (gives.Value t)
 function_gives rule x fits (returns.Broken v) = also (unless fits C2 x.at) (Broken v [])
 
-abbrev pub called : RoutineRow → Environment → Gives → Judged Callee
-called r env g = Sound (record { wants = wants_of env r; gives = g })
+abbrev pub routine_callee : RoutineRow → Environment → Gives → Judged Callee
+routine_callee r env g = Sound (record { wants = wants_of env r; gives = g })
 
 abbrev pub function_called : Environment → Rule → Identifier → ℕ → RoutineRow → Judged Callee
-function_called env rule x n r = then_judge (function_gives rule x (nat_eq r.count n) r.returns) (called r env)
+function_called env rule x n r = then_judge (function_gives rule x (nat_eq r.count n) r.returns) (routine_callee r env)
 
 -- C2: a function used as a statement; a wrong number of arguments
 abbrev pub is_procedure : Returns → Bool
@@ -186,12 +186,12 @@ is_procedure _ = false
 
 abbrev pub procedure_called : Environment → Identifier → ℕ → RoutineRow → Judged Callee
 procedure_called env x n r =
-    provided (is_procedure r.returns && nat_eq r.count n) C2 x.at (record { wants = wants_of env r; gives = gives.Nothing })
+    guard (is_procedure r.returns && nat_eq r.count n) C2 x.at (record { wants = wants_of env r; gives = gives.Nothing })
 
 -- a routine without `entry` after a `.` is not called. C2: a wrong number of arguments; otherwise
 -- C5, wherever it stands. Whether it is a function isn't judged
-abbrev pub counted : Environment → Identifier → ℕ → RoutineRow → Judged Callee
-counted env x n r = breaks (if nat_eq r.count n then C5 else C2) x.at
+abbrev pub inner_callee : Environment → Identifier → ℕ → RoutineRow → Judged Callee
+inner_callee env x n r = breaks (if nat_eq r.count n then C5 else C2) x.at
 
 -- C5: an entry routine called by its bare name
 abbrev pub c5_by_name : Identifier → RoutineRow → Violations
@@ -235,7 +235,7 @@ standard_procedure _ = None
 -- C2: a wrong number of arguments. The parameter `rule` is the rule for a name of another sort
 abbrev pub standard_called : Rule → Identifier → Bool → Option Callee → Judged Callee
 standard_called rule x fits None = breaks (if fits then rule else C2) x.at
-standard_called rule x fits (Some c) = provided fits C2 x.at c
+standard_called rule x fits (Some c) = guard fits C2 x.at c
 
 abbrev pub standard_fits : Standard → ℕ → Bool
 standard_fits f n = nat_eq (length (standard_wants f)) n
@@ -255,7 +255,7 @@ function_of env m d n (entity.Routine r) =
     also (c5_by_name (last_name d) (routine_of env r)) (function_called env (sort_rule m d) (last_name d) n (routine_of env r))
 function_of env m d n (entity.Entry r) =
     if (routine_of env r).entry then function_called env (sort_rule m d) (last_name d) n (routine_of env r)
-    else counted env (last_name d) n (routine_of env r)
+    else inner_callee env (last_name d) n (routine_of env r)
 function_of env m d n (entity.UnfinishedRoutine r) =
     also (violation C4 (last_name d).at ∷ []) (function_called env (sort_rule m d) (last_name d) n r)
 function_of env m d n (entity.Standard f) =
@@ -267,7 +267,7 @@ abbrev pub procedure_of : Environment → s.Designator → ℕ → Entity → Ju
 procedure_of env d n (entity.Routine r) = also (c5_by_name (last_name d) (routine_of env r)) (procedure_called env (last_name d) n (routine_of env r))
 procedure_of env d n (entity.Entry r) =
     if (routine_of env r).entry then procedure_called env (last_name d) n (routine_of env r)
-    else counted env (last_name d) n (routine_of env r)
+    else inner_callee env (last_name d) n (routine_of env r)
 procedure_of env d n (entity.UnfinishedRoutine r) = also (violation C4 (last_name d).at ∷ []) (procedure_called env (last_name d) n r)
 procedure_of env d n (entity.Standard f) =
     also (c9_standard env (last_name d) (entity.Standard f)) (standard_called C2 (last_name d) (standard_fits f n) (standard_procedure f))
@@ -347,10 +347,10 @@ function_alone env mode.Variable d e = also (c4_c9_named env (first_name d) e) (
 function_alone env m d e = then_judge (function_of env m d 0 e) (λ c. Sound c.gives)
 
 -- the type of the result of a call whose first argument is of type t
-abbrev pub given : Environment → ℕ → Gives → ℕ
-given env t (gives.Value u) = u
-given env t gives.ArgumentBase = unwrap_or (base_of env t) t
-given env t gives.Nothing = t
+abbrev pub given_type : Environment → ℕ → Gives → ℕ
+given_type env t (gives.Value u) = u
+given_type env t gives.ArgumentBase = unwrap_or (base_of env t) t
+given_type env t gives.Nothing = t
 
 -- C2: a value is wanted and the name is of another sort; a component used as a value
 abbrev pub is_used_as_component : Mode → Environment → ℕ → Bool
@@ -359,11 +359,11 @@ is_used_as_component m env t = not (is_component env t)
 
 abbrev pub value_of : Environment → Mode → s.Designator → Entity → Judged ℕ
 value_of env m d (entity.Constant base n) = Sound base
-value_of env m d (entity.Variable t a) = provided (is_used_as_component m env t) (sort_rule m d) (last_name d).at t
+value_of env m d (entity.Variable t a) = guard (is_used_as_component m env t) (sort_rule m d) (last_name d).at t
 value_of env m d (entity.Type t) = breaks (sort_rule m d) (last_name d).at
 value_of env m d entity.UnfinishedConstant = also (c4_unfinished (last_name d) entity.UnfinishedConstant) (breaks (sort_rule m d) (last_name d).at)
 value_of env m d entity.UnfinishedType = also (c4_unfinished (last_name d) entity.UnfinishedType) (breaks (sort_rule m d) (last_name d).at)
-value_of env m d e = then_judge (function_alone env m d e) (λ g. Sound (given env integer g))
+value_of env m d e = then_judge (function_alone env m d e) (λ g. Sound (given_type env integer g))
 
 -- ---- C10, what should be a variable
 

@@ -10,7 +10,7 @@ use Rattle.cp_model.specs.declared.rules.Entity.TheVariants as entity
 use Rattle.cp_model.specs.declared.rules.SystemRow.{SystemRow}
 use Rattle.cp_model.specs.RulesJudged.{Judged, Sound}
 use Rattle.cp_model.specs.RulesEnvironment.{Environment, routine_of, system_of, system_row, c1_named}
-use Rattle.cp_model.specs.RulesExpressions.{designated}
+use Rattle.cp_model.specs.RulesExpressions.{designate}
 
 -- ---- expressions
 
@@ -36,7 +36,7 @@ abbrev mutual
 
   -- a routine that the designator names is called
   pub need_designator : Environment → s.Designator → ℕ
-  need_designator env (s.Designate x ss) = max (need_called env (designated env (s.Designate x ss))) (need_selectors env ss)
+  need_designator env (s.Designate x ss) = max (need_called env (designate env (s.Designate x ss))) (need_selectors env ss)
 
   pub need_selectors : Environment → s.Selectors → ℕ
   need_selectors env s.NoSelectors = 0

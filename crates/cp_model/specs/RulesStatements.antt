@@ -13,10 +13,10 @@ use Rattle.cp_model.specs.declared.rules.Returns.TheVariants as returns
 use Rattle.cp_model.specs.declared.rules.ParameterRow.{ParameterRow}
 use Rattle.cp_model.specs.declared.rules.SystemRow.{SystemRow}
 use Rattle.cp_model.specs.declared.rules.Mode.TheVariants as mode
-use Rattle.cp_model.specs.RulesJudged.{Judged, Sound, Broken, Violations, violation, unless, breaks, also, both, then_judge, provided, violations_of}
+use Rattle.cp_model.specs.RulesJudged.{Judged, Sound, Broken, Violations, violation, unless, breaks, also, both, then_judge, guard, violations_of}
 use Rattle.cp_model.specs.RulesEnvironment.{Environment, integer, boolean, base_of, is_base, is_simple, agree, is_component, system_of, system_row, parameters_from, c1_named, c4_c9_named, is_in_routine}
 use Rattle.cp_model.specs.RulesNames.{last_name, first_token, count_of, c8_named, c2_c5_c8_named, c10_designator, c2_indexed, procedure_of, value_of}
-use Rattle.cp_model.specs.RulesExpressions.{judge, designated, arguments, wants_in, result_of}
+use Rattle.cp_model.specs.RulesExpressions.{judge, designate, arguments, wants_in, result_of}
 use Rattle.cp_model.specs.RulesTypes.{constant, constant_at}
 use Rattle.cp_model.specs.Integers.{same_integer}
 
@@ -33,17 +33,17 @@ own_result x s.NoSelectors (returns.Value t) = Sound t
 own_result x s.NoSelectors (returns.Broken v) = Broken v []
 own_result x ss returned = breaks C10 x.at
 
-abbrev pub other_left : Environment → s.Designator → Judged ℕ
-other_left env d =
-    also (c2_c5_c8_named env mode.Variable d ++ c10_designator env d) (then_judge (designated env d) (value_of env mode.Variable d))
+abbrev pub other_left_side : Environment → s.Designator → Judged ℕ
+other_left_side env d =
+    also (c2_c5_c8_named env mode.Variable d ++ c10_designator env d) (then_judge (designate env d) (value_of env mode.Variable d))
 
 abbrev pub left_by : Environment → Identifier → s.Selectors → Judged Entity → Judged ℕ
 left_by env x ss (Sound (entity.UnfinishedRoutine r)) = own_result x ss r.returns
-left_by env x ss j = other_left env (s.Designate x ss)
+left_by env x ss j = other_left_side env (s.Designate x ss)
 
 -- the type of a left side
-abbrev pub left : Environment → s.Designator → Judged ℕ
-left env (s.Designate x ss) = left_by env x ss (c1_named env x)
+abbrev pub left_side : Environment → s.Designator → Judged ℕ
+left_side env (s.Designate x ss) = left_by env x ss (c1_named env x)
 
 -- a bare component name on the right isn't judged as a value if the left side is a component
 abbrev pub is_component_type : Environment → Judged ℕ → Bool
@@ -67,20 +67,20 @@ right env target e = judged_unless (judge env mode.Value e) (is_component_type e
 
 -- C2: the sides of an assignment don't agree
 abbrev pub c2_sides : Environment → ℕ → ℕ → ℕ → Judged ℕ
-c2_sides env at a b = provided (agree env a b) C2 at a
+c2_sides env at a b = guard (agree env a b) C2 at a
 
-abbrev pub assigned : Environment → s.Designator → ℕ → s.Expression → Violations
-assigned env d at e = violations_of (both (left env d) (right env (left env d) e) (c2_sides env at))
+abbrev pub assignment : Environment → s.Designator → ℕ → s.Expression → Violations
+assignment env d at e = violations_of (both (left_side env d) (right env (left_side env d) e) (c2_sides env at))
 
 -- ---- conditions, selectors, bounds: at their first token
 
 -- C2: a condition isn't Boolean
 abbrev pub c2_condition : Environment → s.Expression → Judged ℕ
-c2_condition env e = then_judge (judge env mode.Value e) (λ t. provided (is_base boolean (base_of env t)) C2 (first_token e) t)
+c2_condition env e = then_judge (judge env mode.Value e) (λ t. guard (is_base boolean (base_of env t)) C2 (first_token e) t)
 
 -- C2: a case selector isn't simple
 abbrev pub c2_selector : Environment → s.Expression → Judged ℕ
-c2_selector env e = then_judge (judge env mode.Value e) (λ t. provided (is_simple env t) C2 (first_token e) t)
+c2_selector env e = then_judge (judge env mode.Value e) (λ t. guard (is_simple env t) C2 (first_token e) t)
 
 -- ---- labels
 
@@ -98,7 +98,7 @@ fits_selector (Some base) c = nat_eq base c.0
 
 -- C2: a label isn't of the selector's base. C3: a label occurs twice in one `case`
 abbrev pub c2_c3_label : Option ℕ → List Label → ℕ → Label → Judged Label
-c2_c3_label base seen at c = also (unless (fits_selector base c) C2 at) (provided (not (is_among c seen)) C3 at c)
+c2_c3_label base seen at c = also (unless (fits_selector base c) C2 at) (guard (not (is_among c seen)) C3 at c)
 
 -- adds a label, unless it was seen already
 abbrev pub with_label : List Label → Label → List Label
@@ -130,18 +130,18 @@ selector_base env (Broken v vs) = None
 -- C10: the variable of a `for` isn't a variable. C2: it isn't simple
 abbrev pub for_variable : Environment → Identifier → Judged ℕ
 for_variable env v =
-    also (c10_designator env (plain v)) (then_judge (judge env mode.Variable (s.Designated (plain v))) (λ t. provided (is_simple env t) C2 v.at t))
+    also (c10_designator env (plain v)) (then_judge (judge env mode.Variable (s.Designated (plain v))) (λ t. guard (is_simple env t) C2 v.at t))
 
 -- C2: a bound doesn't agree with the variable
 abbrev pub bound : Environment → Judged ℕ → s.Expression → Judged ℕ
-bound env (Sound t) e = then_judge (judge env mode.Value e) (λ u. provided (agree env t u) C2 (first_token e) u)
+bound env (Sound t) e = then_judge (judge env mode.Value e) (λ u. guard (agree env t u) C2 (first_token e) u)
 bound env (Broken v vs) e = judge env mode.Value e
 
 -- ---- calls
 
-abbrev pub performed : Environment → s.Designator → s.Expressions → Violations
-performed env d es =
-    let called = designated env d in
+abbrev pub call_statement : Environment → s.Designator → s.Expressions → Violations
+call_statement env d es =
+    let called = designate env d in
     let callee = also (c2_indexed env mode.Value d) (then_judge called (procedure_of env d (count_of es))) in
     c2_c5_c8_named env mode.Value d ++ violations_of (both callee (arguments env (wants_in env called callee) es) (result_of env))
 
@@ -158,38 +158,38 @@ c12_component env x e = also (c4_c9_named env x e) (breaks C12 x.at)
 
 -- C12: a wrong number of arguments
 abbrev pub c12_count : Environment → Identifier → ℕ → ℕ → Judged SystemRow
-c12_count env x n y = provided (nat_eq (system_row env y).count n) C12 x.at (system_row env y)
+c12_count env x n y = guard (nat_eq (system_row env y).count n) C12 x.at (system_row env y)
 
 -- an argument of which nothing is wanted, or only the name of a component: what it stands for isn't
 -- judged as a value
-abbrev pub unused : Environment → s.Designator → Entity → Judged ℕ
-unused env d e = also (c4_c9_named env (last_name d) e) (Sound integer)
+abbrev pub surplus_name : Environment → s.Designator → Entity → Judged ℕ
+surplus_name env d e = also (c4_c9_named env (last_name d) e) (Sound integer)
 
-abbrev pub unwanted : Environment → s.Expression → Judged ℕ
-unwanted env (s.Designated d) =
-    also (c2_c5_c8_named env mode.Value d) (then_judge (designated env d) (unused env d))
-unwanted env e = judge env mode.Value e
+abbrev pub surplus_argument : Environment → s.Expression → Judged ℕ
+surplus_argument env (s.Designated d) =
+    also (c2_c5_c8_named env mode.Value d) (then_judge (designate env d) (surplus_name env d))
+surplus_argument env e = judge env mode.Value e
 
 -- C12: an argument isn't the name of a component of the parameter's type
 abbrev pub c12_passed : Environment → ℕ → Identifier → Entity → Judged ℕ
-c12_passed env u x (entity.Variable t a) = provided (nat_eq t u) C12 x.at t
+c12_passed env u x (entity.Variable t a) = guard (nat_eq t u) C12 x.at t
 c12_passed env u x e = also (c4_c9_named env x e) (breaks C12 x.at)
 
 abbrev pub component_argument : Environment → ℕ → s.Expression → Judged ℕ
 component_argument env u (s.Designated (s.Designate x s.NoSelectors)) =
     also (c8_named env mode.Value x) (then_judge (c1_named env x) (c12_passed env u x))
-component_argument env u e = also (violation C12 (first_token e) ∷ []) (unwanted env e)
+component_argument env u e = also (violation C12 (first_token e) ∷ []) (surplus_argument env e)
 
 -- C12: an argument doesn't agree with a simple parameter
 abbrev pub init_argument : Environment → Option ℕ → s.Expression → Judged ℕ
-init_argument env None e = unwanted env e
+init_argument env None e = surplus_argument env e
 init_argument env (Some u) e =
     if is_component env u then component_argument env u e
-    else then_judge (judge env mode.Value e) (λ t. provided (agree env u t) C12 (first_token e) t)
+    else then_judge (judge env mode.Value e) (λ t. guard (agree env u t) C12 (first_token e) t)
 
 abbrev pub init_arguments : Environment → List ParameterRow → s.Expressions → Violations
 init_arguments env ps s.NoExpressions = []
-init_arguments env [] (s.MoreExpressions e es) = violations_of (unwanted env e) ++ init_arguments env [] es
+init_arguments env [] (s.MoreExpressions e es) = violations_of (surplus_argument env e) ++ init_arguments env [] es
 init_arguments env (p ∷ ps) (s.MoreExpressions e es) = violations_of (init_argument env p.of e) ++ init_arguments env ps es
 
 -- the parameters of what is initialised, whatever the number of arguments
@@ -217,8 +217,8 @@ c12_init env at = unless (not (is_in_routine env.region.part)) C12 at
 abbrev mutual
   pub statement : Environment → s.Statement → Violations
   statement env s.Empty = []
-  statement env (s.Assign d at e) = assigned env d at e
-  statement env (s.Perform d es) = performed env d es
+  statement env (s.Assign d at e) = assignment env d at e
+  statement env (s.Perform d es) = call_statement env d es
   statement env (s.Compound l) = statements env l
   statement env (s.If e x) = violations_of (c2_condition env e) ++ statement env x
   statement env (s.IfElse e x y) = violations_of (c2_condition env e) ++ statement env x ++ statement env y

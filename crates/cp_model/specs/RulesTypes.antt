@@ -16,7 +16,7 @@ use Rattle.cp_model.specs.declared.rules.TypeRow.{TypeRow}
 use Rattle.cp_model.specs.declared.rules.Member.TheVariants as member
 use Rattle.cp_model.specs.declared.rules.Position.{Position}
 use Rattle.cp_model.specs.declared.rules.Position.TheVariants as position
-use Rattle.cp_model.specs.RulesJudged.{Judged, Sound, Broken, Violations, violation, unless, breaks, also, both, then_judge, provided}
+use Rattle.cp_model.specs.RulesJudged.{Judged, Sound, Broken, Violations, violation, unless, breaks, also, both, then_judge, guard}
 use Rattle.cp_model.specs.RulesEnvironment.{Environment, Text, Members, integer, char, row_of, is_simple, system_row, c1_named, c4_unfinished}
 use Rattle.cp_model.specs.Integers.{count_between}
 
@@ -25,8 +25,8 @@ use Rattle.cp_model.specs.Integers.{count_between}
 abbrev pub word_limit : ℕ
 word_limit = 65536
 
-abbrev pub capped : ℕ → ℕ
-capped n = min n (suc word_limit)
+abbrev pub cap_words : ℕ → ℕ
+cap_words n = min n (suc word_limit)
 
 abbrev pub is_within : ℕ → Bool
 is_within words = not (nat_lt word_limit words)
@@ -92,7 +92,7 @@ allows_queues _ = false
 abbrev pub c6_c8_placed : Environment → Position → ℕ → ℕ → Judged ℕ
 c6_c8_placed env p at t =
     also (unless (allows_structure env p (row_of env t).structure) C6 at)
-    (provided (allows_queues p || not (row_of env t).has_queues) C8 at t)
+    (guard (allows_queues p || not (row_of env t).has_queues) C8 at t)
 
 -- ---- types
 
@@ -139,11 +139,11 @@ made_type env (Broken v vs) = record { env = env; of = Broken v vs }
 abbrev pub c2_c3_subrange : ℕ → (ℕ × ℤ) → (ℕ × ℤ) → Judged TypeRow
 c2_c3_subrange at a b =
     also (unless (nat_eq a.0 b.0) C2 at)
-    (provided (not (nat_eq a.0 b.0) || at_most a.1 b.1) C3 at (record { structure = structure.Simple a.0 a.1 b.1; words = 1; has_queues = false }))
+    (guard (not (nat_eq a.0 b.0) || at_most a.1 b.1) C3 at (record { structure = structure.Simple a.0 a.1 b.1; words = 1; has_queues = false }))
 
 -- C2: an array's index type isn't simple
 abbrev pub c2_index_type : Environment → ℕ → Judged ℕ → Judged ℕ
-c2_index_type env at j = then_judge j (λ t. provided (is_simple env t) C2 at t)
+c2_index_type env at j = then_judge j (λ t. guard (is_simple env t) C2 at t)
 
 -- C2: an array or a record written as an index type isn't simple, whatever is broken inside it
 abbrev pub c2_written_index : s.TypeExpression → Judged ℕ → Violations
@@ -157,19 +157,19 @@ c8_written env p (s.Array at is e) (Broken v vs) = unless (allows_queues p || no
 c8_written env p t j = []
 
 -- a type at its position
-abbrev pub placed : Environment → Position → s.TypeExpression → Judged ℕ → Judged ℕ
-placed env p t j = also (c8_written env p t j) (then_judge j (c6_c8_placed env p (type_at t)))
+abbrev pub judge_in_position : Environment → Position → s.TypeExpression → Judged ℕ → Judged ℕ
+judge_in_position env p t j = also (c8_written env p t j) (then_judge j (c6_c8_placed env p (type_at t)))
 
 abbrev pub array_row : Environment → ℕ → ℕ → TypeRow
 array_row env i e = record {
   structure = structure.Array i e;
-  words = capped (values_in (row_of env i).structure * (row_of env e).words);
+  words = cap_words (values_in (row_of env i).structure * (row_of env e).words);
   has_queues = (row_of env e).has_queues;
 }
 
 -- C13: a written type of more than 65,536 words
 abbrev pub c13_type : ℕ → TypeRow → Judged TypeRow
-c13_type at r = provided (is_within r.words) C13 at r
+c13_type at r = guard (is_within r.words) C13 at r
 
 -- an array of arrays, one level for each index type
 abbrev pub arrays : Environment → ℕ → List (Judged ℕ) → Judged ℕ → Made (Judged ℕ)
@@ -202,13 +202,13 @@ words_of_fields env [] = 0
 words_of_fields env (f ∷ fs) = (row_of env f.1).words + words_of_fields env fs
 
 abbrev pub record_row : Environment → FieldList → TypeRow
-record_row env fs = record { structure = structure.Record (length env.members); words = capped (words_of_fields env fs); has_queues = false }
+record_row env fs = record { structure = structure.Record (length env.members); words = cap_words (words_of_fields env fs); has_queues = false }
 
 abbrev pub field_members : FieldList → Members
 field_members fs = map (λ f. (f.0, member.Field f.1)) fs
 
 abbrev pub c13_record : Environment → ℕ → FieldList → Judged FieldList
-c13_record env at fs = provided (is_within (record_row env fs).words) C13 at fs
+c13_record env at fs = guard (is_within (record_row env fs).words) C13 at fs
 
 abbrev pub made_record : Environment → Judged FieldList → Made (Judged ℕ)
 made_record env (Broken v vs) = record { env = env; of = Broken v vs }
@@ -217,8 +217,8 @@ made_record env (Sound fs) = record {
   of = Sound (length env.types);
 }
 
-abbrev pub appended : FieldList → FieldList → Judged FieldList
-appended fs gs = Sound (fs ++ gs)
+abbrev pub append_fields : FieldList → FieldList → Judged FieldList
+append_fields fs gs = Sound (fs ++ gs)
 
 abbrev mutual
   pub type_of : Environment → s.TypeExpression → Made (Judged ℕ)
@@ -227,7 +227,7 @@ abbrev mutual
   type_of env (s.Array at is e) =
       let index = index_types env is in
       let element = type_of index.env e in
-      arrays element.env at index.of (placed element.env position.Element e element.of)
+      arrays element.env at index.of (judge_in_position element.env position.Element e element.of)
   type_of env (s.Record at gs) = let fields = fields_of env [] gs in made_record fields.env (then_judge fields.of (c13_record fields.env at))
 
   pub index_types : Environment → s.TypeExpressions → Made (List (Judged ℕ))
@@ -246,10 +246,10 @@ abbrev mutual
       record {
         env = rest.env;
         of = also (c1_fields seen xs)
-            (both (placed one.env position.Field t one.of) rest.of (λ u fs. appended (fields_of_type xs u) fs));
+            (both (judge_in_position one.env position.Field t one.of) rest.of (λ u fs. append_fields (fields_of_type xs u) fs));
       }
 
 abbrev pub type_placed : Environment → Position → s.TypeExpression → Made (Judged ℕ)
 type_placed env p t =
     let m = type_of env t in
-    record { env = m.env; of = placed m.env p t m.of }
+    record { env = m.env; of = judge_in_position m.env p t m.of }

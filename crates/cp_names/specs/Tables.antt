@@ -8,8 +8,8 @@ use Rattle.std.specs.Str.{bytes_eq}
 use Rattle.cp_model.specs.RulesEnvironment.{Text}
 
 -- An entry: the letters of the name, and what it stands for.
-abbrev pub seen : {A : Type 0} → Bor Text × A → Text × A
-seen p = (p.0.now, p.1)
+abbrev pub entry_view : {A : Type 0} → Bor Text × A → Text × A
+entry_view p = (p.0.now, p.1)
 
 -- No name occurs twice.
 abbrev pub AreDistinct : {A : Type 0} → List (Text × A) → Type 0

@@ -3,7 +3,7 @@
 ghost use Rattle.std.specs.Prelude.{◌≡◌, ◌++◌, ◌-◌, ◌∷◌, [], List, None, OnOk, length, map, option_map, slice_get, take};
 ghost use Rattle.cp_model.specs.Names.{lookup};
 ghost use Rattle.cp_model.specs.RulesEnvironment.{Text};
-ghost use Rattle.cp_names.specs.Tables.{AreDistinct, IsIndex, seen, value_at};
+ghost use Rattle.cp_names.specs.Tables.{AreDistinct, IsIndex, entry_view, value_at};
 
 use std::alloc::{AllocError, Global};
 use std::collections::BTreeMap;
@@ -20,10 +20,10 @@ pub struct NameTable<'t, A: Copy> {
 impl<'t, A: Copy> Model for NameTable<'t, A> {
     ghost Value = { List (Text × A) };
 
-    ghost view = { λ t. map seen t.entries.items };
+    ghost view = { λ t. map entry_view t.entries.items };
 
-    ghost invariant = { λ t. IsIndex t.numbers (map seen t.entries.items)
-        × AreDistinct (map seen t.entries.items) };
+    ghost invariant = { λ t. IsIndex t.numbers (map entry_view t.entries.items)
+        × AreDistinct (map entry_view t.entries.items) };
 }
 
 impl<'t, A: Copy> NameTable<'t, A> {
@@ -62,7 +62,7 @@ impl<'t, A: Copy> NameTable<'t, A> {
 
     /// The name with a number, and what it stands for.
     pub fn get(&self, number: usize) -> Option<(&'t [u8], A)>
-        ensures { option_map seen result ≡ slice_get self.now number }
+        ensures { option_map entry_view result ≡ slice_get self.now number }
     {
         self.entries.get(number).copied()
     }

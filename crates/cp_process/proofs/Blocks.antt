@@ -5,8 +5,8 @@ use Rattle.std.proofs.lemmas.Bool.Decides.{leb_tells}
 use Rattle.std.specs.Int.{w32}
 use Rattle.std.proofs.lemmas.Int.{to_z-of_z}
 use Rattle.std.proofs.lemmas.List.{get_or-set_other, get_or_past, length-append, length-set, set-append_left, set-append_right, set_comm, set_past}
-use Rattle.cp_code.specs.Starts.{block, fill, paste, repeated, word}
-use Rattle.cp_threaded.specs.Reaches.{capped}
+use Rattle.cp_code.specs.Starts.{block, fill, paste, repeat_block, word}
+use Rattle.cp_threaded.specs.Reaches.{cap_place}
 
 -- ---- One word
 
@@ -24,7 +24,7 @@ pub set_neither : (own shared : List ℤ) (at : ℕ) (n : ℤ) → length own �
 set_neither own shared at n h k = sym (set_past (own ++ shared) at n (omega (arith, length-append own shared)))
 
 -- A location that is capped to the largest number is not the location of a word.
-pub set_capped : (ws : List ℤ) (place at : ℕ) (n : ℤ) → length ws < 2 ^ 32 → capped place ≡ at → slice_set ws at n ≡ slice_set ws place n
+pub set_capped : (ws : List ℤ) (place at : ℕ) (n : ℤ) → length ws < 2 ^ 32 → cap_place place ≡ at → slice_set ws at n ≡ slice_set ws place n
 set_capped ws place at n small is = by (leb_tells (2 ^ 32) place)
   where
     by : ((leb (2 ^ 32) place ≡ true) × (2 ^ 32 ≤ place)) ⊎ ((leb (2 ^ 32) place ≡ false) × (place < 2 ^ 32)) → slice_set ws at n ≡ slice_set ws place n
@@ -193,7 +193,7 @@ brought_all source ws to from i count h = by (leb_tells count i)
         paste_beyond (block source (from + i) (count - i)) (to + i) ws (omega arith)
 
 -- Locations that are capped to the largest number are not locations of words.
-pub copied_capped : (ws : List ℤ) (to from i j count : ℕ) → length ws < 2 ^ 32 → capped i ≡ to → capped j ≡ from
+pub copied_capped : (ws : List ℤ) (to from i j count : ℕ) → length ws < 2 ^ 32 → cap_place i ≡ to → cap_place j ≡ from
     → paste to (block ws from count) ws ≡ paste i (block ws j count) ws
 copied_capped ws to from i j count small toward away =
     ap (λ ns. paste to ns ws) (blocks (leb_tells (2 ^ 32) j)) ∙ pastes (leb_tells (2 ^ 32) i)
@@ -223,20 +223,20 @@ copied_capped ws to from i j count small toward away =
 
 -- ---- Repeats
 
-pub repeated_nothing : (k at size : ℕ) (ws : List ℤ) → size ≡ 0 → repeated at size k ws ≡ ws
-repeated_nothing k at size ws none = ap (λ n. repeated at n k ws) none ∙ nothing k at
+pub repeated_nothing : (k at size : ℕ) (ws : List ℤ) → size ≡ 0 → repeat_block at size k ws ≡ ws
+repeated_nothing k at size ws none = ap (λ n. repeat_block at n k ws) none ∙ nothing k at
   where
-    nothing : (k at : ℕ) → repeated at 0 k ws ≡ ws
+    nothing : (k at : ℕ) → repeat_block at 0 k ws ≡ ws
     nothing zero at = refl
     nothing (suc k) at = nothing k (at + 0)
 
-pub repeated_beyond : (k at size : ℕ) (ws : List ℤ) → length ws ≤ at + size → repeated at size k ws ≡ ws
+pub repeated_beyond : (k at size : ℕ) (ws : List ℤ) → length ws ≤ at + size → repeat_block at size k ws ≡ ws
 repeated_beyond zero at size ws h = refl
 repeated_beyond (suc k) at size ws h =
-    ap (repeated (at + size) size k) (paste_beyond (block ws at size) (at + size) ws h) ∙ repeated_beyond k (at + size) size ws (omega arith)
+    ap (repeat_block (at + size) size k) (paste_beyond (block ws at size) (at + size) ws h) ∙ repeated_beyond k (at + size) size ws (omega arith)
 
 pub repeated_more : (ws : List ℤ) (at size i count : ℕ) → i < count
-    → repeated (at + size) size (count - (i + 1)) (paste (at + size) (block ws at size) ws) ≡ repeated at size (count - i) ws
+    → repeat_block (at + size) size (count - (i + 1)) (paste (at + size) (block ws at size) ws) ≡ repeat_block at size (count - i) ws
 repeated_more ws at size i count h =
     let left : suc (count - (i + 1)) ≡ count - i = omega arith in
-    ap (λ k. repeated at size k ws) left
+    ap (λ k. repeat_block at size k ws) left

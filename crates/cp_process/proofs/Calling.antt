@@ -5,7 +5,7 @@ use Rattle.cp_model.specs.Integers.{same_integer}
 use Rattle.cp_model.specs.declared.state.Fault.TheVariants as fault
 use Rattle.cp_code.specs.Programs.{Call, CodeUnit, Program}
 use Rattle.cp_code.specs.Starts.{word}
-use Rattle.cp_steps.specs.PrivateStates.{Acting, Enters, Opens, Outside, PrivateState, private_outcome, provided, set_word}
+use Rattle.cp_steps.specs.PrivateStates.{Acting, Enters, Opens, Outside, PrivateState, private_outcome, guard, set_word}
 use Rattle.cp_steps.specs.Calling.{Back, class_at, enter, gate_effect, has_room, settle, start_words, with_unit}
 use Rattle.cp_steps.specs.Passing.{Called, pass_all, when_passed}
 
@@ -17,7 +17,7 @@ module _ (program : Program) (w : Outside) (o : PrivateState) (call : Call) wher
   call_rest back c u = when_passed (pass_all w (o.base + call.words) (o.base + call.words) call.arguments o) (call_done back c u)
 
   abbrev pub call_unit : Back → Called → CodeUnit → Acting
-  call_unit back c u = provided c.is_set o fault.NotInitialised (call_rest back c u)
+  call_unit back c u = guard c.is_set o fault.NotInitialised (call_rest back c u)
 
   abbrev pub call_by : Back → Called → Acting
   call_by back c = with_unit program w o call c.component (call_unit back c)
@@ -31,7 +31,7 @@ module _ (program : Program) (w : Outside) (o : PrivateState) (call : Call) wher
   init_rest next at u = when_passed (pass_all w (o.base + call.words) at call.arguments o) (init_done next at u)
 
   abbrev pub init_unit : ℕ → ℕ → CodeUnit → Acting
-  init_unit next at u = provided (same_integer (word o.words at) (pos 0)) o fault.InitialisedTwice (init_rest next at u)
+  init_unit next at u = guard (same_integer (word o.words at) (pos 0)) o fault.InitialisedTwice (init_rest next at u)
 
   abbrev pub init_by : ℕ → ℕ → Acting
   init_by next at = with_unit program w o call at (init_unit next at)
@@ -45,7 +45,7 @@ module _ (program : Program) (w : Outside) (o : PrivateState) (call : Call) wher
   open_rest next m c u = when_passed (pass_all w (o.base + call.words) c.component call.arguments o) (open_done next m c u)
 
   abbrev pub open_unit : ℕ → ℕ → Called → CodeUnit → Acting
-  open_unit next m c u = provided (not c.is_set) o fault.InitialisedTwice (open_rest next m c u)
+  open_unit next m c u = guard (not c.is_set) o fault.InitialisedTwice (open_rest next m c u)
 
   abbrev pub open_by : ℕ → ℕ → Called → Acting
   open_by next m c = with_unit program w o call c.component (open_unit next m c)

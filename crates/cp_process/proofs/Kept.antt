@@ -8,7 +8,7 @@ use Rattle.cp_code.specs.Terms.{Argument, Copy, Reference, Right, Value}
 use Rattle.cp_steps.specs.Values.{place_of, value_of}
 use Rattle.cp_steps.specs.PrivateStates.{Outside, PrivateState, view_of}
 use Rattle.cp_steps.specs.Passing.{Passing, pass_all, pass_copy, pass_one, pass_result, pass_value, pass_word, reference_word, unless_fault}
-use Rattle.cp_process.specs.States.{joined}
+use Rattle.cp_process.specs.States.{join}
 use Rattle.cp_process.specs.declared.private.Private.{Private}
 use Rattle.cp_process.proofs.InUse.{length-frames}
 
@@ -60,7 +60,7 @@ pub record SameRegisters (x y : Private) : Type 0 where
   pub frames : length y.frames.items ≡ length x.frames.items
 
 pub same_registers : (x y : Private) (input : List ℕ) (shared after ws : List ℤ)
-    → joined y input after ≡ record (joined x input shared) { words = ws } → SameRegisters x y
+    → join y input after ≡ record (join x input shared) { words = ws } → SameRegisters x y
 same_registers x y input shared after ws is = record {
   base = ap (λ o. o.base) is;
   temp = ap (λ o. o.temp) is;

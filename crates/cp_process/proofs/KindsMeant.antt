@@ -29,7 +29,7 @@ use Rattle.cp_steps.proofs.GatesHeld.{gate_is_held}
 use Rattle.cp_steps.proofs.PrivateSteps.{IsRunning, running_is, still_is}
 use Rattle.cp_steps.proofs.Stepping.{Stepped, clock_of}
 use Rattle.cp_process.specs.Kinds.{kind_of}
-use Rattle.cp_process.specs.Promises.{meant}
+use Rattle.cp_process.specs.Promises.{meaning_kind}
 use Rattle.cp_process.specs.declared.kind.Kind.{Kind}
 use Rattle.cp_process.specs.declared.kind.Kind.TheVariants as kind
 
@@ -61,7 +61,7 @@ module _ (program : Program) (setup : Setup) (F : StandsFor program setup) (p ow
   told held of_kernel = if (if held then false else not of_kernel) then kind.Private else (if (if held then true else of_kernel) then kind.Kernel else kind.None)
 
   -- It holds no gate.
-  ready_free : (is : s.status p ≡ stage.Ready) → marked_monitors (s.continuation p) ≡ [] → meaning.kind s p ≡ meant (kind_of program o)
+  ready_free : (is : s.status p ≡ stage.Ready) → marked_monitors (s.continuation p) ≡ [] → meaning.kind s p ≡ meaning_kind (kind_of program o)
   ready_free is marks =
       let stepped : Stepped G s w before o =
       ready_steps G s w before o F refl part I (record { clock = refl; own = part.count }) (λ q h. reach_own p q (ap (λ z. in_reach p z q) (sym marks) ∙ h))
@@ -76,20 +76,20 @@ module _ (program : Program) (setup : Setup) (F : StandsFor program setup) (p ow
       ap (λ z. meaning.kind_of z (s.continuation p)) is
       ∙ (ap (λ ms. if (elim ms as (λ z. Bool) [ [] ↦ false | m ∷ rest ↦ true ]) || is_kernel_action (action (s.continuation p)) then meaning.Kernel else meaning.Private) marks
       ∙ ap (λ b. if b then meaning.Kernel else meaning.Private) stepped.same_kind) in
-      defined ∙ (by (steps.is_kernel_operation stepped.operation) ∙ ap meant (sym computed))
+      defined ∙ (by (steps.is_kernel_operation stepped.operation) ∙ ap meaning_kind (sym computed))
     where
-      by : (b : Bool) → (if b then meaning.Kernel else meaning.Private) ≡ meant (told false b)
+      by : (b : Bool) → (if b then meaning.Kernel else meaning.Private) ≡ meaning_kind (told false b)
       by true = refl
       by false = refl
 
   -- It holds a gate.
-  ready_held : (is : s.status p ≡ stage.Ready) (m : ℕ) (ms : List ℕ) → marked_monitors (s.continuation p) ≡ m ∷ ms → meaning.kind s p ≡ meant (kind_of program o)
+  ready_held : (is : s.status p ≡ stage.Ready) (m : ℕ) (ms : List ℕ) → marked_monitors (s.continuation p) ≡ m ∷ ms → meaning.kind s p ≡ meaning_kind (kind_of program o)
   ready_held is m ms marks =
       let held : steps.is_held o.gate ≡ true = gate_is_held G s.store o (s.continuation p) m ms (on is) marks in
       let defined : meaning.kind s p ≡ meaning.Kernel =
       ap (λ z. meaning.kind_of z (s.continuation p)) is
       ∙ ap (λ ns. if (elim ns as (λ z. Bool) [ [] ↦ false | n ∷ rest ↦ true ]) || is_kernel_action (action (s.continuation p)) then meaning.Kernel else meaning.Private) marks in
-      defined ∙ ap meant (sym (ap (λ x. if machine.is_running x
+      defined ∙ ap meaning_kind (sym (ap (λ x. if machine.is_running x
       then (if steps.is_private o (operation_of program o) then kind.Private else (if needs_kernel o (operation_of program o) then kind.Kernel else kind.None))
       else kind.None) (running is) ∙ gated held))
     where
@@ -101,21 +101,21 @@ module _ (program : Program) (setup : Setup) (F : StandsFor program setup) (p ow
       ]
 
   -- It doesn't run.
-  still : (x : Status) → s.status p ≡ x → meaning.kind_of x (s.continuation p) ≡ meaning.NoStep → (IsRunning (private_status x) → ⊥) → meaning.kind s p ≡ meant (kind_of program o)
+  still : (x : Status) → s.status p ≡ x → meaning.kind_of x (s.continuation p) ≡ meaning.NoStep → (IsRunning (private_status x) → ⊥) → meaning.kind s p ≡ meaning_kind (kind_of program o)
   still x is none rests =
       ap (λ z. meaning.kind_of z (s.continuation p)) is ∙ (none
-      ∙ ap meant (sym (ap (λ b. if b
+      ∙ ap meaning_kind (sym (ap (λ b. if b
       then (if steps.is_private o (operation_of program o) then kind.Private else (if needs_kernel o (operation_of program o) then kind.Kernel else kind.None))
       else kind.None) (still_is o.activity (λ h. rests (subst IsRunning (sym (same x is)) h))))))
 
-  pub kind_is_meant : (IsBlocked (s.status p) → ⊥) → meaning.kind s p ≡ meant (kind_of program o)
+  pub kind_is_meant : (IsBlocked (s.status p) → ⊥) → meaning.kind s p ≡ meaning_kind (kind_of program o)
   kind_is_meant free = by (s.status p) refl
     where
-      ready : (ms : List ℕ) → marked_monitors (s.continuation p) ≡ ms → s.status p ≡ stage.Ready → meaning.kind s p ≡ meant (kind_of program o)
+      ready : (ms : List ℕ) → marked_monitors (s.continuation p) ≡ ms → s.status p ≡ stage.Ready → meaning.kind s p ≡ meaning_kind (kind_of program o)
       ready [] marks is = ready_free is marks
       ready (m ∷ ms) marks is = ready_held is m ms marks
 
-      by : (x : Status) → s.status p ≡ x → meaning.kind s p ≡ meant (kind_of program o)
+      by : (x : Status) → s.status p ≡ x → meaning.kind s p ≡ meaning_kind (kind_of program o)
       by stage.Unstarted is = still stage.Unstarted is refl (λ h. h)
       by stage.Fresh is = still stage.Fresh is refl (λ h. h)
       by stage.Ready is = ready (marked_monitors (s.continuation p)) refl is

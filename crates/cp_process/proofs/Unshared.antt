@@ -6,12 +6,12 @@ use Rattle.cp_code.specs.Programs.{Operation, Program}
 use Rattle.cp_steps.specs.PrivateStates.{PrivateState, is_running}
 use Rattle.cp_steps.specs.KernelSteps as kernel
 use Rattle.cp_steps.specs.Steps.{act, act_on, alone, is_private, operation_of, private_step}
-use Rattle.cp_process.specs.States.{IsAlone, holder_of, joined, outside_of, private_of, stage_of}
+use Rattle.cp_process.specs.States.{IsAlone, holder_of, join, outside_of, private_of, stage_of}
 use Rattle.cp_process.specs.declared.outside.Outside.{Outside}
 use Rattle.cp_process.specs.declared.private.Private.{Private}
 
-pub private_joined : (x : Private) (input : List ℕ) → private_of x input ≡ joined x input []
-private_joined x input = λ i. record (joined x input []) { words = sym (append-nil x.memory.words.items) i }
+pub private_joined : (x : Private) (input : List ℕ) → private_of x input ≡ join x input []
+private_joined x input = λ i. record (join x input []) { words = sym (append-nil x.memory.words.items) i }
 
 none_set : (m : ℕ) → kernel.is_set (holder_of [] m) ≡ false
 none_set zero = refl

@@ -14,16 +14,16 @@ use Rattle.cp_process.specs.declared.private.Private.{Private}
 use Rattle.cp_threaded.specs.declared.operation.Call.{Call}
 use Rattle.cp_threaded.specs.declared.program.CodeUnit.{CodeUnit}
 
-abbrev pub called : Called → passing.Called
-called c = record { component = c.component; is_set = c.is_set; gate = c.gate }
+abbrev pub called_of : Called → passing.Called
+called_of c = record { component = c.component; is_set = c.is_set; gate = c.gate }
 
 abbrev pub back : Back → calling.Back
 back b = record { place = b.place; into = b.into }
 
 -- The state, with the result of the passing step that led to it.
-abbrev pub passed : PrivateState → Result (Unit {0}) Fault → passing.Passing
-passed o (Ok u) = record { own = o; fault = None }
-passed o (Err f) = record { own = o; fault = Some f }
+abbrev pub passing_of : PrivateState → Result (Unit {0}) Fault → passing.Passing
+passing_of o (Ok u) = record { own = o; fault = None }
+passing_of o (Err f) = record { own = o; fault = Some f }
 
 -- The value that the running routine returns, if it is a function.
 abbrev pub value_to_return : PrivateState → Bool → Result (Option ℤ) Fault

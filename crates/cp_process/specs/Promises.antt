@@ -32,10 +32,10 @@ MakesTurn program n x y input clock =
     → PartOf G (meaning.private_turn setup n s p) before (private_of y input)
 
 -- The kind of step in the meaning.
-abbrev pub meant : Kind → meaning.Kind
-meant kind.Private = meaning.Private
-meant kind.Kernel = meaning.Kernel
-meant kind.None = meaning.NoStep
+abbrev pub meaning_kind : Kind → meaning.Kind
+meaning_kind kind.Private = meaning.Private
+meaning_kind kind.Kernel = meaning.Kernel
+meaning_kind kind.None = meaning.NoStep
 
 -- k is the kind of the process's next step in each state of which x is the part, unless the process
 -- asks or is delayed, which only the kernel knows.
@@ -43,4 +43,4 @@ abbrev pub TellsKind : Program → Private → List ℕ → Kind → Type 0
 TellsKind program x input k =
     (setup : Setup) (F : StandsFor (view.program program) setup) (p own : ℕ) (s : State) (before : List ℕ)
     → let G = ground_of (view.program program) setup F p own in
-    Invariant s → PartOf G s before (private_of x input) → (IsBlocked (s.status p) → ⊥) → meaning.kind s p ≡ meant k
+    Invariant s → PartOf G s before (private_of x input) → (IsBlocked (s.status p) → ⊥) → meaning.kind s p ≡ meaning_kind k

@@ -52,8 +52,8 @@ frames_in zero fs = []
 frames_in (suc n) fs = frame_or_none (slice_get fs n) ∷ frames_in n fs
 
 -- A private state, with more words after its own.
-abbrev pub joined : Private → List ℕ → List ℤ → PrivateState
-joined x input shared = record {
+abbrev pub join : Private → List ℕ → List ℤ → PrivateState
+join x input shared = record {
   number = x.number;
   activity = activity x.activity;
   place = x.place;
@@ -71,7 +71,7 @@ joined x input shared = record {
 }
 
 abbrev pub private_of : Private → List ℕ → PrivateState
-private_of x input = record (joined x input []) { words = x.memory.words.items }
+private_of x input = record (join x input []) { words = x.memory.words.items }
 
 -- ---- Outside
 
@@ -146,4 +146,4 @@ outcome o (Err f) = fault_in o f
 -- outside and the state says.
 abbrev pub IsStep : Private → List ℤ → Outside → Private → List ℤ → Result Effect Fault → (plain.Outside → PrivateState → Acting) → Type 0
 IsStep x shared w y after result go =
-    outcome (joined y w.input.now after) result ≡ go (outside_of w (length x.memory.words.items)) (joined x w.input.now shared)
+    outcome (join y w.input.now after) result ≡ go (outside_of w (length x.memory.words.items)) (join x w.input.now shared)

@@ -6,8 +6,8 @@ ghost use Rattle.cp_model.specs.Integers.{same_integer};
 ghost use Rattle.cp_model.specs.Places.{within};
 ghost use Rattle.cp_steps.specs.Steps as plain;
 ghost use Rattle.cp_steps.specs.PrivateStates.{go_to, private_outcome};
-ghost use Rattle.cp_process.specs.States.{IsReady, IsStep, joined, outcome};
-ghost use Rattle.cp_threaded.specs.Reaches.{capped};
+ghost use Rattle.cp_process.specs.States.{IsReady, IsStep, join, outcome};
+ghost use Rattle.cp_threaded.specs.Reaches.{cap_place};
 ghost use Rattle.cp_threaded.specs.View as view;
 
 use crate::effect::Effect;
@@ -53,9 +53,9 @@ impl Private {
         next: u32,
     ) -> Result<Effect, Fault>
         requires { length shared.old < 2 ^ 30 }
-        ensures step { (input : List ℕ) (place : ℕ) → capped place ≡ at
-            → outcome (joined self.new input shared.new) result ≡ plain.set_within
-            (joined self.old input shared.old) bounds.low bounds.high place n next }
+        ensures step { (input : List ℕ) (place : ℕ) → cap_place place ≡ at
+            → outcome (join self.new input shared.new) result ≡ plain.set_within
+            (join self.old input shared.old) bounds.low bounds.high place n next }
         ensures output { self.new.output ≡ self.old.output }
         ensures own { length self.new.memory.words.items ≡ length self.old.memory.words.items }
         ensures number { self.new.number ≡ self.old.number }

@@ -3,7 +3,7 @@
 ghost use Rattle.std.specs.Prelude.{◌≡◌, ◌+◌, ◌<◌, ◌≤◌, ◌^◌, true, ℕ, List, IfSome, MatchOption, length, nat_le};
 ghost use Rattle.cp_code.specs.Programs.{CodeUnit as PlainUnit};
 ghost use Rattle.cp_process.specs.Calls.{HasRoom, back};
-ghost use Rattle.cp_process.specs.States.{IsStep, joined};
+ghost use Rattle.cp_process.specs.States.{IsStep, join};
 ghost use Rattle.cp_steps.specs.Calling as plain;
 ghost use Rattle.cp_steps.specs.PrivateStates as states;
 ghost use Rattle.cp_threaded.specs.View as view;
@@ -31,7 +31,7 @@ impl Private {
         requires { length shared.now < 2 ^ 30 }
         ensures value { (w : states.Outside) (input : List ℕ)
             → w.own ≡ length self.now.memory.words.items
-            → result ≡ plain.has_room w (joined self.now input shared.now) (view.call call.now)
+            → result ≡ plain.has_room w (join self.now input shared.now) (view.call call.now)
             (view.code_unit unit.now) component }
         ensures room { result ≡ true → HasRoom self.now shared.now call.now unit.now component }
     {
@@ -68,7 +68,7 @@ impl Private {
         requires { length shared.now < 2 ^ 30 }
         ensures unit { (w : states.Outside) (input : List ℕ)
             → w.own ≡ length self.now.memory.words.items
-            → let o = joined self.now input shared.now in MatchOption result
+            → let o = join self.now input shared.now in MatchOption result
             ((go : PlainUnit → states.Acting) → plain.with_unit (view.program program.now) w o
             (view.call call.now) component go ≡ states.private_outcome o)
             (λ u. (go : PlainUnit → states.Acting) → plain.with_unit (view.program program.now) w o

@@ -1,10 +1,10 @@
 //! Changes of the words and temps of a private state.
 
 ghost use Rattle.std.specs.Prelude.{◌≡◌, ◌<◌, ◌^◌, ℕ, ℤ, List, length, map};
-ghost use Rattle.cp_code.specs.Starts.{block, paste, started};
-ghost use Rattle.cp_process.specs.States.{IsReady, joined};
+ghost use Rattle.cp_code.specs.Starts.{block, paste, carry_out};
+ghost use Rattle.cp_process.specs.States.{IsReady, join};
 ghost use Rattle.cp_steps.specs.PrivateStates as plain;
-ghost use Rattle.cp_threaded.specs.Reaches.{capped};
+ghost use Rattle.cp_threaded.specs.Reaches.{cap_place};
 ghost use Rattle.cp_threaded.specs.View as view;
 
 use crate::private::Private;
@@ -16,8 +16,8 @@ impl Private {
     #[inline(always)]
     pub(crate) fn set_word(&mut self, shared: &mut [i32], at: usize, n: i32)
         requires { length shared.old < 2 ^ 30 }
-        ensures step { (input : List ℕ) (place : ℕ) → capped place ≡ at
-            → joined self.new input shared.new ≡ plain.set_word (joined self.old input shared.old)
+        ensures step { (input : List ℕ) (place : ℕ) → cap_place place ≡ at
+            → join self.new input shared.new ≡ plain.set_word (join self.old input shared.old)
             place n }
         ensures output { self.new.output ≡ self.old.output }
         ensures own { length self.new.memory.words.items ≡ length self.old.memory.words.items }
@@ -31,8 +31,8 @@ impl Private {
     /// Writes the temp at a place. Writes nothing if there is no such temp.
     pub(crate) fn set_temp(&mut self, at: usize, n: i32)
         ensures step { (input : List ℕ) (shared : List ℤ)
-            → joined self.new input shared ≡ plain.set_temp
-            (joined self.old input shared) at n }
+            → join self.new input shared ≡ plain.set_temp
+            (join self.old input shared) at n }
         ensures output { self.new.output ≡ self.old.output }
         ensures own { length self.new.memory.words.items ≡ length self.old.memory.words.items }
         ensures number { self.new.number ≡ self.old.number }
@@ -45,8 +45,8 @@ impl Private {
     /// Copies `count` words. The locations may be capped to the largest `usize`.
     pub(crate) fn move_words(&mut self, shared: &mut [i32], to: usize, from: usize, count: usize)
         requires { length shared.old < 2 ^ 30 }
-        ensures step { (input : List ℕ) (i j : ℕ) → capped i ≡ to → capped j ≡ from
-            → let o = joined self.old input shared.old in joined self.new input shared.new
+        ensures step { (input : List ℕ) (i j : ℕ) → cap_place i ≡ to → cap_place j ≡ from
+            → let o = join self.old input shared.old in join self.new input shared.new
             ≡ record o { words = paste i (block o.words j count) o.words } }
         ensures output { self.new.output ≡ self.old.output }
         ensures own { length self.new.memory.words.items ≡ length self.old.memory.words.items }
@@ -63,8 +63,8 @@ impl Private {
         requires shared { length shared.old < 2 ^ 30 }
         requires base { base < 2 ^ 33 }
         ensures step { (input : List ℕ)
-            → let o = joined self.old input shared.old in joined self.new input shared.new
-            ≡ record o { words = started base (map view.start plan.now) o.words } }
+            → let o = join self.old input shared.old in join self.new input shared.new
+            ≡ record o { words = carry_out base (map view.start plan.now) o.words } }
         ensures output { self.new.output ≡ self.old.output }
         ensures own { length self.new.memory.words.items ≡ length self.old.memory.words.items }
         ensures number { self.new.number ≡ self.old.number }

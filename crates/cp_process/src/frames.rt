@@ -3,8 +3,8 @@
 ghost use Rattle.std.specs.Prelude.{◌≡◌, ◌+◌, ◌-◌, ◌<◌, ◌^◌, ℕ, ℤ, suc, [], ◌∷◌, List, MatchOption, length};
 ghost use Rattle.cp_code.specs.Starts as starts;
 ghost use Rattle.cp_model.specs.declared.state.Fault.TheVariants as fault;
-ghost use Rattle.cp_process.specs.States.{effect, frame as view_frame, frames_in, joined};
-ghost use Rattle.cp_process.specs.Calls.{back, called, returning, value_to_return};
+ghost use Rattle.cp_process.specs.States.{effect, frame as view_frame, frames_in, join};
+ghost use Rattle.cp_process.specs.Calls.{back, called_of, returning, value_to_return};
 ghost use Rattle.cp_steps.specs.Calling as plain;
 ghost use Rattle.cp_steps.specs.PrivateStates.{Enters, Leaves};
 ghost use Rattle.cp_threaded.specs.View as view;
@@ -63,8 +63,8 @@ impl Private {
 
     fn keep(&mut self, frame: Frame)
         requires { self.old.depth < length self.old.frames.items }
-        ensures step { (input : List ℕ) (shared : List ℤ) → let o = joined self.old input shared in
-            joined self.new input shared ≡ record o { frames = view_frame frame ∷ o.frames } }
+        ensures step { (input : List ℕ) (shared : List ℤ) → let o = join self.old input shared in
+            join self.new input shared ≡ record o { frames = view_frame frame ∷ o.frames } }
         ensures output { self.new.output ≡ self.old.output }
         ensures own { length self.new.memory.words.items ≡ length self.old.memory.words.items }
         ensures number { self.new.number ≡ self.old.number }
@@ -82,8 +82,8 @@ impl Private {
         requires temp { self.old.memory.temp + call.now.temps < 2 ^ 32 }
         requires component { callee.component < 2 ^ 32 }
         ensures step { (input : List ℕ) (shared : List ℤ)
-            → joined self.new input shared ≡ plain.enter
-            (joined self.old input shared) (called callee) (view.code_unit unit.now)
+            → join self.new input shared ≡ plain.enter
+            (join self.old input shared) (called_of callee) (view.code_unit unit.now)
             (view.call call.now) (back link) }
         ensures output { self.new.output ≡ self.old.output }
         ensures own { length self.new.memory.words.items ≡ length self.old.memory.words.items }
@@ -113,7 +113,7 @@ impl Private {
         function: bool,
     ) -> Result<Option<i32>, Fault>
         requires { length shared.now < 2 ^ 30 }
-        ensures { (input : List ℕ) → result ≡ value_to_return (joined self.now input shared.now)
+        ensures { (input : List ℕ) → result ≡ value_to_return (join self.now input shared.now)
             function }
     {
         if !function {
@@ -130,8 +130,8 @@ impl Private {
     pub(crate) fn return_to(&mut self, caller: Frame, value: Option<i32>)
         requires { 0 < self.old.depth }
         ensures step { (input : List ℕ) (shared : List ℤ)
-            → joined self.new input shared ≡ plain.leave
-            (returning (joined self.old input shared) (view_frame caller) value) (view_frame caller)
+            → join self.new input shared ≡ plain.leave
+            (returning (join self.old input shared) (view_frame caller) value) (view_frame caller)
             (frames_in (self.old.depth - 1) self.old.frames.items) }
         ensures output { self.new.output ≡ self.old.output }
         ensures own { length self.new.memory.words.items ≡ length self.old.memory.words.items }

@@ -1,7 +1,7 @@
 //! The steps of `init`.
 
 ghost use Rattle.std.specs.Prelude.{◌≡◌, ◌<◌, ◌^◌, ℕ, List, length, map};
-ghost use Rattle.cp_process.specs.States.{IsStep, joined};
+ghost use Rattle.cp_process.specs.States.{IsStep, join};
 ghost use Rattle.cp_steps.specs.Calling as plain;
 ghost use Rattle.cp_steps.specs.Passing.{component_called};
 ghost use Rattle.cp_threaded.specs.View as view;
@@ -31,8 +31,8 @@ impl Private {
         requires shared { length shared.old < 2 ^ 30 }
         requires from { from < 2 ^ 35 }
         requires to { to < 2 ^ 35 }
-        ensures step { (input : List ℕ) → joined self.new input shared.new ≡ plain.settle
-            (joined self.old input shared.old) from to count }
+        ensures step { (input : List ℕ) → join self.new input shared.new ≡ plain.settle
+            (join self.old input shared.old) from to count }
         ensures output { self.new.output ≡ self.old.output }
         ensures own { length self.new.memory.words.items ≡ length self.old.memory.words.items }
         ensures number { self.new.number ≡ self.old.number }

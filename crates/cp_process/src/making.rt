@@ -2,7 +2,7 @@
 
 ghost use Rattle.std.specs.Prelude.{◌≡◌, ◌<◌, ◌≤◌, ◌-◌, ◌*◌, ◌^◌, ℕ, List, [], IfOk, OnOk, Some, pos, replicate, length, slice_get, vec_capacity, vec_len};
 ghost use Rattle.cp_code.specs.Programs as code;
-ghost use Rattle.cp_code.specs.Starts.{started, word};
+ghost use Rattle.cp_code.specs.Starts.{carry_out, word};
 ghost use Rattle.cp_process.specs.Rooms.{HasRoomFor};
 ghost use Rattle.cp_process.specs.States.{activity, private_of};
 ghost use Rattle.cp_steps.specs.KernelSteps.{Kernel};
@@ -63,7 +63,7 @@ fn first_words(
     count: usize,
 ) -> Result<Vec<i32>, AllocError>
     requires { count < 2 ^ 30 }
-    ensures words { IfOk result (λ ws. ws.items ≡ started 0
+    ensures words { IfOk result (λ ws. ws.items ≡ carry_out 0
         (view.plan_at (view.plans_of program.now)
         process.now.plan) (replicate count (pos 0))) }
     ensures count { IfOk result (λ ws. length ws.items ≡ count) }

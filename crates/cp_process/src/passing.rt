@@ -1,12 +1,12 @@
 //! The arguments of calls and of `init`.
 
 ghost use Rattle.std.specs.Prelude.{◌≡◌, ◌+◌, ◌<◌, ◌^◌, ℕ, List, None, length, map};
-ghost use Rattle.cp_process.specs.Calls.{passed};
-ghost use Rattle.cp_process.specs.States.{joined, outside_of};
+ghost use Rattle.cp_process.specs.Calls.{passing_of};
+ghost use Rattle.cp_process.specs.States.{join, outside_of};
 ghost use Rattle.cp_steps.specs.Passing as plain;
 ghost use Rattle.cp_steps.specs.PrivateStates.{view_of};
 ghost use Rattle.cp_steps.specs.Values.{place_of, value_of};
-ghost use Rattle.cp_threaded.specs.Reaches.{capped};
+ghost use Rattle.cp_threaded.specs.Reaches.{cap_place};
 ghost use Rattle.cp_threaded.specs.View as view;
 
 use crate::assignments::Bounds;
@@ -39,8 +39,8 @@ impl Private {
     ) -> Result<(), Fault>
         requires shared { length shared.old < 2 ^ 30 }
         requires at { at < 2 ^ 36 }
-        ensures step { (own : ℕ) → let o = joined self.old outside.now.input.now shared.old in
-            passed (joined self.new outside.now.input.now shared.new) result ≡ plain.pass_result o
+        ensures step { (own : ℕ) → let o = join self.old outside.now.input.now shared.old in
+            passing_of (join self.new outside.now.input.now shared.new) result ≡ plain.pass_result o
             (value_of (view_of (outside_of outside.now own) o) (view.term term.now))
             (λ n. plain.pass_value o at low.now high.now n) }
         ensures output { self.new.output ≡ self.old.output }
@@ -66,8 +66,8 @@ impl Private {
     ) -> Result<(), Fault>
         requires shared { length shared.old < 2 ^ 30 }
         requires at { at < 2 ^ 36 }
-        ensures step { (own : ℕ) → let o = joined self.old outside.now.input.now shared.old in
-            passed (joined self.new outside.now.input.now shared.new) result ≡ plain.pass_result o
+        ensures step { (own : ℕ) → let o = join self.old outside.now.input.now shared.old in
+            passing_of (join self.new outside.now.input.now shared.new) result ≡ plain.pass_result o
             (place_of (view_of (outside_of outside.now own) o) (view.spot from.now))
             (λ a. plain.pass_copy o at size a) }
         ensures output { self.new.output ≡ self.old.output }
@@ -83,8 +83,8 @@ impl Private {
     // Returns a location as a word, or 0 if it lies beyond all words.
     fn reference_word(&self, shared: &[i32], at: usize) -> i32
         requires { length shared.now < 2 ^ 30 }
-        ensures { (input : List ℕ) (place : ℕ) → capped place ≡ at → result ≡ plain.reference_word
-            (joined self.now input shared.now) place }
+        ensures { (input : List ℕ) (place : ℕ) → cap_place place ≡ at
+            → result ≡ plain.reference_word (join self.now input shared.now) place }
     {
         if at <= self.memory.words.len() + shared.len() {
             at as i32
@@ -102,8 +102,8 @@ impl Private {
     ) -> Result<(), Fault>
         requires shared { length shared.old < 2 ^ 30 }
         requires at { at < 2 ^ 36 }
-        ensures step { (own : ℕ) → let o = joined self.old outside.now.input.now shared.old in
-            passed (joined self.new outside.now.input.now shared.new) result ≡ plain.pass_result o
+        ensures step { (own : ℕ) → let o = join self.old outside.now.input.now shared.old in
+            passing_of (join self.new outside.now.input.now shared.new) result ≡ plain.pass_result o
             (place_of (view_of (outside_of outside.now own) o) (view.spot to.now))
             (λ a. plain.pass_word o at (plain.reference_word o a)) }
         ensures output { self.new.output ≡ self.old.output }
@@ -120,9 +120,9 @@ impl Private {
     fn pass_right(&mut self, shared: &mut [i32], at: usize, home: usize, of: Target)
         requires shared { length shared.old < 2 ^ 30 }
         requires at { at < 2 ^ 36 }
-        ensures step { (input : List ℕ) → let o = joined self.old input shared.old in
+        ensures step { (input : List ℕ) → let o = join self.old input shared.old in
             plain.pass_word o at (plain.right_word o home (view.target of))
-            ≡ record { own = joined self.new input shared.new; fault = None } }
+            ≡ record { own = join self.new input shared.new; fault = None } }
         ensures output { self.new.output ≡ self.old.output }
         ensures own { length self.new.memory.words.items ≡ length self.old.memory.words.items }
         ensures number { self.new.number ≡ self.old.number }
@@ -140,9 +140,10 @@ impl Private {
         argument: &Argument,
     ) -> Result<(), Fault>
         requires { length shared.old < 2 ^ 30 }
-        ensures step { (own : ℕ) → passed (joined self.new outside.now.input.now shared.new) result
+        ensures step { (own : ℕ)
+            → passing_of (join self.new outside.now.input.now shared.new) result
             ≡ plain.pass_one (outside_of outside.now own) destination.to destination.home
-            (joined self.old outside.now.input.now shared.old) (view.argument argument.now) }
+            (join self.old outside.now.input.now shared.old) (view.argument argument.now) }
         ensures output { self.new.output ≡ self.old.output }
         ensures own { length self.new.memory.words.items ≡ length self.old.memory.words.items }
         ensures number { self.new.number ≡ self.old.number }
@@ -180,10 +181,11 @@ impl Private {
         arguments: &[Argument],
     ) -> Result<(), Fault>
         requires { length shared.old < 2 ^ 30 }
-        ensures step { (own : ℕ) → passed (joined self.new outside.now.input.now shared.new) result
+        ensures step { (own : ℕ)
+            → passing_of (join self.new outside.now.input.now shared.new) result
             ≡ plain.pass_all (outside_of outside.now own) destination.to destination.home
             (map view.argument arguments.now)
-            (joined self.old outside.now.input.now shared.old) }
+            (join self.old outside.now.input.now shared.old) }
         ensures output { self.new.output ≡ self.old.output }
         ensures own { length self.new.memory.words.items ≡ length self.old.memory.words.items }
         ensures number { self.new.number ≡ self.old.number }

@@ -2,10 +2,10 @@
 
 ghost use Rattle.std.specs.Prelude.{◌≡◌, ◌<◌, ◌^◌, ℕ, List, length};
 ghost use Rattle.cp_code.specs.Starts.{word};
-ghost use Rattle.cp_process.specs.States.{joined, outside_of};
+ghost use Rattle.cp_process.specs.States.{join, outside_of};
 ghost use Rattle.cp_steps.specs.PrivateStates as plain;
 ghost use Rattle.cp_steps.specs.Values.{place_of, value_of};
-ghost use Rattle.cp_threaded.specs.Reaches.{capped, capped_result, view_of};
+ghost use Rattle.cp_threaded.specs.Reaches.{cap_place, capped_result, view_of};
 ghost use Rattle.cp_threaded.specs.View as view;
 
 use crate::outside::Outside;
@@ -21,7 +21,7 @@ impl Private {
     pub(crate) fn reach<'a>(&'a self, shared: &'a [i32], outside: &Outside) -> Reach<'a>
         requires { length shared.now < 2 ^ 30 }
         ensures { (input : List ℕ) (own : ℕ) → view_of result ≡ plain.view_of
-            (outside_of outside.now own) (joined self.now input shared.now) }
+            (outside_of outside.now own) (join self.now input shared.now) }
     {
         Reach {
             memory: &self.memory,
@@ -34,8 +34,8 @@ impl Private {
     #[inline(always)]
     pub(crate) fn word(&self, shared: &[i32], at: usize) -> i32
         requires { length shared.now < 2 ^ 30 }
-        ensures { (input : List ℕ) (place : ℕ) → capped place ≡ at → result ≡ word
-            (joined self.now input shared.now).words place }
+        ensures { (input : List ℕ) (place : ℕ) → cap_place place ≡ at → result ≡ word
+            (join self.now input shared.now).words place }
     {
         words::read(&self.memory.words, shared, at)
     }
@@ -50,7 +50,7 @@ impl Private {
     ) -> Result<i32, Fault>
         requires { length shared.now < 2 ^ 30 }
         ensures { (input : List ℕ) (own : ℕ) → result ≡ value_of
-            (plain.view_of (outside_of outside.now own) (joined self.now input shared.now))
+            (plain.view_of (outside_of outside.now own) (join self.now input shared.now))
             (view.term term.now) }
     {
         term.value(&self.reach(shared, outside))
@@ -66,7 +66,7 @@ impl Private {
     ) -> Result<i32, Fault>
         requires { length shared.now < 2 ^ 30 }
         ensures { (input : List ℕ) (own : ℕ) → result ≡ value_of
-            (plain.view_of (outside_of outside.now own) (joined self.now input shared.now))
+            (plain.view_of (outside_of outside.now own) (join self.now input shared.now))
             (view.term term.now) }
     {
         term.value_here(&self.reach(shared, outside))
@@ -83,7 +83,7 @@ impl Private {
     ) -> Result<usize, Fault>
         requires { length shared.now < 2 ^ 30 }
         ensures { (input : List ℕ) (own : ℕ) → result ≡ capped_result (place_of
-            (plain.view_of (outside_of outside.now own) (joined self.now input shared.now))
+            (plain.view_of (outside_of outside.now own) (join self.now input shared.now))
             (view.spot spot.now)) }
     {
         spot.place(&self.reach(shared, outside))

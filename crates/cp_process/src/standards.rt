@@ -2,12 +2,12 @@
 
 ghost use Rattle.std.specs.Prelude.{◌≡◌, ◌+◌, ◌*◌, ◌≤◌, ◌<◌, ◌^◌, ◌++◌, ℕ, ℤ, List, length, vec_capacity, vec_len};
 ghost use Rattle.cp_process.specs.Rooms.{HasRoomFor, KeepsRoom};
-ghost use Rattle.cp_process.specs.States.{IsStep, joined};
+ghost use Rattle.cp_process.specs.States.{IsStep, join};
 ghost use Rattle.cp_model.specs.StandardCalls as standard;
 ghost use Rattle.cp_steps.specs.PrivateStates as states;
 ghost use Rattle.cp_steps.specs.PrivateStates.{go_to, private_outcome};
 ghost use Rattle.cp_steps.specs.Steps as plain;
-ghost use Rattle.cp_threaded.specs.Reaches.{capped};
+ghost use Rattle.cp_threaded.specs.Reaches.{cap_place};
 ghost use Rattle.cp_threaded.specs.View as view;
 
 use crate::assignments::Bounds;
@@ -50,8 +50,8 @@ impl Private {
         requires few { length bytes.now ≤ 11 }
         requires room { HasRoomFor self.old 1 }
         ensures step { (input : List ℕ) (shared : List ℤ)
-            → let o = joined self.old input shared in
-            joined self.new input shared
+            → let o = join self.old input shared in
+            join self.new input shared
             ≡ go_to next (record o { output = o.output ++ bytes.now }) }
         ensures room { KeepsRoom self.old self.new }
         ensures own { length self.new.memory.words.items ≡ length self.old.memory.words.items }

@@ -1,7 +1,7 @@
 //! How the words of components start.
 
 ghost use Rattle.std.specs.Prelude.{◌≡◌, ◌<◌, ◌^◌, length, map};
-ghost use Rattle.cp_code.specs.Starts.{started};
+ghost use Rattle.cp_code.specs.Starts.{carry_out};
 ghost use Rattle.cp_threaded.specs.View as view;
 
 use crate::words;
@@ -11,7 +11,7 @@ use cp_threaded::program::Start;
 pub fn start_words(all: &mut [i32], base: usize, plan: &[Start])
     requires words { length all.old < 2 ^ 32 }
     requires base { base < 2 ^ 33 }
-    ensures words { all.new ≡ started base (map view.start plan.now) all.old }
+    ensures words { all.new ≡ carry_out base (map view.start plan.now) all.old }
     ensures length { length all.new ≡ length all.old }
 {
     words::start(&mut [], all, base, plan);

@@ -2,7 +2,7 @@
 
 ghost use Rattle.std.specs.Prelude.{◌≡◌, ◌<◌, ◌^◌, false, true, ℕ, List, [], length};
 ghost use Rattle.cp_process.specs.Rooms.{HasRoomFor, KeepsRoom};
-ghost use Rattle.cp_process.specs.States.{IsAlone, IsReady, IsStep, activity, effect, joined, outside_of, private_of};
+ghost use Rattle.cp_process.specs.States.{IsAlone, IsReady, IsStep, activity, effect, join, outside_of, private_of};
 ghost use Rattle.cp_code.specs.Programs as code;
 ghost use Rattle.cp_steps.specs.PrivateStates.{is_running};
 ghost use Rattle.cp_steps.specs.Steps as plain;
@@ -119,8 +119,8 @@ impl Private {
         requires shared { length shared.old < 2 ^ 30 }
         requires room { HasRoomFor self.old 1 }
         ensures step { let w = outside_of outside.now (length self.old.memory.words.items) in
-            (joined self.new outside.now.input.now shared.new, effect result) ≡ plain.act
-            (view.program program.now) w (joined self.old outside.now.input.now shared.old)
+            (join self.new outside.now.input.now shared.new, effect result) ≡ plain.act
+            (view.program program.now) w (join self.old outside.now.input.now shared.old)
             (view.operation operation.now) }
         ensures room { KeepsRoom self.old self.new }
         ensures own { length self.new.memory.words.items ≡ length self.old.memory.words.items }
@@ -149,9 +149,9 @@ impl Private {
         high: &i32,
         next: &u32,
     ) -> bool
-        ensures step { let input = outside.now.input.now in let o = joined self.old input [] in
+        ensures step { let input = outside.now.input.now in let o = join self.old input [] in
             let w = outside_of outside.now (length self.old.memory.words.items) in
-            joined self.new input []
+            join self.new input []
             ≡ (plain.with_place w o (view.spot to.now) (λ at. plain.with_value w o
             (view.term value.now) (λ n. plain.set_within o low.now high.now at n next.now))).0 }
         ensures output { self.new.output ≡ self.old.output }

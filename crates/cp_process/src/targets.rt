@@ -3,8 +3,8 @@
 ghost use Rattle.std.specs.Prelude.{◌≡◌, ◌+◌, ◌<◌, ◌^◌, ◌+ℤ◌, ℕ, pos, List, length};
 ghost use Rattle.cp_code.specs.Layout as layout;
 ghost use Rattle.cp_model.specs.Places.{within};
-ghost use Rattle.cp_process.specs.Calls.{called};
-ghost use Rattle.cp_process.specs.States.{holder_of, joined, outside_of, stage_of};
+ghost use Rattle.cp_process.specs.Calls.{called_of};
+ghost use Rattle.cp_process.specs.States.{holder_of, join, outside_of, stage_of};
 ghost use Rattle.cp_steps.specs.KernelSteps as kernel;
 ghost use Rattle.cp_steps.specs.Passing as plain;
 ghost use Rattle.cp_threaded.specs.View as view;
@@ -85,7 +85,7 @@ impl Private {
     fn class_right(&self, shared: &[i32], at: u32) -> usize
         requires { length shared.now < 2 ^ 30 }
         ensures place { (input : List ℕ) → result ≡ plain.class_right
-            (joined self.now input shared.now) at }
+            (join self.now input shared.now) at }
         ensures small { result < 2 ^ 35 }
     {
         let place = self.member(at);
@@ -94,8 +94,8 @@ impl Private {
 
     fn class_callee(&self, shared: &[i32], at: usize) -> Called
         requires { length shared.now < 2 ^ 30 }
-        ensures { (input : List ℕ) → called result ≡ plain.class_called
-            (joined self.now input shared.now) at }
+        ensures { (input : List ℕ) → called_of result ≡ plain.class_called
+            (join self.now input shared.now) at }
     {
         Called {
             component: at,
@@ -110,7 +110,7 @@ impl Private {
         outside: &Outside,
         monitor: u32,
     ) -> Called
-        ensures { called result ≡ plain.monitor_called (view.program program.now)
+        ensures { called_of result ≡ plain.monitor_called (view.program program.now)
             (outside_of outside.now (length self.now.memory.words.items)) monitor }
     {
         Called {
@@ -130,9 +130,9 @@ impl Private {
         target: Target,
     ) -> Called
         requires { length shared.now < 2 ^ 30 }
-        ensures { (input : List ℕ) → called result ≡ plain.component_called
+        ensures { (input : List ℕ) → called_of result ≡ plain.component_called
             (view.program program.now) (outside_of outside.now (length self.now.memory.words.items))
-            (joined self.now input shared.now) (view.target target) }
+            (join self.now input shared.now) (view.target target) }
     {
         match target {
             Target::Own => Called {
@@ -155,7 +155,7 @@ impl Private {
     fn distance_word(&self, shared: &[i32], at: usize, from: usize) -> i32
         requires { length shared.now < 2 ^ 30 }
         ensures { (input : List ℕ) → result ≡ plain.distance_word
-            (joined self.now input shared.now) at from }
+            (join self.now input shared.now) at from }
     {
         let all = self.memory.words.len() + shared.len();
         if at <= all && from <= all {
@@ -168,7 +168,7 @@ impl Private {
     /// Returns a right as it is passed on, to be stored in the word at `to`.
     pub(crate) fn right_word(&self, shared: &[i32], to: usize, target: Target) -> i32
         requires { length shared.now < 2 ^ 30 }
-        ensures { (input : List ℕ) → result ≡ plain.right_word (joined self.now input shared.now) to
+        ensures { (input : List ℕ) → result ≡ plain.right_word (join self.now input shared.now) to
             (view.target target) }
     {
         match target {

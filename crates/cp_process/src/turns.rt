@@ -3,7 +3,7 @@
 ghost use Rattle.std.specs.Prelude.{◌≡◌, ◌≤◌, ◌+◌, ◌*◌, ◌<◌, ◌^◌, length, vec_capacity, vec_len};
 ghost use Rattle.cp_process.specs.Promises.{MakesStep, MakesTurn};
 ghost use Rattle.cp_process.specs.Rooms.{HasRoomFor, KeepsRoom};
-ghost use Rattle.cp_process.specs.States.{IsAlone, effect, joined, outside_of, private_of};
+ghost use Rattle.cp_process.specs.States.{IsAlone, effect, join, outside_of, private_of};
 ghost use Rattle.cp_steps.specs.Steps as plain;
 ghost use Rattle.cp_threaded.specs.View as view;
 
@@ -79,8 +79,8 @@ pub fn step(
     requires shared { length shared.old < 2 ^ 30 }
     requires room { HasRoomFor private.old 1 }
     ensures step { let w = outside_of outside.now (length private.old.memory.words.items) in
-        (joined private.new outside.now.input.now shared.new, effect result) ≡ plain.step_with
-        (view.program program.now) w (joined private.old outside.now.input.now shared.old) }
+        (join private.new outside.now.input.now shared.new, effect result) ≡ plain.step_with
+        (view.program program.now) w (join private.old outside.now.input.now shared.old) }
     ensures room { KeepsRoom private.old private.new }
     ensures own { length private.new.memory.words.items ≡ length private.old.memory.words.items }
     ensures number { private.new.number ≡ private.old.number }

@@ -5,7 +5,7 @@
 
 ghost use Rattle.std.specs.Prelude.{◌≡◌, ◌+◌, ◌-◌, ◌≤◌, ◌<◌, ◌^◌, ◌++◌, ℕ, length, map, slice_set};
 ghost use Rattle.cp_code.specs.Starts as plain;
-ghost use Rattle.cp_threaded.specs.Reaches.{capped};
+ghost use Rattle.cp_threaded.specs.Reaches.{cap_place};
 ghost use Rattle.cp_threaded.specs.View as view;
 
 use cp_threaded::program::Start;
@@ -25,7 +25,7 @@ fn word(words: &[i32], at: usize) -> i32
 pub(crate) fn read(own: &[i32], shared: &[i32], at: usize) -> i32
     requires { length own.now + length shared.now < 2 ^ 32 }
     ensures word { result ≡ plain.word (own.now ++ shared.now) at }
-    ensures capped { (place : ℕ) → capped place ≡ at
+    ensures capped { (place : ℕ) → cap_place place ≡ at
         → result ≡ plain.word (own.now ++ shared.now) place }
 {
     match own.get(at) {
@@ -40,7 +40,7 @@ pub(crate) fn read(own: &[i32], shared: &[i32], at: usize) -> i32
 pub(crate) fn write(own: &mut [i32], shared: &mut [i32], at: usize, n: i32)
     requires { length own.old + length shared.old < 2 ^ 32 }
     ensures word { own.new ++ shared.new ≡ slice_set (own.old ++ shared.old) at n }
-    ensures capped { (place : ℕ) → capped place ≡ at
+    ensures capped { (place : ℕ) → cap_place place ≡ at
         → own.new ++ shared.new ≡ slice_set (own.old ++ shared.old) place n }
     ensures own { length own.new ≡ length own.old }
     ensures shared { length shared.new ≡ length shared.old }
@@ -127,7 +127,8 @@ fn repeat(own: &mut [i32], shared: &mut [i32], at: usize, size: usize, count: us
     requires words { length own.old + length shared.old < 2 ^ 32 }
     requires at { at < 2 ^ 34 }
     requires size { size < 2 ^ 32 }
-    ensures words { own.new ++ shared.new ≡ plain.repeated at size count (own.old ++ shared.old) }
+    ensures words { own.new ++ shared.new
+        ≡ plain.repeat_block at size count (own.old ++ shared.old) }
     ensures own { length own.new ≡ length own.old }
     ensures shared { length shared.new ≡ length shared.old }
 {
@@ -148,7 +149,7 @@ fn repeat(own: &mut [i32], shared: &mut [i32], at: usize, size: usize, count: us
 fn start_by(own: &mut [i32], shared: &mut [i32], base: usize, start: Start)
     requires words { length own.old + length shared.old < 2 ^ 32 }
     requires base { base < 2 ^ 33 }
-    ensures words { own.new ++ shared.new ≡ plain.started_by base (view.start start)
+    ensures words { own.new ++ shared.new ≡ plain.carry_out_start base (view.start start)
         (own.old ++ shared.old) }
     ensures own { length own.new ≡ length own.old }
     ensures shared { length shared.new ≡ length shared.old }
@@ -168,7 +169,7 @@ fn start_by(own: &mut [i32], shared: &mut [i32], base: usize, start: Start)
 pub(crate) fn start(own: &mut [i32], shared: &mut [i32], base: usize, plan: &[Start])
     requires words { length own.old + length shared.old < 2 ^ 32 }
     requires base { base < 2 ^ 33 }
-    ensures words { own.new ++ shared.new ≡ plain.started base (map view.start plan.now)
+    ensures words { own.new ++ shared.new ≡ plain.carry_out base (map view.start plan.now)
         (own.old ++ shared.old) }
     ensures own { length own.new ≡ length own.old }
     ensures shared { length shared.new ≡ length shared.old }

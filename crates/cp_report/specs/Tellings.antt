@@ -5,7 +5,7 @@ use Rattle.cp_model.specs.Locations.{Path}
 use Rattle.cp_model.specs.Report.{Text, line, occupant_text}
 use Rattle.cp_process.specs.States.{private_of}
 use Rattle.cp_gates.specs.KernelOf.{kernel_of}
-use Rattle.cp_steps.specs.Means.{queued}
+use Rattle.cp_steps.specs.Means.{process_of_word}
 use Rattle.cp_steps.specs.Reports.{Visit, lines_visit, queue_visit}
 use Rattle.cp_report.specs.declared.telling.Leaf.{Leaf}
 use Rattle.cp_report.specs.declared.telling.Leaf.TheVariants as leaf
@@ -22,13 +22,13 @@ abbrev pub visit_of : Telling → Visit
 visit_of (telling.Lines ws) = lines_visit (words_in ws)
 visit_of (telling.PathOf at) = queue_visit at
 
-abbrev pub told : Visit → Leaf → Path → ℕ → Text
-told v leaf.Simple path at = v.simple path at
-told v leaf.Queue path at = v.queue path at
+abbrev pub tell_leaf : Visit → Leaf → Path → ℕ → Text
+tell_leaf v leaf.Simple path at = v.simple path at
+tell_leaf v leaf.Queue path at = v.queue path at
 
 -- The lines of a value and of a queue, given the text of the path.
 abbrev pub value_line_of : Text → ℤ → Text
 value_line_of path n = line (codes "var " ++ (path ++ (codes " = " ++ decimal n)))
 
 abbrev pub queue_line_of : Text → ℤ → Text
-queue_line_of path n = line (codes "queue " ++ (path ++ (codes " = " ++ occupant_text (queued n))))
+queue_line_of path n = line (codes "queue " ++ (path ++ (codes " = " ++ occupant_text (process_of_word n))))

@@ -4,7 +4,7 @@ ghost use Rattle.std.specs.Prelude.{◌≡◌, ◌++◌, [], OnOk, if◌then◌e
 ghost use Rattle.cp_code.specs.Starts.{word};
 ghost use Rattle.cp_model.specs.Locations.{Path};
 ghost use Rattle.cp_model.specs.Report.{path_text};
-ghost use Rattle.cp_report.specs.Tellings.{queue_line_of, told, value_line_of, visit_of, words_in};
+ghost use Rattle.cp_report.specs.Tellings.{queue_line_of, tell_leaf, value_line_of, visit_of, words_in};
 
 use crate::text::{push_integer, push_occupant};
 use cp_gates::kernel::Kernel;
@@ -79,7 +79,7 @@ impl<'w> Telling<'w> {
         at: usize,
     ) -> Result<(), AllocError>
         ensures { OnOk result ((p : Path) → path_text p ≡ path.now
-            → out.new.items ≡ out.old.items ++ told (visit_of self.now) leaf p at) }
+            → out.new.items ≡ out.old.items ++ tell_leaf (visit_of self.now) leaf p at) }
     {
         match *self {
             Telling::Lines(words) => match leaf {

@@ -2,8 +2,8 @@
 
 ghost use Rattle.std.specs.Prelude.{◌≡◌, ◌<◌, ◌++◌, OnOk, false, flat_map};
 ghost use Rattle.cp_model.specs.Decimal.{decimal, natural};
-ghost use Rattle.cp_model.specs.Report.{escaped, hex_digit, occupant_text};
-ghost use Rattle.cp_steps.specs.Means.{queued};
+ghost use Rattle.cp_model.specs.Report.{escape, hex_digit, occupant_text};
+ghost use Rattle.cp_steps.specs.Means.{process_of_word};
 
 use itoa::Buffer;
 use std::alloc::AllocError;
@@ -26,7 +26,7 @@ pub(crate) fn push_integer(out: &mut Vec<u8>, n: i64) -> Result<(), AllocError>
 
 /// Adds the number of the process that waits in a queue, or a dash.
 pub(crate) fn push_occupant(out: &mut Vec<u8>, n: i32) -> Result<(), AllocError>
-    ensures { OnOk result (out.new.items ≡ out.old.items ++ occupant_text (queued n)) }
+    ensures { OnOk result (out.new.items ≡ out.old.items ++ occupant_text (process_of_word n)) }
 {
     if n > 0 {
         push_natural(out, n as u64)
@@ -45,7 +45,7 @@ pub fn hex(n: u8) -> u8
 
 // Adds a byte of a transcript, or its escape.
 fn push_escaped(out: &mut Vec<u8>, byte: u8) -> Result<(), AllocError>
-    ensures { OnOk result (out.new.items ≡ out.old.items ++ escaped byte) }
+    ensures { OnOk result (out.new.items ≡ out.old.items ++ escape byte) }
 {
     if 32 <= byte && byte <= 126 && byte != b'\'' && byte != b'\\' {
         out.extend_from_slice(&[byte])
@@ -56,7 +56,7 @@ fn push_escaped(out: &mut Vec<u8>, byte: u8) -> Result<(), AllocError>
 
 /// Adds the bytes of a transcript, or their escapes.
 pub(crate) fn push_all_escaped(out: &mut Vec<u8>, bytes: &[u8]) -> Result<(), AllocError>
-    ensures { OnOk result (out.new.items ≡ out.old.items ++ flat_map escaped bytes.now) }
+    ensures { OnOk result (out.new.items ≡ out.old.items ++ flat_map escape bytes.now) }
 {
     for byte in bytes {
         push_escaped(out, *byte)?;

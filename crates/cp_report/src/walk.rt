@@ -15,7 +15,7 @@ ghost use Rattle.cp_model.specs.View as view;
 ghost use Rattle.cp_model.specs.declared.tree.System.{System};
 ghost use Rattle.cp_scope.specs.Standing.{ScopeStands, entry, row_at, system_at};
 ghost use Rattle.cp_scope.specs.declared.types.TypeRow.TheVariants as row_case;
-ghost use Rattle.cp_report.specs.Tellings.{told, visit_of};
+ghost use Rattle.cp_report.specs.Tellings.{tell_leaf, visit_of};
 ghost use Rattle.cp_report.specs.Walks.{Continues, Enters, Finishes, Visits, cursor as cursor_of, members_in};
 
 use crate::heads::class_head;
@@ -94,7 +94,8 @@ impl Walk {
     // Reports a simple part or a queue, which has one word.
     fn tell(&mut self, telling: &Telling, out: &mut Vec<u8>, leaf: Leaf) -> Result<(), AllocError>
         ensures told { OnOk result ((p : Path) → path_text p ≡ self.old.path.items
-            → out.new.items ≡ out.old.items ++ told (visit_of telling.now) leaf p self.old.at) }
+            → out.new.items
+            ≡ out.old.items ++ tell_leaf (visit_of telling.now) leaf p self.old.at) }
         ensures place { OnOk result (self.new.at ≡ self.old.at + 1) }
         ensures stack { self.new.stack ≡ self.old.stack }
         ensures path { self.new.path ≡ self.old.path }

@@ -17,12 +17,12 @@ use Rattle.cp_rules.proofs.Judging.{both_first, both_violations, placed_first, p
 -- ---- what is made of a row
 
 pub row_made : (old s1 s2 : State) (j : Judged TypeRow) (row : Result TypeRow Violation) (answer : Result ℕ Violation)
-    → Judges old s1 row j → Knows s1 s2 answer (o.made s1.env [] row) → Makes old s2 answer (ty.made_type old.env j)
+    → Judges old s1 row j → Knows s1 s2 answer (o.make_known s1.env [] row) → Makes old s2 answer (ty.made_type old.env j)
 row_made old s1 s2 j row answer judged known =
-    go j (subst (λ r. Knows (telling old (violations_of j)) s2 answer (o.made old.env [] r)) judged.1
-    (subst (λ (z : State). Knows z s2 answer (o.made z.env [] row)) judged.0 known))
+    go j (subst (λ r. Knows (telling old (violations_of j)) s2 answer (o.make_known old.env [] r)) judged.1
+    (subst (λ (z : State). Knows z s2 answer (o.make_known z.env [] row)) judged.0 known))
   where
-    go : (i : Judged TypeRow) → Knows (telling old (violations_of i)) s2 answer (o.made old.env [] (first_of i)) → Makes old s2 answer (ty.made_type old.env i)
+    go : (i : Judged TypeRow) → Knows (telling old (violations_of i)) s2 answer (o.make_known old.env [] (first_of i)) → Makes old s2 answer (ty.made_type old.env i)
     go (Sound r) k = k
     go (Broken v vs) k = k
 
@@ -34,15 +34,15 @@ pub record Told (m : ty.Made (Judged ℕ)) (vs : Violations) (k : Known) : Type 
   pub of : k.of ≡ first_of m.of
   pub violations : violations_of m.of ≡ vs ++ k.violations
 
-made_env : (env : Environment) (vs : Violations) (j : Judged TypeRow) → (o.made env vs (first_of j)).env ≡ (ty.made_type env j).env
+made_env : (env : Environment) (vs : Violations) (j : Judged TypeRow) → (o.make_known env vs (first_of j)).env ≡ (ty.made_type env j).env
 made_env env vs (Sound r) = refl
 made_env env vs (Broken v us) = refl
 
-made_of : (env : Environment) (vs : Violations) (j : Judged TypeRow) → (o.made env vs (first_of j)).of ≡ first_of (ty.made_type env j).of
+made_of : (env : Environment) (vs : Violations) (j : Judged TypeRow) → (o.make_known env vs (first_of j)).of ≡ first_of (ty.made_type env j).of
 made_of env vs (Sound r) = refl
 made_of env vs (Broken v us) = refl
 
-made_violations : (env : Environment) (vs : Violations) (j : Judged TypeRow) → (o.made env vs (first_of j)).violations ≡ vs
+made_violations : (env : Environment) (vs : Violations) (j : Judged TypeRow) → (o.make_known env vs (first_of j)).violations ≡ vs
 made_violations env vs (Sound r) = refl
 made_violations env vs (Broken v us) = refl
 
@@ -57,7 +57,7 @@ array_told env at i e =
     let k = λ (a b : ℕ). ty.c13_type at (ty.array_row env a b) in
     let j : Judged TypeRow = both i e k in
     let out : Outer TypeRow = around_both (first_of i) (first_of e) k in
-    let same : o.array env at (first_of i) (first_of e) ≡ o.made env out.violations (first_of j) = ap (o.made env out.violations) (sym (both_first k i e)) in
+    let same : o.array env at (first_of i) (first_of e) ≡ o.make_known env out.violations (first_of j) = ap (o.make_known env out.violations) (sym (both_first k i e)) in
     record {
       env = ap (λ (n : Known). n.env) same ∙ made_env env out.violations j;
       of = ap (λ (n : Known). n.of) same ∙ made_of env out.violations j;
@@ -92,18 +92,18 @@ arrays_told env at (i ∷ is) e =
 pub array_made : (old s1 s2 s3 s4 : State) (at : ℕ) (is : s.TypeExpressions) (e : s.TypeExpression) (answers : List (Result ℕ Violation))
     → (one two answer : Result ℕ Violation)
     → JudgesIndices old s1 answers (ty.index_types old.env is) → Makes s1 s2 one (ty.type_of s1.env e)
-    → TellsOuter s2 s3 two (o.placed s2.env position.Element e one) → Knows s3 s4 answer (o.arrays s3.env at answers two)
+    → TellsOuter s2 s3 two (o.judge_in_position s2.env position.Element e one) → Knows s3 s4 answer (o.arrays s3.env at answers two)
     → Makes old s4 answer (ty.type_of old.env (s.Array at is e))
 array_made old s1 s2 s3 s4 at is e answers one two answer indices element outer known =
     let index : ty.Made (List (Judged ℕ)) = ty.index_types old.env is in
     let inner : ty.Made (Judged ℕ) = ty.type_of index.env e in
-    let placed : Judged ℕ = ty.placed inner.env position.Element e inner.of in
+    let placed : Judged ℕ = ty.judge_in_position inner.env position.Element e inner.of in
     let t1 : Option Violation = least old.told (all_violations index.of) in
     let makes : Makes (with_indices old index) s2 one inner = subst (λ (z : State). Makes z s2 one (ty.type_of z.env e)) indices.0 element in
     let s2' : State = record { env = inner.env; told = least t1 (violations_of inner.of) } in
-    let tells : TellsOuter s2' s3 two (o.placed inner.env position.Element e (first_of inner.of)) =
-    subst (λ r. TellsOuter s2' s3 two (o.placed inner.env position.Element e r)) makes.1
-    (subst (λ (z : State). TellsOuter z s3 two (o.placed z.env position.Element e one)) makes.0 outer) in
+    let tells : TellsOuter s2' s3 two (o.judge_in_position inner.env position.Element e (first_of inner.of)) =
+    subst (λ r. TellsOuter s2' s3 two (o.judge_in_position inner.env position.Element e r)) makes.1
+    (subst (λ (z : State). TellsOuter z s3 two (o.judge_in_position z.env position.Element e one)) makes.0 outer) in
     let s3' : State = record { env = inner.env; told = least t1 (violations_of placed) } in
     let told3 : s3 ≡ s3' =
     tells.0 ∙ ap (λ t. let st : State = record { env = inner.env; told = t } in st) (sym (placed_told t1 inner.env position.Element e inner.of)) in

@@ -8,7 +8,7 @@ use Rattle.cp_model.specs.declared.tree.Identifier.{Identifier}
 use Rattle.cp_model.specs.declared.rules.Member.{Member}
 use Rattle.cp_model.specs.declared.rules.Member.TheVariants as member
 use Rattle.cp_model.specs.declared.rules.Rule.TheVariants.{C1, C13}
-use Rattle.cp_model.specs.RulesJudged.{Broken, Judged, Sound, Violations, also, both, provided, then_judge, unless, violations_of}
+use Rattle.cp_model.specs.RulesJudged.{Broken, Judged, Sound, Violations, also, both, guard, then_judge, unless, violations_of}
 use Rattle.cp_model.specs.RulesEnvironment.{Environment, Members, Text, row_of}
 use Rattle.cp_model.specs.RulesTypes as ty
 use Rattle.cp_rules.specs.Records as records
@@ -105,7 +105,7 @@ also_violations [] j = refl
 also_violations (v ∷ vs) j = refl
 
 appended_violations : (xs : List Identifier) (a : Judged ℕ) (b : Judged ty.FieldList)
-    → violations_of (both a b (λ u fs. ty.appended (ty.fields_of_type xs u) fs)) ≡ violations_of a ++ violations_of b
+    → violations_of (both a b (λ u fs. ty.append_fields (ty.fields_of_type xs u) fs)) ≡ violations_of a ++ violations_of b
 appended_violations xs (Sound u) (Sound fs) = refl
 appended_violations xs (Sound u) (Broken v vs) = refl
 appended_violations xs (Broken v vs) b = refl
@@ -145,7 +145,7 @@ groups_told env seen ms (g ∷ gs) same =
     let told : GroupsTold rest own.members more = groups_told one.env (seen ++ map ty.name_of xs) own.members gs (same_all seen ms u xs same) in
     let names : Violations = ty.c1_fields seen xs in
     let named : own.violations ≡ names = same_violations seen ms u xs same in
-    let inner : Judged ty.FieldList = both placed rest.of (λ v fs. ty.appended (ty.fields_of_type xs v) fs) in
+    let inner : Judged ty.FieldList = both placed rest.of (λ v fs. ty.append_fields (ty.fields_of_type xs v) fs) in
     let listed : violations_of (also names inner) ≡ names ++ (violations_of placed ++ violations_of rest.of) =
     also_violations names inner ∙ ap (λ vs. names ++ vs) (appended_violations xs placed rest.of) in
     record {
@@ -159,7 +159,7 @@ groups_told env seen ms (g ∷ gs) same =
           let a = nothing_broken placed (nothing_first (violations_of placed) (violations_of rest.of) none_in) in
           let b = nothing_broken rest.of (nothing_last (violations_of placed) (violations_of rest.of) none_in) in
           let whole : Sound (ty.fields_of_type xs a.0 ++ b.0) ≡ Sound fs =
-          sym (λ i. also (no_names i) (both (a.1 i) (b.1 i) (λ v fs. ty.appended (ty.fields_of_type xs v) fs))) ∙ h in
+          sym (λ i. also (no_names i) (both (a.1 i) (b.1 i) (λ v fs. ty.append_fields (ty.fields_of_type xs v) fs))) ∙ h in
           let fs_are : ty.fields_of_type xs a.0 ++ b.0 ≡ fs = cc in
           let u_is : u ≡ a.0 = ap records.type_or_any a.1 in
           told.members b.0 b.1
@@ -176,10 +176,10 @@ words_are env [] = refl
 words_are env (f ∷ fs) = ap (λ n. (row_of env f.1).words + n) (words_are env fs)
 
 record_if_told : (env : Environment) (at : ℕ) (fs : ty.FieldList) (within : Bool)
-    → Told (ty.made_record env (provided within C13 at fs)) [] (records.record_if env at (ty.field_members fs) within)
+    → Told (ty.made_record env (guard within C13 at fs)) [] (records.record_if env at (ty.field_members fs) within)
 record_if_told env at fs true = record {
   env = ap (λ w. let e : Environment = record env {
-    types = env.types ++ record (records.row env (ty.field_members fs)) { words = ty.capped w } ∷ [];
+    types = env.types ++ record (records.row env (ty.field_members fs)) { words = ty.cap_words w } ∷ [];
     members = env.members ++ ty.field_members fs ∷ [];
   } in e) (words_are env fs);
   of = refl;
@@ -191,7 +191,7 @@ record_sound : (env : Environment) (at : ℕ) (fs : ty.FieldList)
     → Told (ty.made_record env (ty.c13_record env at fs)) [] (records.record_of env at (ty.field_members fs) None)
 record_sound env at fs =
     subst (λ within. Told (ty.made_record env (ty.c13_record env at fs)) [] (records.record_if env at (ty.field_members fs) within))
-    (ap (λ w. ty.is_within (ty.capped w)) (sym (words_are env fs)))
+    (ap (λ w. ty.is_within (ty.cap_words w)) (sym (words_are env fs)))
     (record_if_told env at fs (ty.is_within (ty.record_row env fs).words))
 
 pub record_told : (env : Environment) (at : ℕ) (j : Judged ty.FieldList) (ms : Members) → ((fs : ty.FieldList) → j ≡ Sound fs → ms ≡ ty.field_members fs)

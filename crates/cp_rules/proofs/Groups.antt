@@ -10,7 +10,7 @@ use Rattle.cp_model.specs.declared.rules.Violation.{Violation}
 use Rattle.cp_model.specs.RulesEnvironment.{Environment, entity_of, with_names}
 use Rattle.cp_model.specs.RulesDeclarations as d
 use Rattle.cp_model.specs.RulesJudged.{Broken, Judged, Sound, Violations, least, violations_of}
-use Rattle.cp_model.specs.RulesTypes.{Made, capped, type_placed}
+use Rattle.cp_model.specs.RulesTypes.{Made, cap_words, type_placed}
 use Rattle.cp_judge.proofs.Tells.{least_append}
 use Rattle.cp_rules.specs.Checking.{Makes, State, after, first_of}
 use Rattle.cp_rules.specs.Declaring.{Declares, entity_of_type, group_made, group_type, left_group, owners_of_type, with_variables, words_of_type}
@@ -86,14 +86,14 @@ module _ (old : State) (p : Position) (g : s.Variables) where
   pub group_declared : (s1 s2 s3 : State) (of : Result ℕ Violation) (e : Entity) (each n : ℕ)
       → s1 ≡ left_group old p g → of ≡ group_type old.env p g → each ≡ words_of_type s1.env of → e ≡ entity_of_type d.own_variable of
       → s2 ≡ record s1 { env = (d.declare_all s1.env e g.names).env } → s3 ≡ after s2 (owners_of_type s2.env p of g.names)
-      → n ≡ capped (length g.names * each) → Declares old s3 n (d.variable_group old.env p g)
+      → n ≡ cap_words (length g.names * each) → Declares old s3 n (d.variable_group old.env p g)
   group_declared s1 s2 s3 of e each n left type words entity names owners counting =
       let shown : s2 ≡ visible (entity_of_type d.own_variable of) =
       names ∙ ap (λ (z : State). let st : State = record z { env = (d.declare_all z.env e g.names).env } in st) left ∙ ap visible entity in
       let all : s3 ≡ counted of = owners ∙ ap (λ (z : State). after z (owners_of_type z.env p of g.names)) shown in
       let one : each ≡ d.words_of made.env made.of =
       words ∙ ap (λ (z : State). words_of_type z.env of) left ∙ ap (words_of_type base) type ∙ words_is base made.of ∙ same_words made.of in
-      (all ∙ ap counted type ∙ counted_is, counting ∙ ap (λ (w : ℕ). capped (length g.names * w)) one)
+      (all ∙ ap counted type ∙ counted_is, counting ∙ ap (λ (w : ℕ). cap_words (length g.names * w)) one)
     where
       same_words : (j : Judged ℕ) → d.words_of base j ≡ d.words_of made.env j
       same_words (Sound t) = refl
@@ -111,8 +111,8 @@ module _ (old new : State) (p : Position) (g : s.Variables) (gs : List s.Variabl
       ap (λ (z : State). with_variables z (d.variables z.env p gs)) same
       ∙ ap (λ t. let st : State = record { env = rest.env; told = t } in st) (sym (least_append old.told one.violations rest.violations))
 
-  pub rest_counted : new ≡ with_variables old one → (words more sum : ℕ) → more ≡ capped one.words → sum ≡ capped (words + more)
-      → capped (sum + (d.variables new.env p gs).words) ≡ capped (words + (d.variables old.env p (g ∷ gs)).words)
+  pub rest_counted : new ≡ with_variables old one → (words more sum : ℕ) → more ≡ cap_words one.words → sum ≡ cap_words (words + more)
+      → cap_words (sum + (d.variables new.env p gs).words) ≡ cap_words (words + (d.variables old.env p (g ∷ gs)).words)
   rest_counted same words more sum h k =
-      ap (λ (z : State). capped (sum + (d.variables z.env p gs).words)) same
+      ap (λ (z : State). cap_words (sum + (d.variables z.env p gs).words)) same
       ∙ capped_more words more one.words sum (d.variables one.env p gs).words h k

@@ -12,7 +12,7 @@ use Rattle.cp_model.specs.RulesEnvironment.{Environment, Names}
 use Rattle.cp_model.specs.RulesEnvironment as r
 use Rattle.cp_model.specs.RulesDeclarations as d
 use Rattle.cp_model.specs.RulesJudged.{Broken, Judged, Sound, Violations, least, meaning_of, then_judge, violations_of}
-use Rattle.cp_model.specs.RulesTypes.{capped, named_type}
+use Rattle.cp_model.specs.RulesTypes.{cap_words, named_type}
 use Rattle.cp_judge.proofs.Tells.{least_append}
 use Rattle.cp_rules.specs.Checking.{Judges, State, after, first_of, telling}
 use Rattle.cp_rules.specs.Declaring.{entity_of_type}
@@ -85,18 +85,18 @@ module _ (old : State) (of : Option Sort) (is_function : Bool) (g : s.Parameters
   abbrev group : d.Heading
   group = d.parameter_group old.env of is_function g
 
-  add_words : (words w each n sum : ℕ) → each ≡ w → n ≡ capped (length g.names * each) → sum ≡ capped (words + n)
-      → sum ≡ capped (words + length g.names * w)
+  add_words : (words w each n sum : ℕ) → each ≡ w → n ≡ cap_words (length g.names * each) → sum ≡ cap_words (words + n)
+      → sum ≡ cap_words (words + length g.names * w)
   add_words words w each n sum h k l =
-      l ∙ ap (λ (m : ℕ). capped (words + m)) (k ∙ ap (λ (m : ℕ). capped (length g.names * m)) h) ∙ capped_sum words (length g.names * w)
+      l ∙ ap (λ (m : ℕ). cap_words (words + m)) (k ∙ ap (λ (m : ℕ). cap_words (length g.names * m)) h) ∙ capped_sum words (length g.names * w)
     where
-      capped_sum : (a b : ℕ) → capped (a + capped b) ≡ capped (a + b)
+      capped_sum : (a b : ℕ) → cap_words (a + cap_words b) ≡ cap_words (a + b)
       capped_sum a b = omega arith
 
   pub group_collected : (k added : Collected) (new : State) (t : Result ℕ Violation) (e : Entity) (row : ParameterRow) (each n sum : ℕ)
       → new ≡ hidden_group old of is_function g → t ≡ first_of judged → e ≡ entity_of_type (d.parameter_entity by_reference) t
       → row ≡ row_of_type by_reference t → each ≡ words_of_parameter new.env by_reference t
-      → n ≡ capped (length g.names * each) → sum ≡ capped (k.words + n) → added ≡ with_names k e row g.names
+      → n ≡ cap_words (length g.names * each) → sum ≡ cap_words (k.words + n) → added ≡ with_names k e row g.names
       → record added { words = sum } ≡ with_part k group
   group_collected k added new t e row each n sum hiding judging stands rows words counting summing adding =
       let e_is : e ≡ r.entity_of (d.parameter_entity by_reference) judged =
@@ -107,7 +107,7 @@ module _ (old : State) (of : Option Sort) (is_function : Bool) (g : s.Parameters
       words ∙ ap (λ (z : State). words_of_parameter z.env by_reference t) hiding ∙ ap (words_of_parameter hidden by_reference) judging
       ∙ ap (λ (env : Environment). words_of_parameter env by_reference (first_of judged)) (declare_all_is old.env entity.Hidden g.names)
       ∙ words_is hidden.names by_reference judged in
-      let sum_is : sum ≡ capped (k.words + group.words) = add_words k.words _ each n sum each_is counting summing in
+      let sum_is : sum ≡ cap_words (k.words + group.words) = add_words k.words _ each n sum each_is counting summing in
       ap (λ (a : Collected). let b : Collected = record a { words = sum } in b) adding
       ∙ (λ i. record {
         bound = k.bound ++ bound_as (e_is i) g.names;
@@ -132,7 +132,7 @@ module _ (old new : State) (of : Option Sort) (is_function : Bool) (g : s.Parame
       ap (λ (z : State). with_heading z (d.heading z.env of is_function gs)) same
       ∙ ap (λ t. let st : State = record { env = rest.env; told = t } in st) (sym (least_append old.told one.violations rest.violations))
 
-  rest_words : (words m : ℕ) → capped (capped (words + m) + rest.words) ≡ capped (words + (m + rest.words))
+  rest_words : (words m : ℕ) → cap_words (cap_words (words + m) + rest.words) ≡ cap_words (words + (m + rest.words))
   rest_words words m = omega arith
 
   pub rest_collected : new ≡ hidden_group old of is_function g → (k more : Collected) → more ≡ with_part k one
@@ -154,5 +154,5 @@ end_collected k h bound rows words within =
       words = same i;
     }
   where
-    same : k.words ≡ capped (k.words + h.words)
+    same : k.words ≡ cap_words (k.words + h.words)
     same = omega (arith, words, within)

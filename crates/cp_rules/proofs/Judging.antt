@@ -4,7 +4,7 @@ use Rattle.cp_model.specs.Syntax as s
 use Rattle.cp_model.specs.declared.rules.Position.{Position}
 use Rattle.cp_model.specs.declared.rules.Rule.TheVariants.{C2, C8}
 use Rattle.cp_model.specs.declared.rules.Violation.{Violation}
-use Rattle.cp_model.specs.RulesJudged.{Broken, Judged, Sound, Violations, also, both, least, provided, then_judge, unless, violations_of}
+use Rattle.cp_model.specs.RulesJudged.{Broken, Judged, Sound, Violations, also, both, least, guard, then_judge, unless, violations_of}
 use Rattle.cp_model.specs.RulesEnvironment.{Environment, is_simple}
 use Rattle.cp_model.specs.RulesTypes as ty
 use Rattle.cp_judge.proofs.Tells.{least_append}
@@ -80,7 +80,7 @@ not_not true = refl
 not_not false = refl
 
 placed_is : (env : Environment) (p : Position) (t : s.TypeExpression) (j : Judged ℕ)
-    → ty.placed env p t j ≡ also (where_broken (o.written_queues env p t) j) (then_judge j (ty.c6_c8_placed env p (ty.type_at t)))
+    → ty.judge_in_position env p t j ≡ also (where_broken (o.written_queues env p t) j) (then_judge j (ty.c6_c8_placed env p (ty.type_at t)))
 placed_is env p (s.Array at is e) (Broken v vs) =
     ap (λ b. also (unless b C8 at) (Broken v vs)) (sym (not_not (ty.allows_queues p || not (ty.holds_queues env e))))
 placed_is env p (s.Array at is e) (Sound x) = refl
@@ -91,12 +91,12 @@ placed_is env p (s.Named x) (Broken v vs) = refl
 placed_is env p (s.Subrange a b) (Sound x) = refl
 placed_is env p (s.Subrange a b) (Broken v vs) = refl
 
-pub placed_first : (env : Environment) (p : Position) (t : s.TypeExpression) (j : Judged ℕ) → first_of (ty.placed env p t j) ≡ (o.placed env p t (first_of j)).of
+pub placed_first : (env : Environment) (p : Position) (t : s.TypeExpression) (j : Judged ℕ) → first_of (ty.judge_in_position env p t j) ≡ (o.judge_in_position env p t (first_of j)).of
 placed_first env p t j =
     ap first_of (placed_is env p t j) ∙ around_first (o.written_queues env p t) (ty.c6_c8_placed env p (ty.type_at t)) (o.written_queues env p t) refl j
 
 pub placed_told : (u : Option Violation) (env : Environment) (p : Position) (t : s.TypeExpression) (j : Judged ℕ)
-    → least u (violations_of (ty.placed env p t j)) ≡ least (least u (violations_of j)) (o.placed env p t (first_of j)).violations
+    → least u (violations_of (ty.judge_in_position env p t j)) ≡ least (least u (violations_of j)) (o.judge_in_position env p t (first_of j)).violations
 placed_told u env p t j =
     ap (λ i. least u (violations_of i)) (placed_is env p t j)
     ∙ around_told (o.written_queues env p t) (ty.c6_c8_placed env p (ty.type_at t)) u (o.written_queues env p t) refl j
@@ -106,7 +106,7 @@ abbrev pub index_of : Environment → s.TypeExpression → Judged ℕ → Judged
 index_of env t j = also (ty.c2_written_index t j) (ty.c2_index_type env (ty.type_at t) j)
 
 index_is : (env : Environment) (t : s.TypeExpression) (j : Judged ℕ)
-    → index_of env t j ≡ also (where_broken (o.written_index t) j) (then_judge j (λ n. provided (is_simple env n) C2 (ty.type_at t) n))
+    → index_of env t j ≡ also (where_broken (o.written_index t) j) (then_judge j (λ n. guard (is_simple env n) C2 (ty.type_at t) n))
 index_is env (s.Array at is e) (Sound x) = refl
 index_is env (s.Array at is e) (Broken v vs) = refl
 index_is env (s.Record at gs) (Sound x) = refl
@@ -119,13 +119,13 @@ index_is env (s.Subrange a b) (Broken v vs) = refl
 pub index_first : (env : Environment) (t : s.TypeExpression) (j : Judged ℕ) → first_of (index_of env t j) ≡ (o.index_type env t (first_of j)).of
 index_first env t j =
     ap first_of (index_is env t j)
-    ∙ around_first (o.written_index t) (λ n. provided (is_simple env n) C2 (ty.type_at t) n) (o.written_index t) refl j
+    ∙ around_first (o.written_index t) (λ n. guard (is_simple env n) C2 (ty.type_at t) n) (o.written_index t) refl j
 
 pub index_told : (u : Option Violation) (env : Environment) (t : s.TypeExpression) (j : Judged ℕ)
     → least u (violations_of (index_of env t j)) ≡ least (least u (violations_of j)) (o.index_type env t (first_of j)).violations
 index_told u env t j =
     ap (λ i. least u (violations_of i)) (index_is env t j)
-    ∙ around_told (o.written_index t) (λ n. provided (is_simple env n) C2 (ty.type_at t) n) u (o.written_index t) refl j
+    ∙ around_told (o.written_index t) (λ n. guard (is_simple env n) C2 (ty.type_at t) n) u (o.written_index t) refl j
 
 -- ---- arrays
 

@@ -113,7 +113,7 @@ mutual
       let element : Environment = (ty.type_of index e).env in
       keeps_trans env index _ (indices_keep env is)
       (keeps_trans index element _ (type_keeps index e)
-      (arrays_keep element at (ty.index_types env is).of (ty.placed element position.Element e (ty.type_of index e).of)))
+      (arrays_keep element at (ty.index_types env is).of (ty.judge_in_position element position.Element e (ty.type_of index e).of)))
   type_keeps env (s.Record at gs) =
       let fields : Environment = (ty.fields_of env [] gs).env in
       keeps_trans env fields _ (fields_keep env [] gs) (record_keeps fields _)

@@ -11,12 +11,12 @@ use Rattle.cp_model.specs.RulesJudged.{Broken, Judged, Sound, Violations, least}
 use Rattle.cp_model.specs.RulesEnvironment.{Environment, Names, declare, no_routine, with_names}
 use Rattle.cp_model.specs.RulesNeeds.{need_statements}
 use Rattle.cp_model.specs.RulesStatements.{statements}
-use Rattle.cp_model.specs.RulesTypes.{capped}
+use Rattle.cp_model.specs.RulesTypes.{cap_words}
 use Rattle.cp_model.specs.RulesDeclarations as d
 use Rattle.cp_rules.specs.Checking.{State, after, declared_name, telling}
 use Rattle.cp_rules.specs.Declaring.{Declares}
-use Rattle.cp_rules.specs.Headings.{Collected, Heads, collected, nothing, with_part}
-use Rattle.cp_rules.specs.Routines.{HeadsRoutine, JudgesBody, JudgesResult, answer_of, entered, first_if, heading_of, heading_violations, inside, left_routine, locals, region_of, result_words, returns_of_result, row_as}
+use Rattle.cp_rules.specs.Headings.{Collected, Heads, collection, nothing, with_part}
+use Rattle.cp_rules.specs.Routines.{HeadsRoutine, JudgesBody, JudgesResult, answer_of, enter_region, first_if, heading_of, heading_violations, inside, left_routine, locals, region_of, result_words, returns_of_result, row_as}
 use Rattle.cp_rules.specs.declared.headings.Heading.{Heading}
 use Rattle.cp_rules.proofs.Kept.{Begins, Grows, begins_trans, declare_begins, declare_each_grows, grows_trans, heading_begins, heading_is, left_names, variables_grow}
 use Rattle.cp_rules.proofs.Telling.{told_in, told_more}
@@ -48,12 +48,12 @@ module _ (old : State) (y : Sort) (r : s.Routine) where
       → JudgesResult s3 s4 answer (d.result_type s3.env r.result_type)
       → s5 ≡ record s4 { env = with_names (take mark s4.env.names) s4.env }
       → HeadsRoutine old s5 h answer y r
-  routine_headed s1 s2 s3 s4 s5 h answer mark at declared entered headed judged outside =
+  routine_headed s1 s2 s3 s4 s5 h answer mark at declared enter_region headed judged outside =
       let vs1 : Violations = named.violations ++ entry in
       let vs2 : Violations = vs1 ++ head.violations in
       let vs3 : Violations = vs2 ++ d.result_violations (answer_of old.env r) in
       let told2 : s2 ≡ told_in named.env old.told vs1 =
-      entered ∙ ap (λ (z : State). telling z entry) declared ∙ told_more named.env old.told named.violations entry in
+      enter_region ∙ ap (λ (z : State). telling z entry) declared ∙ told_more named.env old.told named.violations entry in
       let heads : Heads (told_in named.env old.told vs1) s3 h head =
       subst (λ (z : State). Heads z s3 h (d.heading z.env None (is_some r.result_type) r.parameters)) told2 headed in
       let told3 : s3 ≡ told_in head.env old.told vs2 = heads.0 ∙ told_more head.env old.told vs1 head.violations in
@@ -73,7 +73,7 @@ module _ (old : State) (y : Sort) (r : s.Routine) where
       → Declares s3 s4 words (locals s3.env r)
       → s5 ≡ telling s4 (statements s4.env r.body.list)
       → need ≡ need_statements s5.env r.body.list
-      → n ≡ capped (words + need)
+      → n ≡ cap_words (words + need)
       → JudgesBody old s5 n (locals (inside old.env y r row k) r) r.body
   body_judged k row s1 s2 s3 s4 s5 words need n within declared judged needed counted =
       let env : Environment = inside old.env y r row k in
@@ -83,13 +83,13 @@ module _ (old : State) (y : Sort) (r : s.Routine) where
       judged ∙ ap (λ (z : State). telling z (statements z.env r.body.list)) declares.0
       ∙ told_more own.env old.told own.violations (statements own.env r.body.list) in
       let need_is : need ≡ need_statements own.env r.body.list = needed ∙ ap (λ (z : State). need_statements z.env r.body.list) told5 in
-      let words_is : words ≡ capped own.words = declares.1 in (
+      let words_is : words ≡ cap_words own.words = declares.1 in (
         told5,
-        counted ∙ ap (λ m. capped (words + m)) need_is ∙ ap (λ m. capped (m + need_statements own.env r.body.list)) words_is
+        counted ∙ ap (λ m. cap_words (words + m)) need_is ∙ ap (λ m. cap_words (m + need_statements own.env r.body.list)) words_is
             ∙ capped_more own.words (need_statements own.env r.body.list),
       )
     where
-      capped_more : (a b : ℕ) → capped (capped a + b) ≡ capped (a + b)
+      capped_more : (a b : ℕ) → cap_words (cap_words a + b) ≡ cap_words (a + b)
       capped_more a b = omega arith
 
   -- ---- the whole
@@ -113,7 +113,7 @@ module _ (old : State) (y : Sort) (r : s.Routine) where
   }
 
   row_told : (h : Heading) (s1 : State) (answer : Option (Result ℕ Violation)) (row : RoutineRow) (first count : ℕ)
-      → s1 ≡ telling old (heading_violations old.env y r) → collected h ≡ with_part nothing head → answer ≡ first_if (answer_of old.env r)
+      → s1 ≡ telling old (heading_violations old.env y r) → collection h ≡ with_part nothing head → answer ≡ first_if (answer_of old.env r)
       → first ≡ length s1.env.parameters → count ≡ length h.rows.items → row ≡ row_as first count r.entry answer → row ≡ row_is
   row_told h s1 answer row first count headed kept answered firsts counts rows =
       let first_is : first ≡ length old.env.parameters = firsts ∙ ap (λ (z : State). length z.env.parameters) headed in
@@ -135,11 +135,11 @@ module _ (old : State) (y : Sort) (r : s.Routine) where
   all = heading_violations old.env y r ++ own.violations ++ statements own.env r.body.list
 
   abbrev need_is : ℕ
-  need_is = capped (1 + d.result_words (answer_of old.env r) + head.words + own.words + need_statements own.env r.body.list)
+  need_is = cap_words (1 + d.result_words (answer_of old.env r) + head.words + own.words + need_statements own.env r.body.list)
 
   own_grows : Grows old.env own.env
   own_grows =
-      let within : Environment = entered old.env head.rows (region_of y r) in
+      let within : Environment = enter_region old.env head.rows (region_of y r) in
       let unfinished : Environment = declare r.name (entity.UnfinishedRoutine row_is) within in
       let first : Grows old.env unfinished = record { names = declare_begins r.name (entity.UnfinishedRoutine row_is) within; routines = refl } in
       let visible : Environment = (d.declare_each unfinished head.bound).env in
@@ -147,21 +147,21 @@ module _ (old : State) (y : Sort) (r : s.Routine) where
       (grows_trans old.env unfinished visible first (declare_each_grows unfinished head.bound))
       (variables_grow visible position.RoutineVariable r.variables)
 
-  all_words : (answer result heading collected inside counted words need : ℕ)
-      → answer ≡ result → collected ≡ capped (0 + heading) → counted ≡ capped (words + need)
-      → capped (capped (1 + answer + collected) + counted) ≡ capped (1 + result + heading + words + need)
-  all_words answer result heading collected inside counted words need h k l = omega (arith, h, k, l)
+  all_words : (answer result heading collection inside counted words need : ℕ)
+      → answer ≡ result → collection ≡ cap_words (0 + heading) → counted ≡ cap_words (words + need)
+      → cap_words (cap_words (1 + answer + collection) + counted) ≡ cap_words (1 + result + heading + words + need)
+  all_words answer result heading collection inside counted words need h k l = omega (arith, h, k, l)
 
   body_told : (h : Heading) (s1 s2 : State) (row : RoutineRow) (n : ℕ)
-      → s1 ≡ telling old (heading_violations old.env y r) → collected h ≡ with_part nothing head → row ≡ row_is
-      → JudgesBody s1 s2 n (locals (inside s1.env y r row (collected h)) r) r.body
-      → (s2 ≡ told_in own.env old.told all) × (n ≡ capped (own.words + need_statements own.env r.body.list))
+      → s1 ≡ telling old (heading_violations old.env y r) → collection h ≡ with_part nothing head → row ≡ row_is
+      → JudgesBody s1 s2 n (locals (inside s1.env y r row (collection h)) r) r.body
+      → (s2 ≡ told_in own.env old.told all) × (n ≡ cap_words (own.words + need_statements own.env r.body.list))
   body_told h s1 s2 row n headed kept rowed judged =
       let told : Violations = heading_violations old.env y r in
       let rest : Violations = own.violations ++ statements own.env r.body.list in
-      let own_is : locals (inside s1.env y r row (collected h)) r ≡ own =
-      ap (λ (z : State). locals (inside z.env y r row (collected h)) r) headed
-      ∙ ap (λ (one : RoutineRow). locals (inside old.env y r one (collected h)) r) rowed
+      let own_is : locals (inside s1.env y r row (collection h)) r ≡ own =
+      ap (λ (z : State). locals (inside z.env y r row (collection h)) r) headed
+      ∙ ap (λ (one : RoutineRow). locals (inside old.env y r one (collection h)) r) rowed
       ∙ ap (λ (k : Collected). locals (inside old.env y r row_is k) r) kept in
       let judges : JudgesBody (telling old told) s2 n own r.body =
       subst (λ (z : State). JudgesBody z s2 n own r.body) headed (subst (λ v. JudgesBody s1 s2 n v r.body) own_is judged) in (
@@ -173,15 +173,15 @@ module _ (old : State) (y : Sort) (r : s.Routine) where
   pub routine_declared : (s1 s2 s3 : State) (h : Heading) (answer : Option (Result ℕ Violation)) (row : RoutineRow) (mark first count words n need : ℕ)
       → mark ≡ length old.env.names → HeadsRoutine old s1 h answer y r
       → first ≡ length s1.env.parameters → count ≡ length h.rows.items → row ≡ row_as first count r.entry answer
-      → JudgesBody s1 s2 n (locals (inside s1.env y r row (collected h)) r) r.body
-      → words ≡ result_words answer → need ≡ capped (capped (1 + words + h.words) + n)
+      → JudgesBody s1 s2 n (locals (inside s1.env y r row (collection h)) r) r.body
+      → words ≡ result_words answer → need ≡ cap_words (cap_words (1 + words + h.words) + n)
       → s3 ≡ left_routine s2 mark old.env.region r.name (record row { need = need })
       → s3 ≡ after old (d.routine old.env y r)
   routine_declared s1 s2 s3 h answer row mark first count words n need at headed firsts counts rows judged result needed left =
       let rowed : row ≡ row_is = row_told h s1 answer row first count headed.0 headed.1 headed.2 firsts counts rows in
       let told = body_told h s1 s2 row n headed.0 headed.1 rowed judged in
       let words_are : words ≡ d.result_words (answer_of old.env r) = result ∙ ap result_words headed.2 ∙ words_is (answer_of old.env r) in
-      let kept : h.words ≡ capped (0 + head.words) = ap (λ (k : Collected). k.words) headed.1 in
+      let kept : h.words ≡ cap_words (0 + head.words) = ap (λ (k : Collected). k.words) headed.1 in
       let need_told : need ≡ need_is =
       needed ∙ all_words words (d.result_words (answer_of old.env r)) head.words h.words n n own.words (need_statements own.env r.body.list) words_are kept told.1 in
       let names : take mark own.env.names ≡ old.env.names =

@@ -11,12 +11,12 @@ use Rattle.cp_model.specs.RulesJudged.{Violations, least}
 use Rattle.cp_model.specs.RulesEnvironment.{Environment, Members, declare, is_process, with_names}
 use Rattle.cp_model.specs.RulesNeeds.{need_statements}
 use Rattle.cp_model.specs.RulesStatements.{statements}
-use Rattle.cp_model.specs.RulesTypes.{capped}
+use Rattle.cp_model.specs.RulesTypes.{cap_words}
 use Rattle.cp_model.specs.RulesDeclarations as d
 use Rattle.cp_model.specs.Rules.{define_system, routine_members, variable_position}
 use Rattle.cp_rules.specs.Checking.{State, after, declared_name, telling}
 use Rattle.cp_rules.specs.Declaring.{Declares}
-use Rattle.cp_rules.specs.Headings.{Collected, Heads, collected, nothing, with_part}
+use Rattle.cp_rules.specs.Headings.{Collected, Heads, collection, nothing, with_part}
 use Rattle.cp_rules.specs.Systems.{HeadsSystem, JudgesParts, added_system, heading_of, inside, left_system, parts, row_as, words_of}
 use Rattle.cp_rules.specs.declared.headings.Heading.{Heading}
 use Rattle.cp_rules.proofs.Kept.{Begins, begins_trans, declare_begins, declare_each_begins, heading_left, left_names, routines_begin, variables_grow}
@@ -58,8 +58,8 @@ module _ (old : State) (y : s.System) where
 
 -- ---- the whole
 
-words_are : (y : Sort) (count own need words : ℕ) → words ≡ capped own
-    → words_of y count words need ≡ capped (1 + count + own + (if is_process y then need else 0))
+words_are : (y : Sort) (count own need words : ℕ) → words ≡ cap_words own
+    → words_of y count words need ≡ cap_words (1 + count + own + (if is_process y then need else 0))
 words_are sort.Process count own need words h = omega (arith, h)
 words_are sort.Monitor count own need words h = omega (arith, h)
 words_are sort.Class count own need words h = omega (arith, h)
@@ -85,7 +85,7 @@ module _ (old : State) (x : Identifier) (y : s.System) where
         sort = y.sort;
         first = length old.env.parameters;
         count = count;
-        words = capped (1 + count + own.words + (if is_process y.sort then need else 0));
+        words = cap_words (1 + count + own.words + (if is_process y.sort then need else 0));
         body_need = need;
         members = length judged.env.members;
       }
@@ -101,7 +101,7 @@ module _ (old : State) (x : Identifier) (y : s.System) where
   pub system_defined : (s1 s2 s3 s4 : State) (h : Heading) (row : SystemRow) (ms : Members) (outside mark first count words : ℕ)
       → outside ≡ length old.env.names → s1 ≡ after old named → mark ≡ length s1.env.names
       → HeadsSystem s1 s2 h y → first ≡ length s2.env.parameters → count ≡ length h.rows.items
-      → JudgesParts s2 s3 words (parts s2.env y (collected h))
+      → JudgesParts s2 s3 words (parts s2.env y (collection h))
       → row ≡ row_as s3.env y first count words
       → ms ≡ routine_members (drop mark s3.env.names)
       → s4 ≡ left_system s3 outside old.env.region x row ms
@@ -113,7 +113,7 @@ module _ (old : State) (x : Identifier) (y : s.System) where
       let told2 : s2 ≡ told_in named.env old.told vs1 = heads.0 ∙ told_more named.env old.told named.violations head.violations in
       let judging : JudgesParts (told_in named.env old.told vs1) s3 words judged =
       subst (λ (k : Collected). JudgesParts (told_in named.env old.told vs1) s3 words (parts named.env y k)) heads.1
-      (subst (λ (z : State). JudgesParts z s3 words (parts z.env y (collected h))) told2 parted) in
+      (subst (λ (z : State). JudgesParts z s3 words (parts z.env y (collection h))) told2 parted) in
       let told3 : s3 ≡ told_in judged.env old.told vs2 = judging.0 ∙ told_more judged.env old.told vs1 judged.violations in
       let first_is : first ≡ length old.env.parameters = firsts ∙ ap (λ (z : State). length z.env.parameters) told2 in
       let count_is : count ≡ length head.rows = counts ∙ ap (λ (k : Collected). length k.rows) heads.1 in

@@ -26,13 +26,13 @@ state_of e t = record { env = e; told = t }
 -- ---- a type at its position
 
 pub type_put : (s0 s1 s2 : State) (p : Position) (t : s.TypeExpression) (one two : Result ℕ Violation)
-    → Makes s0 s1 one (ty.type_of s0.env t) → TellsOuter s1 s2 two (o.placed s1.env p t one) → Makes s0 s2 two (ty.type_placed s0.env p t)
+    → Makes s0 s1 one (ty.type_of s0.env t) → TellsOuter s1 s2 two (o.judge_in_position s1.env p t one) → Makes s0 s2 two (ty.type_placed s0.env p t)
 type_put s0 s1 s2 p t one two makes tells =
     let made : ty.Made (Judged ℕ) = ty.type_of s0.env t in
     let inner : State = state_of made.env (least s0.told (violations_of made.of)) in
-    let outer : TellsOuter inner s2 two (o.placed made.env p t (first_of made.of)) =
-    subst (λ r. TellsOuter inner s2 two (o.placed made.env p t r)) makes.1
-    (subst (λ (z : State). TellsOuter z s2 two (o.placed z.env p t one)) makes.0 tells) in
+    let outer : TellsOuter inner s2 two (o.judge_in_position made.env p t (first_of made.of)) =
+    subst (λ r. TellsOuter inner s2 two (o.judge_in_position made.env p t r)) makes.1
+    (subst (λ (z : State). TellsOuter z s2 two (o.judge_in_position z.env p t one)) makes.0 tells) in
     (outer.0 ∙ ap (state_of made.env) (sym (placed_told s0.told made.env p t made.of)), outer.1 ∙ sym (placed_first made.env p t made.of))
 
 -- ---- one index type, and then the rest
@@ -84,12 +84,12 @@ pub record Added (s0 s3 : State) (g : s.Variables) (ms ns : Members) (f h : Opti
   pub first : h ≡ or_first f (records.group s0.env ms g).violations
 
 pub group_added : (s0 s1 s2 s3 : State) (g : s.Variables) (ms ns : Members) (f k h : Option Violation) (one two : Result ℕ Violation) (n : ℕ)
-    → Makes s0 s1 one (ty.type_of s0.env g.of) → TellsOuter s1 s2 two (o.placed s1.env position.Field g.of one)
+    → Makes s0 s1 one (ty.type_of s0.env g.of) → TellsOuter s1 s2 two (o.judge_in_position s1.env position.Field g.of one)
     → n ≡ number_or_any two → s3 ≡ telling s2 (with_fields ms n g.names).violations → ns ≡ (with_fields ms n g.names).members
     → k ≡ or_first f (with_fields ms n g.names).violations → h ≡ or_first k (broken_in two) → Added s0 s3 g ms ns f h
 group_added s0 s1 s2 s3 g ms ns f k h one two n makes tells number told members first noted =
     let made : ty.Made (Judged ℕ) = ty.type_of s0.env g.of in
-    let placed : Judged ℕ = ty.placed made.env position.Field g.of made.of in
+    let placed : Judged ℕ = ty.judge_in_position made.env position.Field g.of made.of in
     let put : Makes s0 s2 two (ty.type_placed s0.env position.Field g.of) = type_put s0 s1 s2 position.Field g.of one two makes tells in
     let told2 : s2 ≡ state_of made.env (least s0.told (violations_of placed)) = put.0 in
     let two_is : two ≡ first_of placed = put.1 in

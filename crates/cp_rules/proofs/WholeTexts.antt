@@ -8,11 +8,11 @@ use Rattle.cp_model.specs.declared.rules.Violation.{Violation}
 use Rattle.cp_model.specs.declared.tree.Sort.TheVariants as sort
 use Rattle.cp_model.specs.RulesEnvironment.{Environment, standard_environment}
 use Rattle.cp_model.specs.RulesJudged.{Violations, earlier, least, unless}
-use Rattle.cp_model.specs.RulesTypes.{capped, is_within}
+use Rattle.cp_model.specs.RulesTypes.{cap_words, is_within}
 use Rattle.cp_model.specs.RulesStatements.{statements}
 use Rattle.cp_model.specs.RulesNeeds.{need_statements}
 use Rattle.cp_model.specs.RulesDeclarations.{Declared, Variables, routines, variables}
-use Rattle.cp_model.specs.Rules.{Accepted, c13_initial, told, violations}
+use Rattle.cp_model.specs.Rules.{Accepted, c13_initial, first_violation, violations}
 use Rattle.cp_rules.specs.Checking.{State, after, telling}
 use Rattle.cp_rules.specs.Declaring.{Declares}
 use Rattle.cp_rules.specs.Definitions.{define_sections}
@@ -22,7 +22,7 @@ use Rattle.cp_rules.proofs.Telling.{told_in, told_more}
 
 -- ---- the body of the initial process
 
-within_capped : (n need words counted : ℕ) → words ≡ capped n → counted ≡ capped (capped (1 + words) + need) → is_within counted ≡ is_within (1 + n + need)
+within_capped : (n need words counted : ℕ) → words ≡ cap_words n → counted ≡ cap_words (cap_words (1 + words) + need) → is_within counted ≡ is_within (1 + n + need)
 within_capped n need words counted h g = grind (arith, nat_tests, h, g)
 
 broken_in : (t : Option Violation) (at words : ℕ) (vs : Violations) (x : Violation) → least None vs ≡ Some x → earlier t x ≡ least t (vs ++ c13_initial at words vs)
@@ -33,8 +33,8 @@ pub broken_body : (t : Option Violation) (env : Environment) (n : ℕ) (b : s.Bo
     → earlier t x ≡ least t (body_violations env n b)
 broken_body t env n b x h = broken_in t b.at (1 + n + need_statements env b.list) (statements env b.list) x h
 
-pub sound_body : (env : Environment) (n words counted : ℕ) (b : s.Body) → least None (statements env b.list) ≡ None → words ≡ capped n
-    → counted ≡ capped (capped (1 + words) + need_statements env b.list) → unless (is_within counted) C13 b.at ≡ body_violations env n b
+pub sound_body : (env : Environment) (n words counted : ℕ) (b : s.Body) → least None (statements env b.list) ≡ None → words ≡ cap_words n
+    → counted ≡ cap_words (cap_words (1 + words) + need_statements env b.list) → unless (is_within counted) C13 b.at ≡ body_violations env n b
 sound_body env n words counted b h g k =
     let need : ℕ = need_statements env b.list in
     ap (λ (within : Bool). unless within C13 b.at) (within_capped n need words counted g k)
@@ -56,7 +56,7 @@ module _ (t : s.Tree) where
       → s1 ≡ after s0 (define_sections s0.env t.sections)
       → Declares s1 s2 words (variables s1.env position.InitialVariable t.variables)
       → s3 ≡ after s2 (routines s2.env sort.Process t.routines)
-      → ((n : ℕ) → words ≡ capped n → s4 ≡ telling s3 (body_violations s3.env n t.body)) → s4 ≡ judged_text t
+      → ((n : ℕ) → words ≡ cap_words n → s4 ≡ telling s3 (body_violations s3.env n t.body)) → s4 ≡ judged_text t
   text_told s0 s1 s2 s3 s4 words begun sections declared routed judged =
       let told1 : s1 ≡ told_in defined.env None defined.violations = sections ∙ ap (λ (z : State). after z (define_sections z.env t.sections)) begun in
       let declares : Declares (told_in defined.env None defined.violations) s2 words own =
@@ -71,5 +71,5 @@ module _ (t : s.Tree) where
       ∙ told_more all.env None vs3 (body_violations all.env own.words t.body)
       ∙ ap (told_in all.env None) (sym (append_assoc vs3 body (c13_initial t.body.at (1 + own.words + need_statements all.env t.body.list) body)))
 
-  pub none_told : told t ≡ None → Accepted t
+  pub none_told : first_violation t ≡ None → Accepted t
   none_told h = nothing_told (violations t) h

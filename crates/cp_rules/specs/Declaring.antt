@@ -10,7 +10,7 @@ use Rattle.cp_model.specs.declared.rules.SystemRow.{SystemRow}
 use Rattle.cp_model.specs.declared.rules.Violation.{Violation}
 use Rattle.cp_model.specs.RulesJudged.{Judged, least, violations_of}
 use Rattle.cp_model.specs.RulesEnvironment.{Environment, row_of}
-use Rattle.cp_model.specs.RulesTypes.{Made, capped, type_placed}
+use Rattle.cp_model.specs.RulesTypes.{Made, cap_words, type_placed}
 use Rattle.cp_model.specs.RulesDeclarations.{Declared, Variables, c13_owner, declare_all, owners_in, unfinished_variable, with_owner, words_in}
 use Rattle.cp_rules.specs.Checking.{State, first_of}
 
@@ -37,7 +37,7 @@ abbrev pub with_variables : State → Variables → State
 with_variables s v = record { env = v.env; told = least s.told v.violations }
 
 abbrev pub Declares : State → State → ℕ → Variables → Type 0
-Declares old new n v = (new ≡ with_variables old v) × (n ≡ capped v.words)
+Declares old new n v = (new ≡ with_variables old v) × (n ≡ cap_words v.words)
 
 -- The type of a group, judged while its names are being defined.
 abbrev pub group_made : Environment → Position → s.Variables → Made (Judged ℕ)

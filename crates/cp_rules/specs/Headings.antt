@@ -9,7 +9,7 @@ use Rattle.cp_model.specs.declared.rules.ParameterRow.{ParameterRow}
 use Rattle.cp_model.specs.declared.rules.Violation.{Violation}
 use Rattle.cp_model.specs.RulesJudged.{Judged, least, then_judge}
 use Rattle.cp_model.specs.RulesEnvironment.{Environment}
-use Rattle.cp_model.specs.RulesTypes.{capped, named_type}
+use Rattle.cp_model.specs.RulesTypes.{cap_words, named_type}
 use Rattle.cp_model.specs.RulesDeclarations as d
 use Rattle.cp_rules.specs.Checking.{State}
 use Rattle.cp_rules.specs.Declaring.{words_of_type}
@@ -27,8 +27,8 @@ pub record Collected : Type 0 where
   pub rows : List ParameterRow
   pub words : ℕ
 
-abbrev pub collected : Heading → Collected
-collected h = record { bound = map lent h.bound.items; rows = h.rows.items; words = h.words }
+abbrev pub collection : Heading → Collected
+collection h = record { bound = map lent h.bound.items; rows = h.rows.items; words = h.words }
 
 abbrev pub nothing : Collected
 nothing = record { bound = []; rows = []; words = 0 }
@@ -42,7 +42,7 @@ with_names k e r xs = record { bound = k.bound ++ bound_as e xs; rows = k.rows +
 
 -- With a heading or a part of one added.
 abbrev pub with_part : Collected → d.Heading → Collected
-with_part k h = record { bound = k.bound ++ h.bound; rows = k.rows ++ h.rows; words = capped (k.words + h.words) }
+with_part k h = record { bound = k.bound ++ h.bound; rows = k.rows ++ h.rows; words = cap_words (k.words + h.words) }
 
 abbrev pub row_of_type : Bool → Result ℕ Violation → ParameterRow
 row_of_type by_reference (Ok t) = record { by_reference = by_reference; of = Some t }
@@ -74,4 +74,4 @@ abbrev pub with_heading : State → d.Heading → State
 with_heading old h = record { env = h.env; told = least old.told h.violations }
 
 abbrev pub Heads : State → State → Heading → d.Heading → Type 0
-Heads old new h all = (new ≡ with_heading old all) × (collected h ≡ with_part nothing all)
+Heads old new h all = (new ≡ with_heading old all) × (collection h ≡ with_part nothing all)

@@ -6,7 +6,7 @@ use Rattle.cp_model.specs.declared.rules.Position.{Position}
 use Rattle.cp_model.specs.declared.rules.Rule.TheVariants.{C2, C8}
 use Rattle.cp_model.specs.declared.rules.TypeRow.{TypeRow}
 use Rattle.cp_model.specs.declared.rules.Violation.{Violation}
-use Rattle.cp_model.specs.RulesJudged.{Judged, Violations, least, provided, unless, violations_of}
+use Rattle.cp_model.specs.RulesJudged.{Judged, Violations, least, guard, unless, violations_of}
 use Rattle.cp_model.specs.RulesEnvironment.{Environment, is_simple}
 use Rattle.cp_model.specs.RulesTypes as ty
 use Rattle.cp_rules.specs.Checking.{State, first_of, telling}
@@ -55,14 +55,14 @@ abbrev pub written_index : s.TypeExpression → Violations
 written_index t = unless (not (is_written_structure t)) C2 (ty.type_at t)
 
 abbrev pub index_type : Environment → s.TypeExpression → Result ℕ Violation → Outer ℕ
-index_type env t of = around (written_index t) (λ n. provided (is_simple env n) C2 (ty.type_at t) n) of
+index_type env t of = around (written_index t) (λ n. guard (is_simple env n) C2 (ty.type_at t) n) of
 
 -- C8: an array with queues where none is allowed.
 abbrev pub written_queues : Environment → Position → s.TypeExpression → Violations
 written_queues env p t = unless (not (misplaces_queues env p t)) C8 (ty.type_at t)
 
-abbrev pub placed : Environment → Position → s.TypeExpression → Result ℕ Violation → Outer ℕ
-placed env p t of = around (written_queues env p t) (ty.c6_c8_placed env p (ty.type_at t)) of
+abbrev pub judge_in_position : Environment → Position → s.TypeExpression → Result ℕ Violation → Outer ℕ
+judge_in_position env p t of = around (written_queues env p t) (ty.c6_c8_placed env p (ty.type_at t)) of
 
 -- ---- rows
 
@@ -72,9 +72,9 @@ pub record Known : Type 0 where
   pub violations : Violations
   pub of : Result ℕ Violation
 
-abbrev pub made : Environment → Violations → Result TypeRow Violation → Known
-made env vs (Ok r) = record { env = ty.add_type env r; violations = vs; of = Ok (length env.types) }
-made env vs (Err v) = record { env = env; violations = vs; of = Err v }
+abbrev pub make_known : Environment → Violations → Result TypeRow Violation → Known
+make_known env vs (Ok r) = record { env = ty.add_type env r; violations = vs; of = Ok (length env.types) }
+make_known env vs (Err v) = record { env = env; violations = vs; of = Err v }
 
 abbrev pub Knows : State → State → Result ℕ Violation → Known → Type 0
 Knows old new answer k = (new ≡ record { env = k.env; told = least old.told k.violations }) × (answer ≡ k.of)
@@ -83,7 +83,7 @@ Knows old new answer k = (new ≡ record { env = k.env; told = least old.told k.
 abbrev pub array : Environment → ℕ → Result ℕ Violation → Result ℕ Violation → Known
 array env at i e =
     let o = around_both i e (λ a b. ty.c13_type at (ty.array_row env a b)) in
-    made env o.violations o.of
+    make_known env o.violations o.of
 
 -- An array of arrays, one for each index type.
 abbrev pub arrays : Environment → ℕ → List (Result ℕ Violation) → Result ℕ Violation → Known

@@ -71,7 +71,7 @@ number_or_any (Ok t) = t
 number_or_any (Err v) = 0
 
 abbrev pub type_of_group : Environment → s.TypeExpression → Judged ℕ
-type_of_group env t = let m = ty.type_of env t in ty.placed m.env position.Field t m.of
+type_of_group env t = let m = ty.type_of env t in ty.judge_in_position m.env position.Field t m.of
 
 abbrev pub group : Environment → Members → s.Variables → Grouped
 group env ms g =
@@ -104,7 +104,7 @@ words_of_members env [] = 0
 words_of_members env (m ∷ ms) = words_of_member env m.1 + words_of_members env ms
 
 abbrev pub row : Environment → Members → TypeRow
-row env ms = record { structure = structure.Record (length env.members); words = ty.capped (words_of_members env ms); has_queues = false }
+row env ms = record { structure = structure.Record (length env.members); words = ty.cap_words (words_of_members env ms); has_queues = false }
 
 abbrev pub record_if : Environment → ℕ → Members → Bool → Known
 record_if env at ms true = record {

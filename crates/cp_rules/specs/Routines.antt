@@ -13,12 +13,12 @@ use Rattle.cp_model.specs.declared.rules.RoutineRow.{RoutineRow}
 use Rattle.cp_model.specs.declared.rules.Violation.{Violation}
 use Rattle.cp_model.specs.RulesJudged.{Judged, Violations, least, then_judge}
 use Rattle.cp_model.specs.RulesEnvironment.{Environment, c1_declared, declare, no_routine}
-use Rattle.cp_model.specs.RulesTypes.{capped, named_type}
+use Rattle.cp_model.specs.RulesTypes.{cap_words, named_type}
 use Rattle.cp_model.specs.RulesStatements.{statements}
 use Rattle.cp_model.specs.RulesNeeds.{need_statements}
 use Rattle.cp_model.specs.RulesDeclarations as d
 use Rattle.cp_rules.specs.Checking.{State, first_of, telling}
-use Rattle.cp_rules.specs.Headings.{Collected, collected, nothing, with_part}
+use Rattle.cp_rules.specs.Headings.{Collected, collection, nothing, with_part}
 use Rattle.cp_rules.specs.declared.headings.Heading.{Heading}
 
 -- ---- results
@@ -57,7 +57,7 @@ heading_violations env y r =
 -- The heading was judged and collected, and its names are removed again.
 abbrev pub HeadsRoutine : State → State → Heading → Option (Result ℕ Violation) → Sort → s.Routine → Type 0
 HeadsRoutine old new h answer y r =
-    (new ≡ telling old (heading_violations old.env y r)) × (collected h ≡ with_part nothing (heading_of old.env r)) × (answer ≡ first_if (answer_of old.env r))
+    (new ≡ telling old (heading_violations old.env y r)) × (collection h ≡ with_part nothing (heading_of old.env r)) × (answer ≡ first_if (answer_of old.env r))
 
 -- The row of a routine, before its need is known.
 abbrev pub row_as : ℕ → ℕ → Option ℕ → Option (Result ℕ Violation) → RoutineRow
@@ -66,8 +66,8 @@ row_as first count entry answer = record { entry = is_some entry; first = first;
 -- ---- the inside of a routine or a system type
 
 -- The environment with these parameters added, and the statements in this region.
-abbrev pub entered : Environment → List ParameterRow → Region → Environment
-entered env rows region = record env { parameters = env.parameters ++ rows; region = region }
+abbrev pub enter_region : Environment → List ParameterRow → Region → Environment
+enter_region env rows region = record env { parameters = env.parameters ++ rows; region = region }
 
 abbrev pub region_of : Sort → s.Routine → Region
 region_of y r = record { sort = y; part = d.part_of r.entry }
@@ -75,7 +75,7 @@ region_of y r = record { sort = y; part = d.part_of r.entry }
 -- The environment in which the variables of a routine are declared.
 abbrev pub inside : Environment → Sort → s.Routine → RoutineRow → Collected → Environment
 inside env y r row k =
-    (d.declare_each (declare r.name (entity.UnfinishedRoutine row) (entered env k.rows (region_of y r))) k.bound).env
+    (d.declare_each (declare r.name (entity.UnfinishedRoutine row) (enter_region env k.rows (region_of y r))) k.bound).env
 
 abbrev pub locals : Environment → s.Routine → d.Variables
 locals env r = d.variables env position.RoutineVariable r.variables
@@ -84,7 +84,7 @@ locals env r = d.variables env position.RoutineVariable r.variables
 abbrev pub JudgesBody : State → State → ℕ → d.Variables → s.Body → Type 0
 JudgesBody old new n v b =
     (new ≡ record { env = v.env; told = least old.told (v.violations ++ statements v.env b.list) })
-    × (n ≡ capped (v.words + need_statements v.env b.list))
+    × (n ≡ cap_words (v.words + need_statements v.env b.list))
 
 -- The state after a routine was left and its row and its name were added.
 abbrev pub left_routine : State → ℕ → Region → Identifier → RoutineRow → State

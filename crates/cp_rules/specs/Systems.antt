@@ -11,14 +11,14 @@ use Rattle.cp_model.specs.declared.rules.Structure.TheVariants as structure
 use Rattle.cp_model.specs.declared.rules.SystemRow.{SystemRow}
 use Rattle.cp_model.specs.RulesJudged.{least}
 use Rattle.cp_model.specs.RulesEnvironment.{Environment, Members, declare}
-use Rattle.cp_model.specs.RulesTypes.{capped}
+use Rattle.cp_model.specs.RulesTypes.{cap_words}
 use Rattle.cp_model.specs.RulesStatements.{statements}
 use Rattle.cp_model.specs.RulesNeeds.{need_statements}
 use Rattle.cp_model.specs.RulesDeclarations as d
 use Rattle.cp_model.specs.Rules.{variable_position}
 use Rattle.cp_rules.specs.Checking.{State, telling}
-use Rattle.cp_rules.specs.Headings.{Collected, collected, nothing, with_part}
-use Rattle.cp_rules.specs.Routines.{entered}
+use Rattle.cp_rules.specs.Headings.{Collected, collection, nothing, with_part}
+use Rattle.cp_rules.specs.Routines.{enter_region}
 use Rattle.cp_rules.specs.declared.headings.Heading.{Heading}
 
 abbrev pub heading_of : Environment → s.System → d.Heading
@@ -27,14 +27,14 @@ heading_of env y = d.heading env (Some y.sort) false y.parameters
 -- The heading was judged and collected, and its names are removed again.
 abbrev pub HeadsSystem : State → State → Heading → s.System → Type 0
 HeadsSystem old new h y =
-    (new ≡ telling old (heading_of old.env y).violations) × (collected h ≡ with_part nothing (heading_of old.env y))
+    (new ≡ telling old (heading_of old.env y).violations) × (collection h ≡ with_part nothing (heading_of old.env y))
 
 abbrev pub region_of : s.System → Region
 region_of y = record { sort = y.sort; part = part.Body }
 
 -- The environment in which the variables of a system type are declared.
 abbrev pub inside : Environment → s.System → Collected → Environment
-inside env y k = (d.declare_each (entered env k.rows (region_of y)) k.bound).env
+inside env y k = (d.declare_each (enter_region env k.rows (region_of y)) k.bound).env
 
 -- Its variables, and then its routines and its body.
 abbrev pub parts : Environment → s.System → Collected → d.Variables
@@ -44,11 +44,11 @@ parts env y k =
     record { env = all.env; violations = own.violations ++ all.violations ++ statements all.env y.body.list; words = own.words }
 
 abbrev pub JudgesParts : State → State → ℕ → d.Variables → Type 0
-JudgesParts old new n v = (new ≡ record { env = v.env; told = least old.told v.violations }) × (n ≡ capped v.words)
+JudgesParts old new n v = (new ≡ record { env = v.env; told = least old.told v.violations }) × (n ≡ cap_words v.words)
 
 abbrev pub words_of : Sort → ℕ → ℕ → ℕ → ℕ
-words_of sort.Process count words need = capped (capped (capped (1 + count) + words) + need)
-words_of y count words need = capped (capped (1 + count) + words)
+words_of sort.Process count words need = cap_words (cap_words (cap_words (1 + count) + words) + need)
+words_of y count words need = cap_words (cap_words (1 + count) + words)
 
 -- The environment with one more system type.
 abbrev pub added_system : Environment → SystemRow → Members → Environment

@@ -8,7 +8,7 @@ use Rattle.cp_model.specs.RulesJudged.{Violations}
 use Rattle.cp_model.specs.RulesStatements.{statements}
 use Rattle.cp_model.specs.RulesNeeds.{need_statements}
 use Rattle.cp_model.specs.RulesDeclarations as d
-use Rattle.cp_model.specs.Rules.{Accepted, c13_initial, told}
+use Rattle.cp_model.specs.Rules.{Accepted, c13_initial, first_violation}
 use Rattle.cp_judge.specs.declared.environment.Environment as code
 use Rattle.cp_rules.specs.Checking.{State}
 use Rattle.cp_rules.specs.Definitions.{define_sections}
@@ -29,11 +29,11 @@ environment_of t =
     (d.routines own.env sort.Process t.routines).env
 
 abbrev pub judged_text : s.Tree → State
-judged_text t = record { env = environment_of t; told = told t }
+judged_text t = record { env = environment_of t; told = first_violation t }
 
 -- The text is accepted, and this is the environment at its end. Or else this is the violation that
 -- is reported for it.
 abbrev pub Judges : s.Tree → Result code.Environment Refusal → Type 0
 Judges t (Ok env) = Accepted t × (env ≡ environment_of t)
-Judges t (Err (refused.Broken v)) = told t ≡ Some v
+Judges t (Err (refused.Broken v)) = first_violation t ≡ Some v
 Judges t (Err refused.Memory) = Unit {0}

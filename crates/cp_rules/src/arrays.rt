@@ -6,7 +6,7 @@ ghost use Rattle.cp_model.specs.RulesEnvironment as r;
 ghost use Rattle.cp_model.specs.RulesJudged.{both};
 ghost use Rattle.cp_model.specs.RulesTypes as types;
 ghost use Rattle.cp_rules.specs.Checking.{Judges};
-ghost use Rattle.cp_rules.specs.Outer.{Knows, TellsOuter, around_both, array, arrays, made};
+ghost use Rattle.cp_rules.specs.Outer.{Knows, TellsOuter, around_both, array, arrays, make_known};
 
 use crate::checker::{Checker, Judged};
 use crate::words::{is_within, product};
@@ -109,7 +109,7 @@ impl<'t> Checker<'t> {
     /// Makes a type of a row, if the row is known. Fails only if memory runs out.
     pub fn make_type(&mut self, row: Judged<TypeRow>) -> Result<Judged<usize>, AllocError>
         ensures { IfOk result
-            (λ answer. Knows self.old self.new answer (made self.old.env [] row)) }
+            (λ answer. Knows self.old self.new answer (make_known self.old.env [] row)) }
     {
         match row {
             Err(violation) => Ok(Err(violation)),

@@ -8,7 +8,7 @@ ghost use Rattle.cp_model.specs.RulesStatements as st;
 ghost use Rattle.cp_model.specs.View as view;
 ghost use Rattle.cp_rules.specs.Checking.{after, telling};
 ghost use Rattle.cp_rules.specs.Headings.{lent};
-ghost use Rattle.cp_rules.specs.Routines.{entered};
+ghost use Rattle.cp_rules.specs.Routines.{enter_region};
 
 use crate::checker::Checker;
 use cp_judge::needs::need_of_statements;
@@ -21,7 +21,7 @@ impl<'t> Checker<'t> {
     /// Enters a routine or a system type with these parameters. Fails only if memory runs out.
     pub fn enter(&mut self, rows: &[ParameterRow], region: Region) -> Result<(), AllocError>
         ensures { OnOk result
-            (self.new ≡ record self.old { env = entered self.old.env rows.now region }) }
+            (self.new ≡ record self.old { env = enter_region self.old.env rows.now region }) }
     {
         self.environment.add_parameters(rows)?;
         self.environment.stand_in(region);

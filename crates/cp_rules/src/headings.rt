@@ -10,7 +10,7 @@ ghost use Rattle.cp_model.specs.RulesTypes.{named_type};
 ghost use Rattle.cp_model.specs.View as view;
 ghost use Rattle.cp_rules.specs.Checking.{Judges, first_of, telling};
 ghost use Rattle.cp_rules.specs.Declaring.{entity_of_type, words_of_type};
-ghost use Rattle.cp_rules.specs.Headings.{Heads, collected, hidden_group, is_by_reference, nothing, parameter_judged, row_of_type, with_heading, with_names, with_part, words_of_parameter};
+ghost use Rattle.cp_rules.specs.Headings.{Heads, collection, hidden_group, is_by_reference, nothing, parameter_judged, row_of_type, with_heading, with_names, with_part, words_of_parameter};
 
 use crate::checker::{Checker, Judged};
 use crate::variables::{UNFINISHED, words};
@@ -110,7 +110,7 @@ fn parameter_words(env: &Environment, by_reference: bool, of: Judged<usize>) -> 
 impl<'t> Heading<'t> {
     /// Returns a heading without parameters.
     pub fn new(alloc: Global) -> Heading<'t>
-        ensures { collected result ≡ nothing }
+        ensures { collection result ≡ nothing }
     {
         Heading {
             bound: Vec::new(alloc),
@@ -127,7 +127,7 @@ impl<'t> Heading<'t> {
         row: ParameterRow,
     ) -> Result<(), AllocError>
         ensures { OnOk result
-            (collected self.new ≡ with_names (collected self.old) entity row names.now) }
+            (collection self.new ≡ with_names (collection self.old) entity row names.now) }
     {
         for x in names {
             self.bound.push((x, entity))?;
@@ -202,7 +202,7 @@ impl<'t> Checker<'t> {
         ensures state { OnOk result
             (self.new ≡ hidden_group self.old of is_function (view.parameters group.now)) }
         ensures heading { OnOk result
-            (collected heading.new ≡ with_part (collected heading.old)
+            (collection heading.new ≡ with_part (collection heading.old)
             (d.parameter_group self.old.env of is_function (view.parameters group.now))) }
     {
         let t = self.group_of_parameters(of, is_function, group)?;

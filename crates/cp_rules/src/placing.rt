@@ -2,12 +2,12 @@
 
 ghost use Rattle.std.specs.Prelude.{◌≡◌, ◌||◌, not};
 ghost use Rattle.cp_model.specs.RulesEnvironment.{is_simple};
-ghost use Rattle.cp_model.specs.RulesJudged.{meaning_of, provided};
+ghost use Rattle.cp_model.specs.RulesJudged.{meaning_of, guard};
 ghost use Rattle.cp_model.specs.RulesTypes as types;
 ghost use Rattle.cp_model.specs.View as view;
 ghost use Rattle.cp_model.specs.declared.rules.Rule.TheVariants.{C2};
 ghost use Rattle.cp_rules.specs.Checking.{Judges};
-ghost use Rattle.cp_rules.specs.Outer.{TellsOuter, index_type, is_written_structure, misplaces_queues, placed};
+ghost use Rattle.cp_rules.specs.Outer.{TellsOuter, index_type, is_written_structure, misplaces_queues, judge_in_position};
 
 use crate::checker::{Checker, Judged};
 use cp_judge::Environment;
@@ -150,7 +150,7 @@ impl<'t> Checker<'t> {
         of: Judged<usize>,
     ) -> Judged<usize>
         ensures { TellsOuter self.old self.new result
-            (placed self.old.env position (view.type_expression t.now) of) }
+            (judge_in_position self.old.env position (view.type_expression t.now) of) }
     {
         match of {
             Ok(number) => self.judge_position_at(position, type_at(t), number),
@@ -166,7 +166,7 @@ impl<'t> Checker<'t> {
 
     // C2: an index type isn't simple.
     fn simple(&mut self, at: usize, t: usize) -> Judged<usize>
-        ensures { Judges self.old self.new result (provided (is_simple self.old.env t) C2 at t) }
+        ensures { Judges self.old self.new result (guard (is_simple self.old.env t) C2 at t) }
     {
         if self.environment.is_simple(t) {
             Ok(t)

@@ -2,7 +2,7 @@
 
 ghost use Rattle.std.specs.Prelude.{◌≡◌, ◌∷◌, [], None, IfOk, OnOk, map, slice_get};
 ghost use Rattle.cp_model.specs.RulesJudged.{unless};
-ghost use Rattle.cp_model.specs.RulesTypes.{capped};
+ghost use Rattle.cp_model.specs.RulesTypes.{cap_words};
 ghost use Rattle.cp_model.specs.declared.rules.Rule.TheVariants.{C1};
 ghost use Rattle.cp_rules.specs.Checking.{telling};
 ghost use Rattle.cp_rules.specs.Outer.{Knows};
@@ -79,7 +79,7 @@ fn words_at(env: &Environment, members: &Members, number: usize) -> usize
 
 // The number of words of fields, counted up to one above the limit.
 fn words_of_members(env: &Environment, members: &Members) -> usize
-    ensures { result ≡ capped (words_of_members env.now members.now) }
+    ensures { result ≡ cap_words (words_of_members env.now members.now) }
 {
     let mut words = 0;
     for number in 0..members.len() {

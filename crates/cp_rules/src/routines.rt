@@ -6,7 +6,7 @@ ghost use Rattle.cp_model.specs.RulesEnvironment as r;
 ghost use Rattle.cp_model.specs.View as view;
 ghost use Rattle.cp_model.specs.declared.rules.Entity.TheVariants as entities;
 ghost use Rattle.cp_rules.specs.Checking.{after};
-ghost use Rattle.cp_rules.specs.Headings.{collected};
+ghost use Rattle.cp_rules.specs.Headings.{collection};
 ghost use Rattle.cp_rules.specs.Routines.{HeadsRoutine, JudgesBody, inside, left_routine, locals, row_as};
 
 use crate::checker::{Checker, Judged};
@@ -75,7 +75,7 @@ impl<'t> Checker<'t> {
         ensures { IfOk result
             (λ n. JudgesBody self.old self.new n
             (locals (inside self.old.env sort (view.routine routine.now) row
-            (collected heading.now)) (view.routine routine.now)) (view.body routine.now.body)) }
+            (collection heading.now)) (view.routine routine.now)) (view.body routine.now.body)) }
     {
         let region = Region {
             sort,

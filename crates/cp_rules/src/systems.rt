@@ -5,7 +5,7 @@ ghost use Rattle.cp_model.specs.Rules as rules;
 ghost use Rattle.cp_model.specs.RulesDeclarations as d;
 ghost use Rattle.cp_model.specs.View as view;
 ghost use Rattle.cp_rules.specs.Checking.{after, telling};
-ghost use Rattle.cp_rules.specs.Headings.{collected};
+ghost use Rattle.cp_rules.specs.Headings.{collection};
 ghost use Rattle.cp_rules.specs.Systems.{HeadsSystem, JudgesParts, added_system, left_system, parts, row_as, words_of};
 
 use crate::checker::Checker;
@@ -53,7 +53,7 @@ impl<'t> Checker<'t> {
     fn system_parts(&mut self, y: &'t System, heading: &Heading<'t>) -> Result<usize, AllocError>
         ensures { IfOk result
             (λ n. JudgesParts self.old self.new n
-            (parts self.old.env (view.system y.now) (collected heading.now))) }
+            (parts self.old.env (view.system y.now) (collection heading.now))) }
     {
         let region = Region {
             sort: y.sort,

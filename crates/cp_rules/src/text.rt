@@ -42,7 +42,7 @@ impl<'t> Checker<'t> {
     // Judges the body of the initial process, whose variables take `words` words. C13: the process
     // has too many words, which is judged only if nothing is broken in the body.
     fn initial_body(&mut self, words: usize, body: &Body) -> Result<(), AllocError>
-        ensures { (n : ℕ) → words ≡ ty.capped n
+        ensures { (n : ℕ) → words ≡ ty.cap_words n
             → OnOk result
             (self.new ≡ telling self.old (body_violations self.old.env n (view.body body.now))) }
     {

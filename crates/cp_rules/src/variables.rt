@@ -2,7 +2,7 @@
 
 ghost use Rattle.std.specs.Prelude.{◌≡◌, IfOk, OnOk, map};
 ghost use Rattle.cp_model.specs.RulesEnvironment as r;
-ghost use Rattle.cp_model.specs.RulesTypes.{capped};
+ghost use Rattle.cp_model.specs.RulesTypes.{cap_words};
 ghost use Rattle.cp_model.specs.RulesDeclarations as d;
 ghost use Rattle.cp_model.specs.View as view;
 ghost use Rattle.cp_rules.specs.Checking.{after};

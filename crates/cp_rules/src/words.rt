@@ -1,7 +1,7 @@
 //! Numbers of words, counted up to one above the limit, since larger ones make no difference.
 
 ghost use Rattle.std.specs.Prelude.{◌≡◌, ◌+◌, ◌*◌};
-ghost use Rattle.cp_model.specs.RulesTypes.{capped, is_within};
+ghost use Rattle.cp_model.specs.RulesTypes.{cap_words, is_within};
 
 // The largest number of words that an owner or a type may have.
 const LIMIT: usize = 65_536;
@@ -15,21 +15,21 @@ pub fn is_within(words: usize) -> bool
 
 /// This number of words, or one above the limit if it is larger.
 pub fn cap(words: usize) -> usize
-    ensures { result ≡ capped words }
+    ensures { result ≡ cap_words words }
 {
     words.min(LIMIT + 1)
 }
 
 /// The sum of two numbers of words.
 pub fn sum(a: usize, b: usize) -> usize
-    ensures { result ≡ capped (a + b) }
+    ensures { result ≡ cap_words (a + b) }
 {
     cap(cap(a) + cap(b))
 }
 
 /// The number of words of `count` items that take `words` words each.
 pub fn product(count: usize, words: usize) -> usize
-    ensures { result ≡ capped (count * words) }
+    ensures { result ≡ cap_words (count * words) }
 {
     cap(cap(count) * cap(words))
 }

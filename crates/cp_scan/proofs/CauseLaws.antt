@@ -11,7 +11,7 @@ use Rattle.cp_model.specs.declared.token.Symbol.TheVariants as symbol
 use Rattle.cp_scan.specs.declared.refusal.Cause.{Cause}
 use Rattle.cp_scan.specs.declared.refusal.Cause.TheVariants as cause
 use Rattle.cp_scan.specs.Laws.{StandsIn}
-use Rattle.cp_scan.specs.Pieces.{Piece, run, longer_mark, mark, character, coded}
+use Rattle.cp_scan.specs.Pieces.{Piece, run, longer_mark, mark, character, coded_character}
 use Rattle.cp_scan.proofs.CharacterLaws.{piece_of_apostrophe, character_at, character_one, character_none, is_read, ordinal, shown, is_shown, is_ordinal}
 use Rattle.cp_scan.proofs.Fronts.{front}
 use Rattle.cp_scan.proofs.MarkLaws.{piece_of_mark}
@@ -68,14 +68,14 @@ module _ (b : ℕ) (apostrophe : is_apostrophe b ≡ true) where
   NoCharacter : List ℕ → Type 0
   NoCharacter rest = (n : ℕ) (bytes behind : List ℕ) → b ∷ rest ≡ bytes ++ behind → IsCharacter n bytes → ⊥
 
-  no_ordinal : (rest : List ℕ) → NoCharacter (40 ∷ 58 ∷ rest) → coded rest ≡ Err cause.Character
+  no_ordinal : (rest : List ℕ) → NoCharacter (40 ∷ 58 ∷ rest) → coded_character rest ≡ Err cause.Character
   unfolding NoCharacter
   no_ordinal rest none =
       is_read b rest apostrophe
       ∙ rw (false_from_ne_true _ (λ e. let h = ordinal b rest apostrophe e in none _ h.0 h.1 h.2 h.4)) refl
 
   no_code : (n c : ℕ) (rest : List ℕ) (t : Bool) → is_ordinal n c ≡ t → NoCharacter (n ∷ c ∷ rest)
-      → cond {A = Piece} t (coded rest) (Err cause.Character) ≡ Err cause.Character
+      → cond {A = Piece} t (coded_character rest) (Err cause.Character) ≡ Err cause.Character
   no_code n c rest false e none = refl
   no_code n c rest true e none =
       let p = and_parts (n == 40) (c == 58) e in

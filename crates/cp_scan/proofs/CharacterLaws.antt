@@ -9,7 +9,7 @@ use Rattle.cp_model.specs.Characters.{is_digit, is_apostrophe, is_printable, dec
 use Rattle.cp_model.specs.Spelling.{IsCharacter, IsBadCharacter, Each}
 use Rattle.cp_model.specs.declared.token.Kind.TheVariants as kind
 use Rattle.cp_scan.specs.declared.refusal.Cause.TheVariants as cause
-use Rattle.cp_scan.specs.Pieces.{Piece, run, head_or_zero, coded, character, piece}
+use Rattle.cp_scan.specs.Pieces.{Piece, run, head_or_zero, coded_character, character, piece}
 use Rattle.cp_scan.proofs.Fronts.{front, Holds, by_test}
 use Rattle.cp_scan.proofs.Runs.{run_append, run_splits, run_each, length_run}
 
@@ -36,19 +36,19 @@ abbrev pub constant_of : ℕ → List ℕ → Piece
 constant_of n digits = Ok (Some (kind.Character (decimal_value digits)), n + 6)
 
 coded_at : (rest : List ℕ) (n : ℕ) (digits behind : List ℕ) → run is_digit rest ≡ n → take n rest ≡ digits → drop n rest ≡ behind
-    → coded rest ≡ cond (is_closed n (decimal_value digits) behind) (constant_of n digits) (Err cause.Character)
-unfolding coded
+    → coded_character rest ≡ cond (is_closed n (decimal_value digits) behind) (constant_of n digits) (Err cause.Character)
+unfolding coded_character
 coded_at rest n digits behind e d t = rw (e, d, t) refl
 
 coded_again : (digits rest : List ℕ) → Each is_digit digits → 1 ≤ length digits → length digits ≤ 3 → decimal_value digits ≤ 127
-    → coded (digits ++ 58 ∷ 41 ∷ 39 ∷ rest) ≡ Ok (Some (kind.Character (decimal_value digits)), length digits + 6)
+    → coded_character (digits ++ 58 ∷ 41 ∷ 39 ∷ rest) ≡ Ok (Some (kind.Character (decimal_value digits)), length digits + 6)
 coded_again digits rest each some few small =
     coded_at (digits ++ 58 ∷ 41 ∷ 39 ∷ rest) (length digits) digits (58 ∷ 41 ∷ 39 ∷ rest)
     (run_append is_digit digits (58 ∷ 41 ∷ 39 ∷ rest) each refl) (take-append_seam digits (58 ∷ 41 ∷ 39 ∷ rest))
     (drop_at digits (58 ∷ 41 ∷ 39 ∷ rest) (length digits) refl)
     ∙ rw (le-leb 1 (length digits) some, le-leb (length digits) 3 few, le-leb (decimal_value digits) 127 small) refl
 
-pub by_ordinal : (rest : List ℕ) → character (40 ∷ 58 ∷ rest) ≡ coded rest
+pub by_ordinal : (rest : List ℕ) → character (40 ∷ 58 ∷ rest) ≡ coded_character rest
 unfolding character
 by_ordinal rest = refl
 
@@ -65,7 +65,7 @@ character_again n bytes rest (inr h) =
     let from : front (whole ++ rest) ≡ Ok (Some (kind.Character n), length whole) =
     piece_of_apostrophe 39 (40 ∷ 58 ∷ ((digits ++ 58 ∷ 41 ∷ 39 ∷ []) ++ rest)) refl
     ∙ by_ordinal ((digits ++ 58 ∷ 41 ∷ 39 ∷ []) ++ rest)
-    ∙ ap (λ (w : List ℕ). coded w) (append_assoc digits (58 ∷ 41 ∷ 39 ∷ []) rest)
+    ∙ ap (λ (w : List ℕ). coded_character w) (append_assoc digits (58 ∷ 41 ∷ 39 ∷ []) rest)
     ∙ coded_again digits rest h.1 h.2 h.3 h.4
     ∙ ap (λ (v : ℕ). Ok (Some (kind.Character v), length digits + 6)) (sym h.5)
     ∙ ap (λ (v : ℕ). Ok (Some (kind.Character n), v)) m in
@@ -141,7 +141,7 @@ module _ (b : ℕ) (rest : List ℕ) (apostrophe : is_apostrophe b ≡ true) whe
   unfolding digits
   each = run_each is_digit rest
 
-  pub is_read : coded rest ≡
+  pub is_read : coded_character rest ≡
       cond (is_closed (run is_digit rest) (decimal_value digits) behind) (constant_of (run is_digit rest) digits) (Err cause.Character)
   unfolding digits behind
   is_read = coded_at rest (run is_digit rest) (take (run is_digit rest) rest) (drop (run is_digit rest) rest) refl refl refl
@@ -165,7 +165,7 @@ module _ (b : ℕ) (rest : List ℕ) (apostrophe : is_apostrophe b ≡ true) whe
   no_ordinal : is_closed (run is_digit rest) (decimal_value digits) behind ≡ false → Holds (b ∷ 40 ∷ 58 ∷ rest) (Err cause.Character)
   no_ordinal h = bad_character b (40 ∷ 58 ∷ rest) apostrophe (by_ordinal rest ∙ is_read ∙ rw h refl)
 
-  coded_holds : Holds (b ∷ 40 ∷ 58 ∷ rest) (coded rest)
+  coded_holds : Holds (b ∷ 40 ∷ 58 ∷ rest) (coded_character rest)
   coded_holds = rw is_read (by_test (b ∷ 40 ∷ 58 ∷ rest) (is_closed (run is_digit rest) (decimal_value digits) behind) _ _ ordinal no_ordinal)
 
 -- the two tests of `character`
@@ -176,7 +176,7 @@ abbrev pub is_ordinal : ℕ → ℕ → Bool
 is_ordinal n c = n == 40 && c == 58
 
 pub character_at : (n c : ℕ) (rest : List ℕ) → character (n ∷ c ∷ rest) ≡
-    cond {A = Piece} (is_shown n c) (Ok (Some (kind.Character n), 3)) (cond (is_ordinal n c) (coded rest) (Err cause.Character))
+    cond {A = Piece} (is_shown n c) (Ok (Some (kind.Character n), 3)) (cond (is_ordinal n c) (coded_character rest) (Err cause.Character))
 unfolding character
 character_at n c rest = refl
 
@@ -196,11 +196,11 @@ module _ (b n c : ℕ) (rest : List ℕ) (apostrophe : is_apostrophe b ≡ true)
       subst (λ (v : ℕ). Holds (b ∷ n ∷ v ∷ rest) (Ok (Some (kind.Character n), 3))) (sym (eqb-true c 39 p.0))
       (holds_shown b n rest apostrophe p.1 (not-true (is_apostrophe n) q.1))
 
-  by_code : is_ordinal n c ≡ true → Holds (b ∷ n ∷ c ∷ rest) (coded rest)
+  by_code : is_ordinal n c ≡ true → Holds (b ∷ n ∷ c ∷ rest) (coded_character rest)
   by_code h =
       let p = and_parts (n == 40) (c == 58) h in
-      subst (λ (v : ℕ). Holds (b ∷ v ∷ c ∷ rest) (coded rest)) (sym (eqb-true n 40 p.0))
-      (subst (λ (v : ℕ). Holds (b ∷ 40 ∷ v ∷ rest) (coded rest)) (sym (eqb-true c 58 p.1)) (coded_holds b rest apostrophe))
+      subst (λ (v : ℕ). Holds (b ∷ v ∷ c ∷ rest) (coded_character rest)) (sym (eqb-true n 40 p.0))
+      (subst (λ (v : ℕ). Holds (b ∷ 40 ∷ v ∷ rest) (coded_character rest)) (sym (eqb-true c 58 p.1)) (coded_holds b rest apostrophe))
 
   no_other : is_shown n c ≡ false → is_ordinal n c ≡ false → Holds (b ∷ n ∷ c ∷ rest) (Err cause.Character)
   no_other f g = bad_character b (n ∷ c ∷ rest) apostrophe (character_at n c rest ∙ rw (f, g) refl)

@@ -48,8 +48,8 @@ comment rest =
     if nat_lt n (length rest) then Ok (None, n + 2) else Err cause.Comment
 
 -- The rest of a character constant after `'(:`.
-unfoldable pub coded : List ℕ → Piece
-coded rest =
+unfoldable pub coded_character : List ℕ → Piece
+coded_character rest =
     let n = run is_digit rest in
     let value = decimal_value (take n rest) in
     let behind = drop n rest in
@@ -62,7 +62,7 @@ character rest =
     let b = head_or_zero rest in
     let c = head_or_zero (drop 1 rest) in
     if c == 39 && is_printable b && not (is_apostrophe b) then Ok (Some (kind.Character b), 3)
-    else (if b == 40 && c == 58 then coded (drop 2 rest) else Err cause.Character)
+    else (if b == 40 && c == 58 then coded_character (drop 2 rest) else Err cause.Character)
 
 -- ---- marks, by their first byte and the one after it
 

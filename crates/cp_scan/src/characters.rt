@@ -12,9 +12,9 @@ use cp_model::token::Kind;
 
 // Reads the rest of a character constant that gives an ordinal. The text before `rest` ends with
 // its `'(:`.
-#[tactic(auto, unfolding(crate::specs::Pieces::coded))]
+#[tactic(auto, unfolding(crate::specs::Pieces::coded_character))]
 fn character_by_ordinal(rest: &[u8]) -> Front
-    ensures { result ≡ spec.coded rest.now }
+    ensures { result ≡ spec.coded_character rest.now }
 {
     let n = digit_count(rest);
     let value = capped_value(&rest[..n]);

@@ -59,14 +59,14 @@ deep_part (a.Plain y) x deep = absurd deep
 deep_part (a.Part d y) x deep = tt
 deep_part (a.At d e) x deep = tt
 
-deep_indexed : (d : a.Designator) (is : s.Indices) → IsDeep d → IsDeep (erase.indexed d is)
+deep_indexed : (d : a.Designator) (is : s.Indices) → IsDeep d → IsDeep (erase.with_indices d is)
 deep_indexed d s.NoIndices deep = deep
 deep_indexed d (s.MoreIndices at e is) deep = deep_indexed (a.At d (erase.expression e)) is tt
 
-pub deep_selected : (d : a.Designator) (ss : s.Selectors) → IsDeep d → IsDeep (erase.selected d ss)
+pub deep_selected : (d : a.Designator) (ss : s.Selectors) → IsDeep d → IsDeep (erase.with_selectors d ss)
 deep_selected d s.NoSelectors deep = deep
 deep_selected d (s.MoreSelectors (s.Field at x) ss) deep = deep_selected (a.Part d x.name) ss (deep_part d x.name deep)
-deep_selected d (s.MoreSelectors (s.Indexed is) ss) deep = deep_selected (erase.indexed d is) ss (deep_indexed d is deep)
+deep_selected d (s.MoreSelectors (s.Indexed is) ss) deep = deep_selected (erase.with_indices d is) ss (deep_indexed d is deep)
 
 deep_select : (d : a.Designator) (y : s.Selector) → IsDeep d → IsDeep (erase.select d y)
 deep_select d (s.Field at x) deep = deep_part d x.name deep
@@ -82,7 +82,7 @@ deep_twice : (x : Name) (y z : s.Selector) → Selects y → Selects z → IsDee
 deep_twice x (s.Field at y) z first second = deep_second x y.name z second
 deep_twice x (s.Indexed s.NoIndices) z first second = absurd first
 deep_twice x (s.Indexed (s.MoreIndices at e is)) z first second =
-    deep_select (erase.indexed (a.At (a.Plain x) (erase.expression e)) is) z (deep_indexed (a.At (a.Plain x) (erase.expression e)) is tt)
+    deep_select (erase.with_indices (a.At (a.Plain x) (erase.expression e)) is) z (deep_indexed (a.At (a.Plain x) (erase.expression e)) is tt)
 
 index_selects : (is : List Index) → 1 ≤ length is → Selects (s.Indexed (view.indices_of (map view.index is)))
 index_selects [] some = absurd (omega (arith, some))
@@ -92,10 +92,10 @@ pub indexed_selects : (v : Vec Index Global) → 1 ≤ length v.items → Select
 indexed_selects v some = subst Selects (sym (view_indexed v)) (index_selects v.items some)
 
 index_calls_nothing : (env : Environment) (x : Name) (is : s.Indices) → Selects (s.Indexed is)
-    → callee env (erase.indexed (a.Plain x) is) ≡ None
+    → callee env (erase.with_indices (a.Plain x) is) ≡ None
 index_calls_nothing env x s.NoIndices selects = absurd selects
 index_calls_nothing env x (s.MoreIndices at e is) selects =
-    deep_calls_nothing env (erase.indexed (a.At (a.Plain x) (erase.expression e)) is) (deep_indexed (a.At (a.Plain x) (erase.expression e)) is tt)
+    deep_calls_nothing env (erase.with_indices (a.At (a.Plain x) (erase.expression e)) is) (deep_indexed (a.At (a.Plain x) (erase.expression e)) is tt)
 
 pub indexed_calls_nothing : (env : Environment) (x : Name) (v : Vec Index Global) → Selects (view.selector (tree.Indexed v))
     → callee env (erase.select (a.Plain x) (view.selector (tree.Indexed v))) ≡ None
@@ -105,9 +105,9 @@ indexed_calls_nothing env x v selects =
     (index_calls_nothing env x is (subst Selects (view_indexed v) selects))
 
 two_call_nothing : (env : Environment) (x : Name) (y z : s.Selector) (ss : s.Selectors) → Selects y → Selects z
-    → callee env (erase.selected (a.Plain x) (s.MoreSelectors y (s.MoreSelectors z ss))) ≡ None
+    → callee env (erase.with_selectors (a.Plain x) (s.MoreSelectors y (s.MoreSelectors z ss))) ≡ None
 two_call_nothing env x y z ss first second =
-    deep_calls_nothing env (erase.selected (erase.select (erase.select (a.Plain x) y) z) ss)
+    deep_calls_nothing env (erase.with_selectors (erase.select (erase.select (a.Plain x) y) z) ss)
     (deep_selected (erase.select (erase.select (a.Plain x) y) z) ss (deep_twice x y z first second))
 
 pub two_selectors_call_nothing : (env : Environment) (d : Designator) (ss : List Selector) (y z : Selector) → ss ≡ d.selectors.items → 2 ≤ length ss
@@ -118,7 +118,7 @@ two_selectors_call_nothing env d ss y z all long y_is z_is first second =
     (subst (λ ts. y ≡ slice_index_or ts 0 y) all y_is) (subst (λ ts. z ≡ slice_index_or ts 1 z) all z_is)
   where
     go : (ts : List Selector) → 2 ≤ length ts → y ≡ slice_index_or ts 0 y → z ≡ slice_index_or ts 1 z
-        → callee env (erase.selected (a.Plain d.root.name) (view.selectors_of (map view.selector ts))) ≡ None
+        → callee env (erase.with_selectors (a.Plain d.root.name) (view.selectors_of (map view.selector ts))) ≡ None
     go [] long y_is z_is = absurd (omega (arith, long))
     go (u ∷ []) long y_is z_is = absurd (omega (arith, long))
     go (u ∷ w ∷ ts) long y_is z_is =

@@ -12,7 +12,7 @@ use Rattle.cp_scope.specs.declared.names.Names.{Names}
 use Rattle.cp_scope.specs.declared.types.Types.{Types}
 use Rattle.cp_scope.specs.Variables.{AreDeclared, Declares, Entry, declared_entries, parameters_of, variables_of, with_declared_groups, with_declared_parameters}
 use Rattle.cp_scope.specs.Routines.{ResultIs}
-use Rattle.cp_scope.specs.Standing.{Grows, ScopeStands, Stands, written}
+use Rattle.cp_scope.specs.Standing.{Grows, ScopeStands, Stands, type_from}
 use Rattle.cp_scope.proofs.Standing.{still_stands}
 use Rattle.cp_scope.proofs.Written.{view_fields}
 
@@ -32,7 +32,7 @@ parameters_declared g (p ∷ ps) vs = rw (parameters_declared g ps vs) (sym (gro
 pub variables_declared : (g : GlobalScope) (fs : List Fields) (vs : List (Name × Variable)) → with_declared_groups fs g vs ≡ variables_of g fs ++ vs
 variables_declared g [] vs = refl
 variables_declared g (f ∷ fs) vs =
-    rw (variables_declared g fs vs, view_fields f) (sym (group_behind false (written f.of g) (map erase.name f.names.items) (variables_of g fs) vs))
+    rw (variables_declared g fs vs, view_fields f) (sym (group_behind false (type_from f.of g) (map erase.name f.names.items) (variables_of g fs) vs))
 
 pub result_still : (g : GlobalScope) (old new : Types) → Grows old new → (r : Option ℕ) (x : Option Name) → ResultIs g old r x → ResultIs g new r x
 result_still g old new grows None None h = tt

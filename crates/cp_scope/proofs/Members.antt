@@ -6,7 +6,7 @@ use Rattle.cp_model.specs.Erase as erase
 use Rattle.cp_model.specs.View as view
 use Rattle.cp_model.specs.Types.{GlobalScope, Members, NoMembers, ResolvedType, with_members}
 use Rattle.cp_model.specs.declared.tree.Fields.{Fields}
-use Rattle.cp_scope.specs.Standing.{with_groups, written}
+use Rattle.cp_scope.specs.Standing.{with_groups, type_from}
 use Rattle.cp_scope.proofs.Written.{view_fields}
 
 group_first : (t : ResolvedType) (xs : List Name) (vs : List (Name × Variable)) (ms : Members)
@@ -18,5 +18,5 @@ pub variables_are : (g : GlobalScope) (fs : List Fields)
     → with_groups fs g NoMembers ≡ members_from (declarations g (map erase.variable_group (map view.variables fs))) NoMembers
 variables_are g [] = refl
 variables_are g (f ∷ fs) =
-    rw (view_fields f, group_first (written f.of g) (map erase.name f.names.items) (declarations g (map erase.variable_group (map view.variables fs))) NoMembers)
-    (ap (with_members (map erase.name f.names.items) (written f.of g)) (variables_are g fs))
+    rw (view_fields f, group_first (type_from f.of g) (map erase.name f.names.items) (declarations g (map erase.variable_group (map view.variables fs))) NoMembers)
+    (ap (with_members (map erase.name f.names.items) (type_from f.of g)) (variables_are g fs))

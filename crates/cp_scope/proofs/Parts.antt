@@ -83,7 +83,7 @@ no_field NoType x is = refl
 pub record PartlyIndexed (scope : Scope) (s : code_scope.Scope) (whole : a.Designator) (of : Option ℕ) (left : List Index) : Type 0 where
   pub part_of : a.Designator
   pub typed : PlaceIs scope s of part_of
-  pub rest : erase.indexed part_of (view.indices_of (map view.index left)) ≡ whole
+  pub rest : erase.with_indices part_of (view.indices_of (map view.index left)) ≡ whole
 
 pub one_indexed : (scope : Scope) (s : code_scope.Scope) (whole : a.Designator) (of more : Option ℕ) (i : Index) (left : List Index)
     → ((t : ResolvedType) → TypeIs scope.tables.now.types of t → TypeIs scope.tables.now.types more (element_type t))
@@ -97,12 +97,12 @@ one_indexed scope s whole of more i left typed partly = record {
 pub all_indexed : (scope : Scope) (s : code_scope.Scope) (whole : a.Designator) (of : Option ℕ) (left : List Index) → left ≡ []
     → PartlyIndexed scope s whole of left → PlaceIs scope s of whole
 all_indexed scope s whole of left none partly =
-    subst (PlaceIs scope s of) (subst (λ is. erase.indexed partly.part_of (view.indices_of (map view.index is)) ≡ whole) none partly.rest) partly.typed
+    subst (PlaceIs scope s of) (subst (λ is. erase.with_indices partly.part_of (view.indices_of (map view.index is)) ≡ whole) none partly.rest) partly.typed
 
 pub record PartlySelected (scope : Scope) (s : code_scope.Scope) (whole : a.Designator) (of : Option ℕ) (left : List Selector) : Type 0 where
   pub part_of : a.Designator
   pub typed : PlaceIs scope s of part_of
-  pub rest : erase.selected part_of (view.selectors_of (map view.selector left)) ≡ whole
+  pub rest : erase.with_selectors part_of (view.selectors_of (map view.selector left)) ≡ whole
 
 pub one_selected : (scope : Scope) (s : code_scope.Scope) (whole : a.Designator) (of more : Option ℕ) (y : Selector) (left : List Selector)
     → ((d : a.Designator) → PlaceIs scope s of d → PlaceIs scope s more (erase.select d (view.selector y)))
@@ -116,7 +116,7 @@ one_selected scope s whole of more y left typed partly = record {
 pub all_selected : (scope : Scope) (s : code_scope.Scope) (whole : a.Designator) (of : Option ℕ) (left : List Selector) → left ≡ []
     → PartlySelected scope s whole of left → PlaceIs scope s of whole
 all_selected scope s whole of left none partly =
-    subst (PlaceIs scope s of) (subst (λ ys. erase.selected partly.part_of (view.selectors_of (map view.selector ys)) ≡ whole) none partly.rest) partly.typed
+    subst (PlaceIs scope s of) (subst (λ ys. erase.with_selectors partly.part_of (view.selectors_of (map view.selector ys)) ≡ whole) none partly.rest) partly.typed
 
 pub field_selected : (scope : Scope) (s : code_scope.Scope) (of : Option ℕ) (d : a.Designator) (at : ℕ) (x : Identifier)
     → TypeIs scope.tables.now.types of (field_type x.name (place_type (environment s) d)) → PlaceIs scope s of (erase.select d (view.selector (tree.Field at x)))

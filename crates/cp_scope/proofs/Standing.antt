@@ -8,7 +8,7 @@ use Rattle.cp_scope.specs.declared.types.TypeRow.{TypeRow}
 use Rattle.cp_scope.specs.declared.types.TypeRow.TheVariants as row
 use Rattle.cp_scope.specs.declared.types.Types.{Types}
 use Rattle.cp_scope.specs.declared.names.Names.{Names}
-use Rattle.cp_scope.specs.Standing.{Adds, AreMembers, Grows, Makes, MakesArray, MakesIndexed, ScopeStands, Stands, TypeMeans, array_row, indexed, row_at, simple_of, written}
+use Rattle.cp_scope.specs.Standing.{Adds, AreMembers, Grows, Makes, MakesArray, MakesIndexed, ScopeStands, Stands, TypeMeans, array_row, array_type_over, row_at, simple_of, type_from}
 
 pub grows_not : (types : Types) → Grows types types
 grows_not types = record { rows = λ n r h. h; systems = λ k s h. h }
@@ -92,10 +92,10 @@ indexed_none names types element = record { grows = grows_not types; stands = λ
 
 -- One index type more, before the others.
 pub indexed_more : (names : Names) (a b c d : Types) (i : TypeExpression) (is : List TypeExpression) (element of index n : ℕ)
-    → MakesIndexed names a b is element of → Makes names b c (written i) index → MakesArray c d index of n
+    → MakesIndexed names a b is element of → Makes names b c (type_from i) index → MakesArray c d index of n
     → MakesIndexed names a d (i ∷ is) element n
 indexed_more names a b c d i is element of index n one two three = record {
   grows = grows_more a b d one.grows (grows_more b c d two.grows three.grows);
-  stands = λ g e scope s. three.stands (written i g) (indexed is e g) (two.stands g (still_scope a b one.grows names g scope))
-      (still_stands b c two.grows of (indexed is e g) (one.stands g e scope s));
+  stands = λ g e scope s. three.stands (type_from i g) (array_type_over is e g) (two.stands g (still_scope a b one.grows names g scope))
+      (still_stands b c two.grows of (array_type_over is e g) (one.stands g e scope s));
 }

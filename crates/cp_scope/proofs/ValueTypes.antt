@@ -43,14 +43,14 @@ one_operator t before after o left all of some = record {
 
 -- ---- Designators
 
-part_indexed : (d : a.Designator) (is : s.Indices) → is_part d ≡ true → is_part (erase.indexed d is) ≡ true
+part_indexed : (d : a.Designator) (is : s.Indices) → is_part d ≡ true → is_part (erase.with_indices d is) ≡ true
 part_indexed d s.NoIndices h = h
 part_indexed d (s.MoreIndices at e is) h = part_indexed (a.At d (erase.expression e)) is refl
 
-part_selected : (d : a.Designator) (ss : s.Selectors) → is_part d ≡ true → is_part (erase.selected d ss) ≡ true
+part_selected : (d : a.Designator) (ss : s.Selectors) → is_part d ≡ true → is_part (erase.with_selectors d ss) ≡ true
 part_selected d s.NoSelectors h = h
 part_selected d (s.MoreSelectors (s.Field at x) ss) h = part_selected (a.Part d x.name) ss refl
-part_selected d (s.MoreSelectors (s.Indexed is) ss) h = part_selected (erase.indexed d is) ss (part_indexed d is h)
+part_selected d (s.MoreSelectors (s.Indexed is) ss) h = part_selected (erase.with_indices d is) ss (part_indexed d is h)
 
 selects_part : (x : Name) (y : s.Selector) → Selects y → is_part (erase.select (a.Plain x) y) ≡ true
 selects_part x (s.Field at y) selects = refl
@@ -63,7 +63,7 @@ first_selects d ss y all long is selects =
     sym (ap (λ t. is_part (erase.designator t)) (view_designator d) ∙ go d.selectors.items (subst (λ ts. 1 ≤ length ts) all long) (subst (λ ts. y ≡ slice_index_or ts 0 y) all is))
   where
     go : (ts : List Selector) → 1 ≤ length ts → y ≡ slice_index_or ts 0 y
-        → is_part (erase.selected (a.Plain d.root.name) (view.selectors_of (map view.selector ts))) ≡ true
+        → is_part (erase.with_selectors (a.Plain d.root.name) (view.selectors_of (map view.selector ts))) ≡ true
     go [] long is = absurd (omega (arith, long))
     go (u ∷ ts) long is =
         part_selected (erase.select (a.Plain d.root.name) (view.selector u)) (view.selectors_of (map view.selector ts))
@@ -79,17 +79,17 @@ part_has_no_name (a.Plain x) is = absurd (cc)
 part_has_no_name (a.Part d x) is = refl
 part_has_no_name (a.At d e) is = refl
 
-indexed_whole : (d : a.Designator) (is : s.Indices) → is_part (erase.indexed d is) ≡ false → erase.indexed d is ≡ d
+indexed_whole : (d : a.Designator) (is : s.Indices) → is_part (erase.with_indices d is) ≡ false → erase.with_indices d is ≡ d
 indexed_whole d s.NoIndices h = refl
 indexed_whole d (s.MoreIndices at e is) h =
     absurd (let both = sym (part_indexed (a.At d (erase.expression e)) is refl) ∙ h in cc)
 
-selected_whole : (d : a.Designator) (ss : s.Selectors) → is_part (erase.selected d ss) ≡ false → erase.selected d ss ≡ d
+selected_whole : (d : a.Designator) (ss : s.Selectors) → is_part (erase.with_selectors d ss) ≡ false → erase.with_selectors d ss ≡ d
 selected_whole d s.NoSelectors h = refl
 selected_whole d (s.MoreSelectors (s.Field at x) ss) h =
     absurd (let both = sym (part_selected (a.Part d x.name) ss refl) ∙ h in cc)
 selected_whole d (s.MoreSelectors (s.Indexed is) ss) h =
-    let here = selected_whole (erase.indexed d is) ss h in
+    let here = selected_whole (erase.with_indices d is) ss h in
     here ∙ indexed_whole d is (ap is_part (sym here) ∙ h)
 
 -- A designator that isn't more than a bare name is that name.

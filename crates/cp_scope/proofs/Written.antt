@@ -13,7 +13,7 @@ use Rattle.cp_model.specs.declared.tree.TypeExpression.TheVariants as tree
 use Rattle.cp_model.specs.declared.tree.TypeExpression.TheVariants.{rolls-Array, rolls-Record}
 use Rattle.cp_model.specs.declared.tree.TypeExpression.TheFolds.{fold-roll-TypeExpression, fold_out-Fields}
 use Rattle.cp_scope.specs.declared.types.Types.{Types}
-use Rattle.cp_scope.specs.Standing.{AreMembers, Stands, entries_of, fields_of, indexed, recorded, with_groups, written}
+use Rattle.cp_scope.specs.Standing.{AreMembers, Stands, entries_of, fields_of, array_type_over, record_type, with_groups, type_from}
 
 pub view_array : (at : ℕ) (indices : Vec TypeExpression Global) (element : Box TypeExpression Global)
     → type_expression (tree.Array at indices element) ≡ s.Array at (types_of (map type_expression indices.items)) (type_expression element.value)
@@ -29,12 +29,12 @@ pub view_fields : (f : Fields) → view.variables f ≡ record { names = f.names
 view_fields = fold_out-Fields s.TypeExpression s.Variables type_layer fields_layer
 
 pub array_written : (g : GlobalScope) (at : ℕ) (indices : Vec TypeExpression Global) (element : Box TypeExpression Global)
-    → indexed indices.items (written element.value g) g ≡ written (tree.Array at indices element) g
+    → array_type_over indices.items (type_from element.value g) g ≡ type_from (tree.Array at indices element) g
 array_written g at indices element =
     each indices.items ∙ ap (λ t. resolved_type g (erase.type_expression t)) (sym (view_array at indices element))
   where
     each : (is : List TypeExpression)
-        → indexed is (written element.value g) g
+        → array_type_over is (type_from element.value g) g
         ≡ resolved_type g (erase.arrays (erase.type_expressions (types_of (map type_expression is))) (erase.type_expression (type_expression element.value)))
     each [] = refl
     each (i ∷ is) = rw (each is) refl
@@ -43,7 +43,7 @@ pub groups_written : (g : GlobalScope) (groups : List Fields) → with_groups gr
 groups_written g [] = refl
 groups_written g (f ∷ fs) = rw (groups_written g fs, view_fields f) refl
 
-pub record_written : (g : GlobalScope) (at : ℕ) (groups : Vec Fields Global) → recorded groups.items g ≡ written (tree.Record at groups) g
+pub record_written : (g : GlobalScope) (at : ℕ) (groups : Vec Fields Global) → record_type groups.items g ≡ type_from (tree.Record at groups) g
 record_written g at groups = ap (λ t. resolved_type g (erase.type_expression t)) (sym (view_record at groups))
 
 -- Names of one type, before other members.

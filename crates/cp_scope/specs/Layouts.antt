@@ -17,7 +17,7 @@ use Rattle.cp_model.specs.declared.tree.System.{System}
 use Rattle.cp_scope.specs.declared.names.Names.{Names}
 use Rattle.cp_scope.specs.declared.types.TypeRow.{TypeRow}
 use Rattle.cp_scope.specs.declared.types.Types.{Types}
-use Rattle.cp_scope.specs.Standing.{AreMembers, Grows, ScopeStands, Stands, named, row_at}
+use Rattle.cp_scope.specs.Standing.{AreMembers, Grows, ScopeStands, Stands, name_type, row_at}
 
 -- A count is the number `n`, or `None`, which the code uses for a number that is too large.
 abbrev pub Counts : Option ℕ → ℕ → Type 0
@@ -53,7 +53,7 @@ abbrev pub rights_of : GlobalScope → List Parameters → ℕ
 rights_of g groups = length (filter (λ v. is_component v.1.type) (declarations g (map erase.parameter_group (map view.parameters groups))))
 
 abbrev pub rights_among : GlobalScope → Parameters → ℕ
-rights_among g p = if is_component (named p.of.name g) then length p.names.items else 0
+rights_among g p = if is_component (name_type p.of.name g) then length p.names.items else 0
 
 -- `l` is the layout of a component of this system type, with these members.
 abbrev pub LaysComponent : Names → Types → List Layout → System → List (Name × ℕ) → Layout → Type 0

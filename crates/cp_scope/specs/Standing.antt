@@ -119,24 +119,24 @@ abbrev pub array_row : Option TypeRow → ℕ → TypeRow
 array_row (Some (row.Simple s)) e = row.Array s.low s.high e
 array_row _ e = row.Unknown
 
-abbrev pub named : Name → GlobalScope → ResolvedType
-named x g = resolved_type g (TypeName x)
+abbrev pub name_type : Name → GlobalScope → ResolvedType
+name_type x g = resolved_type g (TypeName x)
 
-abbrev pub ranged : Constant → Constant → GlobalScope → ResolvedType
-ranged low high g = resolved_type g (Range (erase.constant low) (erase.constant high))
+abbrev pub range_type : Constant → Constant → GlobalScope → ResolvedType
+range_type low high g = resolved_type g (Range (erase.constant low) (erase.constant high))
 
-abbrev pub written : TypeExpression → GlobalScope → ResolvedType
-written t g = resolved_type g (erase.type_expression (view.type_expression t))
+abbrev pub type_from : TypeExpression → GlobalScope → ResolvedType
+type_from t g = resolved_type g (erase.type_expression (view.type_expression t))
 
 -- An array of arrays, one for each index type.
-abbrev pub indexed : List TypeExpression → ResolvedType → GlobalScope → ResolvedType
-indexed [] of g = of
-indexed (i ∷ is) of g = array_type (written i g) (indexed is of g)
+abbrev pub array_type_over : List TypeExpression → ResolvedType → GlobalScope → ResolvedType
+array_type_over [] of g = of
+array_type_over (i ∷ is) of g = array_type (type_from i g) (array_type_over is of g)
 
 -- Number `n` is made and stands for that array of arrays, whatever the element number stands for.
 pub record MakesIndexed (names : Names) (old new : Types) (indices : List TypeExpression) (element n : ℕ) : Type 0 where
   pub grows : Grows old new
-  pub stands : (g : GlobalScope) (e : ResolvedType) → ScopeStands names old g → Stands old element e → Stands new n (indexed indices e g)
+  pub stands : (g : GlobalScope) (e : ResolvedType) → ScopeStands names old g → Stands old element e → Stands new n (array_type_over indices e g)
 
 -- ---- Fields
 
@@ -162,14 +162,14 @@ abbrev pub MakesFields : Names → Types → Types → List (Name × ℕ) → Li
 MakesFields = MakesList AreMembers
 
 abbrev pub with_group : Fields → GlobalScope → Members → Members
-with_group f g ms = with_members (map erase.name f.names.items) (written f.of g) ms
+with_group f g ms = with_members (map erase.name f.names.items) (type_from f.of g) ms
 
 abbrev pub with_groups : List Fields → GlobalScope → Members → Members
 with_groups [] g ms = ms
 with_groups (f ∷ fs) g ms = with_group f g (with_groups fs g ms)
 
-abbrev pub recorded : List Fields → GlobalScope → ResolvedType
-recorded groups g = RecordOf (fields_of groups g)
+abbrev pub record_type : List Fields → GlobalScope → ResolvedType
+record_type groups g = RecordOf (fields_of groups g)
 
 -- ---- Definitions
 
@@ -178,4 +178,4 @@ with_parameters groups g ms =
     members_from (filter (λ v. not (is_component v.1.type)) (declarations g (map erase.parameter_group (map view.parameters groups)))) ms
 
 abbrev pub with_parameter : Parameters → GlobalScope → Members → Members
-with_parameter p g ms = if is_component (named p.of.name g) then ms else with_members (map erase.name p.names.items) (named p.of.name g) ms
+with_parameter p g ms = if is_component (name_type p.of.name g) then ms else with_members (map erase.name p.names.items) (name_type p.of.name g) ms

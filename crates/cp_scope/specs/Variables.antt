@@ -11,7 +11,7 @@ use Rattle.cp_model.specs.declared.tree.Parameters.{Parameters}
 use Rattle.cp_scope.specs.declared.variables.Declared.{Declared}
 use Rattle.cp_scope.specs.declared.names.Names.{Names}
 use Rattle.cp_scope.specs.declared.types.Types.{Types}
-use Rattle.cp_scope.specs.Standing.{MakesList, Stands, named, written}
+use Rattle.cp_scope.specs.Standing.{MakesList, Stands, name_type, type_from}
 
 -- A name, whether it is a `var` parameter, and the number of its type.
 abbrev pub Entry : Type 0
@@ -35,14 +35,14 @@ Declares = MakesList AreDeclared
 -- ---- Groups before other declarations
 
 abbrev pub with_declared_parameter : Parameters → GlobalScope → List (Name × Variable) → List (Name × Variable)
-with_declared_parameter p g vs = declared_group (is_some p.by_reference) (named p.of.name g) (map erase.name p.names.items) vs
+with_declared_parameter p g vs = declared_group (is_some p.by_reference) (name_type p.of.name g) (map erase.name p.names.items) vs
 
 abbrev pub with_declared_parameters : List Parameters → GlobalScope → List (Name × Variable) → List (Name × Variable)
 with_declared_parameters [] g vs = vs
 with_declared_parameters (p ∷ ps) g vs = with_declared_parameter p g (with_declared_parameters ps g vs)
 
 abbrev pub with_declared_group : Fields → GlobalScope → List (Name × Variable) → List (Name × Variable)
-with_declared_group f g vs = declared_group false (written f.of g) (map erase.name f.names.items) vs
+with_declared_group f g vs = declared_group false (type_from f.of g) (map erase.name f.names.items) vs
 
 abbrev pub with_declared_groups : List Fields → GlobalScope → List (Name × Variable) → List (Name × Variable)
 with_declared_groups [] g vs = vs

@@ -7,7 +7,7 @@ ghost use Rattle.cp_typing.specs.Words.{words};
 ghost use Rattle.cp_code.specs.Layout as code;
 ghost use Rattle.cp_model.specs.Locations.{ByName};
 ghost use Rattle.cp_scope.specs.Layouts.{AreLaid, Counts, LaysComponent, LaysOut, LaysRow, PartIs, rights_among, rights_of};
-ghost use Rattle.cp_scope.specs.Standing.{ScopeStands, Stands, entry, named};
+ghost use Rattle.cp_scope.specs.Standing.{ScopeStands, Stands, entry, name_type};
 
 use crate::counts::count_between;
 use crate::error::CompileError;
@@ -66,7 +66,7 @@ impl<'t> Types<'t> {
     /// Whether `name` names a type of components.
     pub fn names_component(&self, names: &Names<'t>, name: &[u8]) -> bool
         ensures { (g : GlobalScope) → ScopeStands names.now self.now g → result ≡ is_component
-            (named name.now g) }
+            (name_type name.now g) }
     {
         match names.types.find(name) {
             Some(n) => self.is_component(n),

@@ -8,7 +8,7 @@ ghost use Rattle.cp_model.specs.Types.{ResolvedType, standard_scope};
 ghost use Rattle.cp_model.specs.Erase as erase;
 ghost use Rattle.cp_model.specs.View as view;
 ghost use Rattle.cp_scope.specs.Outer.{Defines, NamesType, OuterStands, component_of, defining, defining_all, with_type, with_value, with_values};
-ghost use Rattle.cp_scope.specs.Standing.{Makes, MakesFields, Stands, base_of, entry, simple_of, value_of, with_parameter, with_parameters, written};
+ghost use Rattle.cp_scope.specs.Standing.{Makes, MakesFields, Stands, base_of, entry, simple_of, value_of, with_parameter, with_parameters, type_from};
 
 use crate::error::CompileError;
 use crate::names::{Names, Value, add_name};
@@ -182,7 +182,7 @@ impl<'t> Outer<'t> {
     }
 
     fn define_type(&mut self, x: &'t Identifier, t: &'t TypeExpression) -> Result<(), CompileError>
-        ensures { OnOk result (Defines self.old self.new (with_type x.now.name (written t.now))) }
+        ensures { OnOk result (Defines self.old self.new (with_type x.now.name (type_from t.now))) }
     {
         let of = self.types.resolve(&self.names, t)?;
         self.add_type(x.name.as_bytes(), of)

@@ -94,8 +94,9 @@ impl<'s, 't> Scope<'s, 't> {
     }
     // The type of the element that is left after indexing once for each of `indices`.
     fn indexed_type(&self, mut of: Option<usize>, indices: &[Index]) -> Option<usize>
-        ensures { (s : code.Scope) (d : a.Designator) → PlaceIs self.now s of d → PlaceIs
-            self.now s result (erase.indexed d (view.indices_of (map view.index indices.now))) }
+        ensures { (s : code.Scope) (d : a.Designator) → PlaceIs self.now s of d
+            → PlaceIs self.now s result
+            (erase.with_indices d (view.indices_of (map view.index indices.now))) }
     {
         for _index in indices {
             of = self.tables.types.element_type(of);

@@ -4,7 +4,7 @@ ghost use Rattle.std.specs.Prelude.{◌≡◌, ◌++◌, IfOk, OnOk, map, option
 ghost use Rattle.cp_model.specs.Abstract.{Integer};
 ghost use Rattle.cp_model.specs.Types.{GlobalScope, constant_value};
 ghost use Rattle.cp_model.specs.Erase as erase;
-ghost use Rattle.cp_scope.specs.Standing.{Adds, ConstantsStand, Makes, MakesArray, MakesFields, MakesIndexed, array_row, entries_of, entry, named, ranged, recorded, row_at, subrange_row, value_of, with_group, with_groups, written};
+ghost use Rattle.cp_scope.specs.Standing.{Adds, ConstantsStand, Makes, MakesArray, MakesFields, MakesIndexed, array_row, entries_of, entry, name_type, range_type, record_type, row_at, subrange_row, value_of, with_group, with_groups, type_from};
 
 use crate::error::CompileError;
 use crate::names::{Names, Value};
@@ -79,7 +79,8 @@ impl<'t> Types<'t> {
         low: &Constant,
         high: &Constant,
     ) -> Result<usize, CompileError>
-        ensures { IfOk result (λ n. Makes names.now self.old self.new (ranged low.now high.now) n) }
+        ensures { IfOk result
+            (λ n. Makes names.now self.old self.new (range_type low.now high.now) n) }
     {
         self.add(subrange_row(names.value(low), names.value(high)))
     }
@@ -87,7 +88,7 @@ impl<'t> Types<'t> {
     /// The number of the type that a name means. A name that means no type gets a new row,
     /// `Unknown`.
     pub fn named_type(&mut self, names: &Names<'t>, x: &Identifier) -> Result<usize, CompileError>
-        ensures { IfOk result (λ n. Makes names.now self.old self.new (named x.now.name) n) }
+        ensures { IfOk result (λ n. Makes names.now self.old self.new (name_type x.now.name) n) }
     {
         match names.types.find(x.name.as_bytes()) {
             Some(n) => Ok(n),
@@ -123,7 +124,7 @@ impl<'t> Types<'t> {
         names: &Names<'t>,
         t: &'t TypeExpression,
     ) -> Result<usize, CompileError>
-        ensures { IfOk result (λ n. Makes names.now self.old self.new (written t.now) n) }
+        ensures { IfOk result (λ n. Makes names.now self.old self.new (type_from t.now) n) }
     {
         match t {
             TypeExpression::Named(x) => self.named_type(names, x),
@@ -163,7 +164,7 @@ impl<'t> Types<'t> {
 
     #[cycle(types)]
     fn record(&mut self, names: &Names<'t>, groups: &'t [Fields]) -> Result<usize, CompileError>
-        ensures { IfOk result (λ n. Makes names.now self.old self.new (recorded groups.now) n) }
+        ensures { IfOk result (λ n. Makes names.now self.old self.new (record_type groups.now) n) }
     {
         let mut fields = Vec::new(self.alloc);
         self.fields(names, groups, &mut fields)?;

@@ -22,9 +22,9 @@ use Rattle.cp_code.specs.Programs as op
 use Rattle.cp_code.specs.Sites.{operation_at}
 use Rattle.cp_code.specs.TermsFor.{Agrees}
 use Rattle.cp_code.specs.StatementsFor.{AssignsBy}
-use Rattle.cp_steps.specs.PrivateStates.{Outside, PrivateState, go_to, private_outcome, provided, set_word, with_result}
+use Rattle.cp_steps.specs.PrivateStates.{Outside, PrivateState, go_to, private_outcome, guard, set_word, with_result}
 use Rattle.cp_steps.specs.Means.{PlaceAgrees}
-use Rattle.cp_steps.specs.Addresses.{Ground, activations, in_sight, lies, seen}
+use Rattle.cp_steps.specs.Addresses.{Ground, activations, in_sight, lies, lies_in_sight}
 use Rattle.cp_steps.specs.Left.{site}
 use Rattle.cp_steps.specs.PartOf.{PartOf, RunsOn}
 use Rattle.cp_steps.proofs.Doing.{Ready, known, place_here, quietly, statement_steps, value_here}
@@ -43,21 +43,21 @@ module _ (G : Ground) (s : State) (w : Outside) (before : List ℕ) (o : Private
 
   -- The meaning and the machine store the same value at the same place.
   pub stores : (after : PrivateState) (go : Writes → StepResult) (b of : BaseType) (lower upper start : ℤ) (n : ℕ) (m : ℤ)
-      → (P : Outcome Place) → PlaceAgrees (seen (in_sight G) G (activations o.base o.frames (i ∷ k))) (Simple b lower upper start) P (Ok n)
+      → (P : Outcome Place) → PlaceAgrees (lies_in_sight (in_sight G) G (activations o.base o.frames (i ∷ k))) (Simple b lower upper start) P (Ok n)
       → (v : TypedValue) → Agrees of (Gives v) (Ok m)
       → Stores after go n b lower upper start m
       → PartOf G (after_step s G.p (and_then P (λ at. and_then (writes_of at.at at.type v) go))) before
-      (provided (within lower upper m) o fault.Range (private_outcome after)).0
+      (guard (within lower upper m) o fault.Range (private_outcome after)).0
   stores after go b of lower upper start n m (Fault f) h v g stored = absurd h
   stores after go b of lower upper start n m (Gives p) h v g stored =
-      subst (λ t. PartOf G (after_step s G.p (and_then (writes_of p.at t v) go)) before (provided (within lower upper m) o fault.Range (private_outcome after)).0) (sym h.1)
-      (subst (λ z. PartOf G (after_step s G.p (and_then (outcomes.provided (within lower upper z) 1 ((p.at, Ordinal z) ∷ [])) go)) before (provided (within lower upper m) o fault.Range (private_outcome after)).0) (sym (ordinal_is v m g.1))
+      subst (λ t. PartOf G (after_step s G.p (and_then (writes_of p.at t v) go)) before (guard (within lower upper m) o fault.Range (private_outcome after)).0) (sym h.1)
+      (subst (λ z. PartOf G (after_step s G.p (and_then (outcomes.guard (within lower upper z) 1 ((p.at, Ordinal z) ∷ [])) go)) before (guard (within lower upper m) o fault.Range (private_outcome after)).0) (sym (ordinal_is v m g.1))
       (by (within lower upper m)))
     where
       there : (in_sight G p.at.owner ≡ true) × (lies G (activations o.base o.frames (i ∷ k)) p.at ≡ Some (n, Simple b lower upper start))
       there = seen_mine (in_sight G) G (activations o.base o.frames (i ∷ k)) p.at (n, Simple b lower upper start) h.0
 
-      by : (t : Bool) → PartOf G (after_step s G.p (and_then (outcomes.provided t 1 ((p.at, Ordinal m) ∷ [])) go)) before (provided t o fault.Range (private_outcome after)).0
+      by : (t : Bool) → PartOf G (after_step s G.p (and_then (outcomes.guard t 1 ((p.at, Ordinal m) ∷ [])) go)) before (guard t o fault.Range (private_outcome after)).0
       by false = faulted G s w before o i k N 1 fault.Range refl
       by true = stored p.at there.0 there.1
 
@@ -81,9 +81,9 @@ set_steps G s w before o d e env k Y to lower upper c n there h =
     goes ws = own_step (with_writes (configuration s G.p) ws k)
 
     by : (P : Outcome Place) (r : Result ℕ machine.Fault) (O : Outcome TypedValue) (q : Result ℤ machine.Fault)
-        → PlaceAgrees (seen (in_sight G) G (activations o.base o.frames (Do (a.Assign d e) env ∷ k))) (Simple h.0 lower upper h.2) P r → Agrees h.1 O q
+        → PlaceAgrees (lies_in_sight (in_sight G) G (activations o.base o.frames (Do (a.Assign d e) env ∷ k))) (Simple h.0 lower upper h.2) P r → Agrees h.1 O q
         → PartOf G (after_step s G.p (and_then P (λ at. and_then O (λ v. and_then (writes_of at.at at.type v) goes)))) before
-        (with_result o r (λ at. with_result o q (λ v. provided (within lower upper v) o fault.Range (private_outcome (go_to n (set_word o at v)))))).0
+        (with_result o r (λ at. with_result o q (λ v. guard (within lower upper v) o fault.Range (private_outcome (go_to n (set_word o at v)))))).0
     by (Fault i) (Err f) O q g r2 = faulted G s w before o (Do (a.Assign d e) env) k Y.now i f g
     by (Fault i) (Ok at) O q g r2 = absurd g
     by (Gives p) (Err f) O q g r2 = absurd g

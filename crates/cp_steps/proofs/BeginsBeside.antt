@@ -19,7 +19,7 @@ use Rattle.cp_steps.specs.PrivateStates as machine
 use Rattle.cp_steps.specs.PrivateStates.{Acting, PrivateState}
 use Rattle.cp_steps.specs.Addresses.{Ground, OwnWords, in_sight, sees}
 use Rattle.cp_steps.specs.Beginning.{Begins}
-use Rattle.cp_steps.specs.KernelSteps.{Kernel, Turning, joined, kernel_step, kernel_steps, parted}
+use Rattle.cp_steps.specs.KernelSteps.{Kernel, Turning, join_words, kernel_step, kernel_steps, part_words}
 use Rattle.cp_steps.specs.Laws.{KernelTurnKeepsBegins, TurningOf, ground_of}
 use Rattle.cp_steps.specs.Machines.{begin_from}
 use Rattle.cp_steps.specs.PartOf.{PartOf, RunsOn}
@@ -114,11 +114,11 @@ module _ (program : Program) (setup : Setup) (F : StandsFor program setup) (p ow
       y : Turning
       y = kernel_step program (realtime (running_clock setup s)) x
 
-      taking : (ready : s.status p ≡ stage.Ready) (running : x.own.activity ≡ machine.Running) → Stepped (H program setup F p own s before x.own x.kernel I (low, high) T.part T.kernel) s (w program setup F p own s before x.own x.kernel I (low, high) T.part T.kernel) before (joined x)
+      taking : (ready : s.status p ≡ stage.Ready) (running : x.own.activity ≡ machine.Running) → Stepped (H program setup F p own s before x.own x.kernel I (low, high) T.part T.kernel) s (w program setup F p own s before x.own x.kernel I (low, high) T.part T.kernel) before (join_words x)
       taking ready running = S program setup F p own s before x.own x.kernel I (low, high) T.part T.kernel ready running
 
       r' : s.status p ≡ stage.Ready → x.own.activity ≡ machine.Running → Acting
-      r' ready running = act program (w program setup F p own s before x.own x.kernel I (low, high) T.part T.kernel) (joined x) (taking ready running).operation
+      r' ready running = act program (w program setup F p own s before x.own x.kernel I (low, high) T.part T.kernel) (join_words x) (taking ready running).operation
 
       by : Which program setup F p own s before x.own x.kernel I (low, high) T.part T.kernel → Begins G (meaning.kernel_step setup s p) y.kernel o
       by (Rest defined computed) =
@@ -126,7 +126,7 @@ module _ (program : Program) (setup : Setup) (F : StandsFor program setup) (p ow
       by (Step ready running due defined computed) =
           subst (λ v. Begins G v y.kernel o) (sym defined)
           (subst (λ (z : Turning). Begins G (meaning.step setup s p) z.kernel o) (sym computed)
-          (subst (λ n. Begins G (meaning.step setup s p) (parted n x (r' ready running)).kernel o) (sym T.part.count)
+          (subst (λ n. Begins G (meaning.step setup s p) (part_words n x (r' ready running)).kernel o) (sym T.part.count)
           (step_begins (H program setup F p own s before x.own x.kernel I (low, high) T.part T.kernel) s (w program setup F p own s before x.own x.kernel I (low, high) T.part T.kernel) before x T.part.count F refl
           (part_joined program setup F p own s before x.own x.kernel I (low, high) T.part T.kernel ready running) I (around program setup F p own s before x.own x.kernel I (low, high) T.part T.kernel)
           (reaches program setup F p own s before x.own x.kernel I (low, high) T.part T.kernel) (all program setup F p own s before x.own x.kernel I (low, high) T.part T.kernel)

@@ -33,7 +33,7 @@ use Rattle.cp_code.specs.Layout.{local_at, local_words, natural}
 use Rattle.cp_code.specs.Sites as sites
 use Rattle.cp_code.specs.Sites.{RoutineOf, Site, UnitText, TargetFor, TargetOf, first_parameter, operation_at, parameters, system_of_callee}
 use Rattle.cp_code.specs.StandsFor.{UnitStands}
-use Rattle.cp_code.specs.Starts.{started, word}
+use Rattle.cp_code.specs.Starts.{carry_out, word}
 use Rattle.cp_code.specs.StatementsFor.{PerformsBy}
 use Rattle.cp_code.specs.TermsFor.{ArgumentsFor, Knowns, nothing_known}
 use Rattle.cp_steps.specs.PrivateStates.{Outside, PrivateState}
@@ -41,7 +41,7 @@ use Rattle.cp_steps.specs.Passing.{component_called}
 use Rattle.cp_steps.specs.Calling.{Back, frame_of}
 use Rattle.cp_steps.specs.PartOf.{PartOf}
 use Rattle.cp_steps.specs.Steps.{act, is_monitor}
-use Rattle.cp_steps.specs.Addresses.{Ground, activations, in_sight, lies, scope, seen}
+use Rattle.cp_steps.specs.Addresses.{Ground, activations, in_sight, lies, scope, lies_in_sight}
 use Rattle.cp_steps.specs.Left.{CallerAt, Left, held_below, kept_below, site}
 use Rattle.cp_steps.proofs.Declared.{distinct_first}
 use Rattle.cp_code.proofs.CallsStand.{callee_of}
@@ -119,9 +119,9 @@ module _ (G : Ground) (s : State) (w : Outside) (before : List ℕ) (o : Private
   pub opens : Opens G s w before o i l N sees k v call back place kept live C.unit
   opens ws new len B =
       subst (λ g. Opened G (activations o.base o.frames k)
-      (put_all (starting_writes (root (owner_of_call G k)) (declarations g v.callee.routine.variables)) (put_all ws (forget (owner_of_call G k) s.store))) (started (o.base + call.words) C.unit.starts new) (o.base + call.words) (record { owner = owner_of_call G k; routine = v.callee.routine })) (sym N.on.runs.globals)
+      (put_all (starting_writes (root (owner_of_call G k)) (declarations g v.callee.routine.variables)) (put_all ws (forget (owner_of_call G k) s.store))) (carry_out (o.base + call.words) C.unit.starts new) (o.base + call.words) (record { owner = owner_of_call G k; routine = v.callee.routine })) (sym N.on.runs.globals)
       (subst (λ d. Opened G (activations o.base o.frames k)
-      (put_all (starting_writes (root (OfActivation G.p d)) (declarations (scope G) v.callee.routine.variables)) (put_all ws (forget (OfActivation G.p d) s.store))) (started (o.base + call.words) C.unit.starts new) (o.base + call.words) (record { owner = OfActivation G.p d; routine = v.callee.routine })) (sym deep)
+      (put_all (starting_writes (root (OfActivation G.p d)) (declarations (scope G) v.callee.routine.variables)) (put_all ws (forget (OfActivation G.p d) s.store))) (carry_out (o.base + call.words) C.unit.starts new) (o.base + call.words) (record { owner = OfActivation G.p d; routine = v.callee.routine })) (sym deep)
       (opened G (activations o.base o.frames k) (system_of_callee N.on.running.env v.callee.of) v.callee.routine C.unit stands (o.base + call.words) s.store ws new
       (omega (arith, stands.1, C.fits.words, C.words, N.on.runs.words_fit, N.on.count, N.on.base, len, own_in_whole G))
       (λ x n d e. subst (λ z. ParameterHas (scope G) (lies G (activations o.base o.frames k)) d (parameter_at (OfActivation G.p z) x) (put_all ws (forget (OfActivation G.p z) s.store)) new (o.base + call.words + n)) deep (holds x n d e))
@@ -135,7 +135,7 @@ module _ (G : Ground) (s : State) (w : Outside) (before : List ℕ) (o : Private
 
       -- What a parameter refers to lies where the caller sees it.
       converted : (d : declared.Variable) (x : Name) (at : ℕ) (b : Bool)
-          → Has b (scope G) (seen (in_sight G) G (activations o.base o.frames (i ∷ l))) d.type (parameter_at (owner_of_call G k) x) bound new at
+          → Has b (scope G) (lies_in_sight (in_sight G) G (activations o.base o.frames (i ∷ l))) d.type (parameter_at (owner_of_call G k) x) bound new at
           → Has b (scope G) (lies G (activations o.base o.frames k)) d.type (parameter_at (owner_of_call G k) x) bound new at
       converted d x at true h =
           (h.0, h.1, ap (λ xs. lies G xs h.0) W.same ∙ (seen_mine (in_sight G) G (activations o.base o.frames (i ∷ l)) h.0 (natural (word new at), d.type) h.2).1)
@@ -146,7 +146,7 @@ module _ (G : Ground) (s : State) (w : Outside) (before : List ℕ) (o : Private
       holds x n d e =
           subst (λ z. ParameterHas (scope G) (lies G (activations o.base o.frames k)) d (parameter_at (owner_of_call G k) x) bound new (o.base + z + n)) (sym C.words)
           (converted d x (o.base + (site G N.on.running).words + n) d.by_reference
-          (subst (λ g. ParameterHas g (seen (in_sight G) G (activations o.base o.frames (i ∷ l))) d (parameter_at (owner_of_call G k) x) bound new (o.base + (site G N.on.running).words + n)) N.on.runs.globals
+          (subst (λ g. ParameterHas g (lies_in_sight (in_sight G) G (activations o.base o.frames (i ∷ l))) d (parameter_at (owner_of_call G k) x) bound new (o.base + (site G N.on.running).words + n)) N.on.runs.globals
           (B.parameters x n d (forget (owner_of_call G k) s.store) (ap (λ g. local_at g (result_words v.callee.routine.result) (declarations g v.callee.routine.parameters) x) N.on.runs.globals ∙ e))))
 
 -- ---- steps

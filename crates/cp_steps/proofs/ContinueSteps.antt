@@ -34,7 +34,7 @@ use Rattle.cp_steps.specs.PrivateStates.{Continues, Outside, PrivateState, fault
 use Rattle.cp_steps.specs.Calling.{leave, return_with}
 use Rattle.cp_steps.specs.Steps as steps
 use Rattle.cp_steps.specs.Means.{PlaceAgrees}
-use Rattle.cp_steps.specs.Addresses.{Activation, Ground, activation_at, activation_of, activations, in_sight, lies, scope, seen}
+use Rattle.cp_steps.specs.Addresses.{Activation, Ground, activation_at, activation_of, activations, in_sight, lies, scope, lies_in_sight}
 use Rattle.cp_steps.specs.Left.{IsGate, gate_number}
 use Rattle.cp_steps.specs.PartOf.{ActivationMeans, IfFrame, PartOf, ResultMeans, RunsOn}
 use Rattle.cp_steps.proofs.Continuing.{Innermost, innermost, part_same, resumed_part}
@@ -261,7 +261,7 @@ continue_steps G s w before o x env k d Y queue function h names =
         subst (λ z. Both (calls.continue (configuration s G.p) q z) (steps.continue (record o { frames = f ∷ fs }) at function)) (sym I.is)
         (continued G s w before o f fs x env k d Y I q at mine is names function runs I.gate refl, resumes_told G s w before o f fs x env k d Y I q at mine is names function runs I.gate refl)
 
-    by_place : (p : Outcome Place) (r : Result ℕ machine.Fault) → PlaceAgrees (seen (in_sight G) G (activations o.base o.frames (first ∷ k))) Queue p r
+    by_place : (p : Outcome Place) (r : Result ℕ machine.Fault) → PlaceAgrees (lies_in_sight (in_sight G) G (activations o.base o.frames (first ∷ k))) Queue p r
         → Both (and_then p (λ at. calls.continue (configuration s G.p) at.at (innermost_call k))) (with_result o r (λ at. steps.continue o at function))
     by_place (Gives q) (Ok at) g =
         let z = seen_mine (in_sight G) G (activations o.base o.frames (first ∷ k)) q.at (at, Queue) g.0 in

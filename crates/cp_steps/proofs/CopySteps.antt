@@ -29,7 +29,7 @@ use Rattle.cp_steps.specs.PrivateStates.{Outside, PrivateState, with_result}
 use Rattle.cp_steps.specs.Steps.{copy_words}
 use Rattle.cp_steps.specs.Values.{place_of}
 use Rattle.cp_steps.specs.Means.{PlaceAgrees}
-use Rattle.cp_steps.specs.Addresses.{Ground, activations, in_sight, lies, scope, seen}
+use Rattle.cp_steps.specs.Addresses.{Ground, activations, in_sight, lies, scope, lies_in_sight}
 use Rattle.cp_steps.specs.Left.{held_below, site}
 use Rattle.cp_steps.specs.PartOf.{PartOf, RunsOn, components}
 use Rattle.cp_steps.proofs.Apart.{cell_has_word, cell_head}
@@ -130,8 +130,8 @@ copy_steps G s w before o d e env k Y to from size n there h =
     goes ws = own_step (with_writes (configuration s G.p) ws k)
 
     -- The words are copied, and what follows is left to do.
-    stored : (p q : Place) (to' from' : ℕ) → PlaceAgrees (seen (in_sight G) G (activations o.base o.frames (i ∷ k))) h.0 (Gives p) (Ok to')
-        → PlaceAgrees (seen (in_sight G) G (activations o.base o.frames (i ∷ k))) h.0 (Gives q) (Ok from')
+    stored : (p q : Place) (to' from' : ℕ) → PlaceAgrees (lies_in_sight (in_sight G) G (activations o.base o.frames (i ∷ k))) h.0 (Gives p) (Ok to')
+        → PlaceAgrees (lies_in_sight (in_sight G) G (activations o.base o.frames (i ∷ k))) h.0 (Gives q) (Ok from')
         → PartOf G (after_step s G.p (goes (leaf_writes p.at (read_below s.store q.at) (leaves h.0)))) before (copy_words o to' from' size n).0
     stored p q to' from' f g =
         let x = seen_mine (in_sight G) G (activations o.base o.frames (i ∷ k)) p.at (to', h.0) f.0 in
@@ -145,7 +145,7 @@ copy_steps G s w before o d e env k Y to from size n there h =
         record { number = refl; input = refl; consumed = refl; output = refl; activity = refl })
 
     by : (P : Outcome Place) (r : Result ℕ machine.Fault) (Q : Outcome Place) (c : Result ℕ machine.Fault)
-        → PlaceAgrees (seen (in_sight G) G (activations o.base o.frames (i ∷ k))) h.0 P r → PlaceAgrees (seen (in_sight G) G (activations o.base o.frames (i ∷ k))) h.0 Q c
+        → PlaceAgrees (lies_in_sight (in_sight G) G (activations o.base o.frames (i ∷ k))) h.0 P r → PlaceAgrees (lies_in_sight (in_sight G) G (activations o.base o.frames (i ∷ k))) h.0 Q c
         → PartOf G (after_step s G.p (and_then P (λ at. and_then (and_then Q (λ p. Gives (read s.store p))) (λ v. and_then (writes_of at.at at.type v) goes)))) before
         (with_result o r (λ at. with_result o c (λ b. copy_words o at b size n))).0
     by (Fault j) (Err f) Q c g r2 = faulted G s w before o i k Y.now j f g

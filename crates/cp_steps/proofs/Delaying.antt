@@ -24,10 +24,10 @@ use Rattle.cp_code.specs.Terms.{Spot}
 use Rattle.cp_code.specs.Programs as op
 use Rattle.cp_code.specs.Starts.{word}
 use Rattle.cp_steps.specs.PrivateStates as private
-use Rattle.cp_steps.specs.PrivateStates.{Outside, PrivateState, go_to, private_outcome, provided, set_word, with_result}
+use Rattle.cp_steps.specs.PrivateStates.{Outside, PrivateState, go_to, private_outcome, guard, set_word, with_result}
 use Rattle.cp_steps.specs.Steps as steps
-use Rattle.cp_steps.specs.Means.{PlaceAgrees, queued}
-use Rattle.cp_steps.specs.Addresses.{Activation, AllWords, Ground, activations, in_sight, lies, seen, whole}
+use Rattle.cp_steps.specs.Means.{PlaceAgrees, process_of_word}
+use Rattle.cp_steps.specs.Addresses.{Activation, AllWords, Ground, activations, in_sight, lies, lies_in_sight, whole}
 use Rattle.cp_steps.specs.PartOf.{PartOf, RunsOn}
 use Rattle.cp_steps.proofs.Doing.{Ready, place_here, statement_steps}
 use Rattle.cp_steps.proofs.Heres.{seen_mine}
@@ -47,7 +47,7 @@ use Rattle.cp_model.proofs.ExpressionReach.{IfGives}
 use Rattle.cp_steps.specs.KernelOf.{kernel_ground}
 use Rattle.cp_steps.specs.Left.{IsGate, innermost_gate}
 
-queued_number : (p : ℕ) → 1 ≤ p → queued (pos p) ≡ Some p
+queued_number : (p : ℕ) → 1 ≤ p → process_of_word (pos p) ≡ Some p
 queued_number zero h = absurd (omega (arith, h))
 queued_number (suc p) h = refl
 
@@ -80,15 +80,15 @@ module _ (G : Ground) (s : State) (w : Outside) (before : List ℕ) (o : Private
       N : Now G s w before o first k
       N = Y.now
 
-      holds : queued (pos o.number) ≡ Some G.p
-      holds = ap (λ z. queued (pos z)) N.part.number ∙ queued_number G.p (runs_numbered G s.store o (first ∷ k) N.on).0
+      holds : process_of_word (pos o.number) ≡ Some G.p
+      holds = ap (λ z. process_of_word (pos z)) N.part.number ∙ queued_number G.p (runs_numbered G s.store o (first ∷ k) N.on).0
 
   tested : (q : Location) (at : ℕ) → in_sight G q.owner ≡ true → lies G xs q ≡ Some (at, Queue) → (z : ℤ)
-      → PartOf G (after_step s G.p (enqueue G.p (configuration s G.p) k q m (queued z))) before
-      (provided (int_le z (pos 0)) o fault.QueueTaken (stands at, private.Delays o.gate at)).0
+      → PartOf G (after_step s G.p (enqueue G.p (configuration s G.p) k q m (process_of_word z))) before
+      (guard (int_le z (pos 0)) o fault.QueueTaken (stands at, private.Delays o.gate at)).0
   tested q at mine is (pos zero) = stood q at mine is
   tested q at mine is (pos (suc r)) =
-      subst (λ b. PartOf G (after_step s G.p (Fault 5)) before (provided b o fault.QueueTaken (stands at, private.Delays o.gate at)).0) (sym (lt-leb (suc r) 0 (omega arith)))
+      subst (λ b. PartOf G (after_step s G.p (Fault 5)) before (guard b o fault.QueueTaken (stands at, private.Delays o.gate at)).0) (sym (lt-leb (suc r) 0 (omega arith)))
       (faulted G s w before o first k Y.now 5 fault.QueueTaken refl)
   tested q at mine is (negsuc r) = stood q at mine is
 
@@ -98,7 +98,7 @@ module _ (G : Ground) (s : State) (w : Outside) (before : List ℕ) (o : Private
       let inside : at + 0 < whole G = cell_inside G xs _ (runs_stacked G s.store o (first ∷ k) Y.now.on) q at Queue 0 mine refl is in
       lt-ltb at (length o.words) (omega (arith, inside, Y.now.on.count))
 
-  by_place : (P : Outcome Place) (r : Result ℕ machine.Fault) → PlaceAgrees (seen (in_sight G) G xs) Queue P r
+  by_place : (P : Outcome Place) (r : Result ℕ machine.Fault) → PlaceAgrees (lies_in_sight (in_sight G) G xs) Queue P r
       → PartOf G (after_step s G.p (and_then P (λ at. delay G.p (configuration s G.p) k at.at (marked_monitors k)))) before (with_result o r (λ at. steps.delay o at n)).0
   by_place (Gives q) (Ok at) g =
       let f = seen_mine (in_sight G) G xs q.at (at, Queue) g.0 in
@@ -110,7 +110,7 @@ module _ (G : Ground) (s : State) (w : Outside) (before : List ℕ) (o : Private
       (tested q.at at f.0 f.1 (word o.words at)))))
     where
       tests : ℕ → private.Acting
-      tests at = provided (int_le (word o.words at) (pos 0)) o fault.QueueTaken (stands at, private.Delays o.gate at)
+      tests at = guard (int_le (word o.words at) (pos 0)) o fault.QueueTaken (stands at, private.Delays o.gate at)
   by_place (Fault i) (Err f) g = faulted G s w before o first k Y.now i f g
   by_place (Gives v) (Err f) g = absurd g
   by_place (Fault i) (Ok at) g = absurd g
@@ -141,9 +141,9 @@ module _ (G : Ground) (s : State) (w : Outside) (before : List ℕ) (o : Private
         (provided_leaves (int_le (word o.words at) (pos 0)) o fault.QueueTaken (private.Delays o.gate at) (stands at, private.Delays o.gate at) (WentOn refl (going G s before o Y.now.part Y.now.ready))))
       where
         tests : ℕ → private.Acting
-        tests at = provided (int_le (word o.words at) (pos 0)) o fault.QueueTaken (stands at, private.Delays o.gate at)
+        tests at = guard (int_le (word o.words at) (pos 0)) o fault.QueueTaken (stands at, private.Delays o.gate at)
 
-    effect_by_place : (P : Outcome Place) (r : Result ℕ machine.Fault) → PlaceAgrees (seen (in_sight G) G xs) Queue P r
+    effect_by_place : (P : Outcome Place) (r : Result ℕ machine.Fault) → PlaceAgrees (lies_in_sight (in_sight G) G xs) Queue P r
         → EffectAgrees G w.own (and_then P (λ at. delay G.p (configuration s G.p) k at.at (marked_monitors k))) (with_result o r (λ at. steps.delay o at n)).1
     effect_by_place (Gives q) (Ok at) g =
         let f = seen_mine (in_sight G) G xs q.at (at, Queue) g.0 in

@@ -21,7 +21,7 @@ use Rattle.cp_steps.specs.Steps as steps
 use Rattle.cp_steps.specs.Steps.{act, alone}
 use Rattle.cp_steps.specs.Values.{View, place_of, value_of}
 use Rattle.cp_steps.specs.Means.{PlaceAgrees}
-use Rattle.cp_steps.specs.Addresses.{Ground, activations, in_sight, seen}
+use Rattle.cp_steps.specs.Addresses.{Ground, activations, in_sight, lies_in_sight}
 use Rattle.cp_steps.specs.Left.{held_below, site}
 use Rattle.cp_steps.specs.PartOf.{PartOf, RunsOn}
 use Rattle.cp_steps.proofs.Effects.{EffectAgrees, quiet_agrees}
@@ -55,7 +55,7 @@ module _ (G : Ground) (s : State) (w : Outside) (before : List ℕ) (o : Private
 
   pub place_here : Sees G (in_sight G) s.store N.on.running.env → (d : a.Designator) (c : Spot) (t : ResolvedType) (at next low high : ℕ) → SpotFor (site G N.on.running) known d c t at next low high
       → call_in_designator N.on.running.env (a.Literal 0) d ≡ None
-      → PlaceAgrees (seen (in_sight G) G (activations o.base o.frames (i ∷ k))) t (place (clock_of G s) N.on.running.env s.store d) (place_of view c)
+      → PlaceAgrees (lies_in_sight (in_sight G) G (activations o.base o.frames (i ∷ k))) t (place (clock_of G s) N.on.running.env s.store d) (place_of view c)
   place_here sees d c t at next low high h n =
       place_agrees (site G N.on.running) (clock_of G s) s.store view _ _ (runs_here G s.store w o (i ∷ k) (clock_of G s) N.around.clock N.on sees) d c t at next low high h n
 

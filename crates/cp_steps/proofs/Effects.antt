@@ -33,7 +33,7 @@ use Rattle.cp_steps.specs.KernelOf.{kernel_ground}
 use Rattle.cp_steps.specs.Left.{IsGate, gate_number}
 use Rattle.cp_steps.specs.PartOf.{PartOf, status_of}
 use Rattle.cp_steps.specs.PrivateStates as machine
-use Rattle.cp_steps.specs.PrivateStates.{Acting, Activity, Frame, NoEffect, Outside, PrivateState, fault_in, provided, set_temp, view_of}
+use Rattle.cp_steps.specs.PrivateStates.{Acting, Activity, Frame, NoEffect, Outside, PrivateState, fault_in, guard, set_temp, view_of}
 use Rattle.cp_steps.proofs.MonitorsThere.{monitor_below}
 
 -- The effect that the machine leaves means the effect that the meaning leaves, if `own` words are
@@ -245,7 +245,7 @@ return_leaves o changed f fs true e on = by (same_integer (word o.words o.base) 
     by true = Stopped refl tt
     by false = WentOn refl on
 
-pub provided_leaves : (b : Bool) (o : PrivateState) (f : fault.Fault) (e : machine.Effect) (r : Acting) → LeavesIt e r → LeavesIt e (provided b o f r)
+pub provided_leaves : (b : Bool) (o : PrivateState) (f : fault.Fault) (e : machine.Effect) (r : Acting) → LeavesIt e r → LeavesIt e (guard b o f r)
 provided_leaves true o f e r h = h
 provided_leaves false o f e r h = Stopped refl tt
 

@@ -9,7 +9,7 @@ use Rattle.cp_model.specs.Expressions.{place, value}
 use Rattle.cp_model.specs.Leaves.{leaves}
 use Rattle.cp_model.specs.Locations.{ByIndex, ByName, Location, under}
 use Rattle.cp_model.specs.Operators.{Clock, apply_operator, integer_result, is_empty_queue, realtime, standard_function, with_divisor}
-use Rattle.cp_model.specs.Outcomes.{Fault, Gives, Outcome, and_then, provided}
+use Rattle.cp_model.specs.Outcomes.{Fault, Gives, Outcome, and_then, guard}
 use Rattle.cp_model.specs.Places.{Place, TypedValue, base_of_value, element_place, field_place, field_type, head_value, indexed_place, ordinal_in, ordinal_of, head_or_absent, place_of_meaning, read, referent, simple_value, value_of_meaning, within}
 use Rattle.cp_model.specs.Stores.{Ordinal, QueueHolds, Store}
 use Rattle.cp_model.specs.Types.{ArrayOf, Members, Queue, RecordOf, ResolvedType, Simple, base_of_type}
@@ -23,9 +23,9 @@ use Rattle.cp_typing.specs.Words as typed
 use Rattle.cp_steps.specs.Values.{View, apply, bind, place_of, root_place, truth, unless_zero, value_of}
 use Rattle.cp_code.specs.Layout.{Part, distance, farther, natural, part}
 use Rattle.cp_code.specs.Sites.{IsNoClock, NamesVariable, Site, local_location}
-use Rattle.cp_code.specs.TermsFor.{Agrees, Knowns, SpotFor, TermFor, moved, result_base}
+use Rattle.cp_code.specs.TermsFor.{Agrees, Knowns, SpotFor, TermFor, move_spot, result_base}
 use Rattle.cp_model.specs.Integers.{same_integer}
-use Rattle.cp_steps.specs.Means.{Here, PlaceAgrees, queued}
+use Rattle.cp_steps.specs.Means.{Here, PlaceAgrees, process_of_word}
 use Rattle.cp_steps.proofs.Finding.{called_is_found, in_context_none, member_has_type, or_else_none, part_whole, under_nothing}
 
 -- ---- values
@@ -36,7 +36,7 @@ ordinal_is v n h = ap (λ vs. ordinal_in (head_or_absent vs)) h
 pub integer_agrees : (n : ℤ) → Agrees Integer (integer_result n) (in_range n)
 integer_agrees n = by (within (negsuc 32767) (pos 32767) n)
   where
-    by : (b : Bool) → Agrees Integer (provided b 3 (simple_value Integer n)) (unless b fault.Overflow n)
+    by : (b : Bool) → Agrees Integer (guard b 3 (simple_value Integer n)) (unless b fault.Overflow n)
     by true = (refl, refl)
     by false = refl
 
@@ -102,7 +102,7 @@ read_then store (Fault f) k = refl
 -- ---- places
 
 -- The place a number of words further on.
-moved_place : (v : View) (n : ℕ) (s : Spot) → place_of v (moved n s) ≡ bind (place_of v s) (λ m. Ok (m + n))
+moved_place : (v : View) (n : ℕ) (s : Spot) → place_of v (move_spot n s) ≡ bind (place_of v s) (λ m. Ok (m + n))
 moved_place v n (Rooted (root.Local at)) = ap Ok (omega arith)
 moved_place v n (Rooted (root.Member at)) = ap Ok (omega arith)
 moved_place v n (Rooted (root.Through at plus)) = ap Ok (omega arith)
@@ -125,7 +125,7 @@ moved_place v n (Element s low high words plus e) = by (place_of v s)
     by (Ok m) = within_index m (value_of v e)
     by (Err f) = refl
 
-queue_is : (n : ℤ) → is_empty_queue (QueueHolds (queued n)) ≡ int_le n (pos 0)
+queue_is : (n : ℤ) → is_empty_queue (QueueHolds (process_of_word n)) ≡ int_le n (pos 0)
 queue_is (pos zero) = refl
 queue_is (pos (suc n)) = Prim.grind arith
 queue_is (negsuc n) = refl
@@ -170,7 +170,7 @@ module _ (site : Site) (clock : Clock) (store : Store) (v : View) (K : Knowns) (
       (by (within lower upper i) refl)
     where
       by : (b : Bool) → within lower upper i ≡ b
-          → PlaceAgrees lies t (provided b 2 (record { at = under p.at (ByIndex i ∷ []); type = t })) (unless b fault.Index (n + (distance lower i * words + plus)))
+          → PlaceAgrees lies t (guard b 2 (record { at = under p.at (ByIndex i ∷ []); type = t })) (unless b fault.Index (n + (distance lower i * words + plus)))
       by true e =
           let far : distance lower i * typed.words site.env.globals t + 0 ≡ distance lower i * words + plus
           = (λ j. distance lower i * sym hw j + sym hp j) in (

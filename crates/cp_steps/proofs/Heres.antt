@@ -19,7 +19,7 @@ use Rattle.cp_code.specs.Sites.{local_location}
 use Rattle.cp_code.specs.StandsFor.{system_of_process}
 use Rattle.cp_steps.specs.Passing.{monitor_start}
 use Rattle.cp_steps.specs.PrivateStates as machine
-use Rattle.cp_steps.specs.Addresses.{Activation, ClassLies, ComponentLies, Ground, MonitorLies, ProcessLies, activation_at, activation_of, activations, lies, part_at, part_of_activation, part_of_component, part_of_local, part_of_owner, scope, seen}
+use Rattle.cp_steps.specs.Addresses.{Activation, ClassLies, ComponentLies, Ground, MonitorLies, ProcessLies, activation_at, activation_of, activations, lies, part_at, part_of_activation, part_of_component, part_of_local, part_of_owner, scope, lies_in_sight}
 use Rattle.cp_steps.specs.Left.{Left, Running, held_below, kept_below}
 use Rattle.cp_steps.specs.PartOf.{ActivationMeans, ActivationsMean, DataMeans, IfFrame}
 use Rattle.cp_steps.proofs.Finding.{part_whole, some_is_not_none}
@@ -167,10 +167,10 @@ member_lies G xs C s n x at t (ClassLies sort is) h =
 
 -- ---- all together
 
-pub seen_is : (mine : Owner → Bool) (G : Ground) (xs : List Activation) (l : Location) (v : Part) → mine l.owner ≡ true → lies G xs l ≡ Some v → seen mine G xs l ≡ Some v
+pub seen_is : (mine : Owner → Bool) (G : Ground) (xs : List Activation) (l : Location) (v : Part) → mine l.owner ≡ true → lies G xs l ≡ Some v → lies_in_sight mine G xs l ≡ Some v
 seen_is mine G xs l v m h = ap (λ b. if b then lies G xs l else None) m ∙ h
 
-pub seen_mine : (mine : Owner → Bool) (G : Ground) (xs : List Activation) (l : Location) (v : Part) → seen mine G xs l ≡ Some v → (mine l.owner ≡ true) × (lies G xs l ≡ Some v)
+pub seen_mine : (mine : Owner → Bool) (G : Ground) (xs : List Activation) (l : Location) (v : Part) → lies_in_sight mine G xs l ≡ Some v → (mine l.owner ≡ true) × (lies G xs l ≡ Some v)
 seen_mine mine G xs l v h = by (mine l.owner) refl h
   where
     by : (b : Bool) → mine l.owner ≡ b → (if b then lies G xs l else None) ≡ Some v → (mine l.owner ≡ true) × (lies G xs l ≡ Some v)
@@ -190,7 +190,7 @@ pub here : (G : Ground) (store : Store) (words temps : List ℤ) (limit live : �
     → DataMeans G (activations R.base fs k) mine store words
     → R.env.globals ≡ scope G → Sees G mine store R.env
     → Here R.env clock store (record { words = words; temps = temps; base = R.base; temp = R.temp; component = R.component; clock = realtime clock })
-    (held_below live temps R.temp) (seen mine G (activations R.base fs k))
+    (held_below live temps R.temp) (lies_in_sight mine G (activations R.base fs k))
 here G store words temps limit live K R fs place low k mine clock left am cl dm gl S = record {
   clock_is = refl;
   locals = λ f x at d e h passive.

@@ -34,10 +34,10 @@ use Rattle.cp_code.specs.Starts.{block, paste}
 use Rattle.cp_code.specs.StatementsFor.{InitArgumentsFor, InitsBy}
 use Rattle.cp_code.specs.TermsFor.{Knowns, nothing_known}
 use Rattle.cp_steps.specs.PrivateStates as machine
-use Rattle.cp_steps.specs.PrivateStates.{Acting, Outside, PrivateState, fault_in, private_outcome, provided, set_word}
+use Rattle.cp_steps.specs.PrivateStates.{Acting, Outside, PrivateState, fault_in, private_outcome, guard, set_word}
 use Rattle.cp_steps.specs.Passing.{Called, Passing, component_called, monitor_called, monitor_start, pass_all, when_passed}
 use Rattle.cp_steps.specs.Calling.{Back, enter, frame_of, has_room, init_monitor, innermost, settle}
-use Rattle.cp_steps.specs.Addresses.{Activation, ClassHasRights, ClassLies, Ground, HasRights, MonitorLies, activations, component_type, in_sight, lies, scope, seen, whole, words_seen}
+use Rattle.cp_steps.specs.Addresses.{Activation, ClassHasRights, ClassLies, Ground, HasRights, MonitorLies, activations, component_type, in_sight, lies, scope, lies_in_sight, whole, words_seen}
 use Rattle.cp_steps.specs.Left.{Left, Running, Runs, innermost_gate, site}
 use Rattle.cp_steps.specs.PartOf.{ActivationsMean, DataMeans, PartOf, RunsOn}
 use Rattle.cp_steps.proofs.Apart.{IsCell}
@@ -229,7 +229,7 @@ monitor_inits G s w before o x es env k I units K Y call next h none declares =
     known_here = known G s w before o first k Y.now
 
     lying' : Location → Option Part
-    lying' = seen (in_sight G) G (activations o.base o.frames (first ∷ k))
+    lying' = lies_in_sight (in_sight G) G (activations o.base o.frames (first ∷ k))
 
     back : Back
     back = record { place = next; into = 0 }
@@ -243,14 +243,14 @@ monitor_inits G s w before o x es env k I units K Y call next h none declares =
     below_whole : c.component ≤ whole G
     below_whole = omega (arith, Y.now.around.own, K.starts m, ap (λ v. words_seen v G.program G.own) K.sight)
 
-    has_unit : init_monitor G.program w o call m next ≡ provided (not c.is_set) o fault.InitialisedTwice passing
+    has_unit : init_monitor G.program w o call m next ≡ guard (not c.is_set) o fault.InitialisedTwice passing
     has_unit =
         (λ z. elim (h.2.runs.there z) as (λ y. Acting) [
           | None ↦ private_outcome o
-          | Some u ↦ if has_room w o call u c.component then provided (not c.is_set) o fault.InitialisedTwice (when_passed (pass_all w (o.base + call.words) c.component call.arguments o) (λ p.
+          | Some u ↦ if has_room w o call u c.component then guard (not c.is_set) o fault.InitialisedTwice (when_passed (pass_all w (o.base + call.words) c.component call.arguments o) (λ p.
               (enter (settle p (o.base + call.words) c.component (length call.arguments)) c u call back, machine.Opens m))) else private_outcome o
         ])
-        ∙ ap (λ b. if b then provided (not c.is_set) o fault.InitialisedTwice passing else private_outcome o) room
+        ∙ ap (λ b. if b then guard (not c.is_set) o fault.InitialisedTwice passing else private_outcome o) room
       where
         room : has_room w o call h.2.runs.unit c.component ≡ true
         room =
@@ -357,7 +357,7 @@ monitor_inits G s w before o x es env k I units K Y call next h none declares =
         (subst (λ p. PartOf G (after_step s G.p (after_writes ws)) before (begun p).0) (sym g.1) (entered ws P.own.words g.2))
 
     by : (b : Bool) → PartOf G (after_step s G.p (if b then Fault 7 else and_then (bind (λ l v e. init_argument_writes n.system.sort (clock_of G s) here s.store l v.type e) at passed es) after_writes)) before
-        (provided (not b) o fault.InitialisedTwice passing).0
+        (guard (not b) o fault.InitialisedTwice passing).0
     by true = faulted G s w before o first k Y.now 7 fault.InitialisedTwice refl
     by false = inner (bind (λ l v e. init_argument_writes n.system.sort (clock_of G s) here s.store l v.type e) at passed es) (pass_all w (o.base + call.words) c.component call.arguments o) passed_ok
 
@@ -369,7 +369,7 @@ monitor_inits G s w before o x es env k I units K Y call next h none declares =
         (subst (λ b. PartOf G (after_step s G.p (inits (if b then monitor_right (s.store (name_location here n)) else declared_monitor here n) (declarations here.globals n.system.parameters))) before computed) (sym h.2.own)
         (subst (λ g. PartOf G (after_step s G.p (inits m (declarations g n.system.parameters))) before computed) (sym Y.now.on.runs.globals)
         (subst (λ (y : Acting). PartOf G (after_step s G.p (inits m passed)) before y.0) (sym (ap (λ z. init_monitor G.program w o call z next) gate_is ∙ has_unit))
-        (subst (λ b. PartOf G (after_step s G.p (inits m passed)) before (provided (not b) o fault.InitialisedTwice passing).0) (sym (K.set_is m)) (by (is_set (s.gates m).holder)))))))
+        (subst (λ b. PartOf G (after_step s G.p (inits m passed)) before (guard (not b) o fault.InitialisedTwice passing).0) (sym (K.set_is m)) (by (is_set (s.gates m).holder)))))))
 
     means : IfGives (λ y. Means G w.own y.1 (machine.Opens m)) (executed G s w before o (a.Init x es) env k Y)
     means =

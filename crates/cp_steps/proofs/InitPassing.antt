@@ -179,7 +179,7 @@ module _ (G : Ground) (sys : System) (at : Location) (c from : ℕ) (distinct : 
     value_passes p ps b of lower upper start k ws xs type d there lying room in_words (Fault j) (Ok m) more h go = absurd h
     value_passes p ps b of lower upper start k ws xs type d there lying room in_words (Gives v) (Err f) more h go = absurd h
     value_passes p ps b of lower upper start k ws xs type d there lying room in_words (Gives v) (Ok m) more h go =
-        subst (λ z. Inits (p ∷ ps) ws (and_then (outcomes.provided (within lower upper z) 1 ((stored_at at p.0, Ordinal z) ∷ [])) (λ us. and_then more (λ vs. Gives (us ++ vs)))) (passing m)) (sym (ordinal_is v m h.1))
+        subst (λ z. Inits (p ∷ ps) ws (and_then (outcomes.guard (within lower upper z) 1 ((stored_at at p.0, Ordinal z) ∷ [])) (λ us. and_then more (λ vs. Gives (us ++ vs)))) (passing m)) (sym (ordinal_is v m h.1))
         (by (within lower upper m))
       where
         passing : ℤ → Passing
@@ -188,7 +188,7 @@ module _ (G : Ground) (sys : System) (at : Location) (c from : ℕ) (distinct : 
         no_component : is_component p.1.type ≡ false
         no_component = ap is_component type
 
-        by : (t : Bool) → Inits (p ∷ ps) ws (and_then (outcomes.provided t 1 ((stored_at at p.0, Ordinal m) ∷ [])) (λ us. and_then more (λ vs. Gives (us ++ vs))))
+        by : (t : Bool) → Inits (p ∷ ps) ws (and_then (outcomes.guard t 1 ((stored_at at p.0, Ordinal m) ∷ [])) (λ us. and_then more (λ vs. Gives (us ++ vs))))
             (unless_fault (if t then pass_word (record o { words = ws }) (from + k) m else record { own = record o { words = ws }; fault = Some fault.Range }) (pass_all w from c xs))
         by false = (fault.Range, refl, refl, refl, (refl, λ i g. refl))
         by true =

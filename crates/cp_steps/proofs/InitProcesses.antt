@@ -33,11 +33,11 @@ use Rattle.cp_code.specs.Starts.{block, paste}
 use Rattle.cp_code.specs.StatementsFor.{InitArgumentsFor, InitsBy}
 use Rattle.cp_code.specs.TermsFor.{Knowns}
 use Rattle.cp_steps.specs.PrivateStates as machine
-use Rattle.cp_steps.specs.PrivateStates.{Acting, Outside, PrivateState, fault_in, go_to, provided}
+use Rattle.cp_steps.specs.PrivateStates.{Acting, Outside, PrivateState, fault_in, go_to, guard}
 use Rattle.cp_steps.specs.Passing.{Passing, pass_all, when_passed}
 use Rattle.cp_steps.specs.Calling.{init_process, parameters_start, settle}
 use Rattle.cp_steps.specs.Steps.{act}
-use Rattle.cp_steps.specs.Addresses.{Ground, activations, in_sight, scope, seen, words_seen}
+use Rattle.cp_steps.specs.Addresses.{Ground, activations, in_sight, scope, lies_in_sight, words_seen}
 use Rattle.cp_steps.specs.Left.{site}
 use Rattle.cp_steps.specs.PartOf.{RunsOn}
 use Rattle.cp_steps.proofs.Apart.{IsCell}
@@ -160,7 +160,7 @@ module _ {G : Ground} {s : State} {w : Outside} {before : List ℕ} {o : Private
   room = omega (arith, Z.by.4, counted, on.runs.words_fit, on.base)
 
   abbrev lying' : Location → Option Part
-  lying' = seen (in_sight G) G (activations o.base o.frames (first ∷ Z.rest))
+  lying' = lies_in_sight (in_sight G) G (activations o.base o.frames (first ∷ Z.rest))
 
   none : NoClassRights G
   none = no_class_rights G Z.stands.typed
@@ -219,7 +219,7 @@ module _ {G : Ground} {s : State} {w : Outside} {before : List ℕ} {o : Private
       ∙ (ap begun g.1 ∙ ap (λ z. (go_to Z.next (settle (record o { words = P.own.words }) top to z), machine.Starts Z.number)) counted)) g.2
 
   by_start : (b : Bool) → is_started (s.status Z.number) ≡ b
-      → BothInit (if b then Fault 7 else and_then bound starts) (provided (not b) o fault.InitialisedTwice (when_passed (pass_all w top to Z.passes o) begun))
+      → BothInit (if b then Fault 7 else and_then bound starts) (guard (not b) o fault.InitialisedTwice (when_passed (pass_all w top to Z.passes o) begun))
   by_start true e = BothFault 7 fault.InitialisedTwice o.words refl refl refl (refl, λ i q. refl)
   by_start false e = inner e bound (pass_all w top to Z.passes o) passed_ok
 
@@ -237,7 +237,7 @@ module _ {G : Ground} {s : State} {w : Outside} {before : List ℕ} {o : Private
       (subst (λ j. BothInit (inits j (declarations here.globals system.parameters) (record { globals = here.globals; system = system; component = process_location j; frame = None })) computed) (sym Z.by.2)
       (subst (λ g. BothInit (inits Z.number (declarations g system.parameters) (record { globals = g; system = system; component = process_location Z.number; frame = None })) computed) (sym on.runs.globals)
       (subst (λ z. BothInit (inits Z.number passed (body_environment (scope G) system (process_location Z.number))) (init_process G.program w o Z.number Z.passes z Z.next)) (sym Z.by.3)
-      (subst (λ b. BothInit (inits Z.number passed (body_environment (scope G) system (process_location Z.number))) (provided (not b) o fault.InitialisedTwice (when_passed (pass_all w top to Z.passes o) begun))) (sym (Z.around.started_is Z.number system is))
+      (subst (λ b. BothInit (inits Z.number passed (body_environment (scope G) system (process_location Z.number))) (guard (not b) o fault.InitialisedTwice (when_passed (pass_all w top to Z.passes o) begun))) (sym (Z.around.started_is Z.number system is))
       (by_start (is_started (s.status Z.number)) refl))))))
     where
       computed : Acting

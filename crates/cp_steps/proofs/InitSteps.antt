@@ -36,10 +36,10 @@ use Rattle.cp_code.specs.Starts.{block, paste, word}
 use Rattle.cp_code.specs.StatementsFor.{InitArgumentsFor, InitsBy}
 use Rattle.cp_code.specs.TermsFor.{Knowns, nothing_known}
 use Rattle.cp_steps.specs.PrivateStates as machine
-use Rattle.cp_steps.specs.PrivateStates.{Acting, Effect, Outside, PrivateState, fault_in, private_outcome, provided, set_word}
+use Rattle.cp_steps.specs.PrivateStates.{Acting, Effect, Outside, PrivateState, fault_in, private_outcome, guard, set_word}
 use Rattle.cp_steps.specs.Passing.{Passing, component_called, pass_all, when_passed}
 use Rattle.cp_steps.specs.Calling.{Back, class_at, enter, frame_of, has_room, init_class, settle}
-use Rattle.cp_steps.specs.Addresses.{Activation, ClassLies, Ground, HasRights, activations, component_type, in_sight, lies, scope, seen, whole}
+use Rattle.cp_steps.specs.Addresses.{Activation, ClassLies, Ground, HasRights, activations, component_type, in_sight, lies, scope, lies_in_sight, whole}
 use Rattle.cp_steps.specs.Left.{Left, Running, Runs, innermost_gate, site}
 use Rattle.cp_steps.specs.PartOf.{ActivationsMean, DataMeans, PartOf, RunsOn}
 use Rattle.cp_steps.proofs.Apart.{IsCell, IsClass}
@@ -223,7 +223,7 @@ init_steps G s w before o x es env k I units Y call next there h none declares =
 
     started : ℕ → List Argument → CodeUnit → Acting
     started at xs u =
-        provided (same_integer (word o.words at) (pos 0)) o fault.InitialisedTwice
+        guard (same_integer (word o.words at) (pos 0)) o fault.InitialisedTwice
         (when_passed (pass_all w (o.base + call.words) at xs o) (λ p.
         private_outcome (enter (set_word (settle p (o.base + call.words) at (length xs)) at (pos 1)) (class_at at) u call (record { place = next; into = 0 }))))
 
@@ -251,7 +251,7 @@ init_steps G s w before o x es env k I units Y call next there h none declares =
     known_here = known G s w before o first k Y.now
 
     lying' : Location → Option Part
-    lying' = seen (in_sight G) G (activations o.base o.frames (first ∷ k))
+    lying' = lies_in_sight (in_sight G) G (activations o.base o.frames (first ∷ k))
 
     back : Back
     back = record { place = next; into = 0 }
@@ -385,7 +385,7 @@ init_steps G s w before o x es env k I units Y call next there h none declares =
             (subst (λ p. PartOf G (after_step s G.p (after_writes ws)) before (begun p).0) (sym g.1) (entered ws P.own.words g.2))
 
         by : (b : Bool) → PartOf G (after_step s G.p (if not b then Fault 7 else meant)) before
-            (provided b o fault.InitialisedTwice (when_passed (pass_all w (o.base + call.words) (o.component + off) call.arguments o) begun)).0
+            (guard b o fault.InitialisedTwice (when_passed (pass_all w (o.base + call.words) (o.component + off) call.arguments o) begun)).0
         by false = faulted G s w before o first k Y.now 7 fault.InitialisedTwice refl
         by true = inner (bind (λ l v e. init_argument_writes n.system.sort (clock_of G s) here s.store l v.type e) (name_location here n) passed es) (pass_all w (o.base + call.words) (o.component + off) call.arguments o)
             (passed_ok (o.component + off)

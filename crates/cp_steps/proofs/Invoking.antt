@@ -31,12 +31,12 @@ use Rattle.cp_code.specs.Layout.{activation_words, locals_words, part}
 use Rattle.cp_code.specs.Sites as sites
 use Rattle.cp_code.specs.Sites.{RoutineOf, first_parameter, parameters, system_of_callee}
 use Rattle.cp_code.specs.StandsFor.{UnitStands}
-use Rattle.cp_code.specs.Starts.{started}
+use Rattle.cp_code.specs.Starts.{carry_out}
 use Rattle.cp_code.specs.TermsFor.{ArgumentsFor}
-use Rattle.cp_steps.specs.PrivateStates.{Acting, Effect, Enters, Outside, PrivateState, fault_in, private_outcome, provided}
+use Rattle.cp_steps.specs.PrivateStates.{Acting, Effect, Enters, Outside, PrivateState, fault_in, private_outcome, guard}
 use Rattle.cp_steps.specs.Passing.{Called, Passing, component_called, pass_all, when_passed}
 use Rattle.cp_steps.specs.Calling.{Back, call_step, enter, frame_of, gate_effect, has_room, start_words}
-use Rattle.cp_steps.specs.Addresses.{ClassHasRights, ComponentLies, Ground, activations, in_sight, scope, seen, whole}
+use Rattle.cp_steps.specs.Addresses.{ClassHasRights, ComponentLies, Ground, activations, in_sight, scope, lies_in_sight, whole}
 use Rattle.cp_steps.specs.Left.{CallerAt, IsGate, gate_number, held_below, kept_below, site}
 use Rattle.cp_steps.specs.PartOf.{DataMeans, PartOf, RunsOn}
 use Rattle.cp_steps.proofs.Entering.{Opened, Waits, entered_on, environment_of_call, owner_of_call}
@@ -104,7 +104,7 @@ module _ (G : Ground) (s : State) (w : Outside) (before : List ℕ) (o : Private
 
   abbrev pub Bounds : Writes → List ℤ → Type 0
   Bounds ws new =
-      Bound (site G N.on.running) (seen (in_sight G) G (activations o.base o.frames (i ∷ l))) (owner_of_call G k) (o.base + (site G N.on.running).words) (first_parameter v.callee)
+      Bound (site G N.on.running) (lies_in_sight (in_sight G) G (activations o.base o.frames (i ∷ l))) (owner_of_call G k) (o.base + (site G N.on.running).words) (first_parameter v.callee)
       (parameters (site G N.on.running) v.callee) ws o.words new
 
   -- What remains to be proved of a routine: its new activation holds its parameters, its start
@@ -112,7 +112,7 @@ module _ (G : Ground) (s : State) (w : Outside) (before : List ℕ) (o : Private
   abbrev pub Opens : CodeUnit → Type 0
   Opens u =
       (ws : Writes) (new : List ℤ) → length new ≡ length o.words → Bounds ws new
-      → Opened G (activations o.base o.frames k) (opened_store ws) (started (o.base + call.words) u.starts new) (o.base + call.words) (record { owner = owner_of_call G k; routine = v.callee.routine })
+      → Opened G (activations o.base o.frames k) (opened_store ws) (carry_out (o.base + call.words) u.starts new) (o.base + call.words) (record { owner = owner_of_call G k; routine = v.callee.routine })
 
   -- What a call needs.
   pub record Invocation (from last low high : ℕ) : Type 1 where
@@ -165,13 +165,13 @@ module _ (G : Ground) (s : State) (w : Outside) (before : List ℕ) (o : Private
           (omega (arith, N.on.base, N.around.own, N.on.runs.words_fit, I.runs.fits.words, I.runs.words)) (omega (arith, N.on.temp, N.on.runs.temps_fit, I.runs.fits.temps, I.runs.temps))
           (omega (arith, I.target_is.there, N.on.count))
 
-      computed : call_step G.program w o call back ≡ provided c.is_set o fault.NotInitialised passing
+      computed : call_step G.program w o call back ≡ guard c.is_set o fault.NotInitialised passing
       computed =
           (λ z. elim (I.runs.there z) as (λ x. Acting) [
             | None ↦ private_outcome o
-            | Some u ↦ if has_room w o call u c.component then provided c.is_set o fault.NotInitialised (when_passed (pass_all w (o.base + call.words) (o.base + call.words) call.arguments o) (entering_by u)) else private_outcome o
+            | Some u ↦ if has_room w o call u c.component then guard c.is_set o fault.NotInitialised (when_passed (pass_all w (o.base + call.words) (o.base + call.words) call.arguments o) (entering_by u)) else private_outcome o
           ])
-          ∙ ap (λ b. if b then provided c.is_set o fault.NotInitialised passing else private_outcome o) room
+          ∙ ap (λ b. if b then guard c.is_set o fault.NotInitialised passing else private_outcome o) room
 
       -- The meaning enters the gate that the frame keeps.
       means : IfGives (λ y. Means G w.own y.1 entered_gate) (called v.environment)
@@ -212,7 +212,7 @@ module _ (G : Ground) (s : State) (w : Outside) (before : List ℕ) (o : Private
               inner false e = refl
               inner true e = absurd (omega (arith, h (depth k) (sym (owner_is owner at.owner e)), deep))
 
-      stays : Stays N.on.running.env (clock_of G s) s.store w (held_below N.on.live o.temps N.on.running.temp) (seen (in_sight G) G (activations o.base o.frames (i ∷ l))) top o
+      stays : Stays N.on.running.env (clock_of G s) s.store w (held_below N.on.live o.temps N.on.running.temp) (lies_in_sight (in_sight G) G (activations o.base o.frames (i ∷ l))) top o
       stays ws len same =
           runs_here G s.store w (record o { words = ws }) (i ∷ l) (clock_of G s) N.around.clock (runs_over G s.store s.store o ws (i ∷ l) N.on (λ at h. refl) (λ n q. same n (beyond G s w N.around top n q)) len) sees
 
@@ -221,13 +221,13 @@ module _ (G : Ground) (s : State) (w : Outside) (before : List ℕ) (o : Private
           let g = ap (λ z. locals_words z (declarations z v.callee.routine.parameters)) N.on.runs.globals in
           omega (arith, g, locals_two (scope G) (declarations (scope G) v.callee.routine.parameters) (declarations (scope G) v.callee.routine.variables), I.stands.1, I.runs.fits.words, N.on.runs.words_fit, N.around.own, N.on.base)
 
-      parts_lie : PartsLie N.on.running.env.globals (seen (in_sight G) G (activations o.base o.frames (i ∷ l)))
+      parts_lie : PartsLie N.on.running.env.globals (lies_in_sight (in_sight G) G (activations o.base o.frames (i ∷ l)))
       parts_lie at path n m t u is there =
           let z = seen_mine (in_sight G) G (activations o.base o.frames (i ∷ l)) at (n, t) is in
           seen_is (in_sight G) G (activations o.base o.frames (i ∷ l)) (under at path) (n + m, u) z.0
           (lies_under G (activations o.base o.frames (i ∷ l)) at path n m t u z.1 (ap (λ g. part g t path) (sym N.on.runs.globals) ∙ there))
 
-      lying_there : (j : Location) (m : ℕ) (u : ResolvedType) → seen (in_sight G) G (activations o.base o.frames (i ∷ l)) j ≡ Some (m, u) → m ≤ length o.words
+      lying_there : (j : Location) (m : ℕ) (u : ResolvedType) → lies_in_sight (in_sight G) G (activations o.base o.frames (i ∷ l)) j ≡ Some (m, u) → m ≤ length o.words
       lying_there j m u is =
           let z = seen_mine (in_sight G) G (activations o.base o.frames (i ∷ l)) j (m, u) is in
           omega (arith, part_below G (activations o.base o.frames (i ∷ l)) top (runs_stacked G s.store o (i ∷ l) N.on) j m u z.0 z.1, N.on.count)
@@ -236,7 +236,7 @@ module _ (G : Ground) (s : State) (w : Outside) (before : List ℕ) (o : Private
           (bind (argument_writes (clock_of G s) N.on.running.env s.store) (root owner) (parameters (site G N.on.running) v.callee) v.arguments)
           (pass_all w top top call.arguments o)
       passed_ok =
-          passes (site G N.on.running) (clock_of G s) s.store w (held_below N.on.live o.temps N.on.running.temp) (seen (in_sight G) G (activations o.base o.frames (i ∷ l))) owner top o stays parts_lie lying_there
+          passes (site G N.on.running) (clock_of G s) s.store w (held_below N.on.live o.temps N.on.running.temp) (lies_in_sight (in_sight G) G (activations o.base o.frames (i ∷ l))) owner top o stays parts_lie lying_there
           (parameters (site G N.on.running) v.callee) v.arguments call.arguments (first_parameter v.callee) from last low high o.words I.arguments I.made I.distinct sized (omega (arith, N.around.own, N.on.count, own_in_whole G)) refl (λ z q. refl)
 
       env : Environment
@@ -247,7 +247,7 @@ module _ (G : Ground) (s : State) (w : Outside) (before : List ℕ) (o : Private
 
       entered : (ws : Writes) (new : List ℤ) → WritesIn (same_owner owner) ws → Bounds ws new → t.is_callable ≡ true
           → PartOf G (after_step s G.p (Gives (called_configuration (configuration s G.p) (record v { environment = N.on.running.env }) k t owner ws))) before
-          (enter (record o { words = started (o.base + call.words) I.runs.unit.starts new }) c I.runs.unit call back)
+          (enter (record o { words = carry_out (o.base + call.words) I.runs.unit.starts new }) c I.runs.unit call back)
       entered ws new inside B callable =
           subst (λ e. PartOf G (after_step s G.p (Gives (record (configuration s G.p) { store = opened_store ws; continuation = push v.callee.routine.body e (EndCall e t.gate ∷ k) }, entering t.gate))) before after) (sym env_is)
           (gate_entered G s before t.gate after _ N.ready
@@ -258,15 +258,15 @@ module _ (G : Ground) (s : State) (w : Outside) (before : List ℕ) (o : Private
           record { number = refl; input = refl; consumed = refl; output = refl; activity = refl }))
         where
           new_words : List ℤ
-          new_words = started (o.base + call.words) I.runs.unit.starts new
+          new_words = carry_out (o.base + call.words) I.runs.unit.starts new
 
           after : PrivateState
-          after = enter (record o { words = started (o.base + call.words) I.runs.unit.starts new }) c I.runs.unit call back
+          after = enter (record o { words = carry_out (o.base + call.words) I.runs.unit.starts new }) c I.runs.unit call back
 
           start_room : o.base + call.words + activation_words (scope G) v.callee.routine ≤ length new
           start_room = omega (arith, I.stands.1, I.runs.fits.words, N.on.runs.words_fit, N.on.count, N.on.base, I.runs.words, B.length_is, own_in_whole G)
 
-          below : SameBelow G (o.base + (site G N.on.running).words) o.words (started (o.base + call.words) I.runs.unit.starts new)
+          below : SameBelow G (o.base + (site G N.on.running).words) o.words (carry_out (o.base + call.words) I.runs.unit.starts new)
           below z (inl q) =
               I.stands.0.outside (o.base + call.words) new z start_room
               (inl (omega (arith, q, I.runs.words))) (λ n e f. absurd (omega (arith, q, f, I.runs.words)))
@@ -280,7 +280,7 @@ module _ (G : Ground) (s : State) (w : Outside) (before : List ℕ) (o : Private
       by : (b : Bool) → t.is_callable ≡ b
           → PartOf G (after_step s G.p (if b then and_then (bind (argument_writes (clock_of G s) N.on.running.env s.store) (root owner) (parameters (site G N.on.running) v.callee) v.arguments)
           (λ ws. Gives (called_configuration (configuration s G.p) (record v { environment = N.on.running.env }) k t owner ws)) else Fault 6)) before
-          (provided b o fault.NotInitialised passing).0
+          (guard b o fault.NotInitialised passing).0
       by false e = faulted G s w before o i l N 6 fault.NotInitialised refl
       by true e =
           inner (bind (argument_writes (clock_of G s) N.on.running.env s.store) (root owner) (parameters (site G N.on.running) v.callee) v.arguments)
@@ -310,4 +310,4 @@ module _ (G : Ground) (s : State) (w : Outside) (before : List ℕ) (o : Private
       part =
           subst (λ e. PartOf G (defined e) before (call_step G.program w o call back).0) (sym I.where_is)
           (subst (λ (x : Acting). PartOf G (defined N.on.running.env) before x.0) (sym computed)
-          (subst (λ b. PartOf G (defined N.on.running.env) before (provided b o fault.NotInitialised passing).0) (sym I.target_is.set_is) (by t.is_callable refl)))
+          (subst (λ b. PartOf G (defined N.on.running.env) before (guard b o fault.NotInitialised passing).0) (sym I.target_is.set_is) (by t.is_callable refl)))

@@ -17,8 +17,8 @@ use Rattle.cp_steps.specs.Addresses.{Ground}
 use Rattle.cp_steps.specs.EffectOf.{EffectMeans, IsEffectOf, IsNumber}
 use Rattle.cp_steps.specs.KernelOf.{AreProcesses, GatesStand, StageMeans}
 use Rattle.cp_steps.specs.KernelSteps as steps
-use Rattle.cp_steps.specs.KernelSteps.{Asking, Begun, Delayed, Fresh, Kernel, Stage, Unstarted, gate_of, resumed, stage_of}
-use Rattle.cp_steps.specs.Means.{queued}
+use Rattle.cp_steps.specs.KernelSteps.{Asking, Begun, Delayed, Fresh, Kernel, Stage, Unstarted, gate_of, resume_stage, stage_of}
+use Rattle.cp_steps.specs.Means.{process_of_word}
 use Rattle.cp_steps.specs.PrivateStates as machine
 use Rattle.cp_steps.proofs.GatesKept.{gate_set}
 use Rattle.cp_steps.proofs.StagesKept.{ready_means, stage_set}
@@ -55,7 +55,7 @@ module _ (G : Ground) (monitors processes : ℕ) where
 
   ready_kept : (s : State) (k : Kernel) (r : ℕ) → 1 ≤ r → Stand s k → Stand (meaning.make_ready r s) (steps.make_ready r k)
   ready_kept s k r low S =
-      stage_kept s k r (made_ready (s.status r)) (resumed (stage_of k.stages r)) low (λ high. ready_means G (s.status r) (stage_of k.stages r) (S.stages r low high)) S
+      stage_kept s k r (made_ready (s.status r)) (resume_stage (stage_of k.stages r)) low (λ high. ready_means G (s.status r) (stage_of k.stages r) (S.stages r low high)) S
 
   -- The list of askers is the same in both.
   same_askers : (s : State) (k : Kernel) (m : ℕ) → Stand s k → (gate_of k.gates m).askers ≡ (s.gates m).askers
@@ -86,7 +86,7 @@ module _ (G : Ground) (monitors processes : ℕ) where
       by Free = taken Free
       by Unset = taken Unset
 
-  resumed_kept : (s : State) (k : Kernel) (m : ℕ) (n : ℤ) → IsNumber monitors m → Stand s k → Stand (meaning.resume m (queued n) s) (steps.resume m (natural n) k)
+  resumed_kept : (s : State) (k : Kernel) (m : ℕ) (n : ℤ) → IsNumber monitors m → Stand s k → Stand (meaning.resume m (process_of_word n) s) (steps.resume m (natural n) k)
   resumed_kept s k m (pos zero) number S = passed_kept s k m number S
   resumed_kept s k m (negsuc n) number S = passed_kept s k m number S
   resumed_kept s k m (pos (suc r)) number S =
@@ -158,7 +158,7 @@ module _ (G : Ground) (monitors processes : ℕ) where
         (stage_kept (with_configuration s p c) k p (effect.Delayed m q) (Delayed m (at - own)) number.0 (λ high. (refl, h.2)) (moved c)))
     applied c (effect.Continues m r) (machine.Continues n z) h =
         subst (λ y. Stand (after_step s p (Gives (c, effect.Continues m y))) (steps.apply_effect own p (machine.Continues n z) k)) (sym h.2)
-        (subst (λ y. Stand (after_step s p (Gives (c, effect.Continues m (queued z)))) (steps.apply_effect own p (machine.Continues y z) k)) h.0
+        (subst (λ y. Stand (after_step s p (Gives (c, effect.Continues m (process_of_word z)))) (steps.apply_effect own p (machine.Continues y z) k)) h.0
         (resumed_kept (with_configuration s p c) k m z h.1 (moved c)))
     applied c (effect.Opens m) (machine.Opens n) h =
         subst (λ z. Stand (after_step s p (Gives (c, effect.Opens m))) (steps.apply_effect own p (machine.Opens z) k)) h.0 (gate_kept (with_configuration s p c) k m (HeldBy p) [] h.1 tt (moved c))

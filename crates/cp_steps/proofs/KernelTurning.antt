@@ -34,7 +34,7 @@ use Rattle.cp_steps.specs.Addresses.{Activation, AllWords, Ground, MonitorsLie, 
 use Rattle.cp_steps.specs.EffectOf.{IsNumber}
 use Rattle.cp_steps.specs.KernelOf.{KernelOf, StageMeans, is_shared, kernel_ground}
 use Rattle.cp_steps.specs.KernelSteps as plain
-use Rattle.cp_steps.specs.KernelSteps.{Begun, Kernel, Stage, Turning, apply_effect, is_begun, is_due, joined, needs_kernel, outside, parted, stage_of}
+use Rattle.cp_steps.specs.KernelSteps.{Begun, Kernel, Stage, Turning, apply_effect, is_begun, is_due, join_words, needs_kernel, outside, part_words, stage_of}
 use Rattle.cp_steps.specs.Laws.{TurningOf, ground_of}
 use Rattle.cp_steps.specs.Left.{Left, Running, innermost_gate, site}
 use Rattle.cp_steps.specs.PartOf.{DataMeans, GoesOn, PartOf, RunsOn, status_of}
@@ -146,10 +146,10 @@ module _ (program : Program) (setup : Setup) (F : StandsFor program setup) (p ow
     R : RunsOn G s.store o (s.continuation p)
     R = P.runs_on (subst GoesOn (sym running) tt)
 
-    pub joins : RunsOn H s.store (joined x) (s.continuation p)
+    pub joins : RunsOn H s.store (join_words x) (s.continuation p)
     joins = runs_joined G refl (monitors_lie program setup F) s.store o (s.continuation p) R k.shared K.word_count K.data_means
 
-    pub part_joined : PartOf H s before (joined x)
+    pub part_joined : PartOf H s before (join_words x)
     part_joined = record {
       number = P.number;
       input = P.input;
@@ -161,8 +161,8 @@ module _ (program : Program) (setup : Setup) (F : StandsFor program setup) (p ow
       runs_on = λ goes. joins;
     }
 
-    pub S : Stepped H s w before (joined x)
-    S = ready_steps H s w before (joined x) F refl part_joined I around reaches (s.continuation p) refl ready joins
+    pub S : Stepped H s w before (join_words x)
+    S = ready_steps H s w before (join_words x) F refl part_joined I around reaches (s.continuation p) refl ready joins
 
     -- ---- whose step it is
 
@@ -191,7 +191,7 @@ module _ (program : Program) (setup : Setup) (F : StandsFor program setup) (p ow
     -- ---- the step
 
     abbrev r : Acting
-    r = act program w (joined x) S.operation
+    r = act program w (join_words x) S.operation
 
     abbrev u : State
     u = step setup s p
@@ -199,8 +199,8 @@ module _ (program : Program) (setup : Setup) (F : StandsFor program setup) (p ow
     after : PartOf H u before r.0
     after = S.part (inr all)
 
-    pub taken : step_with program w (joined x) ≡ r
-    taken = ap (act_on program w (joined x)) S.there
+    pub taken : step_with program w (join_words x) ≡ r
+    taken = ap (act_on program w (join_words x)) S.there
 
     abbrev n : ℕ
     n = length o.words
@@ -215,7 +215,7 @@ module _ (program : Program) (setup : Setup) (F : StandsFor program setup) (p ow
       -- After the words are separated, the kernel and the private state are right, whether the
       -- process runs on or not.
       halves : (top : ℕ) → Stacked H top xs → HasBegun (status_of r.0.activity) → (GoesOn r.0.activity → RunsOn G u.store (record r.0 { words = take own r.0.words }) (u.continuation p))
-          → TurningOf program setup F p own u before (parted n x r)
+          → TurningOf program setup F p own u before (part_words n x r)
       halves top stack begun runs = record {
         part = record {
           number = after.number;
@@ -230,7 +230,7 @@ module _ (program : Program) (setup : Setup) (F : StandsFor program setup) (p ow
         kernel = record {
           word_count = ap length (effect_shared n o.number r.1 edited) ∙ (ap (λ z. length (drop z r.0.words)) P.count ∙ shared_count G refl lie u.store J r.0.words xs top stack after.count D);
           gates_stand = subst (λ z. Stand H u (apply_effect n z r.1 edited)) (sym P.number)
-              (effects_kept H s w before (joined x) S all number ready edited (stand_beside H s k (drop n r.0.words) K.gates_stand));
+              (effects_kept H s w before (join_words x) S all number ready edited (stand_beside H s k (drop n r.0.words) K.gates_stand));
           data_means = subst (DataMeans (kernel_ground program F.texts setup) [] is_shared u.store) (sym (effect_shared n o.number r.1 edited))
               (subst (λ z. DataMeans (kernel_ground program F.texts setup) [] is_shared u.store (drop z r.0.words)) (sym P.count) (data_shared G refl lie u.store J r.0.words xs top stack after.count D));
         };
@@ -267,16 +267,16 @@ module _ (program : Program) (setup : Setup) (F : StandsFor program setup) (p ow
       is_end (Acts EndProcess l) h = tt
       is_end (Acts i l) h = absurd (h (action_endless (context setup s p) (configuration s p) (Acts i l) (λ e. e)))
 
-      turned : Due (s.continuation p) ≡ true → TurningOf program setup F p own u before (parted n x r)
-      turned due = by (act_stops program w (joined x) S.operation running)
+      turned : Due (s.continuation p) ≡ true → TurningOf program setup F p own u before (part_words n x r)
+      turned due = by (act_stops program w (join_words x) S.operation running)
         where
-          by : Stops (joined x) S.operation r.0 → TurningOf program setup F p own u before (parted n x r)
+          by : Stops (join_words x) S.operation r.0 → TurningOf program setup F p own u before (part_words n x r)
           by (On goes) =
-              halves _ (runs_stacked H u.store r.0 (u.continuation p) (after.runs_on goes)) (begun_still (joined x) S.operation r.0 (On goes))
+              halves _ (runs_stacked H u.store r.0 (u.continuation p) (after.runs_on goes)) (begun_still (join_words x) S.operation r.0 (On goes))
               (λ again. runs_parted G refl (monitors_lie program setup F) u.store J r.0 (u.continuation p) (after.runs_on goes))
           by (Fails fails base frames) =
-              halves _ (subst (λ (T : Type 0). T) (λ i. Stacked H top (activations (sym base i) (sym frames i) (sym (left_same (does H s (action (s.continuation p))) after fails) i))) (runs_stacked H s.store (joined x) (s.continuation p) joins))
-              (begun_still (joined x) S.operation r.0 (Fails fails base frames)) (λ goes. absurd (goes_no_fault r.0.activity fails goes))
+              halves _ (subst (λ (T : Type 0). T) (λ i. Stacked H top (activations (sym base i) (sym frames i) (sym (left_same (does H s (action (s.continuation p))) after fails) i))) (runs_stacked H s.store (join_words x) (s.continuation p) joins))
+              (begun_still (join_words x) S.operation r.0 (Fails fails base frames)) (λ goes. absurd (goes_no_fault r.0.activity fails goes))
             where
               top : ℕ
               top = o.base + (site H joins.running).words
@@ -290,7 +290,7 @@ module _ (program : Program) (setup : Setup) (F : StandsFor program setup) (p ow
   pub data Which : Type 0 where
     Rest : meaning.kernel_step setup s p ≡ s → plain.kernel_step program clock x ≡ x → Which
     Step : (ready : s.status p ≡ stage.Ready) (running : o.activity ≡ machine.Running) → Due (s.continuation p) ≡ true → meaning.kernel_step setup s p ≡ step setup s p
-        → plain.kernel_step program clock x ≡ parted (length o.words) x (r ready running) → Which
+        → plain.kernel_step program clock x ≡ part_words (length o.words) x (r ready running) → Which
 
   ready_which : s.status p ≡ stage.Ready → o.activity ≡ machine.Running → Which
   ready_which ready running = by (Due (s.continuation p)) refl
@@ -299,8 +299,8 @@ module _ (program : Program) (setup : Setup) (F : StandsFor program setup) (p ow
       defined b e = ap (λ z. if_kernel z (step setup s p) s) (kind_is ready running ∙ ap (λ c. if c then meaning.Kernel else meaning.Private) e)
 
       by : (b : Bool) → Due (s.continuation p) ≡ b → Which
-      by true e = Step ready running e (defined true e) (λ i. if (due_is ready running ∙ e) i then parted (length o.words) x (taken ready running i) else x)
-      by false e = Rest (defined false e) (ap (λ c. if c then parted (length o.words) x (step_with program w (joined x)) else x) (due_is ready running ∙ e))
+      by true e = Step ready running e (defined true e) (λ i. if (due_is ready running ∙ e) i then part_words (length o.words) x (taken ready running i) else x)
+      by false e = Rest (defined false e) (ap (λ c. if c then part_words (length o.words) x (step_with program w (join_words x)) else x) (due_is ready running ∙ e))
 
   pub which : Which
   which = by (s.status p) refl
@@ -311,7 +311,7 @@ module _ (program : Program) (setup : Setup) (F : StandsFor program setup) (p ow
       rests : (y : Status) → s.status p ≡ y → kind_of y (s.continuation p) ≡ meaning.NoStep → is_due program x ≡ false → Which
       rests y is none idle =
           Rest (ap (λ z. if_kernel z (step setup s p) s) (ap (λ z. kind_of z (s.continuation p)) is ∙ none))
-          (ap (λ b. if b then parted (length o.words) x (step_with program w (joined x)) else x) idle)
+          (ap (λ b. if b then part_words (length o.words) x (step_with program w (join_words x)) else x) idle)
 
       still : (y : Status) → s.status p ≡ y → kind_of y (s.continuation p) ≡ meaning.NoStep → (IsRunning (private_status y) → ⊥) → Which
       still y is none idle = rests y is none (not_running o (λ h. idle (subst IsRunning (sym (same y is)) h)) program k)

@@ -8,7 +8,7 @@ use Rattle.cp_model.specs.Configurations.{Status}
 use Rattle.cp_model.specs.Invariant.{Invariant}
 use Rattle.cp_model.specs.Parts.{HasNotBegun, SameKernelPart, kernel_status}
 use Rattle.cp_model.specs.Rounds as meaning
-use Rattle.cp_model.specs.Rounds.{after_closing, awakened, close_round, own_parts}
+use Rattle.cp_model.specs.Rounds.{after_closing, wake_status, close_round, own_parts}
 use Rattle.cp_model.specs.States.{Setup, State, is_in, numbers_from, process_count, processes}
 use Rattle.cp_model.proofs.OutsideReach.{close_round_keeps}
 use Rattle.cp_model.proofs.PhasedRounds.{own_parts_keep}
@@ -121,8 +121,8 @@ module _ (program : Program) (setup : Setup) (F : StandsFor program setup) (own 
   -- ---- waking
 
   module _ (s : State) (k : Kernel) (os : List PrivateState) (ts : List (List ℕ)) (A : AllStand program setup F own s k os ts) where
-    wake_all : SameKernelPart s (record s { status = λ q. awakened (s.status q) }) → Invariant (record s { status = λ q. awakened (s.status q) })
-        → AllStand program setup F own (record s { status = λ q. awakened (s.status q) }) k (map wake_one os) ts
+    wake_all : SameKernelPart s (record s { status = λ q. wake_status (s.status q) }) → Invariant (record s { status = λ q. wake_status (s.status q) })
+        → AllStand program setup F own (record s { status = λ q. wake_status (s.status q) }) k (map wake_one os) ts
     wake_all S I = record {
       kernel = kernel_beside program F.texts setup s u k S A.kernel;
       part_count = length-map os wake_one ∙ A.part_count;
@@ -134,7 +134,7 @@ module _ (program : Program) (setup : Setup) (F : StandsFor program setup) (own 
     }
       where
         u : State
-        u = record s { status = λ q. awakened (s.status q) }
+        u = record s { status = λ q. wake_status (s.status q) }
 
         woken : (p : ℕ) (o : PrivateState) → PartStands program setup F (own p) p s k (transcript_of ts p) o → PartStands program setup F (own p) p u k (transcript_of ts p) (wake_one o)
         woken p o P = record {
@@ -149,14 +149,14 @@ module _ (program : Program) (setup : Setup) (F : StandsFor program setup) (own 
     wake_stands = by (nat_eq (suc s.rounds % setup.tick) 0) refl
       where
         by : (b : Bool) → nat_eq (suc s.rounds % setup.tick) 0 ≡ b
-            → IsIn program setup F own (if b then record s { status = λ q. awakened (s.status q) } else s) (if b then record (held s.rounds k os ts) { parts = map wake_one os } else held s.rounds k os ts)
+            → IsIn program setup F own (if b then record s { status = λ q. wake_status (s.status q) } else s) (if b then record (held s.rounds k os ts) { parts = map wake_one os } else held s.rounds k os ts)
         by true e = record {
           program_is = refl;
           tick_is = refl;
           rounds_are = refl;
           all = wake_all
-              (subst (λ b. SameKernelPart s (if b then record s { status = λ q. awakened (s.status q) } else s)) e (wake_kernel_part setup s))
-              (subst (λ b. Invariant (if b then record s { status = λ q. awakened (s.status q) } else s)) e (wake_keeps setup s A.invariant));
+              (subst (λ b. SameKernelPart s (if b then record s { status = λ q. wake_status (s.status q) } else s)) e (wake_kernel_part setup s))
+              (subst (λ b. Invariant (if b then record s { status = λ q. wake_status (s.status q) } else s)) e (wake_keeps setup s A.invariant));
         }
         by false e = record { program_is = refl; tick_is = refl; rounds_are = refl; all = A }
 

@@ -23,7 +23,7 @@ use Rattle.cp_steps.specs.PrivateStates as machine
 use Rattle.cp_steps.specs.PrivateStates.{PrivateState}
 use Rattle.cp_steps.specs.Addresses.{Ground}
 use Rattle.cp_steps.specs.Beginning.{Begins}
-use Rattle.cp_steps.specs.KernelSteps.{Kernel, Turning, joined, kernel_steps, outside, parted}
+use Rattle.cp_steps.specs.KernelSteps.{Kernel, Turning, join_words, kernel_steps, outside, part_words}
 use Rattle.cp_steps.specs.Laws.{TurningOf, ground_of}
 use Rattle.cp_steps.specs.Machines.{Machine, after_kernel_turn, clock, kernel_turn, transcript_of}
 use Rattle.cp_steps.specs.PartOf.{PartOf, status_of}
@@ -100,7 +100,7 @@ not_begun_told (stage.Faulted n) h = h
 idle_turn : (program : Program) (n tick : ℕ) (x : Turning) → x.own.activity ≡ machine.NotBegun → kernel_steps program tick n x ≡ x
 idle_turn program zero tick x is = refl
 idle_turn program (suc n) tick x is =
-    ap (kernel_steps program tick n) (ap (λ b. if b then parted (length x.own.words) x (step_with program (outside tick x) (joined x)) else x) (not_running x.own (λ h. subst (λ a. IsRunning (status_of a)) is h) program x.kernel))
+    ap (kernel_steps program tick n) (ap (λ b. if b then part_words (length x.own.words) x (step_with program (outside tick x) (join_words x)) else x) (not_running x.own (λ h. subst (λ a. IsRunning (status_of a)) is h) program x.kernel))
     ∙ idle_turn program n tick x is
 
 module _ (setup : Setup) where

@@ -87,7 +87,7 @@ zip_set at (l ∷ ls) (v ∷ vs) = (tt, zip_set at ls vs)
 writes_set : (at : Location) (t : ResolvedType) (v : TypedValue) → IfGives AllSet (writes_of at t v)
 writes_set at (Simple b low high start) v = by (within low high (ordinal_of v))
   where
-    by : (b : Bool) → IfGives AllSet (outcomes.provided b 1 ((at, Ordinal (ordinal_of v)) ∷ []))
+    by : (b : Bool) → IfGives AllSet (outcomes.guard b 1 ((at, Ordinal (ordinal_of v)) ∷ []))
     by true = (tt, tt)
     by false = tt
 writes_set at (ArrayOf low high t) v = zip_set at (leaves (ArrayOf low high t)) v.values

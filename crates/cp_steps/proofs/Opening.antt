@@ -23,7 +23,7 @@ use Rattle.cp_code.specs.Programs.{CodeUnit}
 use Rattle.cp_code.specs.Layout.{activation_words, distance, farther, local, local_at, local_words, member_part, natural, part}
 use Rattle.cp_code.specs.Sites.{RoutineOf}
 use Rattle.cp_code.specs.StandsFor.{UnitStands}
-use Rattle.cp_code.specs.Starts.{started, word}
+use Rattle.cp_code.specs.Starts.{carry_out, word}
 use Rattle.cp_steps.specs.Means.{CellMeans, ReferenceMeans}
 use Rattle.cp_steps.specs.Addresses.{Activation, Ground, activation_at, lies, part_at, part_of_activation, part_of_local, scope}
 use Rattle.cp_steps.specs.PartOf.{ResultMeans}
@@ -131,7 +131,7 @@ module _ (G : Ground) (ys : List Activation) (sys : System) (r : Routine) (u : C
   new_store = put_all (starting_writes (root (OfActivation G.p (length ys))) (declarations (scope G) r.variables)) (put_all ws (forget (OfActivation G.p (length ys)) store))
 
   abbrev pub new_words : List ℤ
-  new_words = started base u.starts new
+  new_words = carry_out base u.starts new
 
   abbrev parameters : List (Name × Variable)
   parameters = declarations (scope G) r.parameters

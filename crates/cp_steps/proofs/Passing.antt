@@ -225,7 +225,7 @@ module _ (site : Site) (clock : Clock) (store : Store) (w : Outside) (K : Knowns
   value_passes p ps b of lower upper start at ws xs passive type distinct room in_words (Fault k) (Ok m) more h go = absurd h
   value_passes p ps b of lower upper start at ws xs passive type distinct room in_words (Gives v) (Err f) more h go = absurd h
   value_passes p ps b of lower upper start at ws xs passive type distinct room in_words (Gives v) (Ok m) more h go =
-      subst (λ z. Passes (p ∷ ps) at ws (and_then (outcomes.provided (within lower upper z) 1 ((parameter_at n p.0, Ordinal z) ∷ [])) (λ us. and_then more (λ vs. Gives (us ++ vs)))) (passing m)) (sym (ordinal_is v m h.1))
+      subst (λ z. Passes (p ∷ ps) at ws (and_then (outcomes.guard (within lower upper z) 1 ((parameter_at n p.0, Ordinal z) ∷ [])) (λ us. and_then more (λ vs. Gives (us ++ vs)))) (passing m)) (sym (ordinal_is v m h.1))
       (by (within lower upper m) refl)
     where
       passing : ℤ → Passing
@@ -235,7 +235,7 @@ module _ (site : Site) (clock : Clock) (store : Store) (w : Outside) (K : Knowns
       one = ap (λ t. if t then 1 else words site.env.globals p.1.type) passive ∙ ap (words site.env.globals) type
 
       by : (t : Bool) → within lower upper m ≡ t
-          → Passes (p ∷ ps) at ws (and_then (outcomes.provided t 1 ((parameter_at n p.0, Ordinal m) ∷ [])) (λ us. and_then more (λ vs. Gives (us ++ vs))))
+          → Passes (p ∷ ps) at ws (and_then (outcomes.guard t 1 ((parameter_at n p.0, Ordinal m) ∷ [])) (λ us. and_then more (λ vs. Gives (us ++ vs))))
           (unless_fault (if t then pass_word (record o { words = ws }) (to + at) m else record { own = record o { words = ws }; fault = Some fault.Range }) (pass_all w to to xs))
       by false e = (fault.Range, refl, refl, refl, (refl, λ i g. refl))
       by true e = prepend_word site lies n to at p ps (Ordinal m) m w.own ws (record o { words = ws }) more (pass_all w to to xs (record o { words = slice_set ws (to + at) m })) one distinct room in_words

@@ -27,7 +27,7 @@ use Rattle.cp_code.specs.StandsFor.{Apart, ProcessStands, StandsFor}
 use Rattle.cp_code.specs.Starts.{word}
 use Rattle.cp_steps.specs.Addresses.{Ground, scope}
 use Rattle.cp_steps.specs.Beginning.{Begins}
-use Rattle.cp_steps.specs.KernelSteps.{Delayed, Kernel, Stage, Turning, Unstarted, apply_effect, enter_gate, gate_of, joined, parted, pass_to, resume, set_stage, stage_of, start_process}
+use Rattle.cp_steps.specs.KernelSteps.{Delayed, Kernel, Stage, Turning, Unstarted, apply_effect, enter_gate, gate_of, join_words, part_words, pass_to, resume, set_stage, stage_of, start_process}
 use Rattle.cp_steps.specs.Passing.{monitor_start}
 use Rattle.cp_steps.specs.PartOf.{PartOf, RunsOn}
 use Rattle.cp_steps.specs.PrivateStates as machine
@@ -183,13 +183,13 @@ effect_shared own p (machine.Starts r) k = by (stage_of k.stages r)
     by _ = refl
 
 -- The same for a step in the kernel turn of the process.
-pub step_begins : (G : Ground) (s : State) (w : Outside) (before : List ℕ) (x : Turning) → length x.own.words ≡ G.own → (F : StandsFor G.program G.setup) → F.texts ≡ G.texts → PartOf G s before (joined x) → Invariant s
-    → Around G s w → Reaches G s → AroundAll G s w → kind s G.p ≡ turns.Kernel → RunsOn G s.store (joined x) (s.continuation G.p)
+pub step_begins : (G : Ground) (s : State) (w : Outside) (before : List ℕ) (x : Turning) → length x.own.words ≡ G.own → (F : StandsFor G.program G.setup) → F.texts ≡ G.texts → PartOf G s before (join_words x) → Invariant s
+    → Around G s w → Reaches G s → AroundAll G s w → kind s G.p ≡ turns.Kernel → RunsOn G s.store (join_words x) (s.continuation G.p)
     → (y : Operation) → operation_at G.program x.own.place ≡ Some y
     → (q own : ℕ) (oq : PrivateState) (previous : List ℕ) → 1 ≤ q → q ≤ process_count G.setup → (G.p ≡ q → ⊥)
     → PartOf (other_ground G q own) s previous oq → Begins (other_ground G q own) s x.kernel oq
-    → Begins (other_ground G q own) (acted G s) (parted G.own x (act G.program w (joined x) y)).kernel oq
+    → Begins (other_ground G q own) (acted G s) (part_words G.own x (act G.program w (join_words x) y)).kernel oq
 step_begins G s w before x count F texts part I around reaches K kernel R y there =
-    started_begins G s w before (joined x) F texts part I around reaches K kernel R y there x.kernel (parted G.own x (act G.program w (joined x) y)).kernel
+    started_begins G s w before (join_words x) F texts part I around reaches K kernel R y there x.kernel (part_words G.own x (act G.program w (join_words x) y)).kernel
     (sym (ap (λ n. drop n (x.own.words ++ x.kernel.shared)) (sym count) ∙ drop_append x.own.words x.kernel.shared))
-    (effect_shared G.own x.own.number (act G.program w (joined x) y).1 _)
+    (effect_shared G.own x.own.number (act G.program w (join_words x) y).1 _)

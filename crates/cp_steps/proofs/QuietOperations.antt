@@ -23,7 +23,7 @@ use Rattle.cp_code.specs.Starts.{word}
 use Rattle.cp_code.specs.Tables.{place_in}
 use Rattle.cp_steps.specs.Calling.{class_at, enter, has_room, init_class, settle, with_unit}
 use Rattle.cp_steps.specs.Passing.{Passing, component_called, pass_all, when_passed}
-use Rattle.cp_steps.specs.PrivateStates.{Acting, NoEffect, Outside, PrivateState, fault_in, private_outcome, provided, set_word, view_of, with_result}
+use Rattle.cp_steps.specs.PrivateStates.{Acting, NoEffect, Outside, PrivateState, fault_in, private_outcome, guard, set_word, view_of, with_result}
 use Rattle.cp_steps.specs.Steps.{act, count_to, go_to_arm}
 use Rattle.cp_steps.specs.Values.{View, place_of, value_of}
 
@@ -88,7 +88,7 @@ pub with_result_quiet : {A : Type 0} (o : PrivateState) (r : Result A fault.Faul
 with_result_quiet o (Ok x) go h = h x
 with_result_quiet o (Err f) go h = refl
 
-provided_quiet : (b : Bool) (o : PrivateState) (f : fault.Fault) (x : Acting) → x.1 ≡ NoEffect → (provided b o f x).1 ≡ NoEffect
+provided_quiet : (b : Bool) (o : PrivateState) (f : fault.Fault) (x : Acting) → x.1 ≡ NoEffect → (guard b o f x).1 ≡ NoEffect
 provided_quiet true o f x h = h
 provided_quiet false o f x h = refl
 
@@ -123,7 +123,7 @@ module _ (program : Program) (w : Outside) (o : PrivateState) where
 
   init_quiet : (call : Call) (at n : ℕ) → (init_class program w o call at n).1 ≡ NoEffect
   init_quiet call at n =
-      unit_quiet call at (λ u. provided (same_integer (word o.words at) (pos 0)) o faults.InitialisedTwice (when_passed passed (begun u)))
+      unit_quiet call at (λ u. guard (same_integer (word o.words at) (pos 0)) o faults.InitialisedTwice (when_passed passed (begun u)))
       (λ u. provided_quiet (same_integer (word o.words at) (pos 0)) o faults.InitialisedTwice (when_passed passed (begun u)) (passed_quiet passed (begun u) (λ p. refl)))
     where
       passed : Passing

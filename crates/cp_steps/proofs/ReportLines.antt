@@ -18,7 +18,7 @@ use Rattle.cp_typing.specs.Words.{words}
 use Rattle.cp_typing.proofs.Names.{bytes_eq-refl, bytes_same}
 use Rattle.cp_code.specs.Layout.{Part, distance, farther, head_words, member_part, natural, of_class, part}
 use Rattle.cp_code.specs.Starts.{word}
-use Rattle.cp_steps.specs.Means.{CellMeans, MarkMeans, queued}
+use Rattle.cp_steps.specs.Means.{CellMeans, MarkMeans, process_of_word}
 use Rattle.cp_steps.specs.Reports.{lines_visit, of_class_text, visit_elements, visit_members, visit_type}
 use Rattle.cp_steps.proofs.Finding.{some_is_not_none}
 use Rattle.cp_steps.proofs.LeafWords.{counted_within}
@@ -185,7 +185,7 @@ module _ (g : GlobalScope) (store : Store) (root : Location) (ws : List ℤ) whe
     lines_same path at Queue named reads =
         append_none _
         ∙ (ap (leaf_line (path ++ [])) (reads [] 0 Queue refl)
-        ∙ (λ i. leaf_line (append_none path i) (QueueHolds (queued (word ws (here at i))))))
+        ∙ (λ i. leaf_line (append_none path i) (QueueHolds (process_of_word (word ws (here at i))))))
     lines_same path at (ComponentOf s ms) named reads = component_same path at s ms reads (λ h. member_lines_same path at (head_words g s) ms named h)
     lines_same path at NoType named reads = refl
 

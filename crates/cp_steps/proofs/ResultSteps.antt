@@ -27,7 +27,7 @@ use Rattle.cp_code.specs.Sites.{local_location, operation_at}
 use Rattle.cp_code.specs.StandsFor.{StandsFor}
 use Rattle.cp_code.specs.StatementsFor.{AssignsBy, NamesResult}
 use Rattle.cp_code.specs.TermsFor.{Agrees}
-use Rattle.cp_steps.specs.PrivateStates.{Outside, PrivateState, go_to, private_outcome, provided, set_word, with_result}
+use Rattle.cp_steps.specs.PrivateStates.{Outside, PrivateState, go_to, private_outcome, guard, set_word, with_result}
 use Rattle.cp_steps.specs.Steps.{act}
 use Rattle.cp_steps.specs.Addresses.{Ground}
 use Rattle.cp_steps.specs.Left.{site}
@@ -72,8 +72,8 @@ result_steps G s w before o x e env k F Y lower upper c n there h =
     goes ws = own_step (with_writes (configuration s G.p) ws k)
 
     stored : (v : ℤ) (b : Bool) → within lower upper v ≡ b
-        → PartOf G (after_step s G.p (and_then (outcomes.provided b 1 ((result_location M.frame, Ordinal v) ∷ [])) goes)) before
-        (provided b o fault.Range (private_outcome (go_to n (set_word o o.base v)))).0
+        → PartOf G (after_step s G.p (and_then (outcomes.guard b 1 ((result_location M.frame, Ordinal v) ∷ [])) goes)) before
+        (guard b o fault.Range (private_outcome (go_to n (set_word o o.base v)))).0
     stored v false q = faulted G s w before o (Do (a.Assign (a.Plain x) e) env) k Y.now 1 fault.Range refl
     stored v true q =
         went G s before o Y.now.part (put (result_location M.frame) (Ordinal v) s.store) (go_to n (set_word o o.base v)) k
@@ -87,10 +87,10 @@ result_steps G s w before o x e env k F Y lower upper c n there h =
 
     by : (O : Outcome TypedValue) (r : Result ℤ machine.Fault) → Agrees h.0 O r
         → PartOf G (after_step s G.p (and_then (Gives P) (λ at. and_then O (λ v. and_then (writes_of at.at at.type v) goes)))) before
-        (with_result o r (λ v. provided (within lower upper v) o fault.Range (private_outcome (go_to n (set_word o o.base v))))).0
+        (with_result o r (λ v. guard (within lower upper v) o fault.Range (private_outcome (go_to n (set_word o o.base v))))).0
     by (Fault i) (Err f) g = faulted G s w before o (Do (a.Assign (a.Plain x) e) env) k Y.now i f g
     by (Fault i) (Ok v) g = absurd g
     by (Gives w) (Err f) g = absurd g
     by (Gives w) (Ok v) g =
-        subst (λ z. PartOf G (after_step s G.p (and_then (outcomes.provided (within lower upper z) 1 ((result_location M.frame, Ordinal z) ∷ [])) goes)) before (provided (within lower upper v) o fault.Range (private_outcome (go_to n (set_word o o.base v)))).0) (sym (ordinal_is w v g.1))
+        subst (λ z. PartOf G (after_step s G.p (and_then (outcomes.guard (within lower upper z) 1 ((result_location M.frame, Ordinal z) ∷ [])) goes)) before (guard (within lower upper v) o fault.Range (private_outcome (go_to n (set_word o o.base v)))).0) (sym (ordinal_is w v g.1))
         (stored v (within lower upper v) refl)

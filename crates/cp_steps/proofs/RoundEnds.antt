@@ -6,7 +6,7 @@ use Rattle.cp_model.specs.Configurations as status
 use Rattle.cp_model.specs.Configurations.{Status}
 use Rattle.cp_model.specs.Continuations.{Task}
 use Rattle.cp_model.specs.Parts.{Failed, Finished, HasBegun, NotBegun, PrivateStatus, Running, Sleeping, private_status}
-use Rattle.cp_model.specs.Rounds.{after_closing, awakened, close_round}
+use Rattle.cp_model.specs.Rounds.{after_closing, wake_status, close_round}
 use Rattle.cp_model.specs.States.{State}
 use Rattle.cp_model.specs.Stores.{Store}
 use Rattle.cp_code.specs.Programs as code
@@ -26,7 +26,7 @@ abbrev roused : PrivateStatus → PrivateStatus
 roused Sleeping = Running
 roused x = x
 
-awakened_private : (x : Status) → private_status (awakened x) ≡ roused (private_status x)
+awakened_private : (x : Status) → private_status (wake_status x) ≡ roused (private_status x)
 awakened_private status.Unstarted = refl
 awakened_private status.Fresh = refl
 awakened_private status.Ready = refl
@@ -76,7 +76,7 @@ runs_whatever G store o k x R = record {
 }
 
 -- All processes that wait wake.
-pub part_wakes : (G : Ground) (s : State) (before : List ℕ) (o : PrivateState) → PartOf G s before o → PartOf G (record s { status = λ p. awakened (s.status p) }) before (wake_one o)
+pub part_wakes : (G : Ground) (s : State) (before : List ℕ) (o : PrivateState) → PartOf G s before o → PartOf G (record s { status = λ p. wake_status (s.status p) }) before (wake_one o)
 part_wakes G s before o P = record {
   number = P.number;
   input = P.input;

@@ -6,7 +6,7 @@ use Rattle.cp_model.specs.Invariant.{Invariant}
 use Rattle.cp_model.specs.Locations.{ByName, Location, OfMonitor, under}
 use Rattle.cp_model.specs.Operators.{realtime}
 use Rattle.cp_model.specs.Parts.{SameKernelPart, SamePrivateState}
-use Rattle.cp_model.specs.Rounds.{awakened, own_parts, wake}
+use Rattle.cp_model.specs.Rounds.{wake_status, own_parts, wake}
 use Rattle.cp_model.specs.States.{Setup, State, is_in, processes, running_clock}
 use Rattle.cp_model.specs.Turns as meaning
 use Rattle.cp_model.proofs.PrivateStepsKept.{own_part_is_turned, own_parts_kernel_part}
@@ -34,7 +34,7 @@ module _ (program : Program) (setup : Setup) (F : StandsFor program setup) (p ow
   pub part_woken : PartOf (ground_of program setup F p own) (wake setup s) before (if nat_eq (suc s.rounds % setup.tick) 0 then wake_one o else o)
   part_woken = by (nat_eq (suc s.rounds % setup.tick) 0)
     where
-      by : (b : Bool) → PartOf (ground_of program setup F p own) (if b then record s { status = λ q. awakened (s.status q) } else s) before (if b then wake_one o else o)
+      by : (b : Bool) → PartOf (ground_of program setup F p own) (if b then record s { status = λ q. wake_status (s.status q) } else s) before (if b then wake_one o else o)
       by true = part_wakes (ground_of program setup F p own) s before o P
       by false = P
 

@@ -18,7 +18,7 @@ use Rattle.cp_steps.specs.PrivateStates.{Outside, PrivateState, go_to, set_word,
 use Rattle.cp_steps.specs.PrivateStates as machine
 use Rattle.cp_steps.specs.Values.{View}
 use Rattle.cp_steps.specs.Means.{CellMeans, Here}
-use Rattle.cp_steps.specs.Addresses.{Ground, HasRights, activations, component_type, in_sight, lies, scope, seen}
+use Rattle.cp_steps.specs.Addresses.{Ground, HasRights, activations, component_type, in_sight, lies, scope, lies_in_sight}
 use Rattle.cp_steps.specs.Left.{Left, Running, held_below, innermost_gate, site}
 use Rattle.cp_steps.specs.PartOf.{ActivationsMean, DataMeans, RunsOn, components}
 use Rattle.cp_steps.proofs.Apart.{IsCell, cell_head}
@@ -33,10 +33,10 @@ use Rattle.cp_steps.proofs.Stacks.{Stack, Stacked, own_in_whole, stacked}
 
 -- The names mean what the words hold.
 pub runs_here : (G : Ground) (store : Store) (w : Outside) (o : PrivateState) (k : List Task) (clock : Clock) → w.clock ≡ realtime clock → (R : RunsOn G store o k) → Sees G (in_sight G) store R.running.env
-    → Here R.running.env clock store (view_of w o) (held_below R.live o.temps R.running.temp) (seen (in_sight G) G (activations o.base o.frames k))
+    → Here R.running.env clock store (view_of w o) (held_below R.live o.temps R.running.temp) (lies_in_sight (in_sight G) G (activations o.base o.frames k))
 runs_here G store w o k clock clock_is R sees =
-    subst (λ b. Here R.running.env clock store (view_of w o) (held_below R.live o.temps R.running.temp) (seen (in_sight G) G (activations b o.frames k))) (sym R.base)
-    (subst (λ z. Here R.running.env clock store z (held_below R.live o.temps R.running.temp) (seen (in_sight G) G (activations R.running.base o.frames k))) view_is
+    subst (λ b. Here R.running.env clock store (view_of w o) (held_below R.live o.temps R.running.temp) (lies_in_sight (in_sight G) G (activations b o.frames k))) (sym R.base)
+    (subst (λ z. Here R.running.env clock store z (held_below R.live o.temps R.running.temp) (lies_in_sight (in_sight G) G (activations R.running.base o.frames k))) view_is
     (here G store o.words o.temps o.limit R.live (held_below R.live o.temps R.running.temp) R.running o.frames o.place R.running.unit.temps k (in_sight G) clock R.left
     (subst (λ b. ActivationsMean G store o.words b o.frames k) R.base R.activations_mean)
     R.runs.component

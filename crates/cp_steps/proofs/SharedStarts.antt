@@ -11,7 +11,7 @@ use Rattle.cp_code.specs.Layout.{component_words, head_words, member_part}
 use Rattle.cp_code.specs.Programs as code
 use Rattle.cp_code.specs.Programs.{Program, Start}
 use Rattle.cp_code.specs.StandsFor.{Apart, MonitorStands, StandsFor}
-use Rattle.cp_code.specs.Starts.{AreZero, StartsComponent, started, word}
+use Rattle.cp_code.specs.Starts.{AreZero, StartsComponent, carry_out, word}
 use Rattle.cp_steps.specs.Machines.{first_shared}
 use Rattle.cp_steps.proofs.Apart.{IsClass, head_inside}
 use Rattle.cp_steps.proofs.Bounds.{member_fits}
@@ -31,7 +31,7 @@ pub record BlockStarts (g : GlobalScope) (s : System) (base : ℕ) (ws : List �
       → member_part g (head_words g s) (reported_members g s) x path ≡ Some (m, ComponentOf r inner) → r.sort ≡ Class → i < head_words g r → word ws (base + (m + i)) ≡ pos 0
 
 block_started : (g : GlobalScope) (s : System) (plan : List Start) (base : ℕ) (ws : List ℤ) → StartsComponent g s plan → base + component_words g s ≤ length ws → AreZero g s base ws
-    → BlockStarts g s base (started base plan ws)
+    → BlockStarts g s base (carry_out base plan ws)
 block_started g s plan base ws S room zeros = record {
   cells = S.cells base ws room zeros;
   head = λ i h. S.head base ws room i zeros h;
@@ -68,7 +68,7 @@ module _ (program : Program) (setup : Setup) (F : StandsFor program setup) where
 
   module _ (k : ℕ) (ws : List ℤ) (U : Until k ws) (N : Stands (suc k)) where
     abbrev after : List ℤ
-    after = started N.row.start N.row.starts ws
+    after = carry_out N.row.start N.row.starts ws
 
     room : N.row.start + component_words g N.system ≤ length ws
     room = omega (arith, N.lies, N.words, U.count)
@@ -91,7 +91,7 @@ module _ (program : Program) (setup : Setup) (F : StandsFor program setup) where
         here : (m : ℕ) → m ≡ suc k → (M : Stands m) → BlockStarts g M.system M.row.start after
         here m e M =
             let row : M.row ≡ N.row = same_some M.row N.row (sym M.there ∙ (ap (λ z. slice_get program.monitors (z - 1)) e ∙ N.there)) in
-            subst (λ (r : code.Monitor). BlockStarts g M.system M.row.start (started r.start r.starts ws)) row
+            subst (λ (r : code.Monitor). BlockStarts g M.system M.row.start (carry_out r.start r.starts ws)) row
             (block_started g M.system M.row.starts M.row.start ws M.starts (omega (arith, M.lies, M.words, U.count)) (U.zeros m (omega (arith, e)) M))
 
         by : (m : ℕ) → 1 ≤ m → m ≤ suc k → (M : Stands m) → (b : Bool) → nat_eq m (suc k) ≡ b → BlockStarts g M.system M.row.start after
@@ -109,9 +109,9 @@ module _ (program : Program) (setup : Setup) (F : StandsFor program setup) where
       nothing_more : (n : ℕ) → n ≡ n + 0
       nothing_more n = omega arith
   all_started (r ∷ rows) k ws there U =
-      subst (λ n. Until n (first_shared rows (started r.start r.starts ws))) (one_more k (length rows))
-      (all_started rows (suc k) (started r.start r.starts ws) (λ i. ap (slice_get program.monitors) (one_more k i) ∙ there (suc i))
-      (subst (λ (z : code.Monitor). Until (suc k) (started z.start z.starts ws)) row (started_more k ws U N)))
+      subst (λ n. Until n (first_shared rows (carry_out r.start r.starts ws))) (one_more k (length rows))
+      (all_started rows (suc k) (carry_out r.start r.starts ws) (λ i. ap (slice_get program.monitors) (one_more k i) ∙ there (suc i))
+      (subst (λ (z : code.Monitor). Until (suc k) (carry_out z.start z.starts ws)) row (started_more k ws U N)))
     where
       one_more : (n m : ℕ) → suc n + m ≡ n + suc m
       one_more n m = omega arith

@@ -13,10 +13,10 @@ use Rattle.cp_typing.specs.Words.{words}
 use Rattle.cp_code.specs.Layout.{component_words, head_words, locals}
 use Rattle.cp_code.specs.StandsFor.{system_of_monitor, system_of_process}
 use Rattle.cp_code.specs.Starts.{block, paste, word}
-use Rattle.cp_steps.specs.PrivateStates.{Acting, PrivateState, fault_in, provided, with_result}
+use Rattle.cp_steps.specs.PrivateStates.{Acting, PrivateState, fault_in, guard, with_result}
 use Rattle.cp_steps.specs.Passing.{Passing, monitor_start, when_passed}
 use Rattle.cp_steps.specs.Means.{PlaceAgrees}
-use Rattle.cp_steps.specs.Addresses.{Activation, Ground, in_sight, lies, part_at, scope, seen}
+use Rattle.cp_steps.specs.Addresses.{Activation, Ground, in_sight, lies, part_at, scope, lies_in_sight}
 use Rattle.cp_steps.proofs.Apart.{IsCell, cell_has_word}
 use Rattle.cp_steps.proofs.Bounds.{member_fits, part_fits}
 use Rattle.cp_steps.proofs.Copying.{copied_outside}
@@ -46,7 +46,7 @@ module _ (G : Ground) (o : PrivateState) where
   result_spares (Ok x) go h = h x refl
   result_spares (Err f) go h = λ i spared. refl
 
-  pub provided_spares : (b : Bool) (f : faults.Fault) (x : Acting) → Spares G o.words x.0.words → Spares G o.words (provided b o f x).0.words
+  pub provided_spares : (b : Bool) (f : faults.Fault) (x : Acting) → Spares G o.words x.0.words → Spares G o.words (guard b o f x).0.words
   provided_spares true f x h = h
   provided_spares false f x h = λ i spared. refl
 
@@ -89,7 +89,7 @@ module _ (G : Ground) (xs : List Activation) (top : ℕ) (stack : Stacked G top 
   copy_spares ws us l n from u h i spared = copied_outside ws us n from (words (scope G) u) i (part_spared l n u h i spared)
 
 -- The machine's place lies where the meaning's does.
-pub place_lies : (G : Ground) (xs : List Activation) (t : ResolvedType) (P : Outcome Place) (r : Result ℕ faults.Fault) (n : ℕ) → PlaceAgrees (seen (in_sight G) G xs) t P r → r ≡ Ok n
+pub place_lies : (G : Ground) (xs : List Activation) (t : ResolvedType) (P : Outcome Place) (r : Result ℕ faults.Fault) (n : ℕ) → PlaceAgrees (lies_in_sight (in_sight G) G xs) t P r → r ≡ Ok n
     → (l : Location) × (lies G xs l ≡ Some (n, t))
 place_lies G xs t (Gives p) (Ok k) n h e =
     let there = (seen_mine (in_sight G) G xs p.at (k, t) h.0).1 in (p.at, there ∙ ap (λ z. Some (z, t)) (same e))

@@ -14,9 +14,9 @@ use Rattle.cp_code.specs.Layout.{activation_words, component_words, head_words, 
 use Rattle.cp_code.specs.Programs.{Call, CodeUnit}
 use Rattle.cp_code.specs.Sites.{RoutineOf}
 use Rattle.cp_code.specs.StandsFor.{UnitStands}
-use Rattle.cp_code.specs.Starts.{block, paste, started, word}
+use Rattle.cp_code.specs.Starts.{block, paste, carry_out, word}
 use Rattle.cp_code.specs.Terms.{Argument}
-use Rattle.cp_steps.specs.PrivateStates.{Acting, Enters, Opens, Outside, PrivateState, private_outcome, provided, set_word}
+use Rattle.cp_steps.specs.PrivateStates.{Acting, Enters, Opens, Outside, PrivateState, private_outcome, guard, set_word}
 use Rattle.cp_steps.specs.Passing.{Called, component_called, monitor_start, pass_all, when_passed}
 use Rattle.cp_steps.specs.Calling.{Back, call_step, class_at, enter, gate_effect, has_room, init_class, init_monitor, settle, start_words}
 use Rattle.cp_steps.specs.Addresses.{Activation, ClassLies, ComponentLies, Ground, MonitorLies, ProcessLies, component_type, lies, scope}
@@ -57,14 +57,14 @@ module _ (G : Ground) (w : Outside) (o : PrivateState) (call : Call) (back : Bac
   abbrev to : ℕ
   to = o.base + call.words
 
-  started_spares : (ws : List ℤ) → length ws ≡ length o.words → Spares G ws (started to u.starts ws)
+  started_spares : (ws : List ℤ) → length ws ≡ length o.words → Spares G ws (carry_out to u.starts ws)
   started_spares ws same i spared =
       stands.0.outside to ws i (omega (arith, stands.1, room, same, enough)) (inr (omega (arith, stands.1, room, spared.0)))
       (λ t is e. absurd (omega (arith, e, spared.0, result_inside (scope G) r t is, stands.1, room)))
 
   pub call_spares : Spares G o.words (call_step G.program w o call back).0.words
   call_spares =
-      unit_spares G w o call c.component u (λ v. provided c.is_set o fault.NotInitialised (when_passed (pass_all w to to call.arguments o) (entering v))) there
+      unit_spares G w o call c.component u (λ v. guard c.is_set o fault.NotInitialised (when_passed (pass_all w to to call.arguments o) (entering v))) there
       (provided_spares G o c.is_set fault.NotInitialised (when_passed (pass_all w to to call.arguments o) (entering u))
       (passed_spares G o (pass_all w to to call.arguments o) (entering u)
       (passing_spares G w to to (activation_words (scope G) r) call.arguments o (omega (arith, stands.1, room)) below)
@@ -131,7 +131,7 @@ module _ (G : Ground) (xs : List Activation) (top : ℕ) (stack : Stacked G top 
 
     pub class_spares : s.sort ≡ Class → lies G [] at ≡ Some (c, component_type G s) → Spares G o.words (init_class G.program w o call c next).0.words
     class_spares sort is =
-        unit_spares G w o call c u (λ v. provided (same_integer (word o.words c) (pos 0)) o fault.InitialisedTwice (when_passed (pass_all w from c call.arguments o) (entering v))) has
+        unit_spares G w o call c u (λ v. guard (same_integer (word o.words c) (pos 0)) o fault.InitialisedTwice (when_passed (pass_all w from c call.arguments o) (entering v))) has
         (provided_spares G o (same_integer (word o.words c) (pos 0)) fault.InitialisedTwice (when_passed (pass_all w from c call.arguments o) (entering u))
         (passed_spares G o (pass_all w from c call.arguments o) (entering u) passed_on (marked (pass_all w from c call.arguments o).own)))
       where
@@ -155,4 +155,4 @@ module _ (G : Ground) (xs : List Activation) (top : ℕ) (stack : Stacked G top 
         entering z v p = (enter (settle p from z (length call.arguments)) (record { component = z; is_set = w.is_set m; gate = m }) v call back, Opens m)
 
         going : ℕ → CodeUnit → Acting
-        going z v = provided (not (w.is_set m)) o fault.InitialisedTwice (when_passed (pass_all w from z call.arguments o) (entering z v))
+        going z v = guard (not (w.is_set m)) o fault.InitialisedTwice (when_passed (pass_all w from z call.arguments o) (entering z v))

@@ -22,13 +22,13 @@ use Rattle.cp_code.specs.Starts.{block, paste, unset, word}
 use Rattle.cp_code.specs.StatementsFor.{AssignsBy, Counts}
 use Rattle.cp_code.specs.Terms.{Rooted, Spot, Term}
 use Rattle.cp_steps.specs.PrivateStates as machine
-use Rattle.cp_steps.specs.PrivateStates.{Acting, Outside, PrivateState, fault_in, go_to, private_outcome, provided, set_temp, set_word, view_of}
+use Rattle.cp_steps.specs.PrivateStates.{Acting, Outside, PrivateState, fault_in, go_to, private_outcome, guard, set_temp, set_word, view_of}
 use Rattle.cp_steps.specs.Calling.{leave, return_with, with_frame}
 use Rattle.cp_steps.specs.Steps as steps
 use Rattle.cp_steps.specs.Steps.{act, with_place}
 use Rattle.cp_steps.specs.Means.{PlaceAgrees}
 use Rattle.cp_steps.specs.Values.{place_of, value_of}
-use Rattle.cp_steps.specs.Addresses.{Activation, Ground, activations, in_sight, scope, seen}
+use Rattle.cp_steps.specs.Addresses.{Activation, Ground, activations, in_sight, scope, lies_in_sight}
 use Rattle.cp_steps.specs.Left.{site}
 use Rattle.cp_steps.proofs.Apart.{IsCell}
 use Rattle.cp_steps.proofs.Doing.{Ready, known, place_here}
@@ -55,7 +55,7 @@ module _ (G : Ground) (s : State) (w : Outside) (before : List ℕ) (o : Private
   stack = runs_stacked G s.store o (i ∷ k) N.on
 
   -- Something is done at a place.
-  pub at_place : (t : ResolvedType) (P : Outcome Place) (c : Spot) → PlaceAgrees (seen (in_sight G) G xs) t P (place_of (view_of w o) c) → (go : ℕ → Acting)
+  pub at_place : (t : ResolvedType) (P : Outcome Place) (c : Spot) → PlaceAgrees (lies_in_sight (in_sight G) G xs) t P (place_of (view_of w o) c) → (go : ℕ → Acting)
       → ((n : ℕ) → ((v : ℤ) → IsCell t → Spares G o.words (set_word o n v).words) → ((from : ℕ) → Spares G o.words (paste n (block o.words from (words (scope G) t)) o.words)) → Kept (go n))
       → Kept (with_place w o c go)
   at_place t P c agrees go h =
@@ -167,7 +167,7 @@ module _ (G : Ground) (s : State) (w : Outside) (before : List ℕ) (o : Private
       (λ at stores copies. in_monitor (steps.is_held o.gate) (nat_lt at (length o.words)) at (stores (pos o.number) tt))
     where
       in_monitor : (b c : Bool) (at : ℕ) → Spares G o.words (set_word o at (pos o.number)).words
-          → Spares G o.words (if b then (if c then provided (int_le (word o.words at) (pos 0)) o fault.QueueTaken (go_to n (set_word o at (pos o.number)), machine.Delays o.gate at) else private_outcome o) else private_outcome o).0.words
+          → Spares G o.words (if b then (if c then guard (int_le (word o.words at) (pos 0)) o fault.QueueTaken (go_to n (set_word o at (pos o.number)), machine.Delays o.gate at) else private_outcome o) else private_outcome o).0.words
       in_monitor true true at h = provided_spares G o (int_le (word o.words at) (pos 0)) fault.QueueTaken _ h
       in_monitor true false at h = λ j spared. refl
       in_monitor false c at h = λ j spared. refl

@@ -10,7 +10,7 @@ use Rattle.cp_model.specs.Gates.{made_ready}
 use Rattle.cp_model.specs.States.{with_at}
 use Rattle.cp_steps.specs.Addresses.{Ground}
 use Rattle.cp_steps.specs.KernelOf.{StageMeans}
-use Rattle.cp_steps.specs.KernelSteps.{Asking, Begun, Delayed, Fresh, Stage, Unstarted, resumed, stage_of}
+use Rattle.cp_steps.specs.KernelSteps.{Asking, Begun, Delayed, Fresh, Stage, Unstarted, resume_stage, stage_of}
 
 abbrev pub StagesMean : Ground → List Stage → (ℕ → Status) → Type 0
 StagesMean G gs f = (p : ℕ) → 1 ≤ p → p ≤ length gs → StageMeans G (f p) (stage_of gs p)
@@ -39,7 +39,7 @@ stage_set G gs f (suc i) x g low means all (suc n) one high =
         subst (StageMeans G (f (suc n))) (stage_is gs n ∙ sym (get_or-set_other gs i n g Begun (λ h. true≢false (sym (eq-eqb (suc i) (suc n) (omega (arith, h))) ∙ e)))) (all (suc n) one high)
 
 -- A process that asks for a gate or is delayed is made ready, in both.
-pub ready_means : (G : Ground) (x : Status) (g : Stage) → StageMeans G x g → StageMeans G (made_ready x) (resumed g)
+pub ready_means : (G : Ground) (x : Status) (g : Stage) → StageMeans G x g → StageMeans G (made_ready x) (resume_stage g)
 ready_means G status.Unstarted Unstarted h = tt
 ready_means G status.Fresh Fresh h = tt
 ready_means G (status.Asking m) (Asking k) h = tt

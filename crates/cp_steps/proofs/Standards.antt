@@ -33,10 +33,10 @@ use Rattle.cp_code.specs.Sites.{operation_at}
 use Rattle.cp_code.specs.TermsFor.{Agrees}
 use Rattle.cp_code.specs.StatementsFor.{IsByte, PerformsBy}
 use Rattle.cp_steps.specs.PrivateStates as private
-use Rattle.cp_steps.specs.PrivateStates.{Activity, Outside, PrivateState, go_to, private_outcome, provided, set_word, view_of, with_result}
+use Rattle.cp_steps.specs.PrivateStates.{Activity, Outside, PrivateState, go_to, private_outcome, guard, set_word, view_of, with_result}
 use Rattle.cp_steps.specs.Steps as steps
 use Rattle.cp_steps.specs.Means.{PlaceAgrees}
-use Rattle.cp_steps.specs.Addresses.{Ground, activations, in_sight, seen}
+use Rattle.cp_steps.specs.Addresses.{Ground, activations, in_sight, lies_in_sight}
 use Rattle.cp_steps.specs.Left.{site}
 use Rattle.cp_steps.specs.PartOf.{PartOf, RunsOn, status_of}
 use Rattle.cp_steps.proofs.Assigning.{stores}
@@ -211,7 +211,7 @@ module _ (G : Ground) (s : State) (w : Outside) (before : List ℕ) (o : Private
       taking : List ℕ → ℕ → Place → StepResult
       taking input c at = and_then (writes_of at.at at.type (simple_value Char (next_input input c))) (writing input c)
 
-      by : (P : Outcome Place) (r : Result ℕ machine.Fault) → PlaceAgrees (seen (in_sight G) G (activations o.base o.frames (Do (a.Perform (a.Plain x) (one (a.Use d))) env ∷ k))) (Simple Char lower upper h.1.0) P r
+      by : (P : Outcome Place) (r : Result ℕ machine.Fault) → PlaceAgrees (lies_in_sight (in_sight G) G (activations o.base o.frames (Do (a.Perform (a.Plain x) (one (a.Use d))) env ∷ k))) (Simple Char lower upper h.1.0) P r
           → PartOf G (after_step s G.p (and_then P (taking o.input o.consumed))) before (with_result o r (λ at. steps.accept o at lower upper n)).0
       by (Gives p) (Ok at) g =
           let v = next_input o.input o.consumed in
@@ -244,7 +244,7 @@ module _ (G : Ground) (s : State) (w : Outside) (before : List ℕ) (o : Private
   -- A designator of a queue is evaluated, and then nothing happens.
   queue_rests : IsFree G s o → (d : a.Designator) (Y : Ready G s w before o (a.Perform (a.Plain x) (one (a.Use d))) env k) (go : Place → StepResult) (act : ℕ → private.Acting)
       → ((at : Place) → go at ≡ own_step (configuration s G.p))
-      → (P : Outcome Place) (r : Result ℕ machine.Fault) → PlaceAgrees (seen (in_sight G) G (activations o.base o.frames (Do (a.Perform (a.Plain x) (one (a.Use d))) env ∷ k))) Queue P r
+      → (P : Outcome Place) (r : Result ℕ machine.Fault) → PlaceAgrees (lies_in_sight (in_sight G) G (activations o.base o.frames (Do (a.Perform (a.Plain x) (one (a.Use d))) env ∷ k))) Queue P r
       → PartOf G (after_step s G.p (and_then P go)) before (with_result o r (λ at. steps.in_monitor o (act at))).0
   queue_rests free d Y go act same (Gives p) (Ok at) g =
       subst (λ z. PartOf G (after_step s G.p z) before (steps.in_monitor o (act at)).0) (sym (same p))
@@ -275,7 +275,7 @@ module _ (G : Ground) (s : State) (w : Outside) (before : List ℕ) (o : Private
           held_delay : ℕ → private.Acting
           held_delay at =
               if nat_lt at (length o.words)
-              then provided (int_le (word o.words at) (pos 0)) o faults.QueueTaken (go_to n (set_word o at (pos o.number)), private.Delays o.gate at)
+              then guard (int_le (word o.words at) (pos 0)) o faults.QueueTaken (go_to n (set_word o at (pos o.number)), private.Delays o.gate at)
               else private_outcome o
 
   pub wait_steps : (Y : Ready G s w before o (a.Perform (a.Plain x) a.NoExpression) env k) (n : ℕ) → By a.NoExpression Y (op.Wait n) → Stepped G s w before o

@@ -16,7 +16,7 @@ use Rattle.cp_code.specs.Terms.{Argument}
 use Rattle.cp_steps.specs.Calling.{Back, call_step, class_at, enter, gate_effect, has_room, init_class, init_monitor, init_process, leave, parameters_start, return_with, settle, start_words, with_frame, with_unit}
 use Rattle.cp_steps.specs.Passing.{Called, Passing, component_called, monitor_called, pass_all, when_passed}
 use Rattle.cp_steps.specs.PrivateStates as machine
-use Rattle.cp_steps.specs.PrivateStates.{Acting, Activity, Effect, Frame, Outside, PrivateState, fault_in, go_to, private_outcome, provided, set_temp, set_word, view_of, with_result}
+use Rattle.cp_steps.specs.PrivateStates.{Acting, Activity, Effect, Frame, Outside, PrivateState, fault_in, go_to, private_outcome, guard, set_temp, set_word, view_of, with_result}
 use Rattle.cp_steps.specs.Steps as steps
 use Rattle.cp_steps.specs.Steps.{act, count_to, go_to_arm}
 use Rattle.cp_steps.specs.Values.{View, place_of, value_of}
@@ -43,7 +43,7 @@ module _ (program : Program) (w : Outside) (o : PrivateState) (y : Operation) (r
   with_result_stops (Ok x) go h = h x
   with_result_stops (Err f) go h = Fails tt refl refl
 
-  provided_stops : (b : Bool) (f : fault.Fault) (x : Acting) → Ok' x → Ok' (provided b o f x)
+  provided_stops : (b : Bool) (f : fault.Fault) (x : Acting) → Ok' x → Ok' (guard b o f x)
   provided_stops true f x h = h
   provided_stops false f x h = Fails tt refl refl
 
@@ -89,7 +89,7 @@ module _ (program : Program) (w : Outside) (o : PrivateState) (y : Operation) (r
   call_stops call back =
       let c = component_called program w o call.target in
       let to = o.base + call.words in
-      unit_stops call c.component (λ u. provided c.is_set o faults.NotInitialised (when_passed (pass_all w to to call.arguments o) (entered u)))
+      unit_stops call c.component (λ u. guard c.is_set o faults.NotInitialised (when_passed (pass_all w to to call.arguments o) (entered u)))
       (λ u. provided_stops c.is_set faults.NotInitialised (when_passed (pass_all w to to call.arguments o) (entered u)) (passed_stops to to call.arguments (entered u) (λ us. On (subst GoesOn (sym running) tt))))
     where
       entered : CodeUnit → PrivateState → Acting
@@ -98,7 +98,7 @@ module _ (program : Program) (w : Outside) (o : PrivateState) (y : Operation) (r
 
   class_stops : (call : Call) (at next : ℕ) → Ok' (init_class program w o call at next)
   class_stops call at next =
-      unit_stops call at (λ u. provided (same_integer (word o.words at) (pos 0)) o faults.InitialisedTwice (when_passed (pass_all w from at call.arguments o) (begun u)))
+      unit_stops call at (λ u. guard (same_integer (word o.words at) (pos 0)) o faults.InitialisedTwice (when_passed (pass_all w from at call.arguments o) (begun u)))
       (λ u. provided_stops (same_integer (word o.words at) (pos 0)) faults.InitialisedTwice (when_passed (pass_all w from at call.arguments o) (begun u))
       (passed_stops from at call.arguments (begun u) (λ us. On (subst GoesOn (sym running) tt))))
     where
@@ -110,7 +110,7 @@ module _ (program : Program) (w : Outside) (o : PrivateState) (y : Operation) (r
 
   monitor_stops : (call : Call) (m next : ℕ) → Ok' (init_monitor program w o call m next)
   monitor_stops call m next =
-      unit_stops call c.component (λ u. provided (not c.is_set) o faults.InitialisedTwice (when_passed (pass_all w from c.component call.arguments o) (begun u)))
+      unit_stops call c.component (λ u. guard (not c.is_set) o faults.InitialisedTwice (when_passed (pass_all w from c.component call.arguments o) (begun u)))
       (λ u. provided_stops (not c.is_set) faults.InitialisedTwice (when_passed (pass_all w from c.component call.arguments o) (begun u))
       (passed_stops from c.component call.arguments (begun u) (λ us. On (subst GoesOn (sym running) tt))))
     where
@@ -138,8 +138,8 @@ module _ (program : Program) (w : Outside) (o : PrivateState) (y : Operation) (r
 
   delay_stops : (at next : ℕ) → Ok' (steps.delay o at next)
   delay_stops at next =
-      in_monitor_stops (if nat_lt at (length o.words) then provided (int_le (word o.words at) (pos 0)) o faults.QueueTaken stands else private_outcome o)
-      (either_stops (nat_lt at (length o.words)) (provided (int_le (word o.words at) (pos 0)) o faults.QueueTaken stands) (private_outcome o)
+      in_monitor_stops (if nat_lt at (length o.words) then guard (int_le (word o.words at) (pos 0)) o faults.QueueTaken stands else private_outcome o)
+      (either_stops (nat_lt at (length o.words)) (guard (int_le (word o.words at) (pos 0)) o faults.QueueTaken stands) (private_outcome o)
       (provided_stops (int_le (word o.words at) (pos 0)) faults.QueueTaken stands (On (subst GoesOn (sym running) tt))) (goes o running))
     where
       stands : Acting

@@ -188,5 +188,5 @@ AllHaveRights G store (n ∷ ns) = ClassHasRights G store n × AllHaveRights G s
 -- ---- What is in sight
 
 -- Where a location lies, if its owner passes the test `mine`.
-abbrev pub seen : (Owner → Bool) → Ground → List Activation → Location → Option Part
-seen mine G xs l = if mine l.owner then lies G xs l else None
+abbrev pub lies_in_sight : (Owner → Bool) → Ground → List Activation → Location → Option Part
+lies_in_sight mine G xs l = if mine l.owner then lies G xs l else None

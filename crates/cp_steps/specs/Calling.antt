@@ -4,8 +4,8 @@ use Rattle.cp_model.specs.Integers.{same_integer}
 use Rattle.cp_model.specs.declared.state.Fault.TheVariants as fault
 use Rattle.cp_code.specs.Terms.{Argument}
 use Rattle.cp_code.specs.Programs.{Call, CodeUnit, Program}
-use Rattle.cp_code.specs.Starts.{block, paste, started, unset, word}
-use Rattle.cp_steps.specs.PrivateStates.{Acting, Effect, Enters, Frame, NoEffect, Opens, Outside, PrivateState, Starts, fault_in, go_to, private_outcome, provided, set_temp, set_word}
+use Rattle.cp_code.specs.Starts.{block, paste, carry_out, unset, word}
+use Rattle.cp_steps.specs.PrivateStates.{Acting, Effect, Enters, Frame, NoEffect, Opens, Outside, PrivateState, Starts, fault_in, go_to, private_outcome, guard, set_temp, set_word}
 use Rattle.cp_steps.specs.Passing.{Called, component_called, monitor_called, pass_all, when_passed}
 
 -- ---- Frames
@@ -64,14 +64,14 @@ gate_effect (suc g) f = f (suc g)
 -- ---- Calls and returns
 
 abbrev pub start_words : ℕ → CodeUnit → PrivateState → PrivateState
-start_words base u o = record o { words = started base u.starts o.words }
+start_words base u o = record o { words = carry_out base u.starts o.words }
 
 abbrev pub call_step : Program → Outside → PrivateState → Call → Back → Acting
 call_step program w o call back =
     let c = component_called program w o call.target in
     let to = o.base + call.words in
     with_unit program w o call c.component (λ u.
-    provided c.is_set o fault.NotInitialised
+    guard c.is_set o fault.NotInitialised
     (when_passed (pass_all w to to call.arguments o) (λ p.
     (enter (start_words to u p) c u call back, gate_effect c.gate Enters))))
 
@@ -113,7 +113,7 @@ abbrev pub init_class : Program → Outside → PrivateState → Call → ℕ �
 init_class program w o call at next =
     let from = o.base + call.words in
     with_unit program w o call at (λ u.
-    provided (same_integer (word o.words at) (pos 0)) o fault.InitialisedTwice
+    guard (same_integer (word o.words at) (pos 0)) o fault.InitialisedTwice
     (when_passed (pass_all w from at call.arguments o) (λ p.
     let q = set_word (settle p from at (length call.arguments)) at (pos 1) in
     private_outcome (enter q (class_at at) u call (record { place = next; into = 0 })))))
@@ -123,7 +123,7 @@ init_monitor program w o call m next =
     let c = monitor_called program w m in
     let from = o.base + call.words in
     with_unit program w o call c.component (λ u.
-    provided (not c.is_set) o fault.InitialisedTwice
+    guard (not c.is_set) o fault.InitialisedTwice
     (when_passed (pass_all w from c.component call.arguments o) (λ p.
     let q = settle p from c.component (length call.arguments) in
     (enter q c u call (record { place = next; into = 0 }), Opens m))))
@@ -136,5 +136,5 @@ abbrev pub init_process : Program → Outside → PrivateState → ℕ → List 
 init_process program w o r xs words next =
     let from = o.base + words in
     let to = w.own + parameters_start program r in
-    provided (not (w.is_started r)) o fault.InitialisedTwice
+    guard (not (w.is_started r)) o fault.InitialisedTwice
     (when_passed (pass_all w from to xs o) (λ p. (go_to next (settle p from to (length xs)), Starts r)))

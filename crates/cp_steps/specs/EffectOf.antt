@@ -5,7 +5,7 @@ use Rattle.cp_model.specs.Configurations.{Effect, StepResult}
 use Rattle.cp_model.specs.Outcomes.{Fault, Gives}
 use Rattle.cp_model.specs.Types.{Queue}
 use Rattle.cp_steps.specs.Addresses.{Ground, lies}
-use Rattle.cp_steps.specs.Means.{queued}
+use Rattle.cp_steps.specs.Means.{process_of_word}
 use Rattle.cp_steps.specs.PrivateStates as machine
 
 -- `i` is a number from 1 to `n`.
@@ -23,7 +23,7 @@ EffectMeans G monitors processes own (effect.Leaves m) (machine.Leaves k) = (m �
 EffectMeans G monitors processes own (effect.Delays m q) (machine.Delays k at) =
     (m ≡ k) × IsNumber monitors m × (lies G [] q ≡ Some (at - own, Queue))
 EffectMeans G monitors processes own (effect.Continues m r) (machine.Continues k n) =
-    (m ≡ k) × IsNumber monitors m × (r ≡ queued n)
+    (m ≡ k) × IsNumber monitors m × (r ≡ process_of_word n)
 EffectMeans G monitors processes own (effect.Opens m) (machine.Opens k) = (m ≡ k) × IsNumber monitors m
 EffectMeans G monitors processes own (effect.Starts r k) (machine.Starts n) = (r ≡ n) × IsNumber processes r
 EffectMeans G monitors processes own _ _ = ⊥

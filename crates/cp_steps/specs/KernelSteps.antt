@@ -43,13 +43,13 @@ set_gate m h askers k = record k { gates = slice_set k.gates (m - 1) (record { h
 abbrev pub set_stage : ℕ → Stage → Kernel → Kernel
 set_stage p g k = record k { stages = slice_set k.stages (p - 1) g }
 
-abbrev pub resumed : Stage → Stage
-resumed (Asking m) = Begun
-resumed (Delayed m q) = Begun
-resumed g = g
+abbrev pub resume_stage : Stage → Stage
+resume_stage (Asking m) = Begun
+resume_stage (Delayed m q) = Begun
+resume_stage g = g
 
 abbrev pub make_ready : ℕ → Kernel → Kernel
-make_ready r k = set_stage r (resumed (stage_of k.stages r)) k
+make_ready r k = set_stage r (resume_stage (stage_of k.stages r)) k
 
 abbrev pub pass_to : ℕ → List ℕ → Kernel → Kernel
 pass_to m [] k = set_gate m Free [] k
@@ -97,11 +97,11 @@ outside clock x = record {
 }
 
 -- Puts the shared words after the private ones, and separates them again after a step.
-abbrev pub joined : Turning → PrivateState
-joined x = record x.own { words = x.own.words ++ x.kernel.shared }
+abbrev pub join_words : Turning → PrivateState
+join_words x = record x.own { words = x.own.words ++ x.kernel.shared }
 
-abbrev pub parted : ℕ → Turning → Acting → Turning
-parted own x r = record {
+abbrev pub part_words : ℕ → Turning → Acting → Turning
+part_words own x r = record {
   kernel = apply_effect own x.own.number r.1 (record x.kernel { shared = drop own r.0.words });
   own = record r.0 { words = take own r.0.words };
 }
@@ -123,7 +123,7 @@ is_due program x =
 -- One step if the next one is a kernel step, and otherwise nothing.
 abbrev pub kernel_step : Program → ℕ → Turning → Turning
 kernel_step program clock x =
-    if is_due program x then parted (length x.own.words) x (step_with program (outside clock x) (joined x)) else x
+    if is_due program x then part_words (length x.own.words) x (step_with program (outside clock x) (join_words x)) else x
 
 -- At most `n` steps, as long as the next one is a kernel step.
 abbrev pub kernel_steps : Program → ℕ → ℕ → Turning → Turning

@@ -60,17 +60,17 @@ pub record Runs (G : Ground) (temps limit : ℕ) (R : Running) (fs : List machin
 -- ---- What temps hold
 
 -- Temp number `t`, counted from `temp`, holds `n`.
-abbrev pub held : List ℤ → ℕ → Knowns
-held temps temp t n = word temps (temp + t) ≡ n
+abbrev pub temps_hold : List ℤ → ℕ → Knowns
+temps_hold temps temp t n = word temps (temp + t) ≡ n
 
 -- The same, for the first `live` temps, which are in use.
 abbrev pub held_below : ℕ → List ℤ → ℕ → Knowns
-held_below live temps temp t n = (t < live) × held temps temp t n
+held_below live temps temp t n = (t < live) × temps_hold temps temp t n
 
 -- The first `live` temps were in use at a call, which keeps the first `kept` temps. Nothing is said
 -- of the others.
 abbrev pub kept_below : ℕ → ℕ → List ℤ → ℕ → Knowns
-kept_below kept live temps temp t n = (t < live) × (t < kept → held temps temp t n)
+kept_below kept live temps temp t n = (t < live) × (t < kept → temps_hold temps temp t n)
 
 -- ---- Tasks
 
@@ -110,8 +110,8 @@ pub record ForLeft (s : Site) (temps : List ℤ) (temp : ℕ) (x : Name) (down :
   pub counting : Counting
   pub test : stands_at s place (op.ForNext counting)
   pub counts : Counts s x down counting next low
-  pub counter : held temps temp low n
-  pub last_is : held temps temp (low + 1) last
+  pub counter : temps_hold temps temp low n
+  pub last_is : temps_hold temps temp (low + 1) last
   pub again : CodeFor s nothing_known body counting.body place (low + 2)
 
 -- ---- Callers

@@ -3,7 +3,7 @@ use Rattle.std.specs.Prelude.{ℕ, zero, suc, ◌+◌, ◌-◌, ◌/◌, ◌%◌
 use Rattle.cp_model.specs.States.{Unset}
 use Rattle.cp_code.specs.Programs as code
 use Rattle.cp_code.specs.Programs.{CodeUnit, Program}
-use Rattle.cp_code.specs.Starts.{block, paste, started}
+use Rattle.cp_code.specs.Starts.{block, paste, carry_out}
 use Rattle.cp_steps.specs.PrivateStates.{Activity, NotBegun, PrivateState, Running, Waiting}
 use Rattle.cp_steps.specs.Steps.{private_steps}
 use Rattle.cp_steps.specs.KernelSteps.{Begun, Fresh, Kernel, Stage, Turning, Unstarted, kernel_steps, stage_of}
@@ -41,7 +41,7 @@ part_at_start inputs p x u = record {
   temp = 0;
   component = 0;
   gate = 0;
-  words = started 0 x.starts (replicate (x.words + u.words) (pos 0));
+  words = carry_out 0 x.starts (replicate (x.words + u.words) (pos 0));
   temps = replicate u.temps (pos 0);
   frames = [];
   limit = u.frames;
@@ -59,7 +59,7 @@ first_parts program inputs p (x ∷ xs) = first_part program inputs p x ∷ firs
 
 abbrev pub first_shared : List code.Monitor → List ℤ → List ℤ
 first_shared [] ws = ws
-first_shared (m ∷ ms) ws = first_shared ms (started m.start m.starts ws)
+first_shared (m ∷ ms) ws = first_shared ms (carry_out m.start m.starts ws)
 
 abbrev pub first_stages : List code.Process → List Stage
 first_stages [] = []

@@ -21,9 +21,9 @@ use Rattle.cp_steps.specs.Values.{View}
 -- ---- Cells
 
 -- The process in a queue. The number 0 stands for nobody.
-abbrev pub queued : ℤ → Option ℕ
-queued (pos (suc n)) = Some (suc n)
-queued _ = None
+abbrev pub process_of_word : ℤ → Option ℕ
+process_of_word (pos (suc n)) = Some (suc n)
+process_of_word _ = None
 
 abbrev pub MarkMeans : Sort → Value → ℤ → Type 0
 MarkMeans Class v n = v ≡ Initialised (not (same_integer n (pos 0)))
@@ -32,7 +32,7 @@ MarkMeans _ v n = Unit {0}
 -- What a value of this type means for the word in which it lies.
 abbrev pub CellMeans : ResolvedType → Value → ℤ → Type 0
 CellMeans (Simple b low high start) v n = v ≡ Ordinal n
-CellMeans Queue v n = v ≡ QueueHolds (queued n)
+CellMeans Queue v n = v ≡ QueueHolds (process_of_word n)
 CellMeans (ComponentOf s inner) v n = MarkMeans s.sort v n
 CellMeans _ v n = Unit {0}
 

@@ -81,8 +81,8 @@ abbrev pub with_result : {A : Type 0} → PrivateState → Result A Fault → (A
 with_result o (Ok x) go = go x
 with_result o (Err f) go = fault_in o f
 
-abbrev pub provided : Bool → PrivateState → Fault → Acting → Acting
-provided b o f x = if b then x else fault_in o f
+abbrev pub guard : Bool → PrivateState → Fault → Acting → Acting
+guard b o f x = if b then x else fault_in o f
 
 -- ---- Changes
 

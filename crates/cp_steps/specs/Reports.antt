@@ -9,7 +9,7 @@ use Rattle.cp_model.specs.Declarations.{Variable, globals, reported_members}
 use Rattle.cp_model.specs.Integers.{count_between}
 use Rattle.cp_model.specs.Leaves.{integers_from}
 use Rattle.cp_model.specs.Locations.{ByIndex, ByName, Path}
-use Rattle.cp_model.specs.Report.{Text, askers_text, component_members, components_of, escaped, gate_text, leaf_line, line, monitor_name, path_text}
+use Rattle.cp_model.specs.Report.{Text, askers_text, component_members, components_of, escape, gate_text, leaf_line, line, monitor_name, path_text}
 use Rattle.cp_model.specs.States.{Gate, Setup}
 use Rattle.cp_model.specs.StateViews.{fault_number}
 use Rattle.cp_model.specs.Stores.{Ordinal, QueueHolds}
@@ -20,7 +20,7 @@ use Rattle.cp_code.specs.Programs.{Program}
 use Rattle.cp_code.specs.Starts.{word}
 use Rattle.cp_steps.specs.KernelSteps.{Asking, Begun, Delayed, Fresh, Stage, Unstarted, gate_of, stage_of}
 use Rattle.cp_steps.specs.Machines.{Machine, transcript_of}
-use Rattle.cp_steps.specs.Means.{queued}
+use Rattle.cp_steps.specs.Means.{process_of_word}
 use Rattle.cp_steps.specs.Passing.{monitor_start}
 use Rattle.cp_steps.specs.PrivateStates.{Activity, Ended, Faulted, NotBegun, PrivateState, Running, Waiting}
 
@@ -61,7 +61,7 @@ abbrev mutual
 abbrev pub lines_visit : List ℤ → Visit
 lines_visit ws = record {
   simple = λ path at. leaf_line path (Ordinal (word ws at));
-  queue = λ path at. leaf_line path (QueueHolds (queued (word ws at)));
+  queue = λ path at. leaf_line path (QueueHolds (process_of_word (word ws at)));
 }
 
 -- Finds the path of the queue at the place `target`.
@@ -112,7 +112,7 @@ abbrev pub head_line : ℕ → Name → Text → Text
 head_line p x status = line (codes "process " ++ (natural p ++ (codes " " ++ (x ++ (codes " " ++ status)))))
 
 abbrev pub transcript_line : Text → Text
-transcript_line transcript = line (codes "out '" ++ (flat_map escaped transcript ++ codes "'"))
+transcript_line transcript = line (codes "out '" ++ (flat_map escape transcript ++ codes "'"))
 
 abbrev pub part_lines : Setup → Machine → ℕ → Name → ℕ → Members → PrivateState → Text
 part_lines setup m p x at ps o =

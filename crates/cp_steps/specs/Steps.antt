@@ -17,7 +17,7 @@ use Rattle.cp_code.specs.Programs.{Counting, Operation, Program}
 use Rattle.cp_code.specs.Starts.{block, paste, word}
 use Rattle.cp_code.specs.Tables.{place_in}
 use Rattle.cp_steps.specs.Values.{place_of, root_place, value_of}
-use Rattle.cp_steps.specs.PrivateStates.{Acting, Continues, Delays, Ended, Leaves, Outside, PrivateState, Waiting, fault_in, go_to, is_running, private_outcome, provided, set_temp, set_word, view_of, with_result}
+use Rattle.cp_steps.specs.PrivateStates.{Acting, Continues, Delays, Ended, Leaves, Outside, PrivateState, Waiting, fault_in, go_to, is_running, private_outcome, guard, set_temp, set_word, view_of, with_result}
 use Rattle.cp_steps.specs.Passing.{component_called}
 use Rattle.cp_steps.specs.Calling.{call_step, gate_effect, init_class, init_monitor, init_process, leave, return_with, with_frame}
 
@@ -31,7 +31,7 @@ with_place w o s go = with_result o (place_of (view_of w o) s) go
 
 abbrev pub set_within : PrivateState → ℤ → ℤ → ℕ → ℤ → ℕ → Acting
 set_within o low high at n next =
-    provided (within low high n) o fault.Range (private_outcome (go_to next (set_word o at n)))
+    guard (within low high n) o fault.Range (private_outcome (go_to next (set_word o at n)))
 
 abbrev pub copy_words : PrivateState → ℕ → ℕ → ℕ → ℕ → Acting
 copy_words o to from size next =
@@ -48,7 +48,7 @@ abbrev pub count_to : Outside → PrivateState → Counting → ℤ → ℤ → 
 count_to w o c n last =
     let counted = set_word o (root_place (view_of w o) c.variable) n in
     let temps = set_temp (set_temp counted (o.temp + c.temp) n) (o.temp + c.temp + 1) last in
-    provided (within c.low c.high n) o fault.Range (private_outcome (go_to c.body temps))
+    guard (within c.low c.high n) o fault.Range (private_outcome (go_to c.body temps))
 
 abbrev pub first_count : Outside → PrivateState → Counting → ℤ → ℤ → Acting
 first_count w o c n last = if is_past c.down n last then private_outcome (go_to c.next o) else count_to w o c n last
@@ -67,7 +67,7 @@ abbrev pub accept : PrivateState → ℕ → ℤ → ℤ → ℕ → Acting
 accept o at low high next =
     let n = next_input o.input o.consumed in
     let taken = record (set_word o at n) { consumed = next_place o.input o.consumed } in
-    provided (within low high n) o fault.Range (private_outcome (go_to next taken))
+    guard (within low high n) o fault.Range (private_outcome (go_to next taken))
 
 abbrev pub is_held : ℕ → Bool
 is_held zero = false
@@ -82,7 +82,7 @@ abbrev pub delay : PrivateState → ℕ → ℕ → Acting
 delay o at next =
     in_monitor o
     (if nat_lt at (length o.words)
-    then provided (int_le (word o.words at) (pos 0)) o fault.QueueTaken
+    then guard (int_le (word o.words at) (pos 0)) o fault.QueueTaken
     (go_to next (set_word o at (pos o.number)), Delays o.gate at)
     else private_outcome o)
 

@@ -18,17 +18,17 @@ abbrev pub machine_after : Setup → ℕ → ℕ → Machine
 machine_after setup rounds turn = phased_rounds turn (processes setup) rounds (first_machine (compile setup.tree) setup.tick setup.inputs)
 
 -- The report is read from the machine's words. The chains are those of the state that it shows.
-abbrev pub reported : Setup → Bool → Machine → Text
-reported setup false m = machine_report setup m
-reported setup true m =
+abbrev pub report_text : Setup → Bool → Machine → Text
+report_text setup false m = machine_report setup m
+report_text setup true m =
     machine_report setup m ++ unwrap_or (chain_lines_within (monitor_count setup) (state_of setup m) (processes setup)) []
 
 -- The report after a run is that of the meaning.
 abbrev pub RunIsMeant : (rounds turn tick : ℕ) (chains : Bool) (input text : Text) → Type 0
 RunIsMeant rounds turn tick chains input text = IsOkAnd (tree_of text) (λ t.
     let setup = setup_of t input tick in
-    let meant = meaning.reported setup chains (run setup turn rounds (start setup)) in
-    IsTrue (same_text (reported setup chains (machine_after setup rounds turn)) meant))
+    let meant = meaning.report_text setup chains (run setup turn rounds (start setup)) in
+    IsTrue (same_text (report_text setup chains (machine_after setup rounds turn)) meant))
 
 -- After a run each process has taken as much of its input as in the meaning.
 abbrev pub ConsumedIsMeant : (rounds turn tick : ℕ) (input text : Text) → Type 0

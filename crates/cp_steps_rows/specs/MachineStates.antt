@@ -18,7 +18,7 @@ use Rattle.cp_code.specs.Starts.{word}
 use Rattle.cp_steps.specs.PrivateStates.{Activity, Ended, Faulted, NotBegun, PrivateState, Running, Waiting}
 use Rattle.cp_steps.specs.KernelSteps.{Asking, Begun, Delayed, Fresh, Stage, Unstarted, gate_of, stage_of}
 use Rattle.cp_steps.specs.Machines.{Machine, transcript_of}
-use Rattle.cp_steps.specs.Means.{queued}
+use Rattle.cp_steps.specs.Means.{process_of_word}
 use Rattle.cp_steps.specs.Addresses.{Ground, OwnWords, lies}
 
 abbrev pub part_of : {A : Type 0} → Machine → ℕ → (PrivateState → A) → A → A
@@ -40,7 +40,7 @@ ground setup m p = record {
 
 abbrev pub value_in : ResolvedType → ℤ → Value
 value_in (Simple b low high start) n = Ordinal n
-value_in Queue n = QueueHolds (queued n)
+value_in Queue n = QueueHolds (process_of_word n)
 value_in _ n = Absent
 
 abbrev pub value_at : List ℤ → Option Part → Value

@@ -23,7 +23,7 @@ pub fn read_while<X: Node + Drop, G: Fn(&[Token]) -> bool, F: Fn(&[Token]) -> Re
     ensures { (test : Option Kind → Bool) (reader : Reader X.Plain) → Tests (G.post goes_on) test
         → Reads X.view (F.post item) reader
         → Gives (λ v. map X.view v.items) result
-        (reading.repeated test reader (map X.view found.items) tokens.now) }
+        (reading.repeat_while test reader (map X.view found.items) tokens.now) }
 {
     let mut found = found;
     let mut rest = tokens;

@@ -7,7 +7,7 @@ use Rattle.cp_model.specs.Places.{within}
 use Rattle.cp_code.specs.Functions.{unless}
 use Rattle.cp_code.specs.Layout.{distance}
 use Rattle.cp_code.specs.Terms as plain
-use Rattle.cp_code.specs.TermsFor.{moved}
+use Rattle.cp_code.specs.TermsFor.{move_spot}
 use Rattle.cp_steps.specs.Values.{View, apply, bind, place_of, value_of}
 use Rattle.cp_threaded.specs.declared.term.Operand.{Operand}
 use Rattle.cp_threaded.specs.declared.term.Root.{Root}
@@ -16,7 +16,7 @@ use Rattle.cp_threaded.specs.declared.term.Spot.{Spot, out-Spot, roll-Spot}
 use Rattle.cp_threaded.specs.declared.term.Index.{Index, out-Index, roll-Index}
 use Rattle.cp_threaded.specs.declared.term.Application.{Application}
 use Rattle.cp_threaded.specs.declared.term.Application.TheFolds.{fold-roll-Index, fold-roll-Spot, fold-roll-Term, fold_out-Index, fold_out-Spot, fold_out-Term}
-use Rattle.cp_threaded.specs.Reaches.{applied, capped, capped_result, chain_value, elements_place, offset_of}
+use Rattle.cp_threaded.specs.Reaches.{apply_operation, cap_place, capped_result, chain_value, elements_place, offset_of}
 use Rattle.cp_threaded.specs.View.{PlainApplication, PlainIndex, application, application_layer, chain_of, elements_of, index, index_layer, operand, operand_layer, root, spot, spot_layer, term, term_layer}
 
 -- The value of a chain is computed from its first operand and then from the others.
@@ -31,7 +31,7 @@ value_chain v e (o ∷ os) = value_chain v (plain.Binary o.operator e o.operand)
   where
     after : (r : Result ℤ Fault)
         → bind (bind r (λ x. bind (value_of v o.operand) (λ y. apply o.operator x y))) (λ z. chain_value v z os)
-        ≡ bind r (λ x. bind (applied v x o) (λ z. chain_value v z os))
+        ≡ bind r (λ x. bind (apply_operation v x o) (λ z. chain_value v z os))
     after (Ok x) = refl
     after (Err f) = refl
 
@@ -45,15 +45,15 @@ place_elements v s [] = keep (place_of v s)
     keep (Err f) = refl
 place_elements v s (i ∷ is) = place_elements v (plain.Element s i.low i.high i.size i.plus i.value) is ∙ after (place_of v s)
   where
-    moved : (b : Bool) (a far : ℕ) → bind (unless b fault.Index (a + far)) (λ c. elements_place v c is)
+    move_spot : (b : Bool) (a far : ℕ) → bind (unless b fault.Index (a + far)) (λ c. elements_place v c is)
         ≡ bind (unless b fault.Index far) (λ k. elements_place v (a + k) is)
-    moved true a far = refl
-    moved false a far = refl
+    move_spot true a far = refl
+    move_spot false a far = refl
 
     last : (r : Result ℤ Fault) (a : ℕ)
         → bind (bind r (λ n. unless (within i.low i.high n) fault.Index (a + (distance i.low n * i.size + i.plus)))) (λ b. elements_place v b is)
         ≡ bind r (λ n. bind (offset_of i n) (λ k. elements_place v (a + k) is))
-    last (Ok y) a = moved (within i.low i.high y) a (distance i.low y * i.size + i.plus)
+    last (Ok y) a = move_spot (within i.low i.high y) a (distance i.low y * i.size + i.plus)
     last (Err f) a = refl
 
     after : (r : Result ℕ Fault)
@@ -63,12 +63,12 @@ place_elements v s (i ∷ is) = place_elements v (plain.Element s i.low i.high i
     after (Err f) = refl
 
 -- Indices lead to the same capped place from a place that is capped itself.
-pub elements_capped : (v : View) (a b : ℕ) (is : List PlainIndex) → capped a ≡ capped b
+pub elements_capped : (v : View) (a b : ℕ) (is : List PlainIndex) → cap_place a ≡ cap_place b
     → capped_result (elements_place v a is) ≡ capped_result (elements_place v b is)
 elements_capped v a b [] h = ap (λ n. Ok n) h
 elements_capped v a b (i ∷ is) h = by (value_of v i.value) (λ k. elements_capped v (a + k) (b + k) is (farther a b k h))
   where
-    farther : (a b far : ℕ) → capped a ≡ capped b → capped (a + far) ≡ capped (b + far)
+    farther : (a b far : ℕ) → cap_place a ≡ cap_place b → cap_place (a + far) ≡ cap_place (b + far)
     farther a b far e = omega arith
 
     next : (r : Result ℕ Fault) → ((k : ℕ) → capped_result (elements_place v (a + k) is) ≡ capped_result (elements_place v (b + k) is))
@@ -120,7 +120,7 @@ index_rolled low high size plus value =
 -- The last index can lead further on.
 pub elements_moved : (n : ℕ) (s : plain.Spot) (xs : List Index) (j : ℕ) (y d : Index) → suc j ≡ length xs
     → index y ≡ (let i = index (get_or xs j d) in record { low = i.low; high = i.high; size = i.size; plus = i.plus + n; value = i.value })
-    → elements_of s (map index (set xs j y)) ≡ moved n (elements_of s (map index xs))
+    → elements_of s (map index (set xs j y)) ≡ move_spot n (elements_of s (map index xs))
 elements_moved n s [] j y d h e = absurd (omega arith)
 elements_moved n s (x ∷ []) zero y d h e = ap (λ i. plain.Element s i.low i.high i.size i.plus i.value) e
 elements_moved n s (x ∷ []) (suc j) y d h e = absurd (omega arith)

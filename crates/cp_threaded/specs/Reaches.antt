@@ -21,21 +21,21 @@ view_of r = record {
 }
 
 -- A place that doesn't fit in 64 bits is represented by the greatest number that does.
-abbrev pub capped : ℕ → ℕ
-capped n = min n (2 ^ 64 - 1)
+abbrev pub cap_place : ℕ → ℕ
+cap_place n = min n (2 ^ 64 - 1)
 
 abbrev pub capped_result : Result ℕ Fault → Result ℕ Fault
-capped_result (Ok n) = Ok (capped n)
+capped_result (Ok n) = Ok (cap_place n)
 capped_result (Err f) = Err f
 
 -- The value of an operator, if its left operand has the value `x`.
-abbrev pub applied : View → ℤ → PlainApplication → Result ℤ Fault
-applied v x o = bind (value_of v o.operand) (λ y. apply o.operator x y)
+abbrev pub apply_operation : View → ℤ → PlainApplication → Result ℤ Fault
+apply_operation v x o = bind (value_of v o.operand) (λ y. apply o.operator x y)
 
 -- The value of a chain whose first operands have the value `x`.
 abbrev pub chain_value : View → ℤ → List PlainApplication → Result ℤ Fault
 chain_value v x [] = Ok x
-chain_value v x (o ∷ os) = bind (applied v x o) (λ z. chain_value v z os)
+chain_value v x (o ∷ os) = bind (apply_operation v x o) (λ z. chain_value v z os)
 
 -- The distance in words to the part that an index of the value `n` selects.
 abbrev pub offset_of : PlainIndex → ℤ → Result ℕ Fault

@@ -13,7 +13,7 @@ ghost use Rattle.cp_model.specs.Erase.{operator_of};
 ghost use Rattle.cp_model.specs.Places.{within};
 ghost use Rattle.cp_model.specs.declared.state.Fault.TheVariants as fault;
 ghost use Rattle.cp_steps.specs.Values as values;
-ghost use Rattle.cp_threaded.specs.Reaches.{applied, capped, capped_result, chain_value, elements_place, offset_of, view_of};
+ghost use Rattle.cp_threaded.specs.Reaches.{apply_operation, cap_place, capped_result, chain_value, elements_place, offset_of, view_of};
 ghost use Rattle.cp_threaded.specs.View as view;
 
 use crate::reach::Reach;
@@ -140,7 +140,7 @@ impl<'a> Reach<'a> {
     fn word(&self, at: usize) -> i32
         ensures word { result
             ≡ starts.word (self.now.memory.now.words.items ++ self.now.shared.now) at }
-        ensures capped { (place : ℕ) → capped place ≡ at
+        ensures capped { (place : ℕ) → cap_place place ≡ at
             → result ≡ starts.word (self.now.memory.now.words.items ++ self.now.shared.now) place }
     {
         match self.memory.words.get(at) {
@@ -279,7 +279,7 @@ impl Application {
     #[cycle(value)]
     #[inline(always)]
     fn value_after(&self, left: i32, reach: &Reach) -> Result<i32, Fault>
-        ensures { result ≡ applied (view_of reach.now) left (view.application self.now) }
+        ensures { result ≡ apply_operation (view_of reach.now) left (view.application self.now) }
     {
         match self {
             Application::WithNumber(operator, number) => apply(*operator, left, *number),

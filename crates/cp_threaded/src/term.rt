@@ -6,7 +6,7 @@
 
 ghost use Rattle.std.specs.Prelude.{◌≡◌, IfOk, IfSome};
 ghost use Rattle.cp_code.specs.Terms as plain;
-ghost use Rattle.cp_code.specs.TermsFor.{moved, moved_root};
+ghost use Rattle.cp_code.specs.TermsFor.{move_spot, move_root};
 ghost use Rattle.cp_model.specs.Erase.{operator_of};
 ghost use Rattle.cp_threaded.specs.View as view;
 
@@ -100,7 +100,7 @@ pub struct Term {
 impl Root {
     /// The root `words` words further on, if its offset fits in 32 bits.
     pub fn advance(self, words: u32) -> Option<Root>
-        ensures { IfSome result (λ r. view.root r ≡ moved_root words (view.root self)) }
+        ensures { IfSome result (λ r. view.root r ≡ move_root words (view.root self)) }
     {
         match self {
             Root::Local(at) => Some(Root::Local(at.checked_add(words)?)),
@@ -142,7 +142,7 @@ impl Spot {
 
     /// The spot `words` words further on, if its offset fits in 32 bits.
     pub fn advance(self, words: u32) -> Option<Spot>
-        ensures { IfSome result (λ s. view.spot s ≡ moved words (view.spot self)) }
+        ensures { IfSome result (λ s. view.spot s ≡ move_spot words (view.spot self)) }
     {
         let Spot { root, mut indices } = self;
         if indices.is_empty() {

@@ -43,7 +43,7 @@ none_called scope s None h = refl
 none_called scope s (Some c) h = absurd h
 
 pub called_as : (s : code.Scope) (d : a.Designator) (es : a.Expressions) (low : ℕ) (c : model.Callee) → callee (environment s) d ≡ Some c
-    → coded_term s (erase.called d es) low ≡ function_call s c (coded_arguments s es (parameters_of s c) (first_parameter c) low) low
+    → coded_term s (erase.call_or_name d es) low ≡ function_call s c (coded_arguments s es (parameters_of s c) (first_parameter c) low) low
 called_as s d NoExpression low c is = ap (used_term s d low (coded_spot s d low)) is
 called_as s d (MoreExpressions e es) low c is =
     ap
@@ -66,7 +66,7 @@ first_at [] x some is = absurd (omega (arith, some))
 first_at (y ∷ ys) x some is = ap (λ z. z ∷ ys) (sym is)
 
 pub standard_as : (s : code.Scope) (d : a.Designator) (e : a.Expression) (es : a.Expressions) (low : ℕ) → callee (environment s) d ≡ None
-    → coded_term s (erase.called d (MoreExpressions e es)) low
+    → coded_term s (erase.call_or_name d (MoreExpressions e es)) low
     ≡ standard_term (name_of d) (base_of_type (expression_type (environment s) e)) (coded_term s e low) (coded_variable s e low)
 standard_as s d e es low none =
     ap

@@ -15,7 +15,7 @@ use Rattle.cp_code.specs.Layout.{part}
 use Rattle.cp_code.specs.Scopes as code
 use Rattle.cp_code.specs.Scopes.{environment, part_start}
 use Rattle.cp_code.specs.Terms as plain
-use Rattle.cp_code.specs.TermsFor.{moved}
+use Rattle.cp_code.specs.TermsFor.{move_spot}
 use Rattle.cp_emit.specs.Emission.{coded_call}
 use Rattle.cp_emit.specs.declared.call.MadeTerm.{MadeTerm}
 use Rattle.cp_emit.specs.declared.emitter.CodedCall.{CodedCall}
@@ -37,7 +37,7 @@ part_begins types p n None at h = absurd h
 part_begins types p n (Some q) at h = rw at at h.0
 
 pub field_made : (scope : Scope) (s : code.Scope) (low : ℕ) (before : List coded.CodedCall) (calls : List CodedCall) (d : a.Designator) (x : Name)
-    (of made : MadeSpot) (p : Part) (n : ℕ) → p.at ≡ Some n → view.spot made.spot ≡ moved n (view.spot of.spot) → made.temps ≡ of.temps
+    (of made : MadeSpot) (p : Part) (n : ℕ) → p.at ≡ Some n → view.spot made.spot ≡ move_spot n (view.spot of.spot) → made.temps ≡ of.temps
     → PartIs scope.tables.now.types (Some p) (part s.globals (place_type (environment s) d) (ByName x ∷ []))
     → TypeIs scope.tables.now.types made.of (field_type x (place_type (environment s) d))
     → IsPlace scope s low before calls d of → IsPlace scope s low before calls (a.Part d x) made
@@ -45,7 +45,7 @@ field_made scope s low before calls d x of made p n at spot temps lies typed pla
   spot = record {
     spot =
         spot
-        ∙ ((λ i. moved (part_begins scope.tables.now.types p n (part s.globals (place_type (environment s) d) (ByName x ∷ [])) at lies i) (place.spot.spot i)));
+        ∙ ((λ i. move_spot (part_begins scope.tables.now.types p n (part s.globals (place_type (environment s) d) (ByName x ∷ [])) at lies i) (place.spot.spot i)));
     calls = place.spot.calls;
     temps = temps ∙ place.spot.temps;
   };

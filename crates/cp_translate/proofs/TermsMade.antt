@@ -36,14 +36,14 @@ abbrev pub IsPart : a.Designator → Type 0
 IsPart (a.Plain x) = ⊥
 IsPart d = Unit {0}
 
-part_indexed : (d : a.Designator) (is : syntax.Indices) → IsPart d → IsPart (erase.indexed d is)
+part_indexed : (d : a.Designator) (is : syntax.Indices) → IsPart d → IsPart (erase.with_indices d is)
 part_indexed d syntax.NoIndices part = part
 part_indexed d (syntax.MoreIndices at e is) part = part_indexed (a.At d (erase.expression e)) is tt
 
-part_selected : (d : a.Designator) (ss : syntax.Selectors) → IsPart d → IsPart (erase.selected d ss)
+part_selected : (d : a.Designator) (ss : syntax.Selectors) → IsPart d → IsPart (erase.with_selectors d ss)
 part_selected d syntax.NoSelectors part = part
 part_selected d (syntax.MoreSelectors (syntax.Field at x) ss) part = part_selected (a.Part d x.name) ss tt
-part_selected d (syntax.MoreSelectors (syntax.Indexed is) ss) part = part_selected (erase.indexed d is) ss (part_indexed d is part)
+part_selected d (syntax.MoreSelectors (syntax.Indexed is) ss) part = part_selected (erase.with_indices d is) ss (part_indexed d is part)
 
 first_part : (d : a.Designator) (y : syntax.Selector) → Selects y → IsPart (erase.select d y)
 first_part d (syntax.Field at x) selects = tt
@@ -58,13 +58,13 @@ pub part_designated : (d : Designator) (y : Selector) (ys : List Selector) → d
     → IsPart (erase.designator (tree.designator d))
 part_designated d y ys is selects =
     subst (λ z. IsPart (erase.designator z)) (sym (view_designator d))
-    (subst (λ zs. IsPart (erase.selected (a.Plain d.root.name) (tree.selectors_of (map tree.selector zs)))) (sym is)
+    (subst (λ zs. IsPart (erase.with_selectors (a.Plain d.root.name) (tree.selectors_of (map tree.selector zs)))) (sym is)
     (part_selected (erase.select (a.Plain d.root.name) (tree.selector y)) (tree.selectors_of (map tree.selector ys))
     (first_part (a.Plain d.root.name) (tree.selector y) selects)))
 
 pub name_designated : (d : Designator) → d.selectors.items ≡ [] → erase.designator (tree.designator d) ≡ a.Plain d.root.name
 name_designated d is =
-    ap erase.designator (view_designator d) ∙ ap (λ zs. erase.selected (a.Plain d.root.name) (tree.selectors_of (map tree.selector zs))) is
+    ap erase.designator (view_designator d) ∙ ap (λ zs. erase.with_selectors (a.Plain d.root.name) (tree.selectors_of (map tree.selector zs))) is
 
 pub part_held : (s : code.Scope) (d : a.Designator) (c : coded.CodedSpot) (low : ℕ) → IsPart d
     → name_or_item s d c low ≡ record { term = plain.Item c.spot; calls = c.calls; temps = c.temps }

@@ -175,7 +175,7 @@ impl<'s, 't> Translator<'s, 't> {
         calls: &mut Vec<CodedCall>,
     ) -> Result<MadeSpot, CompileError>
         ensures { IfOk result (PartOf self.now.scope calls.old.items calls.new.items of
-            (λ d. erase.indexed d (tree.indices_of (map tree.index indices.now)))) }
+            (λ d. erase.with_indices d (tree.indices_of (map tree.index indices.now)))) }
     {
         let mut made = of;
         for i in indices {
@@ -237,7 +237,7 @@ impl<'s, 't> Translator<'s, 't> {
         ensures { IfOk result (λ made. (s : code.Scope) (d : a.Designator)
             → IsScope self.now.scope s → callee (environment s) d ≡ None → name.now ≡ name_of d
             → IsTerm (map coded_call calls.old.items) calls.new.items made (coded_term s
-            (erase.called d
+            (erase.call_or_name d
             (erase.expressions (tree.expressions_of (map tree.expression es.now)))) low)) }
     {
         let [e, ..] = es else {

@@ -46,7 +46,7 @@ impl<'s, 't> Translator<'s, 't> {
         ensures { IfOk result (λ n. (before : List coded.CodedCall) (after : List CodedCall)
             (s : code.Scope) (e : a.Expression) (low : ℕ)
             → IsTerm before after made (coded_term s e low)
-            → IsTerm before after n (coded_term s (erase.signed sign e) low)) }
+            → IsTerm before after n (coded_term s (erase.with_sign sign e) low)) }
     {
         match sign {
             Sign::Plus => Ok(made),

@@ -18,8 +18,8 @@ use Rattle.cp_model.specs.declared.rules.Mode.TheVariants as mode
 use Rattle.cp_model.specs.RulesJudged.{Judged, Sound, Broken, also, then_judge}
 use Rattle.cp_model.specs.RulesEnvironment.{Environment, agree, base_in, bases_agree, c1_named, is_component, is_structured, row_of, system_in}
 use Rattle.cp_model.specs.RulesNames.{c10_designator, c8_named, first_name, has_queues as names_queues, value_of, c2_c5_c8_named, c2_before_index, c5_after_point}
-use Rattle.cp_model.specs.RulesExpressions.{designated, judge}
-use Rattle.cp_model.specs.RulesStatements.{assigned, c2_sides, judged_unless, left, left_by, lone_component, other_left, own_result, right}
+use Rattle.cp_model.specs.RulesExpressions.{designate, judge}
+use Rattle.cp_model.specs.RulesStatements.{assignment, c2_sides, judged_unless, left_side, left_by, lone_component, other_left_side, own_result, right}
 use Rattle.cp_model.specs.Types.{GlobalScope, ResolvedType}
 use Rattle.cp_typing.specs.StaticTypes.{expression_type, place_type}
 use Rattle.cp_typing.specs.Judgement as typed
@@ -66,30 +66,30 @@ module _ (G : GlobalScope → Type 0) (env : Environment) (rs : Types) (p : Plac
   pub first_is : (d : s.Designator) → typed.first_name (erase.designator d) ≡ (first_name d).name
   first_is (s.Designate x ss) = selected_first ss (a.Plain x.name)
     where
-      indexed_first : (is : s.Indices) (z : a.Designator) → typed.first_name (erase.indexed z is) ≡ typed.first_name z
+      indexed_first : (is : s.Indices) (z : a.Designator) → typed.first_name (erase.with_indices z is) ≡ typed.first_name z
       indexed_first s.NoIndices z = refl
       indexed_first (s.MoreIndices at i is) z = indexed_first is (a.At z (erase.expression i))
 
-      selected_first : (ss : s.Selectors) (z : a.Designator) → typed.first_name (erase.selected z ss) ≡ typed.first_name z
+      selected_first : (ss : s.Selectors) (z : a.Designator) → typed.first_name (erase.with_selectors z ss) ≡ typed.first_name z
       selected_first s.NoSelectors z = refl
       selected_first (s.MoreSelectors (s.Field at y) ss) z = selected_first ss (a.Part z y.name)
-      selected_first (s.MoreSelectors (s.Indexed is) ss) z = selected_first ss (erase.indexed z is) ∙ indexed_first is z
+      selected_first (s.MoreSelectors (s.Indexed is) ss) z = selected_first ss (erase.with_indices z is) ∙ indexed_first is z
 
-  pub other_left_as : (x : Identifier) (ss : s.Selectors) (t : ℕ) → other_left env (s.Designate x ss) ≡ Sound t → LeftAs (erase.designator (s.Designate x ss)) t
+  pub other_left_as : (x : Identifier) (ss : s.Selectors) (t : ℕ) → other_left_side env (s.Designate x ss) ≡ Sound t → LeftAs (erase.designator (s.Designate x ss)) t
   other_left_as x ss t h =
       let e : s.Designator = s.Designate x ss in
       let told : c2_c5_c8_named env mode.Variable e ++ c10_designator env e ≡ [] = also_none (c2_c5_c8_named env mode.Variable e ++ c10_designator env e) _ t h in
-      let value : then_judge (designated env e) (value_of env mode.Variable e) ≡ Sound t =
+      let value : then_judge (designate env e) (value_of env mode.Variable e) ≡ Sound t =
       also_sound (c2_c5_c8_named env mode.Variable e ++ c10_designator env e) _ t h in
       let names : c2_c5_c8_named env mode.Variable e ≡ [] = first_empty _ (c10_designator env e) told in
       let queues : c8_named env mode.Variable x ≡ [] = rest_empty (c2_before_index env mode.Variable e ++ c5_after_point env e) _ names in
       let variable : c10_designator env e ≡ [] = rest_empty (c2_c5_c8_named env mode.Variable e) _ told in
       let judged : judge env mode.Variable (s.Designated e) ≡ Sound t =
-      ap (λ vs. also vs (then_judge (designated env e) (value_of env mode.Variable e))) names ∙ value in
+      ap (λ vs. also vs (then_judge (designate env e) (value_of env mode.Variable e))) names ∙ value in
       let q : VariablePart G env rs p (a.Use (erase.designator e)) t = varied_as G env rs p v (s.Designated e) t judged variable in
       let same : q.designator ≡ erase.designator e = ap use_in (sym q.is) in
-      let of : (e0 : Entity) × (designated env e ≡ Sound e0) × (value_of env mode.Variable e e0 ≡ Sound t) =
-      then_sound (designated env e) (value_of env mode.Variable e) t value in
+      let of : (e0 : Entity) × (designate env e ≡ Sound e0) × (value_of env mode.Variable e e0 ≡ Sound t) =
+      then_sound (designate env e) (value_of env mode.Variable e) t value in
       let root : ChangeableRoot G env rs p v x = changeable_root G env rs p v x ss of.0 variable of.1 in
       let y : PartAs G env rs p (erase.designator e) t q.access = subst (λ z. PartAs G env rs p z t q.access) same q.part in
       record {
@@ -112,7 +112,7 @@ module _ (G : GlobalScope → Type 0) (env : Environment) (rs : Types) (p : Plac
   own_left_as x (s.MoreSelectors y ys) row (returns.Value u) t is k h = absurd (cc)
   own_left_as x (s.MoreSelectors y ys) row (returns.Broken w) t is k h = absurd (cc)
 
-  pub left_as : (e : s.Designator) (t : ℕ) → left env e ≡ Sound t → LeftAs (erase.designator e) t
+  pub left_as : (e : s.Designator) (t : ℕ) → left_side env e ≡ Sound t → LeftAs (erase.designator e) t
   left_as (s.Designate x ss) t h = go (c1_named env x) refl h
     where
       go : (j : Judged Entity) → c1_named env x ≡ j → left_by env x ss j ≡ Sound t → LeftAs (erase.designator (s.Designate x ss)) t
@@ -140,9 +140,9 @@ module _ (G : GlobalScope → Type 0) (env : Environment) (rs : Types) (p : Plac
   agrees_alone (structure.System y) b true h = absurd (true≢false (sym h))
   agrees_alone (structure.System y) b false h = absurd (true≢false (sym h))
 
-  pub assigned_as : (e : s.Designator) (at : ℕ) (x : s.Expression) → assigned env e at x ≡ [] → TypedStatement p (a.Assign (erase.designator e) (erase.expression x))
+  pub assigned_as : (e : s.Designator) (at : ℕ) (x : s.Expression) → assignment env e at x ≡ [] → TypedStatement p (a.Assign (erase.designator e) (erase.expression x))
   assigned_as e at x h =
-      let sides : BothSound (left env e) (right env (left env e) x) (c2_sides env at) = both_parts _ _ _ h in
+      let sides : BothSound (left_side env e) (right env (left_side env e) x) (c2_sides env at) = both_parts _ _ _ h in
       let fits : agree env sides.x sides.y ≡ true = provided_holds (agree env sides.x sides.y) C2 at sides.x sides.outside in
       let alone : is_component env sides.x ≡ false =
       agrees_alone (row_of env sides.x).structure (row_of env sides.y).structure (nat_eq sides.x sides.y) fits in

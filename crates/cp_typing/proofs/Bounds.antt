@@ -2,10 +2,10 @@
 -- above the limit, so a count that is within the limit is the true one.
 use Rattle.std.proofs.Common.{◌≡◌, ◌≤◌, ℕ, zero, suc, ◌*◌, ℤ, pos, negsuc, true, refl, arith}
 use Rattle.std.specs.Prelude.{int_le}
-use Rattle.cp_model.specs.RulesTypes.{at_most, capped, is_within, word_limit}
+use Rattle.cp_model.specs.RulesTypes.{at_most, cap_words, is_within, word_limit}
 use Rattle.cp_model.specs.Places.{within}
 
-pub capped_within : (n : ℕ) → capped n ≤ word_limit → capped n ≡ n
+pub capped_within : (n : ℕ) → cap_words n ≤ word_limit → cap_words n ≡ n
 capped_within n h = omega (arith, h)
 
 pub is_within_true : (n : ℕ) → is_within n ≡ true → n ≤ word_limit

@@ -19,9 +19,9 @@ use Rattle.cp_model.specs.declared.rules.Gives.{Gives}
 use Rattle.cp_model.specs.declared.rules.Gives.TheVariants as gives
 use Rattle.cp_model.specs.declared.rules.Mode.{Mode}
 use Rattle.cp_model.specs.declared.rules.Mode.TheVariants as mode
-use Rattle.cp_model.specs.RulesJudged.{Judged, Sound, unless, also, both, provided}
+use Rattle.cp_model.specs.RulesJudged.{Judged, Sound, unless, also, both, guard}
 use Rattle.cp_model.specs.RulesEnvironment.{Environment, Text, agree, base_of, c9_standard, integer, is_allowed, is_base, is_simple, queue, routine_of}
-use Rattle.cp_model.specs.RulesNames.{c10_variable, c5_by_name, callee as wanted_callee, called, count_of, first_token, function_called, function_gives, function_of, given, is_changeable, is_procedure, last_name, procedure_called, procedure_of, sort_rule, standard_called, standard_function, standard_procedure, wants_of, counted, standard_wants, standard_fits}
+use Rattle.cp_model.specs.RulesNames.{c10_variable, c5_by_name, callee as wanted_callee, routine_callee, count_of, first_token, function_called, function_gives, function_of, given_type, is_changeable, is_procedure, last_name, procedure_called, procedure_of, sort_rule, standard_called, standard_function, standard_procedure, wants_of, inner_callee, standard_wants, standard_fits}
 use Rattle.cp_model.specs.RulesNames as rules
 use Rattle.cp_model.specs.RulesExpressions.{argument, arguments, c10_by_reference, first_type, fits_type, judge, mode_of, more_arguments}
 use Rattle.cp_model.specs.Types.{GlobalScope}
@@ -85,16 +85,16 @@ module _ (env : Environment) where
       then_sound j (fits_type env q.by_reference q.of e) u (also_sound (c10_by_reference env q.by_reference e) _ u h) in
       is.1 ∙ ap (λ x. Sound x) (fits_same q.by_reference q.of e is.0 u is.2)
   argument_same want.Simple e j u h =
-      let is : (x : ℕ) × (j ≡ Sound x) × (provided (is_simple env x) C2 (first_token e) x ≡ Sound u) = then_sound j _ u h in
+      let is : (x : ℕ) × (j ≡ Sound x) × (guard (is_simple env x) C2 (first_token e) x ≡ Sound u) = then_sound j _ u h in
       is.1 ∙ ap (λ x. Sound x) (provided_sound (is_simple env is.0) C2 (first_token e) is.0 u is.2).1
   argument_same want.Integer e j u h =
-      let is : (x : ℕ) × (j ≡ Sound x) × (provided (is_base integer (base_of env x)) C2 (first_token e) x ≡ Sound u) = then_sound j _ u h in
+      let is : (x : ℕ) × (j ≡ Sound x) × (guard (is_base integer (base_of env x)) C2 (first_token e) x ≡ Sound u) = then_sound j _ u h in
       is.1 ∙ ap (λ x. Sound x) (provided_sound (is_base integer (base_of env is.0)) C2 (first_token e) is.0 u is.2).1
   argument_same want.CharVariable e j u h =
-      let is : (x : ℕ) × (j ≡ Sound x) × (provided (is_base 2 (base_of env x)) C2 (first_token e) x ≡ Sound u) = then_sound j _ u (also_sound (c10_variable env e) _ u h) in
+      let is : (x : ℕ) × (j ≡ Sound x) × (guard (is_base 2 (base_of env x)) C2 (first_token e) x ≡ Sound u) = then_sound j _ u (also_sound (c10_variable env e) _ u h) in
       is.1 ∙ ap (λ x. Sound x) (provided_sound (is_base 2 (base_of env is.0)) C2 (first_token e) is.0 u is.2).1
   argument_same want.QueueVariable e j u h =
-      let is : (x : ℕ) × (j ≡ Sound x) × (provided (nat_eq x queue) C2 (first_token e) x ≡ Sound u) = then_sound j _ u h in
+      let is : (x : ℕ) × (j ≡ Sound x) × (guard (nat_eq x queue) C2 (first_token e) x ≡ Sound u) = then_sound j _ u h in
       is.1 ∙ ap (λ x. Sound x) (provided_sound (nat_eq is.0 queue) C2 (first_token e) is.0 u is.2).1
 
 -- ---- what is called
@@ -165,8 +165,8 @@ module _ (G : GlobalScope → Type 0) (env : Environment) (rs : Types) (p : Plac
       → RoutineAs G env rs (routine_of env r) z.routine → function_called env rule x n (routine_of env r) ≡ Sound c → UserCalled false d n c
   user_called d x rule n r c z named may meets h =
       let row : RoutineRow = routine_of env r in
-      let is : (g : Gives) × (function_gives rule x (nat_eq row.count n) row.returns ≡ Sound g) × (called row env g ≡ Sound c) =
-      then_sound (function_gives rule x (nat_eq row.count n) row.returns) (called row env) c h in
+      let is : (g : Gives) × (function_gives rule x (nat_eq row.count n) row.returns ≡ Sound g) × (routine_callee row env g ≡ Sound c) =
+      then_sound (function_gives rule x (nat_eq row.count n) row.returns) (routine_callee row env) c h in
       let fits : (nat_eq row.count n ≡ true) × GivesAs row.returns is.0 × (is_procedure row.returns ≡ false) = gives_sound rule x (nat_eq row.count n) row.returns is.0 is.1 in
       let same : record { wants = wants_of env row; gives = is.0 } ≡ c = sound_same (record { wants = wants_of env row; gives = is.0 }) c is.2 in
       record {
@@ -226,11 +226,11 @@ module _ (G : GlobalScope → Type 0) (env : Environment) (rs : Types) (p : Plac
       }
 
   -- a routine after a `.` is an entry
-  entry_called : (x : Identifier) (n r : ℕ) (c : rules.Callee) (j : Judged rules.Callee) → (if (routine_of env r).entry then j else counted env x n (routine_of env r)) ≡ Sound c
+  entry_called : (x : Identifier) (n r : ℕ) (c : rules.Callee) (j : Judged rules.Callee) → (if (routine_of env r).entry then j else inner_callee env x n (routine_of env r)) ≡ Sound c
       → ((routine_of env r).entry ≡ true) × (j ≡ Sound c)
   entry_called x n r c j h = go (routine_of env r).entry refl h
     where
-      go : (b : Bool) → (routine_of env r).entry ≡ b → (if b then j else counted env x n (routine_of env r)) ≡ Sound c → ((routine_of env r).entry ≡ true) × (j ≡ Sound c)
+      go : (b : Bool) → (routine_of env r).entry ≡ b → (if b then j else inner_callee env x n (routine_of env r)) ≡ Sound c → ((routine_of env r).entry ≡ true) × (j ≡ Sound c)
       go true is h = (is, h)
       go false is h = absurd (cc)
 

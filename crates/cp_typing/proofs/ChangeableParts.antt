@@ -17,8 +17,8 @@ use Rattle.cp_model.specs.declared.rules.Member.TheVariants as member
 use Rattle.cp_model.specs.declared.rules.ArrayPart.{ArrayPart}
 use Rattle.cp_model.specs.RulesJudged.{Judged, Sound, Broken, both, then_judge}
 use Rattle.cp_model.specs.RulesEnvironment.{Environment, Members as MemberList, agree, c1_named, integer, members_in, row_of}
-use Rattle.cp_model.specs.RulesNames.{array_in, before_selectors, c10_designator, c2_array, c2_index, first_token, function_alone, given, is_changeable, is_used_as_component, is_variable, last_name, member_among, member_named, member_of, value_of, sort_rule}
-use Rattle.cp_model.specs.RulesExpressions.{designated, indexed, judge, selected}
+use Rattle.cp_model.specs.RulesNames.{array_in, before_selectors, c10_designator, c2_array, c2_index, first_token, function_alone, given_type, is_changeable, is_used_as_component, is_variable, last_name, member_among, member_named, member_of, value_of, sort_rule}
+use Rattle.cp_model.specs.RulesExpressions.{designate, apply_indices, judge, apply_selectors}
 use Rattle.cp_model.specs.Types.{GlobalScope}
 use Rattle.cp_model.specs.Names.{lookup}
 use Rattle.cp_typing.specs.Judgement.{Place}
@@ -63,7 +63,7 @@ module _ (G : GlobalScope → Type 0) (env : Environment) (rs : Types) (p : Plac
   part_kept q at (entity.Entry r) part k h = absurd (cc)
   part_kept q at _ part k h = absurd k
 
-  pub indices_kept : (is : s.Indices) (q : Access) (j : Judged Entity) → ((e : Entity) → j ≡ Sound e → FromRoot q e) → (e : Entity) → indexed env j is ≡ Sound e → FromRoot q e
+  pub indices_kept : (is : s.Indices) (q : Access) (j : Judged Entity) → ((e : Entity) → j ≡ Sound e → FromRoot q e) → (e : Entity) → apply_indices env j is ≡ Sound e → FromRoot q e
   indices_kept s.NoIndices q j k e h = k e h
   indices_kept (s.MoreIndices at i is) q j k e h = indices_kept is q (both (then_judge j (c2_array env at)) (judge env mode.Value i) (c2_index env (first_token i))) one e h
     where
@@ -75,7 +75,7 @@ module _ (G : GlobalScope → Type 0) (env : Environment) (rs : Types) (p : Plac
           subst (FromRoot q) (provided_sound (agree env parts.0.index parts.1) C2 (first_token i) (entity.Variable parts.0.element parts.0.access) e parts.4).1
           (part_kept q at root.0 parts.0 (k root.0 root.1) root.2)
 
-  pub selectors_kept : (ss : s.Selectors) (q : Access) (j : Judged Entity) → ((e : Entity) → j ≡ Sound e → FromRoot q e) → (e : Entity) → selected env j ss ≡ Sound e → FromRoot q e
+  pub selectors_kept : (ss : s.Selectors) (q : Access) (j : Judged Entity) → ((e : Entity) → j ≡ Sound e → FromRoot q e) → (e : Entity) → apply_selectors env j ss ≡ Sound e → FromRoot q e
   selectors_kept s.NoSelectors q j k e h = k e h
   selectors_kept (s.MoreSelectors (s.Field at x) ss) q j k e h = selectors_kept ss q (then_judge j (member_of env at x)) one e h
     where
@@ -83,20 +83,20 @@ module _ (G : GlobalScope → Type 0) (env : Environment) (rs : Types) (p : Plac
       one e h =
           let root : (e0 : Entity) × (j ≡ Sound e0) × (member_of env at x e0 ≡ Sound e) = then_sound j (member_of env at x) e h in
           member_kept q at x root.0 e (k root.0 root.1) root.2
-  selectors_kept (s.MoreSelectors (s.Indexed is) ss) q j k e h = selectors_kept ss q (indexed env j is) (indices_kept is q j k) e h
+  selectors_kept (s.MoreSelectors (s.Indexed is) ss) q j k e h = selectors_kept ss q (apply_indices env j is) (indices_kept is q j k) e h
 
   -- nothing sound can be selected from something that isn't sound
-  pub indices_sound : (is : s.Indices) (j : Judged Entity) (e : Entity) → ((e0 : Entity) → j ≡ Sound e0 → ⊥) → indexed env j is ≡ Sound e → ⊥
+  pub indices_sound : (is : s.Indices) (j : Judged Entity) (e : Entity) → ((e0 : Entity) → j ≡ Sound e0 → ⊥) → apply_indices env j is ≡ Sound e → ⊥
   indices_sound s.NoIndices j e k h = k e h
   indices_sound (s.MoreIndices at i is) j e k h = indices_sound is (both (then_judge j (c2_array env at)) (judge env mode.Value i) (c2_index env (first_token i))) e
       (λ e1 g. k (then_sound j (c2_array env at) _ (both_sound (then_judge j (c2_array env at)) (judge env mode.Value i) (c2_index env (first_token i)) e1 g).2).0
       (then_sound j (c2_array env at) _ (both_sound (then_judge j (c2_array env at)) (judge env mode.Value i) (c2_index env (first_token i)) e1 g).2).1) h
 
-  pub selectors_sound : (ss : s.Selectors) (j : Judged Entity) (e : Entity) → ((e0 : Entity) → j ≡ Sound e0 → ⊥) → selected env j ss ≡ Sound e → ⊥
+  pub selectors_sound : (ss : s.Selectors) (j : Judged Entity) (e : Entity) → ((e0 : Entity) → j ≡ Sound e0 → ⊥) → apply_selectors env j ss ≡ Sound e → ⊥
   selectors_sound s.NoSelectors j e k h = k e h
   selectors_sound (s.MoreSelectors (s.Field at x) ss) j e k h = selectors_sound ss (then_judge j (member_of env at x)) e
       (λ e1 g. k (then_sound j (member_of env at x) e1 g).0 (then_sound j (member_of env at x) e1 g).1) h
-  selectors_sound (s.MoreSelectors (s.Indexed is) ss) j e k h = selectors_sound ss (indexed env j is) e (λ e1 g. indices_sound is j e1 k g) h
+  selectors_sound (s.MoreSelectors (s.Indexed is) ss) j e k h = selectors_sound ss (apply_indices env j is) e (λ e1 g. indices_sound is j e1 k g) h
 
   -- a variable that may be changed
   pub record ChangeableRoot (x : Identifier) : Type 0 where
@@ -112,7 +112,7 @@ module _ (G : GlobalScope → Type 0) (env : Environment) (rs : Types) (p : Plac
       go (entity.Variable t acc) is h = record { type = t; access = acc; is = is; changeable = (and_parts (is_changeable acc) _ h).0 }
       go _ is h = absurd (true≢false (sym h))
 
-  pub part_of : (x : Identifier) (ss : s.Selectors) (e : Entity) → c10_designator env (s.Designate x ss) ≡ [] → designated env (s.Designate x ss) ≡ Sound e
+  pub part_of : (x : Identifier) (ss : s.Selectors) (e : Entity) → c10_designator env (s.Designate x ss) ≡ [] → designate env (s.Designate x ss) ≡ Sound e
       → (q : Access) × (is_changeable q ≡ true) × FromRoot q e
   part_of x ss e h sound = go (c1_named env x) refl
     where
@@ -131,7 +131,7 @@ module _ (G : GlobalScope → Type 0) (env : Environment) (rs : Types) (p : Plac
       go (Broken w ws) is =
           absurd (selectors_sound ss (then_judge (c1_named env x) (before_selectors env x ss)) e (λ e0 g. cc (is, (then_sound (c1_named env x) (before_selectors env x ss) e0 g).1)) sound)
 
-  pub changeable_root : (x : Identifier) (ss : s.Selectors) (e : Entity) → c10_designator env (s.Designate x ss) ≡ [] → designated env (s.Designate x ss) ≡ Sound e → ChangeableRoot x
+  pub changeable_root : (x : Identifier) (ss : s.Selectors) (e : Entity) → c10_designator env (s.Designate x ss) ≡ [] → designate env (s.Designate x ss) ≡ Sound e → ChangeableRoot x
   changeable_root x ss e h sound = go (c1_named env x) refl
     where
       go : (j : Judged Entity) → c1_named env x ≡ j → ChangeableRoot x
@@ -139,7 +139,7 @@ module _ (G : GlobalScope → Type 0) (env : Environment) (rs : Types) (p : Plac
       go (Broken w ws) is =
           absurd (selectors_sound ss (then_judge (c1_named env x) (before_selectors env x ss)) e (λ e0 g. cc (is, (then_sound (c1_named env x) (before_selectors env x ss) e0 g).1)) sound)
 
-  pub root_part : (d : s.Designator) (e : Entity) → c10_designator env d ≡ [] → designated env d ≡ Sound e → (q : Access) × (is_changeable q ≡ true) × FromRoot q e
+  pub root_part : (d : s.Designator) (e : Entity) → c10_designator env d ≡ [] → designate env d ≡ Sound e → (q : Access) × (is_changeable q ≡ true) × FromRoot q e
   root_part (s.Designate x ss) e h sound = part_of x ss e h sound
 
   -- a designator of a variable that may be changed
@@ -155,7 +155,7 @@ module _ (G : GlobalScope → Type 0) (env : Environment) (rs : Types) (p : Plac
         changeable = ap is_changeable root.2 ∙ root.1;
       }
   varied_of d z (entity.Entry r) t k root h =
-      let one : (g : Gives) × (function_alone env mode.Variable d (entity.Entry r) ≡ Sound g) × (Sound (given env integer g) ≡ Sound t) =
-      then_sound (function_alone env mode.Variable d (entity.Entry r)) (λ g. Sound (given env integer g)) t h in
+      let one : (g : Gives) × (function_alone env mode.Variable d (entity.Entry r) ≡ Sound g) × (Sound (given_type env integer g) ≡ Sound t) =
+      then_sound (function_alone env mode.Variable d (entity.Entry r)) (λ g. Sound (given_type env integer g)) t h in
       absurd (cc one.1)
   varied_of d z _ t k root h = absurd root.2

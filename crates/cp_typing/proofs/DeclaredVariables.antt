@@ -15,7 +15,7 @@ use Rattle.cp_model.specs.declared.rules.Position.{Position}
 use Rattle.cp_model.specs.declared.rules.Position.TheVariants as position
 use Rattle.cp_model.specs.RulesJudged.{Judged, Sound, violations_of}
 use Rattle.cp_model.specs.RulesEnvironment.{Environment, Names, Text, entity_of, row_of, system_row, with_names}
-use Rattle.cp_model.specs.RulesTypes.{Made, allows_queues, allows_structure, c6_c8_placed, type_at, type_of, word_limit, placed}
+use Rattle.cp_model.specs.RulesTypes.{Made, allows_queues, allows_structure, c6_c8_placed, type_at, type_of, word_limit, judge_in_position}
 use Rattle.cp_model.specs.RulesDeclarations.{Declared, Variables, declare_all, is_owner, own_variable, owners, unfinished_variable, variable_group, variables, words_in, words_of}
 use Rattle.cp_model.specs.Types.{ArrayOf, ComponentOf, GlobalScope, Members, Queue, RecordOf, ResolvedType, Simple, resolved_type}
 use Rattle.cp_model.specs.Declarations.{Variable, declarations, declared_group}
@@ -154,7 +154,7 @@ module _ (G : GlobalScope → Type 0) where
   group_made env rs p g names tables h =
       let defined : Declared = declare_all env unfinished_variable g.names in
       let m : Made (Judged ℕ) = type_of defined.env g.of in
-      let judged : Judged ℕ = placed m.env p g.of m.of in
+      let judged : Judged ℕ = judge_in_position m.env p g.of m.of in
       let base : Environment = record m.env { names = env.names } in
       let e : Entity = entity_of own_variable judged in
       let visible : Declared = declare_all base e g.names in

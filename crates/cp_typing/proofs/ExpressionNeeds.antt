@@ -21,7 +21,7 @@ use Rattle.cp_model.specs.RulesEnvironment.{Environment, boolean, c1_named, inte
 use Rattle.cp_model.specs.RulesTypes.{word_limit}
 use Rattle.cp_model.specs.RulesNames as rules
 use Rattle.cp_model.specs.RulesNames.{before_selectors, c2_array, c2_index, c2_indexed, c8_named, count_of, first_name, first_token, function_of, member_of, procedure_of, value_of, c2_c5_c8_named}
-use Rattle.cp_model.specs.RulesExpressions.{arguments, c2_operand, c2_operands, designated, first_operand, indexed, judge, mode_of, result_of, selected, wants_in}
+use Rattle.cp_model.specs.RulesExpressions.{arguments, c2_operand, c2_operands, designate, first_operand, apply_indices, judge, mode_of, result_of, apply_selectors, wants_in}
 use Rattle.cp_model.specs.RulesNeeds.{need_called, need_designator, need_expression, need_expressions, need_indices, need_selectors}
 use Rattle.cp_model.specs.Types.{GlobalScope}
 use Rattle.cp_model.specs.Calls.{Callee, callee}
@@ -79,9 +79,9 @@ module _ (env : Environment) where
 
   -- a function that is called by its bare name, where a variable isn't required
   alone_used : (m : Mode) (d : s.Designator) (e : Entity) (t : ℕ)
-      → then_judge (then_judge (function_of env m d 0 e) (λ c. Sound c.gives)) (λ g. Sound (rules.given env integer g)) ≡ Sound t → IsUsed e
+      → then_judge (then_judge (function_of env m d 0 e) (λ c. Sound c.gives)) (λ g. Sound (rules.given_type env integer g)) ≡ Sound t → IsUsed e
   alone_used m d e t h =
-      let one = then_sound (then_judge (function_of env m d 0 e) (λ c. Sound c.gives)) (λ g. Sound (rules.given env integer g)) t h in
+      let one = then_sound (then_judge (function_of env m d 0 e) (λ c. Sound c.gives)) (λ g. Sound (rules.given_type env integer g)) t h in
       let two = then_sound (function_of env m d 0 e) (λ c. Sound c.gives) one.0 one.1 in
       used_by_function m d 0 e two.0 two.1
 
@@ -139,14 +139,14 @@ module _ (G : GlobalScope → Type 0) (env : Environment) (rs : Types) (p : Plac
   callee_bounded d _ u k = absurd u
 
   signed_bounded : (sg : Sign) (e : s.Expression) → Bounded (expression_takes (erase.expression e)) (need_expression env e)
-      → Bounded (expression_takes (erase.signed sg (erase.expression e))) (need_expression env e)
+      → Bounded (expression_takes (erase.with_sign sg (erase.expression e))) (need_expression env e)
   signed_bounded sign.Plus e h = h
   signed_bounded sign.Minus e h = h
 
   call_bounded : (d : s.Designator) (es : s.Expressions)
       → Bounded (max (called (callee p.env (erase.designator d))) (inside (erase.designator d))) (need_designator env d)
       → Bounded (expressions_take (erase.expressions es)) (need_expressions env es)
-      → Bounded (expression_takes (erase.called (erase.designator d) (erase.expressions es))) (max (need_designator env d) (need_expressions env es))
+      → Bounded (expression_takes (erase.call_or_name (erase.designator d) (erase.expressions es))) (max (need_designator env d) (need_expressions env es))
   call_bounded d s.NoExpressions f g = λ l. omega (arith, f (omega (arith, l)))
   call_bounded d (s.MoreExpressions e es) f g = λ l. omega (arith, f (omega (arith, l)), g (omega (arith, l)))
 
@@ -155,17 +155,17 @@ module _ (G : GlobalScope → Type 0) (env : Environment) (rs : Types) (p : Plac
     expression_bounded (s.Number at k) m t h = λ l. omega arith
     expression_bounded (s.Character at k) m t h = λ l. omega arith
     expression_bounded (s.Designated d) m t h =
-        let is : (e : Entity) × (designated env d ≡ Sound e) × (value_of env m d e ≡ Sound t) =
-        then_sound (designated env d) (value_of env m d) t (also_sound (c2_c5_c8_named env m d) _ t h) in
+        let is : (e : Entity) × (designate env d ≡ Sound e) × (value_of env m d e ≡ Sound t) =
+        then_sound (designate env d) (value_of env m d) t (also_sound (c2_c5_c8_named env m d) _ t h) in
         designator_bounded d is.0 is.1 (used_by_value env m d is.0 t is.2)
     expression_bounded (s.Call d es) m t h =
-        let callee : Judged rules.Callee = also (c2_indexed env m d) (then_judge (designated env d) (function_of env m d (count_of es))) in
-        let is : (c : rules.Callee) × (u : ℕ) × (callee ≡ Sound c) × (arguments env (wants_in env (designated env d) callee) es ≡ Sound u) × (result_of env c u ≡ Sound t) =
-        both_sound callee (arguments env (wants_in env (designated env d) callee) es) (result_of env) t (also_sound (c2_c5_c8_named env (first_operand m) d) _ t h) in
-        let of : (e : Entity) × (designated env d ≡ Sound e) × (function_of env m d (count_of es) e ≡ Sound is.0) =
-        then_sound (designated env d) (function_of env m d (count_of es)) is.0 (also_sound (c2_indexed env m d) _ is.0 is.2) in
+        let callee : Judged rules.Callee = also (c2_indexed env m d) (then_judge (designate env d) (function_of env m d (count_of es))) in
+        let is : (c : rules.Callee) × (u : ℕ) × (callee ≡ Sound c) × (arguments env (wants_in env (designate env d) callee) es ≡ Sound u) × (result_of env c u ≡ Sound t) =
+        both_sound callee (arguments env (wants_in env (designate env d) callee) es) (result_of env) t (also_sound (c2_c5_c8_named env (first_operand m) d) _ t h) in
+        let of : (e : Entity) × (designate env d ≡ Sound e) × (function_of env m d (count_of es) e ≡ Sound is.0) =
+        then_sound (designate env d) (function_of env m d (count_of es)) is.0 (also_sound (c2_indexed env m d) _ is.0 is.2) in
         let all : AllSound env is.0.wants es × FirstIs env is.0.wants es is.1 =
-        arguments_sound env es is.0.wants is.1 (sym (ap (λ j. arguments env (wants_in env (designated env d) j) es) is.2) ∙ is.3) in
+        arguments_sound env es is.0.wants is.1 (sym (ap (λ j. arguments env (wants_in env (designate env d) j) es) is.2) ∙ is.3) in
         call_bounded d es (designator_bounded d of.0 of.1 (used_by_function env m d (count_of es) of.0 is.0 of.2)) (arguments_bounded es is.0.wants all.0)
     expression_bounded (s.Parenthesized at e) m t h = expression_bounded e mode.Value t h
     expression_bounded (s.Not at e) m t h =
@@ -186,40 +186,40 @@ module _ (G : GlobalScope → Type 0) (env : Environment) (rs : Types) (p : Plac
         max_bounded _ _ _ _ (expression_bounded e (mode_of w) h.0.0 (argument_same env w e (judge env (mode_of w) e) h.0.0 h.0.1)) (arguments_bounded es ws h.1)
 
     -- a designator, and the call that it may be
-    pub designator_bounded : (d : s.Designator) (e : Entity) → designated env d ≡ Sound e → IsUsed e
+    pub designator_bounded : (d : s.Designator) (e : Entity) → designate env d ≡ Sound e → IsUsed e
         → Bounded (max (called (callee p.env (erase.designator d))) (inside (erase.designator d))) (need_designator env d)
     designator_bounded (s.Designate x ss) e h used =
-        let known : Bounded (called (callee p.env (erase.designator (s.Designate x ss)))) (need_called env (designated env (s.Designate x ss))) =
+        let known : Bounded (called (callee p.env (erase.designator (s.Designate x ss)))) (need_called env (designate env (s.Designate x ss))) =
         subst (λ j. Bounded (called (callee p.env (erase.designator (s.Designate x ss)))) (need_called env j)) (sym h)
         (callee_bounded (erase.designator (s.Designate x ss)) e used (designated_as G env rs p v (s.Designate x ss) e h)) in
-        let parts : Bounded (inside (erase.selected (a.Plain x.name) ss)) (max 0 (need_selectors env ss)) =
+        let parts : Bounded (inside (erase.with_selectors (a.Plain x.name) ss)) (max 0 (need_selectors env ss)) =
         (selectors_bounded ss (then_judge (c1_named env x) (before_selectors env x ss)) e h).1 (a.Plain x.name) 0 (λ l. omega arith) in
         λ l. omega (arith, known (omega (arith, l)), parts (omega (arith, l)))
 
-    selectors_bounded : (ss : s.Selectors) (j : Judged Entity) (e : Entity) → selected env j ss ≡ Sound e
-        → ((e0 : Entity) × (j ≡ Sound e0)) × ((d : a.Designator) (k : ℕ) → Bounded (inside d) k → Bounded (inside (erase.selected d ss)) (max k (need_selectors env ss)))
+    selectors_bounded : (ss : s.Selectors) (j : Judged Entity) (e : Entity) → apply_selectors env j ss ≡ Sound e
+        → ((e0 : Entity) × (j ≡ Sound e0)) × ((d : a.Designator) (k : ℕ) → Bounded (inside d) k → Bounded (inside (erase.with_selectors d ss)) (max k (need_selectors env ss)))
     selectors_bounded s.NoSelectors j e h = ((e, h), λ d k f l. omega (arith, f (omega (arith, l))))
     selectors_bounded (s.MoreSelectors (s.Field at x) ss) j e h =
         let rest : ((e0 : Entity) × (then_judge j (member_of env at x) ≡ Sound e0))
-        × ((d : a.Designator) (k : ℕ) → Bounded (inside d) k → Bounded (inside (erase.selected d ss)) (max k (need_selectors env ss))) =
+        × ((d : a.Designator) (k : ℕ) → Bounded (inside d) k → Bounded (inside (erase.with_selectors d ss)) (max k (need_selectors env ss))) =
         selectors_bounded ss (then_judge j (member_of env at x)) e h in
         let is : (e0 : Entity) × (j ≡ Sound e0) × (member_of env at x e0 ≡ Sound rest.0.0) = then_sound j (member_of env at x) rest.0.0 rest.0.1 in
         ((is.0, is.1), λ d k f l. omega (arith, rest.1 (a.Part d x.name) k f (omega (arith, l))))
     selectors_bounded (s.MoreSelectors (s.Indexed is) ss) j e h =
-        let rest : ((e0 : Entity) × (indexed env j is ≡ Sound e0))
-        × ((d : a.Designator) (k : ℕ) → Bounded (inside d) k → Bounded (inside (erase.selected d ss)) (max k (need_selectors env ss))) =
-        selectors_bounded ss (indexed env j is) e h in
+        let rest : ((e0 : Entity) × (apply_indices env j is ≡ Sound e0))
+        × ((d : a.Designator) (k : ℕ) → Bounded (inside d) k → Bounded (inside (erase.with_selectors d ss)) (max k (need_selectors env ss))) =
+        selectors_bounded ss (apply_indices env j is) e h in
         let one : ((e0 : Entity) × (j ≡ Sound e0))
-        × ((d : a.Designator) (k : ℕ) → Bounded (inside d) k → Bounded (inside (erase.indexed d is)) (max k (need_indices env is))) = indices_bounded is j rest.0.0 rest.0.1 in
-        (one.0, λ d k f l. omega (arith, rest.1 (erase.indexed d is) (max k (need_indices env is)) (one.1 d k f) (omega (arith, l))))
+        × ((d : a.Designator) (k : ℕ) → Bounded (inside d) k → Bounded (inside (erase.with_indices d is)) (max k (need_indices env is))) = indices_bounded is j rest.0.0 rest.0.1 in
+        (one.0, λ d k f l. omega (arith, rest.1 (erase.with_indices d is) (max k (need_indices env is)) (one.1 d k f) (omega (arith, l))))
 
-    indices_bounded : (is : s.Indices) (j : Judged Entity) (e : Entity) → indexed env j is ≡ Sound e
-        → ((e0 : Entity) × (j ≡ Sound e0)) × ((d : a.Designator) (k : ℕ) → Bounded (inside d) k → Bounded (inside (erase.indexed d is)) (max k (need_indices env is)))
+    indices_bounded : (is : s.Indices) (j : Judged Entity) (e : Entity) → apply_indices env j is ≡ Sound e
+        → ((e0 : Entity) × (j ≡ Sound e0)) × ((d : a.Designator) (k : ℕ) → Bounded (inside d) k → Bounded (inside (erase.with_indices d is)) (max k (need_indices env is)))
     indices_bounded s.NoIndices j e h = ((e, h), λ d k f l. omega (arith, f (omega (arith, l))))
     indices_bounded (s.MoreIndices at i is) j e h =
         let one : Judged Entity = both (then_judge j (c2_array env at)) (judge env mode.Value i) (c2_index env (first_token i)) in
         let rest : ((e0 : Entity) × (one ≡ Sound e0))
-        × ((d : a.Designator) (k : ℕ) → Bounded (inside d) k → Bounded (inside (erase.indexed d is)) (max k (need_indices env is))) = indices_bounded is one e h in
+        × ((d : a.Designator) (k : ℕ) → Bounded (inside d) k → Bounded (inside (erase.with_indices d is)) (max k (need_indices env is))) = indices_bounded is one e h in
         let parts : (part : ArrayPart) × (u : ℕ) × (then_judge j (c2_array env at) ≡ Sound part) × (judge env mode.Value i ≡ Sound u) × (c2_index env (first_token i) part u ≡ Sound rest.0.0) =
         both_sound (then_judge j (c2_array env at)) (judge env mode.Value i) (c2_index env (first_token i)) rest.0.0 rest.0.1 in
         let of : (e0 : Entity) × (j ≡ Sound e0) × (c2_array env at e0 ≡ Sound parts.0) = then_sound j (c2_array env at) parts.0 parts.2 in
@@ -229,7 +229,7 @@ module _ (G : GlobalScope → Type 0) (env : Environment) (rs : Types) (p : Plac
               omega (arith, rest.1 (a.At d (erase.expression i)) (max k (need_expression env i)) (max_bounded _ _ _ _ f index) (omega (arith, l))),
         )
 
-  pub inside_bounded : (x : Identifier) (ss : s.Selectors) (e : Entity) → designated env (s.Designate x ss) ≡ Sound e
+  pub inside_bounded : (x : Identifier) (ss : s.Selectors) (e : Entity) → designate env (s.Designate x ss) ≡ Sound e
       → Bounded (inside (erase.designator (s.Designate x ss))) (need_selectors env ss)
   inside_bounded x ss e h =
       let k = (selectors_bounded ss (then_judge (c1_named env x) (before_selectors env x ss)) e h).1 (a.Plain x.name) 0 (λ l. omega arith) in

@@ -22,9 +22,9 @@ use Rattle.cp_model.specs.declared.rules.Mode.TheVariants as mode
 use Rattle.cp_model.specs.declared.rules.ArrayPart.{ArrayPart}
 use Rattle.cp_model.specs.RulesJudged.{Judged, Sound, also, both, then_judge}
 use Rattle.cp_model.specs.RulesEnvironment.{Environment, Text, base_of, boolean, c1_named, c4_c9_named, integer, is_base}
-use Rattle.cp_model.specs.RulesNames.{array_in, before_selectors, c10_designator, c10_variable, c2_array, c2_index, c2_indexed, c8_named, count_of, first_name, first_token, function_alone, function_of, given, is_changeable, is_procedure, is_used_as_component, is_variable, last_name, member_among, member_named, member_of, standard_function, value_of, c2_c5_c8_named, sort_rule}
+use Rattle.cp_model.specs.RulesNames.{array_in, before_selectors, c10_designator, c10_variable, c2_array, c2_index, c2_indexed, c8_named, count_of, first_name, first_token, function_alone, function_of, given_type, is_changeable, is_procedure, is_used_as_component, is_variable, last_name, member_among, member_named, member_of, standard_function, value_of, c2_c5_c8_named, sort_rule}
 use Rattle.cp_model.specs.RulesNames as rules
-use Rattle.cp_model.specs.RulesExpressions.{arguments, c2_operand, c2_operands, designated, first_operand, indexed, judge, mode_of, operands_fit, result_of, select, selected, signature, wants_in}
+use Rattle.cp_model.specs.RulesExpressions.{arguments, c2_operand, c2_operands, designate, first_operand, apply_indices, judge, mode_of, operands_fit, result_of, select, apply_selectors, signature, wants_in}
 use Rattle.cp_model.specs.Types.{GlobalScope, ResolvedType, full_range}
 use Rattle.cp_model.specs.Environments.{meaning}
 use Rattle.cp_model.specs.Expressions.{name_of}
@@ -43,7 +43,7 @@ module _ (G : GlobalScope → Type 0) (env : Environment) (rs : Types) (p : Plac
   -- ---- a function of the text
 
   user_done : (d : a.Designator) (es : s.Expressions) (c : rules.Callee) (u t : ℕ) → UserCalled G env rs p false d (count_of es) c → AllAs G env rs p c.wants es
-      → TypedExpressions p (erase.expressions es) → given env u c.gives ≡ t → ExpressionAs G env rs p (erase.called d (erase.expressions es)) t
+      → TypedExpressions p (erase.expressions es) → given_type env u c.gives ≡ t → ExpressionAs G env rs p (erase.call_or_name d (erase.expressions es)) t
   user_done d es c u t k all meets is = go k.row.returns c.gives refl refl k.answers
     where
       called : Called p k.callee_is (erase.expressions es)
@@ -56,7 +56,7 @@ module _ (G : GlobalScope → Type 0) (env : Environment) (rs : Types) (p : Plac
           → IsFunction k.callee_is.routine
           × ((r : ResolvedType) × TypeAt rs n r
           × ((r ≡ answer_type p.env.globals k.callee_is.routine.result) ⊎ ((b : a.BaseType) × IsOfBase b r × IsOfBase b (answer_type p.env.globals k.callee_is.routine.result))))
-          → ExpressionAs G env rs p (erase.called d es) n
+          → ExpressionAs G env rs p (erase.call_or_name d es) n
       done a.NoExpression meets called n y = record {
         typed = subst (λ o. IsUsedAs p o d) (sym k.named) (called, y.0);
         type = y.1.0;
@@ -72,11 +72,11 @@ module _ (G : GlobalScope → Type 0) (env : Environment) (rs : Types) (p : Plac
             (sym (ap (λ o. called_type p.env.globals o (standard_type (name_of d) (expression_type p.env x))) k.named)) y.1.2;
       }
 
-      go : (r : Returns) (g : Gives) → k.row.returns ≡ r → c.gives ≡ g → GivesAs G env rs p r g → ExpressionAs G env rs p (erase.called d (erase.expressions es)) t
+      go : (r : Returns) (g : Gives) → k.row.returns ≡ r → c.gives ≡ g → GivesAs G env rs p r g → ExpressionAs G env rs p (erase.call_or_name d (erase.expressions es)) t
       go (returns.Value n) (gives.Value m) r_is g_is same =
           done (erase.expressions es) meets called t
           (answer_as G env rs p v k.row k.callee_is.routine t k.meets
-          (r_is ∙ ap (λ z. returns.Value z) (same ∙ ap (given env u) (sym g_is) ∙ is)))
+          (r_is ∙ ap (λ z. returns.Value z) (same ∙ ap (given_type env u) (sym g_is) ∙ is)))
       go returns.Nothing g r_is g_is same = absurd (true≢false (sym (ap is_procedure r_is) ∙ k.kind))
       go _ _ r_is g_is same = absurd same
 
@@ -85,13 +85,13 @@ module _ (G : GlobalScope → Type 0) (env : Environment) (rs : Types) (p : Plac
   -- a function that is called, with its arguments
   call_done : (m : Mode) (d : s.Designator) (z : a.Designator) (e : Entity) (c : rules.Callee) (es : s.Expressions) (u t : ℕ) → DesignatorAs G env rs p z e
       → function_of env m d (count_of es) e ≡ Sound c → AllAs G env rs p c.wants es → TypedExpressions p (erase.expressions es) → FirstIs env c.wants es u
-      → given env u c.gives ≡ t → ExpressionAs G env rs p (erase.called z (erase.expressions es)) t
+      → given_type env u c.gives ≡ t → ExpressionAs G env rs p (erase.call_or_name z (erase.expressions es)) t
   call_done m d z e c es u t as_z sound all meets first is = go (function_as G env rs p m d z (count_of es) e c as_z sound)
     where
-      go : FunctionCalled G env rs p z (count_of es) c → ExpressionAs G env rs p (erase.called z (erase.expressions es)) t
+      go : FunctionCalled G env rs p z (count_of es) c → ExpressionAs G env rs p (erase.call_or_name z (erase.expressions es)) t
       go (inl k) = user_done z es c u t k all meets is
       go (inr k) =
-          subst (λ y. ExpressionAs G env rs p (erase.called y (erase.expressions es)) t) (sym k.is)
+          subst (λ y. ExpressionAs G env rs p (erase.call_or_name y (erase.expressions es)) t) (sym k.is)
           (standard_done G env rs p v es k.name c u t k.no_call (all, first, is, k.count) k.which k.there k.named k.allowed)
 
   -- ---- names as values
@@ -116,13 +116,13 @@ module _ (G : GlobalScope → Type 0) (env : Environment) (rs : Types) (p : Plac
       }
 
   function_alone_of : (m : Mode) (d : s.Designator) (z : a.Designator) (e : Entity) (t : ℕ) → DesignatorAs G env rs p z e
-      → then_judge (function_alone env m d e) (λ g. Sound (given env integer g)) ≡ Sound t → ExpressionAs G env rs p (a.Use z) t
+      → then_judge (function_alone env m d e) (λ g. Sound (given_type env integer g)) ≡ Sound t → ExpressionAs G env rs p (a.Use z) t
   function_alone_of m d z e t as_z h =
-      let one : (g : Gives) × (function_alone env m d e ≡ Sound g) × (Sound (given env integer g) ≡ Sound t) =
-      then_sound (function_alone env m d e) (λ g. Sound (given env integer g)) t h in
+      let one : (g : Gives) × (function_alone env m d e ≡ Sound g) × (Sound (given_type env integer g) ≡ Sound t) =
+      then_sound (function_alone env m d e) (λ g. Sound (given_type env integer g)) t h in
       let two : (c : rules.Callee) × (function_of env m d 0 e ≡ Sound c) × (Sound c.gives ≡ Sound one.0) = alone m one.0 one.1 in
       call_done m d z e two.0 s.NoExpressions integer t as_z two.1 (none two.0.wants) tt (first two.0.wants)
-      (ap (given env integer) (sound_same two.0.gives one.0 two.2) ∙ sound_same (given env integer one.0) t one.2)
+      (ap (given_type env integer) (sound_same two.0.gives one.0 two.2) ∙ sound_same (given_type env integer one.0) t one.2)
     where
       none : (ws : List Want) → AllAs G env rs p ws s.NoExpressions
       none [] = tt
@@ -207,7 +207,7 @@ module _ (G : GlobalScope → Type 0) (env : Environment) (rs : Types) (p : Plac
   binary_of operator.AtLeast e q t u m n h =
       record { typed = (m.typed, n.typed, related e q t u m n h); type = full_range a.Boolean; there = v.tables.boolean; same = inl refl }
 
-  signed_of : (sg : Sign) (e : a.Expression) (t : ℕ) → ExpressionAs G env rs p e t → is_base integer (base_of env t) ≡ true → ExpressionAs G env rs p (erase.signed sg e) integer
+  signed_of : (sg : Sign) (e : a.Expression) (t : ℕ) → ExpressionAs G env rs p e t → is_base integer (base_of env t) ≡ true → ExpressionAs G env rs p (erase.with_sign sg e) integer
   signed_of sign.Plus e t m h =
       let b : IsOfBase a.Integer (expression_type p.env e) = with_base e t integer a.Integer m v.tables.integer h in
       record { typed = (m.typed, b); type = full_range a.Integer; there = v.tables.integer; same = inr (a.Integer, full_of a.Integer, b) }
@@ -224,19 +224,19 @@ module _ (G : GlobalScope → Type 0) (env : Environment) (rs : Types) (p : Plac
     judged_as (s.Character at n) m t h =
         record { typed = tt; type = full_range a.Char; there = subst (λ k. TypeAt rs k (full_range a.Char)) (sound_same 2 t h) v.tables.char; same = inl refl }
     judged_as (s.Designated d) m t h =
-        let is : (e : Entity) × (designated env d ≡ Sound e) × (value_of env m d e ≡ Sound t) =
-        then_sound (designated env d) (value_of env m d) t (also_sound (c2_c5_c8_named env m d) _ t h) in
+        let is : (e : Entity) × (designate env d ≡ Sound e) × (value_of env m d e ≡ Sound t) =
+        then_sound (designate env d) (value_of env m d) t (also_sound (c2_c5_c8_named env m d) _ t h) in
         value_as m d (erase.designator d) is.0 t (designated_as d is.0 is.1) is.2
     judged_as (s.Call d es) m t h =
-        let callee : Judged rules.Callee = also (c2_indexed env m d) (then_judge (designated env d) (function_of env m d (count_of es))) in
-        let is : (c : rules.Callee) × (u : ℕ) × (callee ≡ Sound c) × (arguments env (wants_in env (designated env d) callee) es ≡ Sound u) × (result_of env c u ≡ Sound t) =
-        both_sound callee (arguments env (wants_in env (designated env d) callee) es) (result_of env) t (also_sound (c2_c5_c8_named env (first_operand m) d) _ t h) in
-        let of : (e : Entity) × (designated env d ≡ Sound e) × (function_of env m d (count_of es) e ≡ Sound is.0) =
-        then_sound (designated env d) (function_of env m d (count_of es)) is.0 (also_sound (c2_indexed env m d) _ is.0 is.2) in
+        let callee : Judged rules.Callee = also (c2_indexed env m d) (then_judge (designate env d) (function_of env m d (count_of es))) in
+        let is : (c : rules.Callee) × (u : ℕ) × (callee ≡ Sound c) × (arguments env (wants_in env (designate env d) callee) es ≡ Sound u) × (result_of env c u ≡ Sound t) =
+        both_sound callee (arguments env (wants_in env (designate env d) callee) es) (result_of env) t (also_sound (c2_c5_c8_named env (first_operand m) d) _ t h) in
+        let of : (e : Entity) × (designate env d ≡ Sound e) × (function_of env m d (count_of es) e ≡ Sound is.0) =
+        then_sound (designate env d) (function_of env m d (count_of es)) is.0 (also_sound (c2_indexed env m d) _ is.0 is.2) in
         let all : AllSound env is.0.wants es × FirstIs env is.0.wants es is.1 =
-        arguments_sound env es is.0.wants is.1 (sym (ap (λ j. arguments env (wants_in env (designated env d) j) es) is.2) ∙ is.3) in
+        arguments_sound env es is.0.wants is.1 (sym (ap (λ j. arguments env (wants_in env (designate env d) j) es) is.2) ∙ is.3) in
         let meets : AllAs G env rs p is.0.wants es × TypedExpressions p (erase.expressions es) = arguments_as es is.0.wants all.0 in
-        call_done m d (erase.designator d) of.0 is.0 es is.1 t (designated_as d of.0 of.1) of.2 meets.0 meets.1 all.1 (sound_same (given env is.1 is.0.gives) t is.4)
+        call_done m d (erase.designator d) of.0 is.0 es is.1 t (designated_as d of.0 of.1) of.2 meets.0 meets.1 all.1 (sound_same (given_type env is.1 is.0.gives) t is.4)
     judged_as (s.Parenthesized at e) m t h = judged_as e mode.Value t h
     judged_as (s.Not at e) m t h =
         let is : (u : ℕ) × (judge env mode.Value e ≡ Sound u) × (c2_operand env boolean at u ≡ Sound t) = then_sound (judge env mode.Value e) (c2_operand env boolean at) t h in
@@ -251,7 +251,7 @@ module _ (G : GlobalScope → Type 0) (env : Environment) (rs : Types) (p : Plac
     judged_as (s.Signed sg at e) m t h =
         let is : (u : ℕ) × (judge env mode.Value e ≡ Sound u) × (c2_operand env integer at u ≡ Sound t) = then_sound (judge env mode.Value e) (c2_operand env integer at) t h in
         let fits : (is_base integer (base_of env is.0) ≡ true) × (integer ≡ t) = provided_sound (is_base integer (base_of env is.0)) C2 at integer t is.2 in
-        subst (ExpressionAs G env rs p (erase.signed sg (erase.expression e))) fits.1 (signed_of sg (erase.expression e) is.0 (judged_as e mode.Value is.0 is.1) fits.0)
+        subst (ExpressionAs G env rs p (erase.with_sign sg (erase.expression e))) fits.1 (signed_of sg (erase.expression e) is.0 (judged_as e mode.Value is.0 is.1) fits.0)
     judged_as (s.Binary x o at y) m t h =
         let is : (u : ℕ) × (w : ℕ) × (judge env (first_operand m) x ≡ Sound u) × (judge env mode.Value y ≡ Sound w) × (c2_operands env o at u w ≡ Sound t) =
         both_sound (judge env (first_operand m) x) (judge env mode.Value y) (c2_operands env o at) t h in
@@ -263,8 +263,8 @@ module _ (G : GlobalScope → Type 0) (env : Environment) (rs : Types) (p : Plac
     -- a variable that may be changed
     pub varied_as : (e : s.Expression) (t : ℕ) → judge env mode.Variable e ≡ Sound t → c10_variable env e ≡ [] → VariablePart G env rs p (erase.expression e) t
     varied_as (s.Designated d) t h g =
-        let is : (e : Entity) × (designated env d ≡ Sound e) × (value_of env mode.Variable d e ≡ Sound t) =
-        then_sound (designated env d) (value_of env mode.Variable d) t (also_sound (c2_c5_c8_named env mode.Variable d) _ t h) in
+        let is : (e : Entity) × (designate env d ≡ Sound e) × (value_of env mode.Variable d e ≡ Sound t) =
+        then_sound (designate env d) (value_of env mode.Variable d) t (also_sound (c2_c5_c8_named env mode.Variable d) _ t h) in
         varied_of G env rs p v d (erase.designator d) is.0 t (designated_as d is.0 is.1) (root_part G env rs p v d is.0 g is.1) is.2
     varied_as _ t h g = absurd (cc)
 
@@ -292,12 +292,12 @@ module _ (G : GlobalScope → Type 0) (env : Environment) (rs : Types) (p : Plac
           (one.typed, rest.1),
         )
 
-    pub designated_as : (d : s.Designator) (e : Entity) → designated env d ≡ Sound e → DesignatorAs G env rs p (erase.designator d) e
+    pub designated_as : (d : s.Designator) (e : Entity) → designate env d ≡ Sound e → DesignatorAs G env rs p (erase.designator d) e
     designated_as (s.Designate x ss) e h =
         selected_as ss (a.Plain x.name) (then_judge (c1_named env x) (before_selectors env x ss)) (first_as G env rs p v x ss) e h
 
     selected_as : (ss : s.Selectors) (z : a.Designator) (j : Judged Entity) → ((e : Entity) → j ≡ Sound e → DesignatorAs G env rs p z e) → (e : Entity)
-        → selected env j ss ≡ Sound e → DesignatorAs G env rs p (erase.selected z ss) e
+        → apply_selectors env j ss ≡ Sound e → DesignatorAs G env rs p (erase.with_selectors z ss) e
     selected_as s.NoSelectors z j k e h = k e h
     selected_as (s.MoreSelectors y ys) z j k e h = selected_as ys (erase.select z y) (select env j y) (select_as y z j k) e h
 
@@ -309,7 +309,7 @@ module _ (G : GlobalScope → Type 0) (env : Environment) (rs : Types) (p : Plac
     select_as (s.Indexed is) z j k e h = indexed_as is z j k e h
 
     indexed_as : (is : s.Indices) (z : a.Designator) (j : Judged Entity) → ((e : Entity) → j ≡ Sound e → DesignatorAs G env rs p z e) → (e : Entity)
-        → indexed env j is ≡ Sound e → DesignatorAs G env rs p (erase.indexed z is) e
+        → apply_indices env j is ≡ Sound e → DesignatorAs G env rs p (erase.with_indices z is) e
     indexed_as s.NoIndices z j k e h = k e h
     indexed_as (s.MoreIndices at i is) z j k e h =
         indexed_as is (a.At z (erase.expression i)) (both (then_judge j (c2_array env at)) (judge env mode.Value i) (c2_index env (first_token i)))

@@ -13,7 +13,7 @@ use Rattle.cp_model.specs.declared.rules.Entity.TheVariants as entity
 use Rattle.cp_model.specs.declared.rules.Structure.{Structure}
 use Rattle.cp_model.specs.declared.rules.Structure.TheVariants as structure
 use Rattle.cp_model.specs.declared.rules.ParameterRow.{ParameterRow}
-use Rattle.cp_model.specs.RulesJudged.{Judged, Sound, Violations, breaks, meaning_of, provided, then_judge, violations_of}
+use Rattle.cp_model.specs.RulesJudged.{Judged, Sound, Violations, breaks, meaning_of, guard, then_judge, violations_of}
 use Rattle.cp_model.specs.RulesEnvironment.{Environment, Names, Text, entity_of, row_of, system_row, with_names}
 use Rattle.cp_model.specs.RulesTypes.{named_type, word_limit}
 use Rattle.cp_model.specs.RulesDeclarations.{Declared, Heading, allows_component, allows_parameter, c7_c11_var, c7_c8_parameter, declare_all, heading, parameter_entity, parameter_group, parameter_words, unfinished_variable, var_rule}
@@ -131,7 +131,7 @@ module _ (G : GlobalScope → Type 0) where
       → (t ≡ u) × ((row_of env t).has_queues ≡ false) × (allows_parameter env of (row_of env t).structure ≡ true)
   parameter_sound env of at t u h = go (row_of env t).has_queues refl h
     where
-      go : (b : Bool) → (row_of env t).has_queues ≡ b → (if b then breaks C8 at else provided (allows_parameter env of (row_of env t).structure) C7 at t) ≡ Sound u
+      go : (b : Bool) → (row_of env t).has_queues ≡ b → (if b then breaks C8 at else guard (allows_parameter env of (row_of env t).structure) C7 at t) ≡ Sound u
           → (t ≡ u) × ((row_of env t).has_queues ≡ false) × (allows_parameter env of (row_of env t).structure ≡ true)
       go true is h = absurd (cc)
       go false is h =

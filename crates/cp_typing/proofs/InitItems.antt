@@ -16,7 +16,7 @@ use Rattle.cp_model.specs.declared.rules.Structure.TheVariants as structure
 use Rattle.cp_model.specs.declared.rules.ParameterRow.{ParameterRow}
 use Rattle.cp_model.specs.declared.rules.SystemRow.{SystemRow}
 use Rattle.cp_model.specs.declared.rules.Mode.TheVariants as mode
-use Rattle.cp_model.specs.RulesJudged.{Judged, Sound, Violations, then_judge, provided, violations_of}
+use Rattle.cp_model.specs.RulesJudged.{Judged, Sound, Violations, then_judge, guard, violations_of}
 use Rattle.cp_model.specs.RulesEnvironment.{Environment, Text, agree, c1_named, c4_c9_named, is_component, is_in_routine, parameters_from, row_of, system_in, system_of, system_row}
 use Rattle.cp_model.specs.RulesNames.{c8_named, count_of, first_token}
 use Rattle.cp_model.specs.RulesExpressions.{judge}
@@ -113,7 +113,7 @@ module _ (G : GlobalScope → Type 0) (env : Environment) (rs : Types) (p : Plac
   init_passed u r e there h = go (is_component env u) refl h
     where
       value : s.Expression → Judged ℕ
-      value e = then_judge (judge env mode.Value e) (λ t. provided (agree env u t) C12 (first_token e) t)
+      value e = then_judge (judge env mode.Value e) (λ t. guard (agree env u t) C12 (first_token e) t)
 
       go : (b : Bool) → is_component env u ≡ b → violations_of (if b then component_argument env u e else value e) ≡ [] → InitFits p r (erase.expression e)
       go true is h =
@@ -121,8 +121,8 @@ module _ (G : GlobalScope → Type 0) (env : Environment) (rs : Types) (p : Plac
           subst (λ z. InitFits p z (erase.expression e)) (sym k.type) (component_passed u e k.system k.inner (subst (TypeAt rs u) k.type there) h)
       go false is h =
           let sound : (t : ℕ) × (value e ≡ Sound t) = sound_has (value e) h in
-          let parts : (t : ℕ) × (judge env mode.Value e ≡ Sound t) × (provided (agree env u t) C12 (first_token e) t ≡ Sound sound.0) =
-          then_sound (judge env mode.Value e) (λ t. provided (agree env u t) C12 (first_token e) t) sound.0 sound.1 in
+          let parts : (t : ℕ) × (judge env mode.Value e ≡ Sound t) × (guard (agree env u t) C12 (first_token e) t ≡ Sound sound.0) =
+          then_sound (judge env mode.Value e) (λ t. guard (agree env u t) C12 (first_token e) t) sound.0 sound.1 in
           let m : ExpressionAs G env rs p (erase.expression e) parts.0 = judged_as G env rs p v e mode.Value parts.0 parts.1 in
           init_value r (erase.expression e) (alone_structure (row_of env u).structure r (v.tables.rows u r there).structure is) m.typed
           (agree_value r m.type _ (agree_as G env rs v.tables u parts.0 r m.type there m.there (provided_sound (agree env u parts.0) C12 (first_token e) parts.0 sound.0 parts.2).0) m.same)

@@ -1,7 +1,7 @@
 -- What is sound if no rule is broken: the parts of what was judged.
 use Rattle.std.proofs.Common.{◌≡◌, ℕ, Bool, true, false, [], ◌∷◌, ◌++◌, refl}
 use Rattle.cp_model.specs.declared.rules.Rule.{Rule}
-use Rattle.cp_model.specs.RulesJudged.{Judged, Sound, Broken, Violations, violations_of, unless, also, both, then_judge, provided}
+use Rattle.cp_model.specs.RulesJudged.{Judged, Sound, Broken, Violations, violations_of, unless, also, both, then_judge, guard}
 
 pub first_empty : (vs ws : Violations) → vs ++ ws ≡ [] → vs ≡ []
 first_empty [] ws h = refl
@@ -15,7 +15,7 @@ pub unless_holds : (b : Bool) (rule : Rule) (at : ℕ) → unless b rule at ≡ 
 unless_holds true rule at h = refl
 unless_holds false rule at h = absurd (cc)
 
-pub provided_holds : {A : Type 0} (b : Bool) (rule : Rule) (at : ℕ) (x : A) → violations_of (provided b rule at x) ≡ [] → b ≡ true
+pub provided_holds : {A : Type 0} (b : Bool) (rule : Rule) (at : ℕ) (x : A) → violations_of (guard b rule at x) ≡ [] → b ≡ true
 provided_holds true rule at x h = refl
 provided_holds false rule at x h = absurd (cc)
 
@@ -61,7 +61,7 @@ both_sound (Sound x) (Sound y) k z h = (x, y, refl, refl, h)
 both_sound (Sound x) (Broken v vs) k z h = absurd (cc)
 both_sound (Broken v vs) b k z h = absurd (cc)
 
-pub provided_sound : {A : Type 0} (b : Bool) (rule : Rule) (at : ℕ) (x y : A) → provided b rule at x ≡ Sound y → (b ≡ true) × (x ≡ y)
+pub provided_sound : {A : Type 0} (b : Bool) (rule : Rule) (at : ℕ) (x y : A) → guard b rule at x ≡ Sound y → (b ≡ true) × (x ≡ y)
 provided_sound true rule at x y h = (refl, cc)
 provided_sound false rule at x y h = absurd (cc)
 

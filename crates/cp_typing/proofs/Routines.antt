@@ -18,7 +18,7 @@ use Rattle.cp_model.specs.declared.rules.RoutineRow.{RoutineRow}
 use Rattle.cp_model.specs.declared.rules.Position.TheVariants as position
 use Rattle.cp_model.specs.RulesJudged.{Judged}
 use Rattle.cp_model.specs.RulesEnvironment.{Environment, Names, Text, c1_declared, no_routine, routine_of, row_of, with_names}
-use Rattle.cp_model.specs.RulesTypes.{capped, has_name}
+use Rattle.cp_model.specs.RulesTypes.{cap_words, has_name}
 use Rattle.cp_model.specs.RulesNeeds.{need_statements}
 use Rattle.cp_model.specs.RulesDeclarations.{Heading, Variables, c5_entry, result_type, result_words, routine}
 use Rattle.cp_model.specs.Types.{GlobalScope, or_no_type}
@@ -121,7 +121,7 @@ module _ (G : GlobalScope → Type 0) (ys : List a.System) (y : a.System) where
     -- ---- after the routine
 
     abbrev need : ℕ
-    need = capped (1 + result_words answer + head.words + locals.words + need_statements locals.env r.body.list)
+    need = cap_words (1 + result_words answer + head.words + locals.words + need_statements locals.env r.body.list)
 
     abbrev last_row : RoutineRow
     last_row = record row { need = need }

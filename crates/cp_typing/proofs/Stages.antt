@@ -19,7 +19,7 @@ use Rattle.cp_model.specs.declared.rules.Standard.TheVariants as standard
 use Rattle.cp_model.specs.declared.rules.Position.TheVariants as position
 use Rattle.cp_model.specs.RulesJudged.{Judged, Sound}
 use Rattle.cp_model.specs.RulesEnvironment.{Environment, Names, Text, c1_declared, process_body, declare, entity_of, routine_of, row_of, system_row, with_names}
-use Rattle.cp_model.specs.RulesTypes.{Made, c6_c8_placed, constant, type_at, type_of, placed}
+use Rattle.cp_model.specs.RulesTypes.{Made, c6_c8_placed, constant, type_at, type_of, judge_in_position}
 use Rattle.cp_model.specs.Rules.{define_constant, define_type}
 use Rattle.cp_model.specs.Types.{ArrayOf, ComponentOf, GlobalScope, Members, Queue, RecordOf, ResolvedType, Simple, resolved_type}
 use Rattle.cp_model.specs.Declarations.{define, define_all, is_component, with_constant}
@@ -275,7 +275,7 @@ pub type_defined : (env : Environment) (g : GlobalScope) (rs : Types) (ys : List
 type_defined env g rs ys x te stage h =
     let unfinished : Environment = declare x entity.UnfinishedType env in
     let m : Made (Judged ℕ) = type_of unfinished te in
-    let judged : Judged ℕ = placed m.env position.Definition te m.of in
+    let judged : Judged ℕ = judge_in_position m.env position.Definition te m.of in
     let none : lookup x.name env.names ≡ None = declared_new env x (first_empty (c1_declared env x) _ h) in
     let is : (u : ℕ) × (judged ≡ Sound u) = sound_has judged (rest_empty (c1_declared env x) _ h) in
     let inner : (t : ℕ) × (m.of ≡ Sound t) × (c6_c8_placed m.env position.Definition (type_at te) t ≡ Sound is.0) = placed_inner (Later g) m.env position.Definition te m.of is.0 is.1 in

@@ -17,7 +17,7 @@ use Rattle.cp_model.specs.declared.rules.Gives.TheVariants as gives
 use Rattle.cp_model.specs.declared.rules.Mode.TheVariants as mode
 use Rattle.cp_model.specs.RulesJudged.{Sound}
 use Rattle.cp_model.specs.RulesEnvironment.{Environment, Text, base_of, boolean, integer, is_allowed, is_base, is_in_routine, is_monitor, is_simple, queue}
-use Rattle.cp_model.specs.RulesNames.{array_in, before_selectors, c10_designator, c10_variable, c2_array, c2_index, c2_indexed, c8_named, count_of, first_name, first_token, function_alone, function_of, given, is_changeable, is_procedure, is_used_as_component, is_variable, last_name, member_among, member_named, member_of, standard_function, value_of}
+use Rattle.cp_model.specs.RulesNames.{array_in, before_selectors, c10_designator, c10_variable, c2_array, c2_index, c2_indexed, c8_named, count_of, first_name, first_token, function_alone, function_of, given_type, is_changeable, is_procedure, is_used_as_component, is_variable, last_name, member_among, member_named, member_of, standard_function, value_of}
 use Rattle.cp_model.specs.RulesNames as rules
 use Rattle.cp_model.specs.RulesExpressions.{argument, judge, mode_of}
 use Rattle.cp_model.specs.Types.{GlobalScope, Queue, ResolvedType, base_of_type, full_range}
@@ -90,10 +90,10 @@ module _ (G : GlobalScope → Type 0) (env : Environment) (rs : Types) (p : Plac
 
   -- what is known of a call's arguments, and of the type of its result
   abbrev pub CallKnown : s.Expressions → ℕ → ℕ → rules.Callee → Type 0
-  CallKnown es u t c = AllAs G env rs p c.wants es × FirstIs env c.wants es u × (given env u c.gives ≡ t) × (length c.wants ≡ count_of es)
+  CallKnown es u t c = AllAs G env rs p c.wants es × FirstIs env c.wants es u × (given_type env u c.gives ≡ t) × (length c.wants ≡ count_of es)
 
   abbrev pub Function : Text → s.Expressions → ℕ → Type 0
-  Function x es t = ExpressionAs G env rs p (erase.called (a.Plain x) (erase.expressions es)) t
+  Function x es t = ExpressionAs G env rs p (erase.call_or_name (a.Plain x) (erase.expressions es)) t
 
   -- a call of one argument
   pub standard_call : (x : Text) (f : typed.StandardFunction) (e : s.Expression) (t : ℕ) (r : ResolvedType) → x ≡ typed.function_name f → callee p.env (a.Plain x) ≡ None
@@ -116,11 +116,11 @@ module _ (G : GlobalScope → Type 0) (env : Environment) (rs : Types) (p : Plac
   pub standard_call_kept : (x y : Text) (f : typed.StandardFunction) (e : s.Expression) (u t : ℕ) → x ≡ y → y ≡ typed.function_name f → callee p.env (a.Plain x) ≡ None
       → ((q : ResolvedType) → standard_type y q ≡ full_range (base_of_type q))
       → (m : ArgumentAs G env rs p want.Simple e) → StandardFits p.env f (erase.expression e) → argument env want.Simple e (judge env mode.Value e) ≡ Sound u
-      → given env u gives.ArgumentBase ≡ t → Function x (s.MoreExpressions e s.NoExpressions) t
+      → given_type env u gives.ArgumentBase ≡ t → Function x (s.MoreExpressions e s.NoExpressions) t
   standard_call_kept x y f e u t same named no_call widens m fits first is =
       let k : SimpleArgument e m.type = simple_argument e m in
       let type : m.type ≡ u = sound_same m.type u (sym m.passed ∙ first) in
-      let number : k.number ≡ t = sym (ap (λ o. unwrap_or o m.type) k.is) ∙ ap (λ z. given env z gives.ArgumentBase) type ∙ is in
+      let number : k.number ≡ t = sym (ap (λ o. unwrap_or o m.type) k.is) ∙ ap (λ z. given_type env z gives.ArgumentBase) type ∙ is in
       standard_call x f e t (full_range k.base) (same ∙ named) no_call m.meets.typed fits (subst (λ n. TypeAt rs n (full_range k.base)) number k.there)
       (type_is x y (full_range k.base) (expression_type p.env (erase.expression e)) same
       (widens (expression_type p.env (erase.expression e)) ∙ ap full_range (ap base_of_type k.of.is)))
@@ -135,7 +135,7 @@ module _ (G : GlobalScope → Type 0) (env : Environment) (rs : Types) (p : Plac
   nothing_passed (s.MoreExpressions e es) h = absurd (omega (arith, h))
 
   pub by_single : (w : Want) (g : Gives) (es : s.Expressions) (x : Text) (u t : ℕ)
-      → ((e : s.Expression) → ArgumentAs G env rs p w e → argument env w e (judge env (mode_of w) e) ≡ Sound u → given env u g ≡ t → Function x (s.MoreExpressions e s.NoExpressions) t)
+      → ((e : s.Expression) → ArgumentAs G env rs p w e → argument env w e (judge env (mode_of w) e) ≡ Sound u → given_type env u g ≡ t → Function x (s.MoreExpressions e s.NoExpressions) t)
       → CallKnown es u t (record { wants = w ∷ []; gives = g }) → Function x es t
   by_single w g es x u t f k =
       let is : (e : s.Expression) × (s.MoreExpressions e s.NoExpressions ≡ es) = single es k.3 in

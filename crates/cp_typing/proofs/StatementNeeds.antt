@@ -15,13 +15,13 @@ use Rattle.cp_model.specs.declared.rules.Returns.TheVariants as returns
 use Rattle.cp_model.specs.declared.rules.ParameterRow.{ParameterRow}
 use Rattle.cp_model.specs.declared.rules.SystemRow.{SystemRow}
 use Rattle.cp_model.specs.declared.rules.Mode.TheVariants as mode
-use Rattle.cp_model.specs.RulesJudged.{Judged, Sound, Broken, also, both, provided, then_judge, violations_of}
+use Rattle.cp_model.specs.RulesJudged.{Judged, Sound, Broken, also, both, guard, then_judge, violations_of}
 use Rattle.cp_model.specs.RulesEnvironment.{Environment, agree, base_of, boolean, c1_named, is_base, is_component, is_simple, row_of, system_row, Text}
 use Rattle.cp_model.specs.RulesNames as rules
 use Rattle.cp_model.specs.RulesNames.{before_selectors, c10_designator, c2_indexed, c8_named, count_of, first_name, first_token, procedure_of, value_of, c2_c5_c8_named}
-use Rattle.cp_model.specs.RulesExpressions.{arguments, designated, judge, result_of, wants_in}
+use Rattle.cp_model.specs.RulesExpressions.{arguments, designate, judge, result_of, wants_in}
 use Rattle.cp_model.specs.RulesStatements as st
-use Rattle.cp_model.specs.RulesStatements.{Label, Labelled, assigned, bound, c12_component, c12_count, c12_init, c12_passed, c2_condition, c2_selector, c2_sides, component_argument, for_variable, init_argument, init_arguments, init_item, init_items, judged_unless, labels, left, left_by, lone_component, other_left, own_result, parameters_in, performed, right, selector_base}
+use Rattle.cp_model.specs.RulesStatements.{Label, Labelled, assignment, bound, c12_component, c12_count, c12_init, c12_passed, c2_condition, c2_selector, c2_sides, component_argument, for_variable, init_argument, init_arguments, init_item, init_items, judged_unless, labels, left_side, left_by, lone_component, other_left_side, own_result, parameters_in, call_statement, right, selector_base}
 use Rattle.cp_model.specs.RulesNeeds.{need_arms, need_body_of, need_designator, need_expression, need_expressions, need_initialised, need_items, need_statement, need_statements, need_system}
 use Rattle.cp_model.specs.Types.{GlobalScope}
 use Rattle.cp_model.specs.Components.{Component, component_named}
@@ -65,17 +65,17 @@ module _ (G : GlobalScope → Type 0) (env : Environment) (rs : Types) (p : Plac
   value_bounded e h = let is : (t : ℕ) × (judge env mode.Value e ≡ Sound t) = sound_has (judge env mode.Value e) h in expression_bounded G env rs p v n e mode.Value is.0 is.1
 
   bound_bounded : (t : ℕ) (e : s.Expression) → violations_of (bound env (Sound t) e) ≡ [] → Bounded (takes (erase.expression e)) (need_expression env e)
-  bound_bounded t e h = judged_bounded e (λ u. provided (agree env t u) C2 (first_token e) u) h
+  bound_bounded t e h = judged_bounded e (λ u. guard (agree env t u) C2 (first_token e) u) h
 
   -- ---- assignments
 
-  left_bounded : (e : s.Designator) (t : ℕ) → left env e ≡ Sound t → Bounded (within (erase.designator e)) (need_designator env e)
+  left_bounded : (e : s.Designator) (t : ℕ) → left_side env e ≡ Sound t → Bounded (within (erase.designator e)) (need_designator env e)
   left_bounded (s.Designate x ss) t h = go (c1_named env x) refl h
     where
-      other : other_left env (s.Designate x ss) ≡ Sound t → Bounded (within (erase.designator (s.Designate x ss))) (need_designator env (s.Designate x ss))
+      other : other_left_side env (s.Designate x ss) ≡ Sound t → Bounded (within (erase.designator (s.Designate x ss))) (need_designator env (s.Designate x ss))
       other g =
-          let is : (e : Entity) × (designated env (s.Designate x ss) ≡ Sound e) × (value_of env mode.Variable (s.Designate x ss) e ≡ Sound t) =
-          then_sound (designated env (s.Designate x ss)) (value_of env mode.Variable (s.Designate x ss)) t
+          let is : (e : Entity) × (designate env (s.Designate x ss) ≡ Sound e) × (value_of env mode.Variable (s.Designate x ss) e ≡ Sound t) =
+          then_sound (designate env (s.Designate x ss)) (value_of env mode.Variable (s.Designate x ss)) t
           (also_sound (c2_c5_c8_named env mode.Variable (s.Designate x ss) ++ c10_designator env (s.Designate x ss)) _ t g) in
           λ l. omega (arith, inside_bounded G env rs p v n x ss is.0 is.1 (omega (arith, l)))
 
@@ -99,10 +99,10 @@ module _ (G : GlobalScope → Type 0) (env : Environment) (rs : Types) (p : Plac
       go (Sound (entity.Broken w)) is g = other g
       go (Broken w ws) is g = other g
 
-  assigned_bounded : (e : s.Designator) (at : ℕ) (x : s.Expression) → assigned env e at x ≡ []
+  assigned_bounded : (e : s.Designator) (at : ℕ) (x : s.Expression) → assignment env e at x ≡ []
       → Bounded (statement_takes (a.Assign (erase.designator e) (erase.expression x))) (max (need_designator env e) (need_expression env x))
   assigned_bounded e at x h =
-      let sides : BothSound (left env e) (right env (left env e) x) (c2_sides env at) = both_parts _ _ _ h in
+      let sides : BothSound (left_side env e) (right env (left_side env e) x) (c2_sides env at) = both_parts _ _ _ h in
       let fits : agree env sides.x sides.y ≡ true = provided_holds (agree env sides.x sides.y) C2 at sides.x sides.outside in
       let alone : is_component env sides.x ≡ false =
       agrees_alone G env rs p v (row_of env sides.x).structure (row_of env sides.y).structure (nat_eq sides.x sides.y) fits in
@@ -113,18 +113,18 @@ module _ (G : GlobalScope → Type 0) (env : Environment) (rs : Types) (p : Plac
 
   -- ---- procedures
 
-  performed_bounded : (e : s.Designator) (es : s.Expressions) → performed env e es ≡ []
+  performed_bounded : (e : s.Designator) (es : s.Expressions) → call_statement env e es ≡ []
       → Bounded (statement_takes (a.Perform (erase.designator e) (erase.expressions es))) (max (need_designator env e) (need_expressions env es))
   performed_bounded e es h =
-      let callee : Judged rules.Callee = also (c2_indexed env mode.Value e) (then_judge (designated env e) (procedure_of env e (count_of es))) in
-      let sound : (t : ℕ) × (both callee (arguments env (wants_in env (designated env e) callee) es) (result_of env) ≡ Sound t) =
-      sound_has (both callee (arguments env (wants_in env (designated env e) callee) es) (result_of env)) (rest_empty (c2_c5_c8_named env mode.Value e) _ h) in
-      let is : (c : rules.Callee) × (u : ℕ) × (callee ≡ Sound c) × (arguments env (wants_in env (designated env e) callee) es ≡ Sound u) × (result_of env c u ≡ Sound sound.0) =
-      both_sound callee (arguments env (wants_in env (designated env e) callee) es) (result_of env) sound.0 sound.1 in
-      let of : (e0 : Entity) × (designated env e ≡ Sound e0) × (procedure_of env e (count_of es) e0 ≡ Sound is.0) =
-      then_sound (designated env e) (procedure_of env e (count_of es)) is.0 (also_sound (c2_indexed env mode.Value e) _ is.0 is.2) in
+      let callee : Judged rules.Callee = also (c2_indexed env mode.Value e) (then_judge (designate env e) (procedure_of env e (count_of es))) in
+      let sound : (t : ℕ) × (both callee (arguments env (wants_in env (designate env e) callee) es) (result_of env) ≡ Sound t) =
+      sound_has (both callee (arguments env (wants_in env (designate env e) callee) es) (result_of env)) (rest_empty (c2_c5_c8_named env mode.Value e) _ h) in
+      let is : (c : rules.Callee) × (u : ℕ) × (callee ≡ Sound c) × (arguments env (wants_in env (designate env e) callee) es ≡ Sound u) × (result_of env c u ≡ Sound sound.0) =
+      both_sound callee (arguments env (wants_in env (designate env e) callee) es) (result_of env) sound.0 sound.1 in
+      let of : (e0 : Entity) × (designate env e ≡ Sound e0) × (procedure_of env e (count_of es) e0 ≡ Sound is.0) =
+      then_sound (designate env e) (procedure_of env e (count_of es)) is.0 (also_sound (c2_indexed env mode.Value e) _ is.0 is.2) in
       let all : AllSound env is.0.wants es × FirstIs env is.0.wants es is.1 =
-      arguments_sound env es is.0.wants is.1 (sym (ap (λ j. arguments env (wants_in env (designated env e) j) es) is.2) ∙ is.3) in
+      arguments_sound env es is.0.wants is.1 (sym (ap (λ j. arguments env (wants_in env (designate env e) j) es) is.2) ∙ is.3) in
       let name = designator_bounded G env rs p v n e of.0 of.1 (used_by_procedure env e (count_of es) of.0 is.0 of.2) in
       let passed = arguments_bounded G env rs p v n es is.0.wants all.0 in
       λ l. omega (arith, name (omega (arith, l)), passed (omega (arith, l)))
@@ -163,10 +163,10 @@ module _ (G : GlobalScope → Type 0) (env : Environment) (rs : Types) (p : Plac
   argument_bounded : (u : ℕ) (e : s.Expression) → violations_of (init_argument env (Some u) e) ≡ [] → Bounded (takes (erase.expression e)) (need_expression env e)
   argument_bounded u e h = go (is_component env u) h
     where
-      go : (b : Bool) → violations_of (if b then component_argument env u e else then_judge (judge env mode.Value e) (λ t. provided (agree env u t) C12 (first_token e) t)) ≡ []
+      go : (b : Bool) → violations_of (if b then component_argument env u e else then_judge (judge env mode.Value e) (λ t. guard (agree env u t) C12 (first_token e) t)) ≡ []
           → Bounded (takes (erase.expression e)) (need_expression env e)
       go true g = passed_bounded u e g
-      go false g = judged_bounded e (λ t. provided (agree env u t) C12 (first_token e) t) g
+      go false g = judged_bounded e (λ t. guard (agree env u t) C12 (first_token e) t) g
 
   init_arguments_bounded : (es : s.Expressions) (qs : List ParameterRow) (xs : List (Text × Variable)) → ParametersAs rs qs xs → length qs ≡ count_of es
       → init_arguments env qs es ≡ [] → Bounded (all_take (erase.expressions es)) (need_expressions env es)
@@ -212,23 +212,23 @@ module _ (G : GlobalScope → Type 0) (env : Environment) (rs : Types) (p : Plac
     statement_bounded (s.Perform e es) h = performed_bounded e es h
     statement_bounded (s.Compound l) h = statements_bounded l h
     statement_bounded (s.If e x) h =
-        let c = judged_bounded e (λ t. provided (is_base boolean (base_of env t)) C2 (first_token e) t) (first_empty (violations_of (c2_condition env e)) _ h) in
+        let c = judged_bounded e (λ t. guard (is_base boolean (base_of env t)) C2 (first_token e) t) (first_empty (violations_of (c2_condition env e)) _ h) in
         let one = statement_bounded x (rest_empty (violations_of (c2_condition env e)) _ h) in
         λ l. omega (arith, c (omega (arith, l)), one (omega (arith, l)))
     statement_bounded (s.IfElse e x y) h =
         let first : violations_of (c2_condition env e) ++ st.statement env x ≡ [] = first_empty _ (st.statement env y) h in
-        max_bounded _ _ _ _ (judged_bounded e (λ t. provided (is_base boolean (base_of env t)) C2 (first_token e) t) (first_empty (violations_of (c2_condition env e)) _ first))
+        max_bounded _ _ _ _ (judged_bounded e (λ t. guard (is_base boolean (base_of env t)) C2 (first_token e) t) (first_empty (violations_of (c2_condition env e)) _ first))
         (max_bounded _ _ _ _ (statement_bounded x (rest_empty (violations_of (c2_condition env e)) _ first))
         (statement_bounded y (rest_empty (violations_of (c2_condition env e) ++ st.statement env x) _ h)))
     statement_bounded (s.Case e arms) h =
-        max_bounded _ _ _ _ (judged_bounded e (λ t. provided (is_simple env t) C2 (first_token e) t) (first_empty (violations_of (c2_selector env e)) _ h))
+        max_bounded _ _ _ _ (judged_bounded e (λ t. guard (is_simple env t) C2 (first_token e) t) (first_empty (violations_of (c2_selector env e)) _ h))
         (arms_bounded arms (selector_base env (c2_selector env e)) [] (rest_empty (violations_of (c2_selector env e)) _ h))
     statement_bounded (s.While e x) h =
-        max_bounded _ _ _ _ (judged_bounded e (λ t. provided (is_base boolean (base_of env t)) C2 (first_token e) t) (first_empty (violations_of (c2_condition env e)) _ h))
+        max_bounded _ _ _ _ (judged_bounded e (λ t. guard (is_base boolean (base_of env t)) C2 (first_token e) t) (first_empty (violations_of (c2_condition env e)) _ h))
         (statement_bounded x (rest_empty (violations_of (c2_condition env e)) _ h))
     statement_bounded (s.Repeat l e) h =
         max_bounded _ _ _ _ (statements_bounded l (first_empty (st.statements env l) _ h))
-        (judged_bounded e (λ t. provided (is_base boolean (base_of env t)) C2 (first_token e) t) (rest_empty (st.statements env l) _ h))
+        (judged_bounded e (λ t. guard (is_base boolean (base_of env t)) C2 (first_token e) t) (rest_empty (st.statements env l) _ h))
     statement_bounded (s.For x from to until y) h =
         let j : Judged ℕ = for_variable env x in
         let three : violations_of j ++ violations_of (bound env j from) ++ violations_of (bound env j until) ≡ [] = first_empty _ (st.statement env y) h in

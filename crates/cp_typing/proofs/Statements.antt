@@ -18,13 +18,13 @@ use Rattle.cp_model.specs.declared.rules.Want.TheVariants as want
 use Rattle.cp_model.specs.declared.rules.Gives.{Gives}
 use Rattle.cp_model.specs.declared.rules.Gives.TheVariants as gives
 use Rattle.cp_model.specs.declared.rules.Mode.TheVariants as mode
-use Rattle.cp_model.specs.RulesJudged.{Judged, Sound, also, both, then_judge, provided, violations_of}
+use Rattle.cp_model.specs.RulesJudged.{Judged, Sound, also, both, then_judge, guard, violations_of}
 use Rattle.cp_model.specs.RulesEnvironment.{Environment, Text, agree, base_of, boolean, is_allowed, is_base, is_in_entry, is_monitor, is_process, is_simple}
 use Rattle.cp_model.specs.RulesNames.{c10_designator, c10_variable, c2_indexed, c8_named, count_of, first_name, first_token, has_queues as names_queues, is_changeable, last_name, procedure_of, standard_procedure, value_of, c2_c5_c8_named}
 use Rattle.cp_model.specs.RulesNames as rules
-use Rattle.cp_model.specs.RulesExpressions.{argument, arguments, designated, judge, result_of, wants_in}
+use Rattle.cp_model.specs.RulesExpressions.{argument, arguments, designate, judge, result_of, wants_in}
 use Rattle.cp_model.specs.RulesStatements as st
-use Rattle.cp_model.specs.RulesStatements.{Label, Labelled, assigned, bound, c12_component, c12_count, c12_init, c12_passed, c2_c3_label, c2_condition, c2_selector, c2_sides, component_argument, fits_selector, for_variable, init_argument, init_arguments, init_item, init_items, is_among, judged_unless, labels, left, left_by, lone_component, more_seen, other_left, own_result, parameters_in, performed, plain, right, selector_base, system_initialised, with_label}
+use Rattle.cp_model.specs.RulesStatements.{Label, Labelled, assignment, bound, c12_component, c12_count, c12_init, c12_passed, c2_c3_label, c2_condition, c2_selector, c2_sides, component_argument, fits_selector, for_variable, init_argument, init_arguments, init_item, init_items, is_among, judged_unless, labels, left_side, left_by, lone_component, more_seen, other_left_side, own_result, parameters_in, call_statement, plain, right, selector_base, system_initialised, with_label}
 use Rattle.cp_model.specs.Types.{GlobalScope, ResolvedType}
 use Rattle.cp_model.specs.Environments.{Frame}
 use Rattle.cp_model.specs.Calls.{callee}
@@ -48,8 +48,8 @@ module _ (G : GlobalScope → Type 0) (env : Environment) (rs : Types) (p : Plac
   condition_as : (e : s.Expression) → violations_of (c2_condition env e) ≡ [] → TypedExpression p (erase.expression e) × IsOfBase a.Boolean (expression_type p.env (erase.expression e))
   condition_as e h =
       let is : (t : ℕ) × (c2_condition env e ≡ Sound t) = sound_has (c2_condition env e) h in
-      let parts : (u : ℕ) × (judge env mode.Value e ≡ Sound u) × (provided (is_base boolean (base_of env u)) C2 (first_token e) u ≡ Sound is.0) =
-      then_sound (judge env mode.Value e) (λ t. provided (is_base boolean (base_of env t)) C2 (first_token e) t) is.0 is.1 in
+      let parts : (u : ℕ) × (judge env mode.Value e ≡ Sound u) × (guard (is_base boolean (base_of env u)) C2 (first_token e) u ≡ Sound is.0) =
+      then_sound (judge env mode.Value e) (λ t. guard (is_base boolean (base_of env t)) C2 (first_token e) t) is.0 is.1 in
       let m : ExpressionAs G env rs p (erase.expression e) parts.0 = judged_as G env rs p v e mode.Value parts.0 parts.1 in (
         m.typed,
         with_base G env rs p v (erase.expression e) parts.0 boolean a.Boolean m v.tables.boolean (provided_sound (is_base boolean (base_of env parts.0)) C2 (first_token e) parts.0 is.0 parts.2).0,
@@ -72,8 +72,8 @@ module _ (G : GlobalScope → Type 0) (env : Environment) (rs : Types) (p : Plac
   for_as : (x : Identifier) (t : ℕ) → for_variable env x ≡ Sound t → ForAs x t
   for_as x t h =
       let variable : c10_designator env (plain x) ≡ [] = also_none (c10_designator env (plain x)) _ t h in
-      let parts : (u : ℕ) × (judge env mode.Variable (s.Designated (plain x)) ≡ Sound u) × (provided (is_simple env u) C2 x.at u ≡ Sound t) =
-      then_sound (judge env mode.Variable (s.Designated (plain x))) (λ u. provided (is_simple env u) C2 x.at u) t (also_sound (c10_designator env (plain x)) _ t h) in
+      let parts : (u : ℕ) × (judge env mode.Variable (s.Designated (plain x)) ≡ Sound u) × (guard (is_simple env u) C2 x.at u ≡ Sound t) =
+      then_sound (judge env mode.Variable (s.Designated (plain x))) (λ u. guard (is_simple env u) C2 x.at u) t (also_sound (c10_designator env (plain x)) _ t h) in
       let simple : (is_simple env parts.0 ≡ true) × (parts.0 ≡ t) = provided_sound (is_simple env parts.0) C2 x.at parts.0 t parts.2 in
       let q : VariablePart G env rs p (a.Use (a.Plain x.name)) t =
       subst (VariablePart G env rs p (a.Use (a.Plain x.name))) simple.1 (varied_as G env rs p v (s.Designated (plain x)) parts.0 parts.1 variable) in
@@ -103,8 +103,8 @@ module _ (G : GlobalScope → Type 0) (env : Environment) (rs : Types) (p : Plac
       → TypedExpression p (erase.expression e) × IsOfBase f.base (expression_type p.env (erase.expression e))
   bound_as x t e f h =
       let is : (u : ℕ) × (bound env (Sound t) e ≡ Sound u) = sound_has (bound env (Sound t) e) h in
-      let parts : (u : ℕ) × (judge env mode.Value e ≡ Sound u) × (provided (agree env t u) C2 (first_token e) u ≡ Sound is.0) =
-      then_sound (judge env mode.Value e) (λ u. provided (agree env t u) C2 (first_token e) u) is.0 is.1 in
+      let parts : (u : ℕ) × (judge env mode.Value e ≡ Sound u) × (guard (agree env t u) C2 (first_token e) u ≡ Sound is.0) =
+      then_sound (judge env mode.Value e) (λ u. guard (agree env t u) C2 (first_token e) u) is.0 is.1 in
       let m : ExpressionAs G env rs p (erase.expression e) parts.0 = judged_as G env rs p v e mode.Value parts.0 parts.1 in
       let agrees : Agree f.type (expression_type p.env (erase.expression e)) =
       agree_value f.type m.type _
@@ -200,17 +200,17 @@ module _ (G : GlobalScope → Type 0) (env : Environment) (rs : Types) (p : Plac
     standard_performed standard.Empty h named allowed = absurd (cc)
     standard_performed standard.Realtime h named allowed = absurd (cc)
 
-  performed_as : (e : s.Designator) (es : s.Expressions) → performed env e es ≡ [] → TypedStatement p (a.Perform (erase.designator e) (erase.expressions es))
+  performed_as : (e : s.Designator) (es : s.Expressions) → call_statement env e es ≡ [] → TypedStatement p (a.Perform (erase.designator e) (erase.expressions es))
   performed_as e es h =
-      let called : Judged rules.Callee = also (c2_indexed env mode.Value e) (then_judge (designated env e) (procedure_of env e (count_of es))) in
-      let sound : (t : ℕ) × (both called (arguments env (wants_in env (designated env e) called) es) (result_of env) ≡ Sound t) =
-      sound_has (both called (arguments env (wants_in env (designated env e) called) es) (result_of env)) (rest_empty (c2_c5_c8_named env mode.Value e) _ h) in
-      let is : (c : rules.Callee) × (u : ℕ) × (called ≡ Sound c) × (arguments env (wants_in env (designated env e) called) es ≡ Sound u) × (result_of env c u ≡ Sound sound.0) =
-      both_sound called (arguments env (wants_in env (designated env e) called) es) (result_of env) sound.0 sound.1 in
-      let of : (e0 : Entity) × (designated env e ≡ Sound e0) × (procedure_of env e (count_of es) e0 ≡ Sound is.0) =
-      then_sound (designated env e) (procedure_of env e (count_of es)) is.0 (also_sound (c2_indexed env mode.Value e) _ is.0 is.2) in
+      let called : Judged rules.Callee = also (c2_indexed env mode.Value e) (then_judge (designate env e) (procedure_of env e (count_of es))) in
+      let sound : (t : ℕ) × (both called (arguments env (wants_in env (designate env e) called) es) (result_of env) ≡ Sound t) =
+      sound_has (both called (arguments env (wants_in env (designate env e) called) es) (result_of env)) (rest_empty (c2_c5_c8_named env mode.Value e) _ h) in
+      let is : (c : rules.Callee) × (u : ℕ) × (called ≡ Sound c) × (arguments env (wants_in env (designate env e) called) es ≡ Sound u) × (result_of env c u ≡ Sound sound.0) =
+      both_sound called (arguments env (wants_in env (designate env e) called) es) (result_of env) sound.0 sound.1 in
+      let of : (e0 : Entity) × (designate env e ≡ Sound e0) × (procedure_of env e (count_of es) e0 ≡ Sound is.0) =
+      then_sound (designate env e) (procedure_of env e (count_of es)) is.0 (also_sound (c2_indexed env mode.Value e) _ is.0 is.2) in
       let all : AllSound env is.0.wants es × FirstIs env is.0.wants es is.1 =
-      arguments_sound env es is.0.wants is.1 (sym (ap (λ j. arguments env (wants_in env (designated env e) j) es) is.2) ∙ is.3) in
+      arguments_sound env es is.0.wants is.1 (sym (ap (λ j. arguments env (wants_in env (designate env e) j) es) is.2) ∙ is.3) in
       let meets : AllAs G env rs p is.0.wants es × TypedExpressions p (erase.expressions es) = arguments_as G env rs p v es is.0.wants all.0 in
       (meets.1, go is.0 meets.0 (procedure_as G env rs p e (erase.designator e) (count_of es) of.0 is.0 (designated_as G env rs p v e of.0 of.1) of.2))
     where
@@ -228,8 +228,8 @@ module _ (G : GlobalScope → Type 0) (env : Environment) (rs : Types) (p : Plac
       → (t : ℕ) × (c2_selector env e ≡ Sound t) × ExpressionAs G env rs p (erase.expression e) t × SimpleArgument G env rs p v e t
   selector_as e h =
       let is : (t : ℕ) × (c2_selector env e ≡ Sound t) = sound_has (c2_selector env e) h in
-      let parts : (u : ℕ) × (judge env mode.Value e ≡ Sound u) × (provided (is_simple env u) C2 (first_token e) u ≡ Sound is.0) =
-      then_sound (judge env mode.Value e) (λ t. provided (is_simple env t) C2 (first_token e) t) is.0 is.1 in
+      let parts : (u : ℕ) × (judge env mode.Value e ≡ Sound u) × (guard (is_simple env u) C2 (first_token e) u ≡ Sound is.0) =
+      then_sound (judge env mode.Value e) (λ t. guard (is_simple env t) C2 (first_token e) t) is.0 is.1 in
       let simple : (is_simple env parts.0 ≡ true) × (parts.0 ≡ is.0) = provided_sound (is_simple env parts.0) C2 (first_token e) parts.0 is.0 parts.2 in
       let m : ExpressionAs G env rs p (erase.expression e) is.0 = judged_as G env rs p v e mode.Value is.0 (parts.1 ∙ ap (λ u. Sound u) simple.1) in
       (is.0, is.1, m, simple_value G env rs p v e is.0 m (ap (is_simple env) (sym simple.1) ∙ simple.0))

@@ -17,7 +17,7 @@ use Rattle.cp_model.specs.declared.rules.SystemRow.{SystemRow}
 use Rattle.cp_model.specs.declared.rules.Standard.TheVariants as standard
 use Rattle.cp_model.specs.declared.rules.Part.TheVariants as part
 use Rattle.cp_model.specs.RulesEnvironment.{Environment, Members as MemberList, Names, Text, c1_declared, declare, is_process, no_system, system_row, with_names}
-use Rattle.cp_model.specs.RulesTypes.{capped, word_limit}
+use Rattle.cp_model.specs.RulesTypes.{cap_words, word_limit}
 use Rattle.cp_model.specs.RulesNeeds.{need_statements}
 use Rattle.cp_model.specs.RulesStatements.{statements}
 use Rattle.cp_model.specs.RulesDeclarations.{Declared, Heading, Variables, heading, routines, variables, declare_each}
@@ -186,7 +186,7 @@ module _ (env : Environment) (g : GlobalScope) (rs : Types) (ys : List a.System)
   place = length behind.env.types
 
   abbrev words : ℕ
-  words = capped (1 + length head.rows + own.words + (if is_process y.sort then need_statements behind.env y.body.list else 0))
+  words = cap_words (1 + length head.rows + own.words + (if is_process y.sort then need_statements behind.env y.body.list else 0))
 
   abbrev row : TypeRow
   row = record { structure = structure.System (length behind.env.systems); words = words; has_queues = false }

@@ -109,7 +109,7 @@ constants_defined (d ∷ ds) env g rs ys stage h =
     (constants_defined ds one.env (define_all g (erase.constant_definition d ∷ [])) first.more (ys ++ systems_of (erase.constant_definition d ∷ [])) first.stage (rest_empty one.violations _ h))
 
 one_defined : (x : Identifier) (d : s.Defined) (env : Environment) (g : GlobalScope) (rs : Types) (ys : List a.System) → Stage env g rs ys → (define_as env x d).violations ≡ []
-    → Defined env g rs ys (erase.defined x d ∷ []) (define_as env x d).env
+    → Defined env g rs ys (erase.definition x d ∷ []) (define_as env x d).env
 one_defined x (s.Written t) env g rs ys stage h = type_defined env g rs ys x t stage h
 one_defined x (s.Enumeration xs) env g rs ys stage h = enumeration_defined env g rs ys x xs stage h
 one_defined x (s.SystemType y) env g rs ys stage h = system_defined env g rs ys x y stage h

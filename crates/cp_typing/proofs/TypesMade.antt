@@ -10,9 +10,9 @@ use Rattle.cp_model.specs.declared.rules.Structure.TheVariants as structure
 use Rattle.cp_model.specs.declared.rules.TypeRow.{TypeRow}
 use Rattle.cp_model.specs.declared.rules.Position.{Position}
 use Rattle.cp_model.specs.declared.rules.Position.TheVariants as position
-use Rattle.cp_model.specs.RulesJudged.{Judged, Sound, unless, both, then_judge, provided, also}
+use Rattle.cp_model.specs.RulesJudged.{Judged, Sound, unless, both, then_judge, guard, also}
 use Rattle.cp_model.specs.RulesEnvironment.{Environment, Text, base_in, is_simple, row_of, system_row}
-use Rattle.cp_model.specs.RulesTypes.{FieldList, Made, allows_queues, allows_structure, allows_system, appended, array_row, arrays, c13_record, c13_type, c1_fields, c2_index_type, c6_c8_placed, fields_of, fields_of_type, index_types, is_within, made_record, name_of, record_row, type_at, type_of, placed, c8_written, c2_written_index}
+use Rattle.cp_model.specs.RulesTypes.{FieldList, Made, allows_queues, allows_structure, allows_system, append_fields, array_row, arrays, c13_record, c13_type, c1_fields, c2_index_type, c6_c8_placed, fields_of, fields_of_type, index_types, is_within, made_record, name_of, record_row, type_at, type_of, judge_in_position, c8_written, c2_written_index}
 use Rattle.cp_model.specs.Declarations.{is_component}
 use Rattle.cp_model.specs.Types.{ArrayOf, ComponentOf, GlobalScope, Members, NoMembers, NoType, Queue, RecordOf, ResolvedType, Simple, members_of, or_no_type, with_members}
 use Rattle.cp_typing.proofs.Names.{NewNames, keys, new_append, new_is_distinct}
@@ -49,7 +49,7 @@ module _ (G : GlobalScope → Type 0) where
 
   index_sound : (env : Environment) (rs : Types) (at : ℕ) (j : Judged ℕ) (n : ℕ) → c2_index_type env at j ≡ Sound n → (j ≡ Sound n) × (is_simple env n ≡ true)
   index_sound env rs at j n h =
-      let inner : (x : ℕ) × (j ≡ Sound x) × (provided (is_simple env x) C2 at x ≡ Sound n) = then_sound j (λ t. provided (is_simple env t) C2 at t) n h in
+      let inner : (x : ℕ) × (j ≡ Sound x) × (guard (is_simple env x) C2 at x ≡ Sound n) = then_sound j (λ t. guard (is_simple env t) C2 at t) n h in
       let last : (is_simple env inner.0 ≡ true) × (inner.0 ≡ n) = provided_sound (is_simple env inner.0) C2 at inner.0 n inner.2 in
       (inner.1 ∙ ap (λ x. Sound x) last.1, ap (is_simple env) (sym last.1) ∙ last.0)
 
@@ -82,7 +82,7 @@ module _ (G : GlobalScope → Type 0) where
   kept_same env rs after m names = subst (λ e. NamesAs G m.more e.names) (sym m.same) (names_kept G env after rs m.more m.grows env.names names)
 
   -- what is sound at its position
-  pub placed_inner : (env : Environment) (p : Position) (te : s.TypeExpression) (j : Judged ℕ) (u : ℕ) → placed env p te j ≡ Sound u
+  pub placed_inner : (env : Environment) (p : Position) (te : s.TypeExpression) (j : Judged ℕ) (u : ℕ) → judge_in_position env p te j ≡ Sound u
       → (t : ℕ) × (j ≡ Sound t) × (c6_c8_placed env p (type_at te) t ≡ Sound u)
   placed_inner env p te j u h = then_sound j (c6_c8_placed env p (type_at te)) u (also_sound (c8_written env p te j) _ u h)
 
@@ -128,7 +128,7 @@ module _ (G : GlobalScope → Type 0) where
     type_made (s.Array at is e) env rs n names tables h =
         let index : Made (List (Judged ℕ)) = index_types env is in
         let element : Made (Judged ℕ) = type_of index.env e in
-        let judged : Judged ℕ = placed element.env position.Element e element.of in
+        let judged : Judged ℕ = judge_in_position element.env position.Element e element.of in
         let sound : (ns : List ℕ) × (m : ℕ) × (index.of ≡ map (λ i. Sound i) ns) × (judged ≡ Sound m) = arrays_are_sound element.env at index.of judged n h in
         let indices : IndicesMade env rs index.env sound.0 (erase.type_expressions is) = indices_made is env rs sound.0 names tables sound.2 in
         let inner : (x : ℕ) × (element.of ≡ Sound x) × (c6_c8_placed element.env position.Element (type_at e) x ≡ Sound sound.1) =
@@ -197,10 +197,10 @@ module _ (G : GlobalScope → Type 0) where
     fields_made (s.MoreFields xs t gs) env rs seen fs names tables h =
         let one : Made (Judged ℕ) = type_of env t in
         let rest : Made (Judged FieldList) = fields_of one.env (seen ++ map name_of xs) gs in
-        let judged : Judged ℕ = placed one.env position.Field t one.of in
-        let inside : both judged rest.of (λ u fs. appended (fields_of_type xs u) fs) ≡ Sound fs = also_sound (c1_fields seen xs) _ fs h in
-        let parts : (u : ℕ) × (more : FieldList) × (judged ≡ Sound u) × (rest.of ≡ Sound more) × (appended (fields_of_type xs u) more ≡ Sound fs) =
-        both_sound judged rest.of (λ u fs. appended (fields_of_type xs u) fs) fs inside in
+        let judged : Judged ℕ = judge_in_position one.env position.Field t one.of in
+        let inside : both judged rest.of (λ u fs. append_fields (fields_of_type xs u) fs) ≡ Sound fs = also_sound (c1_fields seen xs) _ fs h in
+        let parts : (u : ℕ) × (more : FieldList) × (judged ≡ Sound u) × (rest.of ≡ Sound more) × (append_fields (fields_of_type xs u) more ≡ Sound fs) =
+        both_sound judged rest.of (λ u fs. append_fields (fields_of_type xs u) fs) fs inside in
         let inner : (x : ℕ) × (one.of ≡ Sound x) × (c6_c8_placed one.env position.Field (type_at t) x ≡ Sound parts.0) =
         placed_inner one.env position.Field t one.of parts.0 parts.2 in
         let same : inner.0 ≡ parts.0 = placed_sound one.env position.Field (type_at t) inner.0 parts.0 inner.2 in

@@ -2,11 +2,11 @@
 use Rattle.std.proofs.Common.{◌≡◌, ℕ, ℤ, pos, negsuc, neg_ℤ, Bool, true, false, Option, Some, None, nat_abs, int_div, int_rem, ◌+ℤ◌, ◌-ℤ◌, ◌*ℤ◌, if◌then◌else◌, refl, ap, sym, ◌∙◌, codes, bytes_eq}
 use Rattle.cp_model.specs.Abstract.{Add, And, At, AtLeast, AtMost, Binary, Boolean, Call, Char, Designator, Divide, Equal, Expression, Expressions, Greater, Integer, Known, Less, Letter, Literal, Modulo, MoreExpressions, Multiply, Name, Negative, NoExpression, Not, Operator, Or, Part, Plain, Positive, Subtract, Unequal, Use}
 use Rattle.cp_model.specs.Types.{ArrayOf, ComponentOf, NoType, Queue, RecordOf, ResolvedType, Simple, base_of_type, full_range}
-use Rattle.cp_model.specs.Outcomes.{Fault, Gives, Outcome, and_then, provided}
+use Rattle.cp_model.specs.Outcomes.{Fault, Gives, Outcome, and_then, guard}
 use Rattle.cp_model.specs.Stores.{Store}
 use Rattle.cp_model.specs.Environments.{Environment, IsConstant, IsUnknown, IsVariable, Meaning, meaning}
 use Rattle.cp_model.specs.Places.{Place, TypedValue, element_place, head_value, field_place, field_type, indexed_place, ordinal_of, place_of_meaning, read, simple_value, truth_value, value_of_meaning, within}
-use Rattle.cp_model.specs.Operators.{Clock, apply_operator, integer_result, is_empty_queue, realtime, shifted, standard_function, with_divisor}
+use Rattle.cp_model.specs.Operators.{Clock, apply_operator, integer_result, is_empty_queue, realtime, shift, standard_function, with_divisor}
 use Rattle.cp_model.specs.Expressions.{name_of, place, value, value_of_name}
 use Rattle.cp_model.specs.Calls.{Callee, Found, callee, call_in_arguments, call_in_designator, first_call, in_context, or_else, user_call}
 use Rattle.cp_model.specs.Integers.{same_integer}
@@ -20,7 +20,7 @@ gives_then (Fault n) f y h = absurd (cc)
 given_same : {A : Type 0} (x y : A) → Gives x ≡ Gives y → x ≡ y
 given_same x y h = cc
 
-provided_gives : {A : Type 0} (b : Bool) (n : ℕ) (x y : A) → provided b n x ≡ Gives y → x ≡ y
+provided_gives : {A : Type 0} (b : Bool) (n : ℕ) (x y : A) → guard b n x ≡ Gives y → x ≡ y
 provided_gives true n x y h = cc
 provided_gives false n x y h = absurd (cc)
 
@@ -77,39 +77,39 @@ applied Greater x y v h = ap (λ z. z.type) (sym (given_same _ v h))
 applied AtMost x y v h = ap (λ z. z.type) (sym (given_same _ v h))
 applied AtLeast x y v h = ap (λ z. z.type) (sym (given_same _ v h))
 
-shifted_of : (x : TypedValue) (d : ℤ) (v : TypedValue) → shifted x d ≡ Gives v → v.type ≡ full_range (base_of_type x.type)
+shifted_of : (x : TypedValue) (d : ℤ) (v : TypedValue) → shift x d ≡ Gives v → v.type ≡ full_range (base_of_type x.type)
 shifted_of x d v h = ap (λ z. z.type) (sym (provided_gives _ 1 _ v h))
 
 standard_of : (f : Name) (x v : TypedValue) → standard_function f x ≡ Gives v → v.type ≡ standard_type f x.type
 standard_of f x v h = one (bytes_eq f (codes "abs")) h
   where
-    five : (b : Bool) → (if b then Gives (truth_value (is_empty_queue (head_value x))) else provided (within (pos 0) (pos 127) (ordinal_of x)) 1 (simple_value Char (ordinal_of x))) ≡ Gives v
+    five : (b : Bool) → (if b then Gives (truth_value (is_empty_queue (head_value x))) else guard (within (pos 0) (pos 127) (ordinal_of x)) 1 (simple_value Char (ordinal_of x))) ≡ Gives v
         → v.type ≡ (if b then full_range Boolean else full_range Char)
     five true h = ap (λ z. z.type) (sym (given_same _ v h))
     five false h = ap (λ z. z.type) (sym (provided_gives _ 1 _ v h))
 
     four : (b : Bool) → (if b then integer_result (ordinal_of x)
-        else if bytes_eq f (codes "empty") then Gives (truth_value (is_empty_queue (head_value x))) else provided (within (pos 0) (pos 127) (ordinal_of x)) 1 (simple_value Char (ordinal_of x))) ≡ Gives v
+        else if bytes_eq f (codes "empty") then Gives (truth_value (is_empty_queue (head_value x))) else guard (within (pos 0) (pos 127) (ordinal_of x)) 1 (simple_value Char (ordinal_of x))) ≡ Gives v
         → v.type ≡ (if b then full_range Integer else if bytes_eq f (codes "empty") then full_range Boolean else full_range Char)
     four true h = integer_of (ordinal_of x) v h
     four false h = five (bytes_eq f (codes "empty")) h
 
-    three : (b : Bool) → (if b then shifted x (negsuc 0) else if bytes_eq f (codes "ord") then integer_result (ordinal_of x)
-        else if bytes_eq f (codes "empty") then Gives (truth_value (is_empty_queue (head_value x))) else provided (within (pos 0) (pos 127) (ordinal_of x)) 1 (simple_value Char (ordinal_of x))) ≡ Gives v
+    three : (b : Bool) → (if b then shift x (negsuc 0) else if bytes_eq f (codes "ord") then integer_result (ordinal_of x)
+        else if bytes_eq f (codes "empty") then Gives (truth_value (is_empty_queue (head_value x))) else guard (within (pos 0) (pos 127) (ordinal_of x)) 1 (simple_value Char (ordinal_of x))) ≡ Gives v
         → v.type ≡ (if b then full_range (base_of_type x.type) else if bytes_eq f (codes "ord") then full_range Integer else if bytes_eq f (codes "empty") then full_range Boolean else full_range Char)
     three true h = shifted_of x (negsuc 0) v h
     three false h = four (bytes_eq f (codes "ord")) h
 
-    two : (b : Bool) → (if b then shifted x (pos 1) else if bytes_eq f (codes "pred") then shifted x (negsuc 0) else if bytes_eq f (codes "ord") then integer_result (ordinal_of x)
-        else if bytes_eq f (codes "empty") then Gives (truth_value (is_empty_queue (head_value x))) else provided (within (pos 0) (pos 127) (ordinal_of x)) 1 (simple_value Char (ordinal_of x))) ≡ Gives v
+    two : (b : Bool) → (if b then shift x (pos 1) else if bytes_eq f (codes "pred") then shift x (negsuc 0) else if bytes_eq f (codes "ord") then integer_result (ordinal_of x)
+        else if bytes_eq f (codes "empty") then Gives (truth_value (is_empty_queue (head_value x))) else guard (within (pos 0) (pos 127) (ordinal_of x)) 1 (simple_value Char (ordinal_of x))) ≡ Gives v
         → v.type ≡ (if b then full_range (base_of_type x.type) else if bytes_eq f (codes "pred") then full_range (base_of_type x.type) else if bytes_eq f (codes "ord") then full_range Integer
         else if bytes_eq f (codes "empty") then full_range Boolean else full_range Char)
     two true h = shifted_of x (pos 1) v h
     two false h = three (bytes_eq f (codes "pred")) h
 
-    one : (b : Bool) → (if b then integer_result (pos (nat_abs (ordinal_of x))) else if bytes_eq f (codes "succ") then shifted x (pos 1) else if bytes_eq f (codes "pred") then shifted x (negsuc 0)
+    one : (b : Bool) → (if b then integer_result (pos (nat_abs (ordinal_of x))) else if bytes_eq f (codes "succ") then shift x (pos 1) else if bytes_eq f (codes "pred") then shift x (negsuc 0)
         else if bytes_eq f (codes "ord") then integer_result (ordinal_of x)
-        else if bytes_eq f (codes "empty") then Gives (truth_value (is_empty_queue (head_value x))) else provided (within (pos 0) (pos 127) (ordinal_of x)) 1 (simple_value Char (ordinal_of x))) ≡ Gives v
+        else if bytes_eq f (codes "empty") then Gives (truth_value (is_empty_queue (head_value x))) else guard (within (pos 0) (pos 127) (ordinal_of x)) 1 (simple_value Char (ordinal_of x))) ≡ Gives v
         → v.type ≡ (if b then full_range Integer else if bytes_eq f (codes "succ") then full_range (base_of_type x.type) else if bytes_eq f (codes "pred") then full_range (base_of_type x.type)
         else if bytes_eq f (codes "ord") then full_range Integer else if bytes_eq f (codes "empty") then full_range Boolean else full_range Char)
     one true h = integer_of (pos (nat_abs (ordinal_of x))) v h

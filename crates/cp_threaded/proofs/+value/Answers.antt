@@ -3,7 +3,7 @@ use Rattle.std.proofs.Math.Seq.{drop-cons}
 use Rattle.std.proofs.lemmas.List.{at_drop_all}
 use Rattle.cp_code.specs.Terms as terms
 use Rattle.cp_steps.specs.Values.{bind, place_of, value_of}
-use Rattle.cp_threaded.specs.Reaches.{capped, capped_result, chain_value, elements_place, offset_of, view_of}
+use Rattle.cp_threaded.specs.Reaches.{cap_place, capped_result, chain_value, elements_place, offset_of, view_of}
 use Rattle.cp_threaded.specs.View as view
 use Rattle.cp_threaded.specs.declared.term.Spot.{out-Spot}
 use Rattle.cp_threaded.specs.declared.term.Term.{out-Term}
@@ -25,7 +25,7 @@ evaluation::place_of_element-loop-i-preserved t c =
     ∙ ap (λ k. c.i-item.result ∷ drop k c.args.indices.now) next in
     let valued : value_of v i.value ≡ Ok n = ap (λ x. value_of v x.value) (index_is c.i-item.result) ∙ sym c.value_here.ensures ∙ c.in_ok-n.was in
     let moved : offset_of i n ≡ Ok far = search rules in
-    let told : capped c.saturating_add-at.result ≡ capped (at + far) = omega (arith, c.saturating_add-at.ensures) in
+    let told : cap_place c.saturating_add-at.result ≡ cap_place (at + far) = omega (arith, c.saturating_add-at.ensures) in
     record {
       small = c.saturating_add-at.type_inv;
       place =
@@ -40,7 +40,7 @@ evaluation::place_of_element-returns t c =
     let v = view_of c.args.reach.now in
     let at = c.loop-i.at in
     let small : at < 2 ^ 64 = c.loop-i.invariant.small in
-    let told : at ≡ capped at = omega arith in
+    let told : at ≡ cap_place at = omega arith in
     ap (λ n. Ok n) told
     ∙ (sym (at_drop_all (λ xs. capped_result (elements_place v at (map view.index xs))) c.args.indices.now c.loop-i.i-index c.loop-i-test.false)
     ∙ c.loop-i.invariant.place)

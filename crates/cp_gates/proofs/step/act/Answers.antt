@@ -17,5 +17,5 @@ returns-clause-step c =
     let all : k.shared.len ≡ length k.shared.items = search rules in
     let after = lent ys k.shared.items k.shared.len same all in
     let w = outside_same k x input c.args.clock c.deref.result.now c.deref-2.result.now c.deref.ensures.value c.deref-2.ensures.value in
-    (λ i. (states.joined c.step.new.private input (after i), states.effect c.step.result))
-    ∙ (c.step.ensures.step ∙ (λ i. step_with program (w i) (states.joined x input (value i))))
+    (λ i. (states.join c.step.new.private input (after i), states.effect c.step.result))
+    ∙ (c.step.ensures.step ∙ (λ i. step_with program (w i) (states.join x input (value i))))

@@ -21,7 +21,7 @@ returns-clause-step c =
     let own = length x.memory.words.items in
     let e = states.effect c.act-effect.result in
     let due = step_due program c.args.clock (turning k x input) c.requires.due in
-    let made = ap (plain.parted own (turning k x input)) c.act-effect.ensures.step in
+    let made = ap (plain.part_words own (turning k x input)) c.act-effect.ensures.step in
     let same : kernel_of mid ≡ record (kernel_of k) { shared = mid.shared.items } = kernel_same k mid c.act-effect.ensures.gates c.act-effect.ensures.stages in
     let counted = c.words-own.ensures.words input in
     let numbered = c.number-p.ensures.number input in

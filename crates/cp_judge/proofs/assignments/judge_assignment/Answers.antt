@@ -6,7 +6,7 @@ use Rattle.cp_judge.proofs.assignments.judge_assignment.Goals as goal
 pub returns : goal.returns
 returns c =
     let env = c.args.env.now in
-    let a = st.left env (designator c.args.d.now) in
+    let a = st.left_side env (designator c.args.d.now) in
     let to_component = component_told env a c.left-a.result c.left-a.ensures.1 in
     (c.sides.ensures c.args.told.now c.left-a.new.told a (st.right env a (expression c.args.e.now)) c.left-a.ensures
     (rw (c.is_component_type.ensures, to_component) at c.right-b.ensures)).0

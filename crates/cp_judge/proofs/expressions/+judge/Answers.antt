@@ -51,9 +51,9 @@ select_elements-loop-i-preserved t c = λ t0 j told.
     let i = c.loop-i.i-index in
     let all = c.args.indices.now in
     let e = expression o.value in
-    let step : x.indexed env k (indices_of (map index (drop i all))) ≡ x.indexed env k (indices_of (map index (o ∷ drop (i + 1) all))) =
-    at_drop_more (λ os. x.indexed env k (indices_of (map index os))) all i o c.loop-i-test.true ∙ ap (λ p. x.indexed env k (indices_of (map index (p ∷ drop (i + 1) all)))) (sym c.i-item.is) in
-    let view = ap (λ p. x.indexed env k (indices_of (p ∷ map index (drop (i + 1) all)))) (view_index o) in (
+    let step : x.apply_indices env k (indices_of (map index (drop i all))) ≡ x.apply_indices env k (indices_of (map index (o ∷ drop (i + 1) all))) =
+    at_drop_more (λ os. x.apply_indices env k (indices_of (map index os))) all i o c.loop-i-test.true ∙ ap (λ p. x.apply_indices env k (indices_of (map index (p ∷ drop (i + 1) all)))) (sym c.i-item.is) in
+    let view = ap (λ p. x.apply_indices env k (indices_of (p ∷ map index (drop (i + 1) all)))) (view_index o) in (
       both (parts.array_of env o.at k) (x.judge env mode.Value e) (n.c2_index env (n.first_token e)),
       (rw c.first_token.ensures at c.element_if-part.ensures) t0 c.array_if-of.new.told (parts.array_of env o.at k) (x.judge env mode.Value e)
           (c.array_if-of.ensures t0 k so_far.1) c.judge-t.ensures,
@@ -101,7 +101,7 @@ judge-returns-in-Call t c =
     let v : expression c.args.e.now ≡ s.Call d es = rw c.in-Call.is (view_call c.in-Call.d c.in-Call.list) in
     let count : c.len.result ≡ n.count_of es = c.len.ensures ∙ sym c.deref.ensures.len ∙ ap length c.deref.ensures.value ∙ sym (count_expressions list) in
     let jc = parts.callee_of env c.args.mode d (n.count_of es) in
-    let ja = x.arguments env (x.wants_in env (x.designated env d) jc) es in
+    let ja = x.arguments env (x.wants_in env (x.designate env d) jc) es in
     let callee = rw count at c.judge_callee-called.ensures.callee in
     let wanted = rw count at c.judge_callee-called.ensures.wants in
     let given = rw (wanted, c.deref.ensures.value) at c.arguments-t.ensures in
@@ -121,7 +121,7 @@ pub judge_callee-returns-clause-callee : goal.judge_callee-returns-clause-callee
 judge_callee-returns-clause-callee t c =
     let env = c.args.env.now in
     let d = designator c.args.d.now in
-    let je = x.designated env d in
+    let je = x.designate env d in
     let t1 = c.no_indexed_value-no_value.new.told in
     rw c.answer_if-callee.ensures (also_callee env c.args.told.now t1 c.function_if-function.new.told c.no_indexed_value-no_value.result (n.c2_indexed env c.args.mode d)
     c.function_if-function.result (parts.function_if env c.args.mode d c.args.count je) c.no_indexed_value-no_value.ensures
@@ -131,6 +131,6 @@ pub judge_callee-returns-clause-wants : goal.judge_callee-returns-clause-wants
 judge_callee-returns-clause-wants t c =
     let env = c.args.env.now in
     let d = designator c.args.d.now in
-    let je = x.designated env d in
+    let je = x.designate env d in
     c.wants_of_call.ensures ∙ wants_told env c.judge_designator-entity.result je c.answer_if-callee.result (parts.callee_of env c.args.mode d c.args.count) c.judge_designator-entity.ensures.1
     (judge_callee-returns-clause-callee t c).1

@@ -30,11 +30,11 @@ invariant-chain-loop-o l =
 abbrev pub invariant-judge_designator-loop-s : goal.invariant-judge_designator-loop-s
 invariant-judge_designator-loop-s l =
     (j : Judged Entity) × Tells l.fn.told l.told l.part j
-    × (x.selected l.env j (selectors_of (map selector (drop l.s-index l.s-items))) ≡ x.designated l.fn.env (designator l.fn.d))
+    × (x.apply_selectors l.env j (selectors_of (map selector (drop l.s-index l.s-items))) ≡ x.designate l.fn.env (designator l.fn.d))
 
 -- the violations reported so far are those of the indices so far
 abbrev pub invariant-select_elements-loop-i : goal.invariant-select_elements-loop-i
 invariant-select_elements-loop-i l =
     (t : Option Violation) (j : Judged Entity) → Tells t l.fn.told l.fn.part j
     → (k : Judged Entity) × Tells t l.told l.part k
-    × (x.indexed l.env k (indices_of (map index (drop l.i-index l.indices))) ≡ x.indexed l.fn.env j (indices_of (map index l.fn.indices)))
+    × (x.apply_indices l.env k (indices_of (map index (drop l.i-index l.indices))) ≡ x.apply_indices l.fn.env j (indices_of (map index l.fn.indices)))

@@ -16,4 +16,4 @@ returns-in-None c =
     let e = expression c.args.e.now in
     let told : c.tell.new.told ≡ earlier c.args.told.now (violation C12 (first_token e)) = rw c.first_token.ensures at c.tell.ensures in
     rw (argument_unnamed env c.args.wanted e c.in-None.ensures)
-    (c.unwanted_argument.ensures.0 ∙ ap (λ t. least t (violations_of (st.unwanted env e))) told, refl)
+    (c.unwanted_argument.ensures.0 ∙ ap (λ t. least t (violations_of (st.surplus_argument env e))) told, refl)

@@ -12,7 +12,7 @@ pub returns-clause-callee : goal.returns-clause-callee
 returns-clause-callee c =
     let env = c.args.env.now in
     let d = designator c.args.d.now in
-    let je = x.designated env d in
+    let je = x.designate env d in
     let t1 = c.no_indexed_value-no_value.new.told in
     rw c.answer_if-callee.ensures (also_callee env c.args.told.now t1 c.procedure_if-procedure.new.told c.no_indexed_value-no_value.result (n.c2_indexed env mode.Value d)
     c.procedure_if-procedure.result (parts.procedure_if env d c.args.count je) c.no_indexed_value-no_value.ensures
@@ -22,6 +22,6 @@ pub returns-clause-wants : goal.returns-clause-wants
 returns-clause-wants c =
     let env = c.args.env.now in
     let d = designator c.args.d.now in
-    let je = x.designated env d in
+    let je = x.designate env d in
     c.wants_of_call.ensures ∙ wants_told env c.judge_designator-entity.result je c.answer_if-callee.result (parts.procedure_called env d c.args.count) c.judge_designator-entity.ensures.1
     (returns-clause-callee c).1

@@ -7,7 +7,7 @@ use Rattle.cp_threaded.specs.View as view
 use Rattle.cp_machine.specs.MachineOf.{input_at}
 use Rattle.cp_machine.specs.Numbers.{AreNumbered}
 use Rattle.cp_machine.specs.Runs.{TurnsTaken}
-use Rattle.cp_machine.specs.Turned.{turned}
+use Rattle.cp_machine.specs.Turned.{take_turn}
 use Rattle.cp_machine.specs.declared.moment.Moment.{Moment}
 use Rattle.cp_machine.proofs.Lists.{got_at}
 use Rattle.cp_machine.proofs.Made.{process_made}
@@ -80,7 +80,7 @@ returns-clause-taken g c = λ rounds k time was.
     subst (λ (l : List ℕ). private_of y l ≡ g.C.Course.turned (g.C.Course.moment c.args.round) (private_of x.0 l)) (course.inputs (length ys))
     (subst (λ (i : ℕ). private_of y (g.C.Course.input i) ≡ g.C.Course.turned (g.C.Course.moment c.args.round) (private_of x.0 (g.C.Course.input i))) back comes) in
     let is = at ∙ course.steps (g.C.Course.moment c.args.round) (private_of x.0 (input_at inputs (length ys)))
-    ∙ ap (λ (w : Moment). turned program t w (private_of x.0 (input_at inputs (length ys)))) (sym c.requires.time ∙ time) in
+    ∙ ap (λ (w : Moment). take_turn program t w (private_of x.0 (input_at inputs (length ys)))) (sym c.requires.time ∙ time) in
     let turn = subst (λ (w : Moment). IsTurned program w.clock t k1 k2 y z (input_at inputs (length ys))) time
     (subst (λ (l : List ℕ). IsTurned program c.args.moment.clock t k1 k2 y z l) (c.input-input.ensures ∙ ap (λ (i : ℕ). input_at inputs i) back)
     c.kernel_turn.ensures.turn) in

@@ -7,7 +7,7 @@ use Rattle.cp_machine.proofs.run.make_rounds_of.Given as goal
 
 abbrev pub ghosts-make_rounds_by_threads : goal.ghosts-make_rounds_by_threads
 ghosts-make_rounds_by_threads g a = record {
-  turned = plain.turned (view.program a.setting.now.program) a.plan.now.turn.steps;
+  turned = plain.take_turn (view.program a.setting.now.program) a.plan.now.turn.steps;
   moment = λ i. plain.moment_of a.setting.now.tick.rounds (a.done + i);
   input = input_at a.setting.now.inputs.items;
   most = 11 * a.plan.now.turn.steps;

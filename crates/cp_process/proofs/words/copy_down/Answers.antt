@@ -3,7 +3,7 @@ use Rattle.std.specs.Prelude.{slice_set}
 use Rattle.std.specs.Int.{w32}
 use Rattle.std.proofs.lemmas.Int.{to_z-of_z}
 use Rattle.cp_code.specs.Starts.{block, paste, word}
-use Rattle.cp_threaded.specs.Reaches.{capped}
+use Rattle.cp_threaded.specs.Reaches.{cap_place}
 use Rattle.cp_process.proofs.Blocks.{copied_down}
 use Rattle.cp_process.proofs.words.copy_down.Goals as goal
 
@@ -12,7 +12,7 @@ loop-i-preserved c =
     let ws = c.loop-i.own ++ c.loop-i.shared in
     let i = c.loop-i.i in
     let from = c.args.from in
-    let read_there : capped (from + i) ≡ c.saturating_add.result = omega (arith, c.saturating_add.ensures) in
+    let read_there : cap_place (from + i) ≡ c.saturating_add.result = omega (arith, c.saturating_add.ensures) in
     let whole = to_z-of_z w32 c.read-n.result (record { sfits = c.read-n.type_inv }) in
     let written : c.write.new.own ++ c.write.new.shared ≡ slice_set ws (c.args.to + i) (word ws (from + i)) =
     c.write.ensures.word ∙ ap (slice_set ws (c.args.to + i)) (whole ∙ c.read-n.ensures.capped (from + i) read_there) in

@@ -1,6 +1,6 @@
 use Rattle.std.proofs.Common.{◌+◌, ◌-◌, ◌≤◌, ◌++◌, length, ap, sym, ◌∙◌, arith}
 use Rattle.std.proofs.lemmas.List.{length-append}
-use Rattle.cp_code.specs.Starts.{repeated}
+use Rattle.cp_code.specs.Starts.{repeat_block}
 use Rattle.cp_process.proofs.Blocks.{repeated_beyond, repeated_more, repeated_nothing}
 use Rattle.cp_process.proofs.words.repeat.Goals as goal
 
@@ -11,7 +11,7 @@ loop-i-preserved c =
     record {
       small = omega (arith, c.loop-i.invariant.small);
       words =
-          ap (repeated (from + size) size (c.args.count - (c.loop-i._i + 1))) c.copy.ensures.words
+          ap (repeat_block (from + size) size (c.args.count - (c.loop-i._i + 1))) c.copy.ensures.words
           ∙ (repeated_more (c.loop-i.own ++ c.loop-i.shared) from size c.loop-i._i c.args.count (omega arith)
           ∙ c.loop-i.invariant.words);
       own = c.copy.ensures.own ∙ c.loop-i.invariant.own;

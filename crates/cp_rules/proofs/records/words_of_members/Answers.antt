@@ -1,5 +1,5 @@
 use Rattle.std.proofs.Common.{◌+◌, ℕ, drop, slice_get, refl, ap, sym, ◌∙◌}
-use Rattle.cp_model.specs.RulesTypes.{capped}
+use Rattle.cp_model.specs.RulesTypes.{cap_words}
 use Rattle.cp_rules.specs.Records.{words_if, words_of_members}
 use Rattle.cp_rules.proofs.CappedWords.{capped_most, capped_next}
 use Rattle.cp_rules.proofs.Fields.{words_step}
@@ -15,5 +15,5 @@ loop-number-preserved c =
     record {
       within = capped_most c.sum-words.result _ c.sum-words.ensures;
       words = capped_next c.loop-number.words c.words_at.result (words_if env (slice_get ms k)) c.sum-words.result rest c.words_at.ensures c.sum-words.ensures
-          ∙ sym (ap (λ (n : ℕ). capped (c.loop-number.words + n)) step) ∙ c.loop-number.invariant.words;
+          ∙ sym (ap (λ (n : ℕ). cap_words (c.loop-number.words + n)) step) ∙ c.loop-number.invariant.words;
     }

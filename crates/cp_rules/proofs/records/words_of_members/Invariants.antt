@@ -1,5 +1,5 @@
 use Rattle.std.proofs.Common.{◌≡◌, ◌≤◌, ◌+◌, drop}
-use Rattle.cp_model.specs.RulesTypes.{capped}
+use Rattle.cp_model.specs.RulesTypes.{cap_words}
 use Rattle.cp_rules.specs.Records.{words_of_members}
 use Rattle.cp_rules.proofs.records.words_of_members.Given as goal
 
@@ -10,5 +10,5 @@ invariant-loop-number l =
     let ms = l.members in
     record {
       within : l.words ≤ 65537;
-      words : capped (l.words + words_of_members env (drop l.number ms)) ≡ capped (words_of_members env ms);
+      words : cap_words (l.words + words_of_members env (drop l.number ms)) ≡ cap_words (words_of_members env ms);
     }

@@ -7,4 +7,4 @@ use Rattle.cp_syntax.proofs.lists.read_while.Given as goal
 
 -- what is still to be read completes the whole
 abbrev pub invariant-loop-turn : goal.invariant-loop-turn
-invariant-loop-turn g l = (test : Option Kind → Bool) (reader : Reader g.X.Node.Plain) → Tests (goal.G-post g l.goes_on) test → Reads g.X.Node.view (goal.F-post g l.item) reader → reading.repeat test reader (l._turn-end - l._turn) (map g.X.Node.view l.found.items) l.rest ≡ reading.repeated test reader (map g.X.Node.view l.fn.found.items) l.tokens
+invariant-loop-turn g l = (test : Option Kind → Bool) (reader : Reader g.X.Node.Plain) → Tests (goal.G-post g l.goes_on) test → Reads g.X.Node.view (goal.F-post g l.item) reader → reading.repeat test reader (l._turn-end - l._turn) (map g.X.Node.view l.found.items) l.rest ≡ reading.repeat_while test reader (map g.X.Node.view l.fn.found.items) l.tokens

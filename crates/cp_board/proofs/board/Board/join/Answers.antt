@@ -4,7 +4,7 @@ use Rattle.atomic_table.specs.Table.{Allows, step}
 use Rattle.cp_board.specs.declared.view.Shape.{Shape}
 use Rattle.cp_board.specs.Rule.{KeepsRule}
 use Rattle.cp_board.specs.Steps.{LearnsDraws}
-use Rattle.cp_board.specs.Views.{IsDone, joined}
+use Rattle.cp_board.specs.Views.{IsDone, join_views}
 use Rattle.cp_board.proofs.MarkLists.{done_first, done_second}
 use Rattle.cp_board.proofs.StopSteps.{learns}
 use Rattle.cp_board.proofs.SplitAndJoin.{joins}
@@ -41,10 +41,10 @@ load-requires c =
 
 pub returns-clause-first_done : goal.returns-clause-first_done
 returns-clause-first_done c done =
-    let view : c.load.new.seat.me.0 ≡ joined c.args.first.view c.args.second.view = search rules in
+    let view : c.load.new.seat.me.0 ≡ join_views c.args.first.view c.args.second.view = search rules in
     subst IsDone (sym view) (done_first c.args.first.view c.args.second.view done)
 
 pub returns-clause-second_done : goal.returns-clause-second_done
 returns-clause-second_done c done =
-    let view : c.load.new.seat.me.0 ≡ joined c.args.first.view c.args.second.view = search rules in
+    let view : c.load.new.seat.me.0 ≡ join_views c.args.first.view c.args.second.view = search rules in
     subst IsDone (sym view) (done_second c.args.first.view c.args.second.view (c.requires.second.shape ∙ sym c.requires.first.shape) done)

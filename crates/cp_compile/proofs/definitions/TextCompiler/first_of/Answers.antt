@@ -14,7 +14,7 @@ returns-in-System c =
     let x = c.args.d.now.name in
     let s = erase.system (tree.system c.in-System.field-0) in
     let is : erase.type_definition (tree.type_definition c.args.d.now) ≡ a.SystemDef x.name s =
-    ap (λ t. erase.defined x (tree.defined_type t)) c.in-System.is in
+    ap (λ t. erase.definition x (tree.defined_type t)) c.in-System.is in
     if_ok c.system.result
     (λ first made g m i named are.
     let own = subst (IsNamed g) is named in

@@ -2,7 +2,7 @@ use Rattle.std.proofs.Common.{rules, ◌≡◌, ◌∙◌, ◌∷◌, ◌++◌, 
 use Rattle.std.proofs.lemmas.Int.{to_z-of_z}
 use Rattle.cp_code.specs.Plans.{fill_before}
 use Rattle.cp_threaded.specs.declared.program.Start.TheVariants as start
-use Rattle.cp_emit.specs.Drafts.{Joins, planned}
+use Rattle.cp_emit.specs.Drafts.{Joins, plan_of}
 use Rattle.cp_emit.proofs.Drafting.{one_filled, one_joined}
 use Rattle.cp_threaded.proofs.Wide.{narrow}
 use Rattle.cp_emit.proofs.draft.Draft.fill.Goals as goal
@@ -16,7 +16,7 @@ returns-in_ok-push-in-Some-2-clause-starts c =
     subst (Joins c.args.at c.args.count (narrow c.args.value) c.in-Some.next) c.in-Some-2.is c.in_ok-both.ensures in
     one_joined before c.push-in-Some-2.new.self.items last c.in-Some.next c.in-Some-2.both c.args.at c.args.count (narrow c.args.value) was joins
     c.in_ok-push-in-Some-2.ensures.items
-    ∙ ap (λ v. fill_before c.args.at c.args.count v (planned c.args.self.now)) (to_z-of_z w32 c.args.value c.ranges.value)
+    ∙ ap (λ v. fill_before c.args.at c.args.count v (plan_of c.args.self.now)) (to_z-of_z w32 c.args.value c.ranges.value)
 
 pub returns-in_ok-push-in-None-2-clause-starts : goal.returns-in_ok-push-in-None-2-clause-starts
 returns-in_ok-push-in-None-2-clause-starts c =
@@ -28,4 +28,4 @@ returns-in_ok-push-in-None-2-clause-starts c =
     let first = start.Fill c.args.at c.args.count (narrow c.args.value) in
     one_filled before c.push-in-None-2.new.self.items last c.in-Some.next first c.args.at c.args.count (narrow c.args.value) was refl joins
     (c.in_ok-push-in-None-2.ensures.items ∙ ap (λ xs. xs ++ first ∷ []) (c.in_ok-push-in-None.ensures.items ∙ sym was))
-    ∙ ap (λ v. fill_before c.args.at c.args.count v (planned c.args.self.now)) (to_z-of_z w32 c.args.value c.ranges.value)
+    ∙ ap (λ v. fill_before c.args.at c.args.count v (plan_of c.args.self.now)) (to_z-of_z w32 c.args.value c.ranges.value)

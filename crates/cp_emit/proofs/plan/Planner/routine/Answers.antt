@@ -4,7 +4,7 @@ use Rattle.cp_model.specs.Declarations.{declarations, members_from}
 use Rattle.cp_model.specs.Types.{NoMembers}
 use Rattle.cp_scope.specs.declared.types.Field.{Field}
 use Rattle.cp_scope.specs.Standing.{AreMembers, entry}
-use Rattle.cp_emit.specs.Drafts.{planned}
+use Rattle.cp_emit.specs.Drafts.{plan_of}
 use Rattle.cp_emit.specs.Members.{member_of}
 use Rattle.cp_emit.specs.Planning.{types_of}
 use Rattle.cp_emit.proofs.Membership.{declared_members, routine_planned}
@@ -23,6 +23,6 @@ returns c = λ g r knows parameters variables is.
     subst (λ fs. AreMembers types fs (members_from vs NoMembers)) (sym all) (declared_members types c.args.variables.now vs [] NoMembers variables tt) in
     let plan = rw c.deref.ensures.value at c.in_ok-draft.ensures in
     c.into_starts.ensures
-    ∙ routine_planned g r c.args.is_function c.result_words.result c.in_ok-first.first (planned c.in_ok-draft.draft) (planned c.mark_result.new.draft) is
+    ∙ routine_planned g r c.args.is_function c.result_words.result c.in_ok-first.first (plan_of c.in_ok-draft.draft) (plan_of c.mark_result.new.draft) is
     c.result_words.ensures (c.in_ok-first.ensures g (declarations g r.parameters) knows parameters)
     (plan g (members_from vs NoMembers) knows stand) c.in_ok-mark_result.ensures

@@ -2,7 +2,7 @@ use Rattle.std.proofs.Common.{◌≡◌, ◌-◌, Bool, false, sym, ap, ◌∙�
 use Rattle.cp_process.specs.States.{private_of}
 use Rattle.cp_threaded.specs.View as view
 use Rattle.cp_machine.specs.Turned as plain
-use Rattle.cp_machine.specs.Tasks.{after_turn, unwritten, written}
+use Rattle.cp_machine.specs.Tasks.{after_turn, bytes_to_write, bytes_written}
 use Rattle.cp_machine.proofs.task.Task.make.Goals as goal
 
 pub invariant_of-self : goal.invariant_of-self
@@ -26,16 +26,16 @@ invariant_of-self g c =
       comes = λ x e.
           let was : private_of old input ≡ private_of x input =
           subst (λ (b : Bool). private_of old input ≡ after_turn turned b (private_of x input)) made (task.comes x e) in
-          subst (λ (l : List ℕ). private_of new l ≡ plain.turned program steps task.moment (private_of old l)) (sym (course.inputs at)) c.turn_in_place.ensures.turned
+          subst (λ (l : List ℕ). private_of new l ≡ plain.take_turn program steps task.moment (private_of old l)) (sym (course.inputs at)) c.turn_in_place.ensures.turned
           ∙ (sym (course.steps task.moment (private_of old input)) ∙ ap turned was);
       short = λ x e.
           let was = task.short x e in
-          let none = ap (written most) made in
+          let none = ap (bytes_written most) made in
           let grown = c.turn_in_place.ensures.length in
           omega (arith, was, none, grown, bytes);
       room =
           let was = task.room in
-          let none = ap (unwritten most) made in
+          let none = ap (bytes_to_write most) made in
           let grown = c.turn_in_place.ensures.length in
           let kept = c.turn_in_place.ensures.capacity in
           omega (arith, was, none, grown, kept, bytes);

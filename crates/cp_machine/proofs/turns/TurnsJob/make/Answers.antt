@@ -25,9 +25,9 @@ returns g c =
     record {
       given = record {
         turned = λ x e.
-            subst (λ (j : ℕ). private_of y (input_at inputs j) ≡ plain.turned program job.turn.steps job.moment (private_of copied (input_at inputs j))) at
+            subst (λ (j : ℕ). private_of y (input_at inputs j) ≡ plain.take_turn program job.turn.steps job.moment (private_of copied (input_at inputs j))) at
             c.turn_in_place.ensures.turned
-            ∙ ap (plain.turned program job.turn.steps job.moment)
+            ∙ ap (plain.take_turn program job.turn.steps job.moment)
             (c.in_ok-next.ensures.same (input_at inputs i) ∙ ap (λ (z : Private). private_of z (input_at inputs i)) (some_is x2 x (sym here ∙ e)));
         number = λ x e.
             c.turn_in_place.ensures.number ∙ (c.in_ok-next.ensures.number ∙ ap (λ (z : Private). z.number) (some_is x2 x (sym here ∙ e)));

@@ -2,7 +2,7 @@ use Rattle.std.proofs.Common.{◌≡◌, ◌++◌, ◌∷◌, [], None, map, ap,
 use Rattle.std.proofs.lemmas.List.{map-append}
 use Rattle.std.proofs.lemmas.Map.Text.{btree_map_updates_str}
 use Rattle.cp_model.specs.RulesEnvironment.{Text}
-use Rattle.cp_names.specs.Tables.{AreDistinct, IsIndex, seen}
+use Rattle.cp_names.specs.Tables.{AreDistinct, IsIndex, entry_view}
 use Rattle.cp_names.proofs.Index.{ChangesAt, index_less}
 use Rattle.cp_names.proofs.Distinct.{distinct_less}
 use Rattle.cp_names.proofs.table.NameTable.remove_last.Goals as goal
@@ -11,9 +11,9 @@ pub invariant_of-self : goal.invariant_of-self
 invariant_of-self g c =
     let m = c.self.inside.numbers in
     let n = c.remove.new.self in
-    let es = map seen c.pop.new.self.items in
+    let es = map entry_view c.pop.new.self.items in
     let d : Text × g.row.A.Denot = (c.in-Some.name.now, c.in-Some.field-0-1) in
-    let all : map seen c.self.inside.entries.items ≡ es ++ d ∷ [] = ap (map seen) c.in-Some.ensures.items ∙ map-append seen c.pop.new.self.items _ in
+    let all : map entry_view c.self.inside.entries.items ≡ es ++ d ∷ [] = ap (map entry_view) c.in-Some.ensures.items ∙ map-append entry_view c.pop.new.self.items _ in
     let index : IsIndex m (es ++ d ∷ []) = subst (IsIndex m) all c.self.invariant.0 in
     let distinct : AreDistinct (es ++ d ∷ []) = subst AreDistinct all c.self.invariant.1 in
     let changed : ChangesAt m n d.0 None = btree_map_updates_str d.0 m n None c.remove.ensures.updates in

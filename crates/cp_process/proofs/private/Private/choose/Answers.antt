@@ -3,7 +3,7 @@ use Rattle.std.specs.Int.{w32}
 use Rattle.cp_code.specs.Tables.{place_in}
 use Rattle.cp_steps.specs.Steps.{go_to_arm}
 use Rattle.cp_threaded.specs.View as view
-use Rattle.cp_process.specs.States.{joined}
+use Rattle.cp_process.specs.States.{join}
 use Rattle.cp_process.proofs.private.Private.choose.Goals as goal
 
 pub returns-in_err-n-clause-step : goal.returns-in_err-n-clause-step
@@ -19,7 +19,7 @@ returns-in-Some-clause-step c =
     let own = length c.args.self.now.memory.words.items in
     let input = c.args.outside.now.input.now in
     let table = view.table c.args.table.now in
-    let o = joined c.args.self.now input c.args.shared.now in
+    let o = join c.args.self.now input c.args.shared.now in
     let is = sym c.in_ok-n.was ∙ c.evaluate.ensures input own in
     let whole : to_z w32 (of_z w32 c.in_ok-n.n) ≡ c.in_ok-n.n = search rules in
     let leads = sym c.in-Some.is ∙ c.place.ensures ∙ ap (place_in table) whole in
@@ -30,7 +30,7 @@ returns-in-None-clause-step c =
     let own = length c.args.self.now.memory.words.items in
     let input = c.args.outside.now.input.now in
     let table = view.table c.args.table.now in
-    let o = joined c.args.self.now input c.args.shared.now in
+    let o = join c.args.self.now input c.args.shared.now in
     let is = sym c.in_ok-n.was ∙ c.evaluate.ensures input own in
     let whole : to_z w32 (of_z w32 c.in_ok-n.n) ≡ c.in_ok-n.n = search rules in
     let leads = sym c.in-None.is ∙ c.place.ensures ∙ ap (place_in table) whole in

@@ -5,7 +5,7 @@ use Rattle.std.specs.Int.Signed.{mag}
 use Rattle.cp_model.specs.Decimal.{decimal}
 use Rattle.cp_model.specs.StandardCalls.{byte}
 use Rattle.cp_steps.specs.PrivateStates.{go_to, private_outcome}
-use Rattle.cp_process.specs.States.{joined}
+use Rattle.cp_process.specs.States.{join}
 use Rattle.cp_process.proofs.Digits.{decimal_is}
 use Rattle.cp_process.proofs.private.Private.display.Goals as goal
 
@@ -22,7 +22,7 @@ returns-then-as_byte-clause-step c =
     let own = length c.args.self.now.memory.words.items in
     let input = c.args.outside.now.input.now in
     let shared = c.args.shared.now in
-    let o = joined c.args.self.now input shared in
+    let o = join c.args.self.now input shared in
     let is = sym c.in_ok-n.was ∙ c.evaluate.ensures input own in
     let text : c.byte.result ∷ [] ≡ (if c.args.as_byte then byte c.in_ok-n.n ∷ [] else decimal c.in_ok-n.n) = search rules in
     rw (← is) (ap private_outcome (c.write_out.ensures.step input shared ∙ ap (λ t. go_to c.args.next (record o { output = o.output ++ t })) text))
@@ -32,7 +32,7 @@ returns-else-as_byte-clause-step c =
     let own = length c.args.self.now.memory.words.items in
     let input = c.args.outside.now.input.now in
     let shared = c.args.shared.now in
-    let o = joined c.args.self.now input shared in
+    let o = join c.args.self.now input shared in
     let is = sym c.in_ok-n.was ∙ c.evaluate.ensures input own in
     let digits : c.as_bytes.result.now ≡ signed_decimal c.in_ok-n.n = search rules in
     let few : mag c.in_ok-n.n < 2 ^ 31 = search rules in

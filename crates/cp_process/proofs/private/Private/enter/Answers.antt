@@ -1,8 +1,8 @@
 use Rattle.std.proofs.Common.{◌∙◌}
 use Rattle.cp_steps.specs.Calling.{enter}
 use Rattle.cp_threaded.specs.View as view
-use Rattle.cp_process.specs.Calls.{back, called}
-use Rattle.cp_process.specs.States.{joined}
+use Rattle.cp_process.specs.Calls.{back, called_of}
+use Rattle.cp_process.specs.States.{join}
 use Rattle.cp_process.proofs.private.Private.enter.Goals as goal
 
 pub returns-clause-step : goal.returns-clause-step
@@ -10,5 +10,5 @@ returns-clause-step c =
     let unit = view.code_unit c.args.unit.now in
     let call = view.call c.args.call.now in
     λ input shared.
-    let entered = enter (joined c.args.self.now input shared) (called c.args.callee) unit call (back c.args.link) in
+    let entered = enter (join c.args.self.now input shared) (called_of c.args.callee) unit call (back c.args.link) in
     c.keep.ensures.step input shared ∙ λ i. record entered { gate = c.innermost_gate-self.ensures i }

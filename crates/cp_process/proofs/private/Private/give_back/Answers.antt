@@ -2,7 +2,7 @@ use Rattle.std.proofs.Common.{rules, arith, ◌≡◌, ◌-◌, List, Err, ap, s
 use Rattle.cp_steps.specs.PrivateStates.{Frame, Leaves}
 use Rattle.cp_steps.specs.Calling.{gate_effect, leave, return_with, with_frame}
 use Rattle.cp_process.specs.Calls.{returning}
-use Rattle.cp_process.specs.States.{frame, frames_in, joined}
+use Rattle.cp_process.specs.States.{frame, frames_in, join}
 use Rattle.cp_process.proofs.Returning.{returned, unreturned}
 use Rattle.cp_process.proofs.private.Private.give_back.Goals as goal
 
@@ -10,7 +10,7 @@ pub returns-in_err-value-clause-step : goal.returns-in_err-value-clause-step
 returns-in_err-value-clause-step c =
     let input = c.args.outside.now.input.now in
     let shared = c.args.shared.now in
-    let o = joined c.args.self.now input shared in
+    let o = join c.args.self.now input shared in
     let f = frame c.in-Some.frame in
     let fs = frames_in c.in-Some.ensures.0 c.args.self.now.frames.items in
     let below : c.args.self.now.depth - 1 ≡ c.in-Some.ensures.0 = omega (arith, c.in-Some.ensures.1) in
@@ -24,7 +24,7 @@ pub returns-clause-step : goal.returns-clause-step
 returns-clause-step c =
     let input = c.args.outside.now.input.now in
     let shared = c.args.shared.now in
-    let o = joined c.args.self.now input shared in
+    let o = join c.args.self.now input shared in
     let f = frame c.in-Some.frame in
     let fs = frames_in c.in-Some.ensures.0 c.args.self.now.frames.items in
     let below : c.args.self.now.depth - 1 ≡ c.in-Some.ensures.0 = omega (arith, c.in-Some.ensures.1) in

@@ -2,13 +2,13 @@ use Rattle.std.proofs.Common.{rules, arith, ◌≡◌, ◌+◌, pos, map, true, 
 use Rattle.std.proofs.lemmas.List.{length-map}
 use Rattle.cp_model.specs.Integers.{same_integer}
 use Rattle.cp_model.specs.declared.state.Fault.TheVariants as fault
-use Rattle.cp_steps.specs.PrivateStates.{PrivateState, private_outcome, provided, set_word}
+use Rattle.cp_steps.specs.PrivateStates.{PrivateState, private_outcome, guard, set_word}
 use Rattle.cp_steps.specs.Calling.{Back, class_at, enter, settle}
 use Rattle.cp_steps.specs.Passing.{when_passed}
-use Rattle.cp_threaded.specs.Reaches.{capped}
+use Rattle.cp_threaded.specs.Reaches.{cap_place}
 use Rattle.cp_threaded.specs.View as view
-use Rattle.cp_process.specs.Calls.{passed}
-use Rattle.cp_process.specs.States.{joined, outcome, outside_of}
+use Rattle.cp_process.specs.Calls.{passing_of}
+use Rattle.cp_process.specs.States.{join, outcome, outside_of}
 use Rattle.cp_process.proofs.Calling.{init_by, init_done, init_rest, init_unit}
 use Rattle.cp_process.proofs.Kept.{all_kept, same_registers}
 use Rattle.cp_process.proofs.private.Private.init_class.Goals as goal
@@ -19,7 +19,7 @@ returns-in_default-clause-step c =
     let input = c.args.outside.now.input.now in
     let own = length x.memory.words.items in
     let w = outside_of c.args.outside.now own in
-    let o = joined x input c.args.shared.now in
+    let o = join x input c.args.shared.now in
     let program = view.program c.args.program.now in
     let call = view.call c.args.call.now in
     let next = c.args.next in
@@ -34,7 +34,7 @@ returns-then-word-ne0-clause-step c =
     let input = c.args.outside.now.input.now in
     let own = length x.memory.words.items in
     let w = outside_of c.args.outside.now own in
-    let o = joined x input c.args.shared.now in
+    let o = join x input c.args.shared.now in
     let program = view.program c.args.program.now in
     let call = view.call c.args.call.now in
     let next = c.args.next in
@@ -44,10 +44,10 @@ returns-then-word-ne0-clause-step c =
     let named = ap (λ k. init_by program w o call next k.component) (c.callee-at.ensures input) in
     let there = c.in-Some.ensures.unit w input refl (init_unit program w o call next at) in
     let place = c.in-Some.ensures.room.component in
-    let told : capped at ≡ at = omega (arith, place, x.facts, c.requires) in
+    let told : cap_place at ≡ at = omega (arith, place, x.facts, c.requires) in
     let mark = c.word.ensures input at told in
     let set : same_integer c.word.result (pos 0) ≡ false = search rules in
-    let tested = ap (λ b. provided b o fault.InitialisedTwice (init_rest program w o call next at unit)) (ap (λ n. same_integer n (pos 0)) (sym mark) ∙ set) in
+    let tested = ap (λ b. guard b o fault.InitialisedTwice (init_rest program w o call next at unit)) (ap (λ n. same_integer n (pos 0)) (sym mark) ∙ set) in
     sym tested ∙ (sym there ∙ named)
 
 pub returns-in_err-pass_all-clause-step : goal.returns-in_err-pass_all-clause-step
@@ -56,7 +56,7 @@ returns-in_err-pass_all-clause-step c =
     let input = c.args.outside.now.input.now in
     let own = length x.memory.words.items in
     let w = outside_of c.args.outside.now own in
-    let o = joined x input c.args.shared.now in
+    let o = join x input c.args.shared.now in
     let program = view.program c.args.program.now in
     let call = view.call c.args.call.now in
     let next = c.args.next in
@@ -66,16 +66,16 @@ returns-in_err-pass_all-clause-step c =
     let named = ap (λ k. init_by program w o call next k.component) (c.callee-at.ensures input) in
     let there = c.in-Some.ensures.unit w input refl (init_unit program w o call next at) in
     let place = c.in-Some.ensures.room.component in
-    let told : capped at ≡ at = omega (arith, place, x.facts, c.requires) in
+    let told : cap_place at ≡ at = omega (arith, place, x.facts, c.requires) in
     let mark = c.word.ensures input at told in
     let unset : same_integer c.word.result (pos 0) ≡ true = search rules in
-    let tested = ap (λ b. provided b o fault.InitialisedTwice (init_rest program w o call next at unit)) (ap (λ n. same_integer n (pos 0)) (sym mark) ∙ unset) in
+    let tested = ap (λ b. guard b o fault.InitialisedTwice (init_rest program w o call next at unit)) (ap (λ n. same_integer n (pos 0)) (sym mark) ∙ unset) in
     let done = init_done program w o call next at unit in
     let passing = rw c.deref.ensures.value at c.pass_all.ensures.step own in
-    let p = joined c.pass_all.new.self input c.pass_all.new.shared in
+    let p = join c.pass_all.new.self input c.pass_all.new.shared in
     let f = c.in_err-pass_all.field-0.0 in
     let given : c.from_residual.result ≡ Err f = search rules in
-    let all = ap (λ r. when_passed (passed p r) done) (sym c.in_err-pass_all.was) ∙ ap (λ a. when_passed a done) passing in
+    let all = ap (λ r. when_passed (passing_of p r) done) (sym c.in_err-pass_all.was) ∙ ap (λ a. when_passed a done) passing in
     ap (outcome p) given ∙ (all ∙ (sym tested ∙ (sym there ∙ named)))
 
 pub enter-requires-clause-frame : goal.enter-requires-clause-frame
@@ -84,20 +84,20 @@ enter-requires-clause-frame c =
     let input = c.args.outside.now.input.now in
     let own = length x.memory.words.items in
     let w = outside_of c.args.outside.now own in
-    let o = joined x input c.args.shared.now in
+    let o = join x input c.args.shared.now in
     let program = view.program c.args.program.now in
     let call = view.call c.args.call.now in
     let next = c.args.next in
     let from = o.base + call.words in
     let at = c.callee-at.result.component in
     let place = c.in-Some.ensures.room.component in
-    let told : capped at ≡ at = omega (arith, place, x.facts, c.requires) in
+    let told : cap_place at ≡ at = omega (arith, place, x.facts, c.requires) in
     let passing = rw c.deref.ensures.value at c.pass_all.ensures.step own in
-    let p = joined c.pass_all.new.self input c.pass_all.new.shared in
-    let all = ap (passed p) (sym c.in_ok-pass_all.was) ∙ passing in
+    let p = join c.pass_all.new.self input c.pass_all.new.shared in
+    let all = ap (passing_of p) (sym c.in_ok-pass_all.was) ∙ passing in
     let kept = ap (λ a. a.own) all ∙ all_kept call.arguments w from at o in
     let settled = c.settle.ensures.step input ∙ ap (λ (q : PrivateState). record q { words = (settle p from at c.len.result).words }) kept in
-    let ws = (set_word (joined c.settle.new.self input c.settle.new.shared) at (pos 1)).words in
+    let ws = (set_word (join c.settle.new.self input c.settle.new.shared) at (pos 1)).words in
     let marked = c.set_word.ensures.step input at told ∙ ap (λ (q : PrivateState). record q { words = ws }) settled in
     let regs = same_registers x c.set_word.new.self input c.args.shared.now c.set_word.new.shared ws marked in
     let room = c.in-Some.ensures.room in
@@ -109,20 +109,20 @@ enter-requires-clause-base c =
     let input = c.args.outside.now.input.now in
     let own = length x.memory.words.items in
     let w = outside_of c.args.outside.now own in
-    let o = joined x input c.args.shared.now in
+    let o = join x input c.args.shared.now in
     let program = view.program c.args.program.now in
     let call = view.call c.args.call.now in
     let next = c.args.next in
     let from = o.base + call.words in
     let at = c.callee-at.result.component in
     let place = c.in-Some.ensures.room.component in
-    let told : capped at ≡ at = omega (arith, place, x.facts, c.requires) in
+    let told : cap_place at ≡ at = omega (arith, place, x.facts, c.requires) in
     let passing = rw c.deref.ensures.value at c.pass_all.ensures.step own in
-    let p = joined c.pass_all.new.self input c.pass_all.new.shared in
-    let all = ap (passed p) (sym c.in_ok-pass_all.was) ∙ passing in
+    let p = join c.pass_all.new.self input c.pass_all.new.shared in
+    let all = ap (passing_of p) (sym c.in_ok-pass_all.was) ∙ passing in
     let kept = ap (λ a. a.own) all ∙ all_kept call.arguments w from at o in
     let settled = c.settle.ensures.step input ∙ ap (λ (q : PrivateState). record q { words = (settle p from at c.len.result).words }) kept in
-    let ws = (set_word (joined c.settle.new.self input c.settle.new.shared) at (pos 1)).words in
+    let ws = (set_word (join c.settle.new.self input c.settle.new.shared) at (pos 1)).words in
     let marked = c.set_word.ensures.step input at told ∙ ap (λ (q : PrivateState). record q { words = ws }) settled in
     let regs = same_registers x c.set_word.new.self input c.args.shared.now c.set_word.new.shared ws marked in
     let room = c.in-Some.ensures.room in
@@ -134,20 +134,20 @@ enter-requires-clause-temp c =
     let input = c.args.outside.now.input.now in
     let own = length x.memory.words.items in
     let w = outside_of c.args.outside.now own in
-    let o = joined x input c.args.shared.now in
+    let o = join x input c.args.shared.now in
     let program = view.program c.args.program.now in
     let call = view.call c.args.call.now in
     let next = c.args.next in
     let from = o.base + call.words in
     let at = c.callee-at.result.component in
     let place = c.in-Some.ensures.room.component in
-    let told : capped at ≡ at = omega (arith, place, x.facts, c.requires) in
+    let told : cap_place at ≡ at = omega (arith, place, x.facts, c.requires) in
     let passing = rw c.deref.ensures.value at c.pass_all.ensures.step own in
-    let p = joined c.pass_all.new.self input c.pass_all.new.shared in
-    let all = ap (passed p) (sym c.in_ok-pass_all.was) ∙ passing in
+    let p = join c.pass_all.new.self input c.pass_all.new.shared in
+    let all = ap (passing_of p) (sym c.in_ok-pass_all.was) ∙ passing in
     let kept = ap (λ a. a.own) all ∙ all_kept call.arguments w from at o in
     let settled = c.settle.ensures.step input ∙ ap (λ (q : PrivateState). record q { words = (settle p from at c.len.result).words }) kept in
-    let ws = (set_word (joined c.settle.new.self input c.settle.new.shared) at (pos 1)).words in
+    let ws = (set_word (join c.settle.new.self input c.settle.new.shared) at (pos 1)).words in
     let marked = c.set_word.ensures.step input at told ∙ ap (λ (q : PrivateState). record q { words = ws }) settled in
     let regs = same_registers x c.set_word.new.self input c.args.shared.now c.set_word.new.shared ws marked in
     let room = c.in-Some.ensures.room in
@@ -159,7 +159,7 @@ returns-clause-step c =
     let input = c.args.outside.now.input.now in
     let own = length x.memory.words.items in
     let w = outside_of c.args.outside.now own in
-    let o = joined x input c.args.shared.now in
+    let o = join x input c.args.shared.now in
     let program = view.program c.args.program.now in
     let call = view.call c.args.call.now in
     let next = c.args.next in
@@ -169,14 +169,14 @@ returns-clause-step c =
     let named = ap (λ k. init_by program w o call next k.component) (c.callee-at.ensures input) in
     let there = c.in-Some.ensures.unit w input refl (init_unit program w o call next at) in
     let place = c.in-Some.ensures.room.component in
-    let told : capped at ≡ at = omega (arith, place, x.facts, c.requires) in
+    let told : cap_place at ≡ at = omega (arith, place, x.facts, c.requires) in
     let mark = c.word.ensures input at told in
     let unset : same_integer c.word.result (pos 0) ≡ true = search rules in
-    let tested = ap (λ b. provided b o fault.InitialisedTwice (init_rest program w o call next at unit)) (ap (λ n. same_integer n (pos 0)) (sym mark) ∙ unset) in
+    let tested = ap (λ b. guard b o fault.InitialisedTwice (init_rest program w o call next at unit)) (ap (λ n. same_integer n (pos 0)) (sym mark) ∙ unset) in
     let done = init_done program w o call next at unit in
     let passing = rw c.deref.ensures.value at c.pass_all.ensures.step own in
-    let p = joined c.pass_all.new.self input c.pass_all.new.shared in
-    let all = ap (passed p) (sym c.in_ok-pass_all.was) ∙ passing in
+    let p = join c.pass_all.new.self input c.pass_all.new.shared in
+    let all = ap (passing_of p) (sym c.in_ok-pass_all.was) ∙ passing in
     let arguments = c.args.call.now.arguments.items in
     let count : c.len.result ≡ length (map view.argument arguments) = omega (arith, c.len.ensures, length-map arguments view.argument) in
     let link : Back = record { place = next; into = 0 } in

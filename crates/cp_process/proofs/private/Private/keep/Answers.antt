@@ -1,7 +1,7 @@
 use Rattle.std.proofs.Common.{◌≡◌, suc, ◌+◌, length, slice_set, ap, ◌∙◌, arith}
 use Rattle.std.specs.List.{refill}
 use Rattle.std.proofs.lemmas.List.{length-set}
-use Rattle.cp_process.specs.States.{frames_in, joined}
+use Rattle.cp_process.specs.States.{frames_in, join}
 use Rattle.cp_process.proofs.InUse.{frames_more, refilled}
 use Rattle.cp_process.proofs.private.Private.keep.Goals as goal
 
@@ -16,4 +16,4 @@ returns-clause-step c =
     let more : old.depth + 1 ≡ suc old.depth = omega arith in
     let frames = (λ i. frames_in (more i) (all i)) ∙ frames_more fs old.depth c.args.frame c.requires in
     let limit = ap length all ∙ length-set fs old.depth c.args.frame in
-    λ input shared. λ i. record (joined old input shared) { frames = frames i; limit = limit i }
+    λ input shared. λ i. record (join old input shared) { frames = frames i; limit = limit i }

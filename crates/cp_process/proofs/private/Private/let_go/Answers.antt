@@ -6,7 +6,7 @@ use Rattle.cp_steps.specs.PrivateStates.{Continues, Frame, private_outcome, set_
 use Rattle.cp_steps.specs.Steps.{is_held}
 use Rattle.cp_steps.specs.Calling.{leave, return_with, with_frame}
 use Rattle.cp_process.specs.Calls.{returning}
-use Rattle.cp_process.specs.States.{frame, frames_in, joined}
+use Rattle.cp_process.specs.States.{frame, frames_in, join}
 use Rattle.cp_process.proofs.Results.{held_none, held_some, placed, unplaced}
 use Rattle.cp_process.proofs.Returning.{returned, unreturned, written_after}
 use Rattle.cp_process.proofs.private.Private.let_go.Goals as goal
@@ -22,7 +22,7 @@ pub returns-in_default-clause-step : goal.returns-in_default-clause-step
 returns-in_default-clause-step c =
     let input = c.args.outside.now.input.now in
     let shared = c.args.shared.now in
-    let o = joined c.args.self.now input shared in
+    let o = join c.args.self.now input shared in
     let own = length c.args.self.now.memory.words.items in
     let at = placed _ _ (sym c.in_ok-at.was ∙ c.place.ensures input own) in
     let back = λ (g : Frame) (gs : List Frame). return_with o (set_word o at.0 (pos 0)) g gs c.args.function (Continues g.gate (word o.words at.0)) in
@@ -34,7 +34,7 @@ pub returns-then-frame-eq0-clause-step : goal.returns-then-frame-eq0-clause-step
 returns-then-frame-eq0-clause-step c =
     let input = c.args.outside.now.input.now in
     let shared = c.args.shared.now in
-    let o = joined c.args.self.now input shared in
+    let o = join c.args.self.now input shared in
     let own = length c.args.self.now.memory.words.items in
     let at = placed _ _ (sym c.in_ok-at.was ∙ c.place.ensures input own) in
     let f = frame c.in-Some.frame in
@@ -49,7 +49,7 @@ pub returns-in_err-value-clause-step : goal.returns-in_err-value-clause-step
 returns-in_err-value-clause-step c =
     let input = c.args.outside.now.input.now in
     let shared = c.args.shared.now in
-    let o = joined c.args.self.now input shared in
+    let o = join c.args.self.now input shared in
     let own = length c.args.self.now.memory.words.items in
     let at = placed _ _ (sym c.in_ok-at.was ∙ c.place.ensures input own) in
     let f = frame c.in-Some.frame in
@@ -68,7 +68,7 @@ pub returns-clause-step : goal.returns-clause-step
 returns-clause-step c =
     let input = c.args.outside.now.input.now in
     let shared = c.args.shared.now in
-    let o = joined c.args.self.now input shared in
+    let o = join c.args.self.now input shared in
     let own = length c.args.self.now.memory.words.items in
     let at = placed _ _ (sym c.in_ok-at.was ∙ c.place.ensures input own) in
     let f = frame c.in-Some.frame in

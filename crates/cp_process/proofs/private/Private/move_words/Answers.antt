@@ -1,6 +1,6 @@
 use Rattle.std.proofs.Common.{rules, ◌≡◌, ◌<◌, ◌^◌, ◌++◌, length, ap, ◌∙◌, arith}
 use Rattle.std.proofs.lemmas.List.{length-append, with_items_is}
-use Rattle.cp_process.specs.States.{joined}
+use Rattle.cp_process.specs.States.{join}
 use Rattle.cp_process.proofs.Blocks.{copied_capped}
 use Rattle.cp_process.proofs.private.Private.move_words.Goals as goal
 
@@ -12,6 +12,6 @@ returns-clause-step c =
     let small : length ws < 2 ^ 32 = omega (arith, length-append old.memory.words.items shared, c.requires, old.facts) in
     let same : length c.copy.new.own ≡ old.memory.words.len = search rules in
     λ input i j toward away.
-    ap (λ us. record (joined old input shared) { words = us })
+    ap (λ us. record (join old input shared) { words = us })
     (ap (λ us. us ++ c.copy.new.shared) (with_items_is old.memory.words c.copy.new.own same)
     ∙ (rw c.deref_mut.ensures.value at c.copy.ensures.words ∙ copied_capped ws c.args.to c.args.from i j c.args.count small toward away))

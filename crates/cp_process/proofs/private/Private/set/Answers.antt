@@ -4,7 +4,7 @@ use Rattle.cp_steps.specs.Steps.{set_within}
 use Rattle.cp_steps.specs.Values.{place_of, value_of}
 use Rattle.cp_threaded.specs.Reaches.{capped_result}
 use Rattle.cp_threaded.specs.View as view
-use Rattle.cp_process.specs.States.{joined, outcome}
+use Rattle.cp_process.specs.States.{join, outcome}
 use Rattle.cp_process.proofs.Results.{placed, unplaced}
 use Rattle.cp_process.proofs.private.Private.set.Goals as goal
 
@@ -35,14 +35,14 @@ returns-clause-step c =
     let found = placed _ _ (sym c.in_ok-at.was ∙ place) in
     let is = sym c.in_ok-n.was ∙ (c.value_here.ensures ∙ ap (λ v. value_of v (view.term c.args.value.now)) (c.reach-reach.ensures input own)) in
     let whole : to_z w32 (of_z w32 c.in_ok-n.n) ≡ c.in_ok-n.n = search rules in
-    let o = joined c.args.self.now input c.args.shared.now in
+    let o = join c.args.self.now input c.args.shared.now in
     let low = c.args.low.now in
     let high = c.args.high.now in
     let next = c.args.next.now in
     let bounds = c.new.result in
     let lowest : bounds.low ≡ low = search rules in
     let highest : bounds.high ≡ high = search rules in
-    let done : outcome (joined c.set_within.new.self input c.set_within.new.shared) c.set_within.result ≡ set_within o low high found.0 c.in_ok-n.n next =
+    let done : outcome (join c.set_within.new.self input c.set_within.new.shared) c.set_within.result ≡ set_within o low high found.0 c.in_ok-n.n next =
     c.set_within.ensures.step input found.0 found.2
     ∙ (ap (λ n. set_within o bounds.low bounds.high found.0 n next) whole
     ∙ (ap (λ n. set_within o n bounds.high found.0 c.in_ok-n.n next) lowest

@@ -1,7 +1,7 @@
 use Rattle.std.proofs.Common.{rules, arith, ◌≡◌, to_z, of_z, Err, length, refl, ap, sym, ◌∙◌}
 use Rattle.std.specs.Int.{w32}
 use Rattle.cp_steps.specs.Steps.{set_within}
-use Rattle.cp_process.specs.States.{joined, outcome}
+use Rattle.cp_process.specs.States.{join, outcome}
 use Rattle.cp_process.proofs.private.Private.set_result.Goals as goal
 
 pub returns-in_err-n-clause-step : goal.returns-in_err-n-clause-step
@@ -19,14 +19,14 @@ returns-clause-step c =
     let base = c.args.self.now.memory.base in
     let is = sym c.in_ok-n.was ∙ c.evaluate_here.ensures input own in
     let whole : to_z w32 (of_z w32 c.in_ok-n.n) ≡ c.in_ok-n.n = search rules in
-    let o = joined c.args.self.now input c.args.shared.now in
+    let o = join c.args.self.now input c.args.shared.now in
     let low = c.args.low.now in
     let high = c.args.high.now in
     let next = c.args.next.now in
     let bounds = c.new.result in
     let lowest : bounds.low ≡ low = search rules in
     let highest : bounds.high ≡ high = search rules in
-    let done : outcome (joined c.set_within.new.self input c.set_within.new.shared) c.set_within.result ≡ set_within o low high base c.in_ok-n.n next =
+    let done : outcome (join c.set_within.new.self input c.set_within.new.shared) c.set_within.result ≡ set_within o low high base c.in_ok-n.n next =
     c.set_within.ensures.step input base (omega arith)
     ∙ (ap (λ n. set_within o bounds.low bounds.high base n next) whole
     ∙ (ap (λ n. set_within o n bounds.high base c.in_ok-n.n next) lowest

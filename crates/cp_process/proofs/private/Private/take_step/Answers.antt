@@ -4,7 +4,7 @@ use Rattle.std.proofs.lemmas.List.{nil_from_length}
 use Rattle.cp_steps.specs.PrivateStates.{Acting, is_running}
 use Rattle.cp_steps.specs.Steps.{act, alone, is_private, operation_of}
 use Rattle.cp_threaded.specs.View as view
-use Rattle.cp_process.specs.States.{joined, outside_of, private_of}
+use Rattle.cp_process.specs.States.{join, outside_of, private_of}
 use Rattle.cp_process.proofs.Unshared.{outside_alone, private_joined, stepped}
 use Rattle.cp_process.proofs.private.Private.take_step.Goals as goal
 
@@ -22,9 +22,9 @@ returns-clause-step c =
     let private : is_private o (Some x) ≡ true = search rules in
     let none : c.make.new.shared ≡ [] = nil_from_length c.make.new.shared (search rules) in
     let made = ap (λ (a : Acting). a.0) c.make.ensures.step in
-    let here : (act program (outside_of c.args.outside.now (length old.memory.words.items)) (joined old input []) x).0 ≡ (act program (alone clock o) o x).0 =
+    let here : (act program (outside_of c.args.outside.now (length old.memory.words.items)) (join old input []) x).0 ≡ (act program (alone clock o) o x).0 =
     λ i. (act program (outside_alone c.args.outside.now old input c.requires.alone i) (sym (private_joined old input) i) x).0 in
-    private_joined new input ∙ (ap (joined new input) (sym none) ∙ (made ∙ (here ∙ sym (stepped program clock o x there running private))))
+    private_joined new input ∙ (ap (join new input) (sym none) ∙ (made ∙ (here ∙ sym (stepped program clock o x there running private))))
 
 pub returns-in-Set-clause-number : goal.returns-in-Set-clause-number
 returns-in-Set-clause-number c = c.assign.ensures.number

@@ -2,7 +2,7 @@ use Rattle.std.proofs.Common.{rules, ◌≡◌, Err, length, refl, ap, sym, ◌�
 use Rattle.std.specs.Prelude.{pos, if◌then◌else◌}
 use Rattle.cp_model.specs.Integers.{same_integer}
 use Rattle.cp_steps.specs.PrivateStates.{go_to, private_outcome}
-use Rattle.cp_process.specs.States.{joined}
+use Rattle.cp_process.specs.States.{join}
 use Rattle.cp_process.proofs.private.Private.test.Goals as goal
 
 pub returns-in_err-n-clause-step : goal.returns-in_err-n-clause-step
@@ -18,6 +18,6 @@ returns-clause-step c =
     let own = length c.args.self.now.memory.words.items in
     let input = c.args.outside.now.input.now in
     let is = sym c.in_ok-n.was ∙ c.evaluate.ensures input own in
-    let o = joined c.args.self.now input c.args.shared.now in
+    let o = join c.args.self.now input c.args.shared.now in
     let goes : c.if-n-eq1.self ≡ (if same_integer c.in_ok-n.n (pos 1) then c.args.yes else c.args.no) = search rules in
     rw (← is) (ap (λ p. private_outcome (go_to p o)) goes)

@@ -1,7 +1,7 @@
 use Rattle.std.proofs.Common.{rules, ◌≡◌, Some, true, false, ap, sym, ◌∙◌}
 use Rattle.std.specs.Prelude.{option_map, slice_get}
 use Rattle.cp_threaded.specs.View as view
-use Rattle.cp_process.specs.States.{joined}
+use Rattle.cp_process.specs.States.{join}
 use Rattle.cp_process.proofs.Calling.{unit_full, unit_there}
 use Rattle.cp_process.proofs.private.Private.unit_with_room.Goals as goal
 
@@ -10,7 +10,7 @@ returns-then-has_room-clause-unit c =
     λ w input own go.
     let program = view.program c.args.program.now in
     let call = view.call c.args.call.now in
-    let o = joined c.args.self.now input c.args.shared.now in
+    let o = join c.args.self.now input c.args.shared.now in
     let there : slice_get program.units call.routine ≡ Some (view.code_unit c.in_ok-unit.unit.now) = sym c.unit.ensures ∙ ap (option_map (λ u. view.code_unit u.now)) c.in_ok-unit.was in
     let tested : c.has_room.result ≡ true = search rules in
     unit_there program w o call c.args.component go (view.code_unit c.in_ok-unit.unit.now) there (sym (c.has_room.ensures.value w input own) ∙ tested)
@@ -20,7 +20,7 @@ returns-else-has_room-clause-unit c =
     λ w input own go.
     let program = view.program c.args.program.now in
     let call = view.call c.args.call.now in
-    let o = joined c.args.self.now input c.args.shared.now in
+    let o = join c.args.self.now input c.args.shared.now in
     let there : slice_get program.units call.routine ≡ Some (view.code_unit c.in_ok-unit.unit.now) = sym c.unit.ensures ∙ ap (option_map (λ u. view.code_unit u.now)) c.in_ok-unit.was in
     let tested : c.has_room.result ≡ false = search rules in
     unit_full program w o call c.args.component go (view.code_unit c.in_ok-unit.unit.now) there (sym (c.has_room.ensures.value w input own) ∙ tested)

@@ -2,7 +2,7 @@ use Rattle.std.proofs.Common.{◌≡◌, ◌+◌, ◌∷◌, List, drop, map, ap
 use Rattle.std.proofs.lemmas.List.{at_drop_more, drop_all}
 use Rattle.cp_model.specs.RulesDeclarations as d
 use Rattle.cp_model.specs.View as view
-use Rattle.cp_rules.specs.Headings.{Collected, collected, with_heading, with_part}
+use Rattle.cp_rules.specs.Headings.{Collected, collection, with_heading, with_part}
 use Rattle.cp_rules.proofs.HeadingGroups.{end_collected, rest_collected, rest_judged}
 use Rattle.cp_rules.proofs.checker.Checker.heading.Goals as goal
 
@@ -23,8 +23,8 @@ loop-group-preserved c =
       judged = rest_judged old new c.args.of c.args.is_function g gs made.state
           ∙ sym (ap (λ hs. with_heading old (d.heading old.env c.args.of c.args.is_function hs)) step) ∙ c.loop-group.invariant.judged;
       within = omega (arith, words);
-      collected = rest_collected old new c.args.of c.args.is_function g gs made.state (collected c.loop-group.heading) (collected c.parameter_group.new.heading) made.heading
-          ∙ sym (ap (λ hs. with_part (collected c.loop-group.heading) (d.heading old.env c.args.of c.args.is_function hs)) step) ∙ c.loop-group.invariant.collected;
+      collected = rest_collected old new c.args.of c.args.is_function g gs made.state (collection c.loop-group.heading) (collection c.parameter_group.new.heading) made.heading
+          ∙ sym (ap (λ hs. with_part (collection c.loop-group.heading) (d.heading old.env c.args.of c.args.is_function hs)) step) ∙ c.loop-group.invariant.collected;
     }
 
 pub returns : goal.returns
@@ -35,7 +35,7 @@ returns c =
     let none = drop_all i all c.loop-group-test.false in
     let rest = λ (gs : List _). d.heading old.env c.args.of c.args.is_function (map view.parameters gs) in (
       sym (ap (λ (gs : List _). with_heading old (rest gs)) none) ∙ c.loop-group.invariant.judged,
-      end_collected (collected c.loop-group.heading) (rest (drop i all)) (ap (λ (gs : List _). (rest gs).bound) none)
+      end_collected (collection c.loop-group.heading) (rest (drop i all)) (ap (λ (gs : List _). (rest gs).bound) none)
           (ap (λ (gs : List _). (rest gs).rows) none) (ap (λ (gs : List _). (rest gs).words) none) c.loop-group.invariant.within
           ∙ c.loop-group.invariant.collected,
     )

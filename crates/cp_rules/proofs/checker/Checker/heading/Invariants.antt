@@ -1,7 +1,7 @@
 use Rattle.std.proofs.Common.{◌≡◌, ◌≤◌, drop, map}
 use Rattle.cp_model.specs.RulesDeclarations as d
 use Rattle.cp_model.specs.View as view
-use Rattle.cp_rules.specs.Headings.{collected, nothing, with_heading, with_part}
+use Rattle.cp_rules.specs.Headings.{collection, nothing, with_heading, with_part}
 use Rattle.cp_rules.proofs.checker.Checker.heading.Given as goal
 
 -- the rest of the groups leads to the same end as all of them
@@ -14,5 +14,5 @@ invariant-loop-group l =
     record {
       judged : with_heading now rest ≡ with_heading before all;
       within : l.heading.words ≤ 65537;
-      collected : with_part (collected l.heading) rest ≡ with_part nothing all;
+      collected : with_part (collection l.heading) rest ≡ with_part nothing all;
     }

@@ -1,7 +1,7 @@
 use Rattle.std.proofs.Common.{◌+◌, Bool, ap, sym, ◌∙◌}
 use Rattle.cp_model.specs.declared.rules.Rule.TheVariants.{C13}
 use Rattle.cp_model.specs.RulesJudged.{Violations, earlier, unless}
-use Rattle.cp_model.specs.RulesTypes.{capped}
+use Rattle.cp_model.specs.RulesTypes.{cap_words}
 use Rattle.cp_model.specs.View as view
 use Rattle.cp_rules.specs.Checking.{State, telling}
 use Rattle.cp_rules.proofs.WholeTexts.{broken_body, sound_body}
@@ -21,7 +21,7 @@ pub returns-in-None : goal.returns-in-None
 returns-in-None c n words =
     let old = c.args.self.now in
     let needed = rw c.deref-in-None.ensures.value at c.need-need.ensures in
-    let counted = c.sum-in-None.ensures ∙ (λ i. capped (c.sum.ensures i + needed i)) in
+    let counted = c.sum-in-None.ensures ∙ (λ i. cap_words (c.sum.ensures i + needed i)) in
     c.unless.ensures
     ∙ ap (λ (within : Bool). telling old (unless within C13 c.args.body.now.at)) c.is_within-fits.ensures
     ∙ ap (λ (vs : Violations). telling old vs)

@@ -1,5 +1,5 @@
 use Rattle.std.proofs.Common.{◌≡◌, ◌+◌, ℕ, length, rules, ap, ◌∙◌}
-use Rattle.cp_model.specs.RulesTypes.{capped}
+use Rattle.cp_model.specs.RulesTypes.{cap_words}
 use Rattle.cp_model.specs.View as view
 use Rattle.cp_rules.specs.Checking.{State}
 use Rattle.cp_rules.proofs.RoutineParts.{routine_declared}
@@ -12,7 +12,7 @@ returns c =
     let routine = view.routine c.args.routine.now in
     let first : c.parameter_count-first.result ≡ length c.routine_heading.new.self.env.parameters = search rules in
     let count : c.len.result ≡ length c.in_ok-heading.heading.rows.items = search rules in
-    let needed = c.sum-2.ensures ∙ ap (λ (n : ℕ). capped (n + c.in_ok-inside.inside)) c.sum.ensures in
+    let needed = c.sum-2.ensures ∙ ap (λ (n : ℕ). cap_words (n + c.in_ok-inside.inside)) c.sum.ensures in
     let opened = ap (λ (z : State). z.env) c.self.view_is in
     on_ok c.leave_routine.result
     (λ left. routine_declared old c.args.sort routine c.routine_heading.new.self c.routine_body.new.self c.leave_routine.new.self

@@ -4,8 +4,8 @@ use Rattle.cp_model.specs.RulesEnvironment as r
 use Rattle.cp_model.specs.View as view
 use Rattle.cp_model.specs.declared.rules.Entity.TheVariants as entity
 use Rattle.cp_rules.specs.Checking.{State}
-use Rattle.cp_rules.specs.Headings.{collected}
-use Rattle.cp_rules.specs.Routines.{entered, inside, region_of}
+use Rattle.cp_rules.specs.Headings.{collection}
+use Rattle.cp_rules.specs.Routines.{enter_region, inside, region_of}
 use Rattle.cp_rules.proofs.RoutineParts.{body_judged}
 use Rattle.cp_rules.proofs.checker.Checker.routine_body.Goals as goal
 
@@ -14,10 +14,10 @@ returns c =
     let old = c.args.self.now in
     let y = c.args.sort in
     let routine = view.routine c.args.routine.now in
-    let k = collected c.args.heading.now in
-    let entering : c.enter.new.self ≡ record old { env = entered old.env k.rows (region_of y routine) } =
+    let k = collection c.args.heading.now in
+    let entering : c.enter.new.self ≡ record old { env = enter_region old.env k.rows (region_of y routine) } =
     rw (c.part.ensures, c.deref.ensures.value) at c.in_ok-enter.ensures in
-    let named : c.add.new.self ≡ record old { env = r.declare routine.name (entity.UnfinishedRoutine c.args.row) (entered old.env k.rows (region_of y routine)) } =
+    let named : c.add.new.self ≡ record old { env = r.declare routine.name (entity.UnfinishedRoutine c.args.row) (enter_region old.env k.rows (region_of y routine)) } =
     c.in_ok-add.ensures
     ∙ ap (λ (z : State). let st : State = record z { env = r.declare routine.name (entity.UnfinishedRoutine c.args.row) z.env } in st) entering in
     let within : c.add_each.new.self ≡ record old { env = inside old.env y routine c.args.row k } =

@@ -2,7 +2,7 @@ use Rattle.std.proofs.Common.{◌≡◌, ap, ◌∙◌}
 use Rattle.cp_model.specs.RulesDeclarations as d
 use Rattle.cp_model.specs.View as view
 use Rattle.cp_rules.specs.Checking.{State}
-use Rattle.cp_rules.specs.Headings.{collected}
+use Rattle.cp_rules.specs.Headings.{collection}
 use Rattle.cp_rules.specs.Systems.{inside}
 use Rattle.cp_rules.proofs.SystemParts.{parts_judged}
 use Rattle.cp_rules.proofs.checker.Checker.system_parts.Goals as goal
@@ -11,7 +11,7 @@ pub returns : goal.returns
 returns c =
     let old = c.args.self.now in
     let y = view.system c.args.y.now in
-    let k = collected c.args.heading.now in
+    let k = collection c.args.heading.now in
     let within : c.add_each.new.self ≡ record old { env = inside old.env y k } =
     rw c.deref-2.ensures.value at c.in_ok-add_each.ensures
     ∙ ap (λ (z : State). let st : State = record z { env = (d.declare_each z.env k.bound).env } in st) (rw c.deref.ensures.value at c.in_ok-enter.ensures) in

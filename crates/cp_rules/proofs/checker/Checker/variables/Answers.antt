@@ -1,7 +1,7 @@
 use Rattle.std.proofs.Common.{◌≡◌, ◌+◌, ◌∷◌, List, drop, map, ap, sym, ◌∙◌}
 use Rattle.std.proofs.lemmas.List.{at_drop_more, drop_all}
 use Rattle.cp_model.specs.RulesDeclarations as d
-use Rattle.cp_model.specs.RulesTypes.{capped}
+use Rattle.cp_model.specs.RulesTypes.{cap_words}
 use Rattle.cp_model.specs.View as view
 use Rattle.cp_rules.specs.Declaring.{with_variables}
 use Rattle.cp_rules.proofs.CappedWords.{capped_end, capped_most}
@@ -25,7 +25,7 @@ loop-group-preserved c =
       declared = rest_declared old new p g gs made.0 ∙ sym (ap (λ hs. with_variables old (d.variables old.env p hs)) step) ∙ c.loop-group.invariant.declared;
       within = capped_most c.sum-words.result _ c.sum-words.ensures;
       words = rest_counted old new p g gs made.0 c.loop-group.words c.in_ok-more.more c.sum-words.result made.1 c.sum-words.ensures
-          ∙ sym (ap (λ hs. capped (c.loop-group.words + (d.variables old.env p hs).words)) step) ∙ c.loop-group.invariant.words;
+          ∙ sym (ap (λ hs. cap_words (c.loop-group.words + (d.variables old.env p hs).words)) step) ∙ c.loop-group.invariant.words;
     }
 
 pub returns : goal.returns

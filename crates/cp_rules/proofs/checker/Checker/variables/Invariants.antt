@@ -1,6 +1,6 @@
 use Rattle.std.proofs.Common.{◌≡◌, ◌≤◌, ◌+◌, drop, map}
 use Rattle.cp_model.specs.RulesDeclarations as d
-use Rattle.cp_model.specs.RulesTypes.{capped}
+use Rattle.cp_model.specs.RulesTypes.{cap_words}
 use Rattle.cp_model.specs.View as view
 use Rattle.cp_rules.specs.Declaring.{with_variables}
 use Rattle.cp_rules.proofs.checker.Checker.variables.Given as goal
@@ -15,5 +15,5 @@ invariant-loop-group l =
     record {
       declared : with_variables now rest ≡ with_variables before all;
       within : l.words ≤ 65537;
-      words : capped (l.words + rest.words) ≡ capped all.words;
+      words : cap_words (l.words + rest.words) ≡ cap_words all.words;
     }

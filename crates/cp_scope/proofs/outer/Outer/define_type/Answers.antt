@@ -1,6 +1,6 @@
 use Rattle.cp_scope.proofs.Standing.{still_scope}
 use Rattle.cp_scope.proofs.Unrefused.{on_ok}
-use Rattle.cp_scope.specs.Standing.{written}
+use Rattle.cp_scope.specs.Standing.{type_from}
 use Rattle.cp_scope.proofs.outer.Outer.define_type.Goals as goal
 
 pub returns : goal.returns
@@ -8,5 +8,5 @@ returns c =
     let old = c.args.self.now in
     let made = c.in_ok-of.ensures in
     on_ok c.add_type.result
-    (λ names g scope. names g (written c.args.t.now g) (still_scope old.types c.resolve.new.self made.grows old.names g scope) (made.stands g scope))
+    (λ names g scope. names g (type_from c.args.t.now g) (still_scope old.types c.resolve.new.self made.grows old.names g scope) (made.stands g scope))
     (rw c.as_bytes.ensures at c.add_type.ensures)

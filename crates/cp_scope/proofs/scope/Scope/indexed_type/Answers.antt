@@ -14,7 +14,7 @@ loop-index-preserved c = λ s d typed.
     let scope = c.args.self.now in
     let all = c.args.indices.now in
     let k = c.loop-index._index-index in
-    let whole = erase.indexed d (view.indices_of (map view.index all)) in
+    let whole = erase.with_indices d (view.indices_of (map view.index all)) in
     let i = c._index-item.result in
     let next : drop k all ≡ i ∷ drop (k + 1) all =
     at_drop_more (λ (is : List Index). is) all k i c.loop-index-test.true ∙ ap (λ (j : Index). j ∷ drop (k + 1) all) (sym c._index-item.is) in
@@ -25,5 +25,5 @@ pub returns : goal.returns
 returns c = λ s d typed.
     let all = c.args.indices.now in
     let k = c.loop-index._index-index in
-    all_indexed c.args.self.now s (erase.indexed d (view.indices_of (map view.index all))) c.loop-index.of (drop k all)
+    all_indexed c.args.self.now s (erase.with_indices d (view.indices_of (map view.index all))) c.loop-index.of (drop k all)
     (drop_all k all c.loop-index-test.false) (c.loop-index.invariant s d typed)

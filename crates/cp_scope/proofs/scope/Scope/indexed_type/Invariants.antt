@@ -11,4 +11,4 @@ use Rattle.cp_scope.proofs.scope.Scope.indexed_type.Given as goal
 abbrev pub invariant-loop-index : goal.invariant-loop-index
 invariant-loop-index l =
     (s : code.Scope) (d : a.Designator) → PlaceIs l.fn.self s l.fn.of d
-    → PartlyIndexed l.fn.self s (erase.indexed d (view.indices_of (map view.index l.fn.indices))) l.of (drop l._index-index l.indices)
+    → PartlyIndexed l.fn.self s (erase.with_indices d (view.indices_of (map view.index l.fn.indices))) l.of (drop l._index-index l.indices)

@@ -3,7 +3,7 @@ use Rattle.cp_model.specs.declared.tree.TypeExpression.{TypeExpression}
 use Rattle.std.proofs.lemmas.List.{append-nil, at_drop_more, drop_all}
 use Rattle.cp_model.specs.Types.{NoMembers}
 use Rattle.cp_model.specs.declared.tree.Fields.{Fields}
-use Rattle.cp_scope.specs.Standing.{AreMembers, MakesIndexed, entries_of, entry, with_group, with_groups, written}
+use Rattle.cp_scope.specs.Standing.{AreMembers, MakesIndexed, entries_of, entry, with_group, with_groups, type_from}
 use Rattle.cp_scope.proofs.Standing.{grows_more, indexed_more, indexed_none, still_scope, still_stands}
 use Rattle.cp_scope.specs.declared.types.Field.{Field}
 use Rattle.cp_scope.proofs.Groups.{GroupsAdded, all_added, none_added, one_added}
@@ -22,8 +22,8 @@ group-returns t c =
       added = entries_of xs n;
       all = rw c.deref.ensures.value at c.in_ok-add_fields.ensures;
       stands = λ g later rest ms scope grows r.
-          names_written later xs n (written c.args.group.now.of g) rest ms
-          (still_stands new later grows n (written c.args.group.now.of g) (c.in_ok-of.ensures.stands g scope)) r;
+          names_written later xs n (type_from c.args.group.now.of g) rest ms
+          (still_stands new later grows n (type_from c.args.group.now.of g) (c.in_ok-of.ensures.stands g scope)) r;
     }
 
 pub fields-loop-group-init : goal.fields-loop-group-init
@@ -119,7 +119,7 @@ resolve-returns-in_ok-of-in-Array t c =
       grows = grows_more old c.resolve.new.self c.arrays.new.self element.grows makes.grows;
       stands = λ g scope.
           rw (← array_written g c.in-Array.at is e)
-          (makes.stands g (written e.value g) (still_scope old c.resolve.new.self element.grows names g scope) (element.stands g scope));
+          (makes.stands g (type_from e.value g) (still_scope old c.resolve.new.self element.grows names g scope) (element.stands g scope));
     }))
     arrays
 

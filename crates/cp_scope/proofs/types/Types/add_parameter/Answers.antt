@@ -3,7 +3,7 @@ use Rattle.std.proofs.lemmas.List.{append-nil}
 use Rattle.cp_model.specs.Declarations.{is_component}
 use Rattle.cp_model.specs.Erase as erase
 use Rattle.cp_model.specs.Types.{with_members}
-use Rattle.cp_scope.specs.Standing.{AreMembers, entries_of, entry, named}
+use Rattle.cp_scope.specs.Standing.{AreMembers, entries_of, entry, name_type}
 use Rattle.cp_scope.proofs.Standing.{still_stands}
 use Rattle.cp_scope.proofs.Written.{names_written}
 use Rattle.cp_scope.proofs.types.Types.add_parameter.Goals as goal
@@ -22,9 +22,9 @@ returns-in_ok-add_fields c =
       all = rw c.deref.ensures.value at c.in_ok-add_fields.ensures;
       stands = λ g later rest ms scope grows r.
           let stands = made.stands g scope in
-          let is : false ≡ is_component (named x g) = sym (not_true c.is_component.result c.if-not-is_component.true) ∙ c.is_component.ensures (named x g) stands in
-          subst (λ b. AreMembers later (entries_of xs n ++ rest) (if b then ms else with_members (map erase.name xs) (named x g) ms)) is
-          (names_written later xs n (named x g) rest ms (still_stands new later grows n (named x g) stands) r);
+          let is : false ≡ is_component (name_type x g) = sym (not_true c.is_component.result c.if-not-is_component.true) ∙ c.is_component.ensures (name_type x g) stands in
+          subst (λ b. AreMembers later (entries_of xs n ++ rest) (if b then ms else with_members (map erase.name xs) (name_type x g) ms)) is
+          (names_written later xs n (name_type x g) rest ms (still_stands new later grows n (name_type x g) stands) r);
     }
   where
     not_true : (b : Bool) → b ≡ false → b ≡ false
@@ -41,6 +41,6 @@ returns-else-not-is_component c =
       added = [];
       all = sym (append-nil (map entry c.args.members.now.items));
       stands = λ g later rest ms scope grows r.
-          let is : true ≡ is_component (named x g) = sym c.if-not-is_component.false ∙ c.is_component.ensures (named x g) (made.stands g scope) in
-          subst (λ b. AreMembers later rest (if b then ms else with_members (map erase.name xs) (named x g) ms)) is r;
+          let is : true ≡ is_component (name_type x g) = sym c.if-not-is_component.false ∙ c.is_component.ensures (name_type x g) (made.stands g scope) in
+          subst (λ b. AreMembers later rest (if b then ms else with_members (map erase.name xs) (name_type x g) ms)) is r;
     }

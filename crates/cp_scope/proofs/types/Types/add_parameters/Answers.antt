@@ -5,7 +5,7 @@ use Rattle.cp_model.specs.Declarations.{Variable, declared_group, is_component, 
 use Rattle.cp_model.specs.Erase as erase
 use Rattle.cp_model.specs.Types.{Members, ResolvedType, with_members}
 use Rattle.cp_model.specs.declared.tree.Parameters.{Parameters}
-use Rattle.cp_scope.specs.Standing.{AreMembers, entry, named, with_parameter, with_parameters}
+use Rattle.cp_scope.specs.Standing.{AreMembers, entry, name_type, with_parameter, with_parameters}
 use Rattle.cp_scope.proofs.Groups.{ParametersAdded, all_added, none_added, one_added}
 use Rattle.cp_scope.proofs.types.Types.add_parameters.Goals as goal
 
@@ -39,7 +39,7 @@ loop-group-preserved c =
       _,
       one_added AreMembers with_parameters names c.args.self.now c.loop-group.self c.add_parameter.new.self before now (map entry c.add_parameter.new.members.items)
           c.loop-group.invariant.0 all rest p (with_parameter p)
-          (λ g ms. group_first _ (is_component (named p.of.name g)) (named p.of.name g) refl (map erase.name p.names.items) _ ms)
+          (λ g ms. group_first _ (is_component (name_type p.of.name g)) (name_type p.of.name g) refl (map erase.name p.names.items) _ ms)
           some c.in_ok-add_parameter.ensures,
     )
 

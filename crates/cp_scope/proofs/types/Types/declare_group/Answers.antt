@@ -1,6 +1,6 @@
 use Rattle.std.proofs.Common.{false}
 use Rattle.cp_scope.specs.Variables.{declared_entries}
-use Rattle.cp_scope.specs.Standing.{written}
+use Rattle.cp_scope.specs.Standing.{type_from}
 use Rattle.cp_scope.proofs.Declaring.{each_declared}
 use Rattle.cp_scope.proofs.Standing.{still_stands}
 use Rattle.cp_scope.proofs.types.Types.declare_group.Goals as goal
@@ -16,5 +16,5 @@ returns c =
       added = declared_entries xs (false) n;
       all = rw (c.deref.ensures.value) at c.in_ok-declare_each.ensures;
       stands = λ g later rest vs scope grows r.
-          each_declared later xs (false) n (written c.args.group.now.of g) rest vs (still_stands new later grows n (written c.args.group.now.of g) (made.stands g scope)) r;
+          each_declared later xs (false) n (type_from c.args.group.now.of g) rest vs (still_stands new later grows n (type_from c.args.group.now.of g) (made.stands g scope)) r;
     }

@@ -1,6 +1,6 @@
 use Rattle.std.proofs.Common.{is_some}
 use Rattle.cp_scope.specs.Variables.{declared_entries}
-use Rattle.cp_scope.specs.Standing.{named}
+use Rattle.cp_scope.specs.Standing.{name_type}
 use Rattle.cp_scope.proofs.Declaring.{each_declared}
 use Rattle.cp_scope.proofs.Standing.{still_stands}
 use Rattle.cp_scope.proofs.types.Types.declare_parameter.Goals as goal
@@ -16,5 +16,5 @@ returns c =
       added = declared_entries xs (is_some c.args.group.now.by_reference) n;
       all = rw (c.deref.ensures.value, c.is_some.ensures) at c.in_ok-declare_each.ensures;
       stands = λ g later rest vs scope grows r.
-          each_declared later xs (is_some c.args.group.now.by_reference) n (named c.args.group.now.of.name g) rest vs (still_stands new later grows n (named c.args.group.now.of.name g) (made.stands g scope)) r;
+          each_declared later xs (is_some c.args.group.now.by_reference) n (name_type c.args.group.now.of.name g) rest vs (still_stands new later grows n (name_type c.args.group.now.of.name g) (made.stands g scope)) r;
     }

@@ -7,7 +7,7 @@ use Rattle.cp_model.specs.Types.{ResolvedType}
 use Rattle.cp_model.specs.declared.tree.Identifier.{Identifier}
 use Rattle.cp_model.specs.declared.tree.Parameters.{Parameters}
 use Rattle.cp_scope.specs.Layouts.{Counts, rights_among, rights_of}
-use Rattle.cp_scope.specs.Standing.{named}
+use Rattle.cp_scope.specs.Standing.{name_type}
 use Rattle.cp_scope.proofs.types.Types.rights.Goals as goal
 
 group_counted : (r b : Bool) (t : ResolvedType) → is_component t ≡ b → (xs : List Identifier) (vs : List (Name × Variable))
@@ -29,7 +29,7 @@ loop-group-preserved c = λ g scope.
     let step : rights_of g (drop i all) ≡ own + rights_of g rest =
     at_drop_more (λ (ps : List Parameters). rights_of g ps) all i p c.loop-group-test.true
     ∙ ap (λ (q : Parameters). rights_of g (q ∷ rest)) (sym c.group-item.is)
-    ∙ group_counted _ (is_component (named p.of.name g)) (named p.of.name g) refl p.names.items _ in
+    ∙ group_counted _ (is_component (name_type p.of.name g)) (name_type p.of.name g) refl p.names.items _ in
     (before.0 + own, c.sum-count.ensures before.0 own before.1 (c.rights_among.ensures g scope), omega (arith, step, before.2))
 
 pub returns : goal.returns

@@ -1,6 +1,6 @@
 use Rattle.std.proofs.Common.{rules, ℕ, suc, ◌≡◌, ◌+◌, ◌-◌, length, ap, sym, ◌∙◌}
 use Rattle.cp_code.specs.Terms as plain
-use Rattle.cp_code.specs.TermsFor.{moved}
+use Rattle.cp_code.specs.TermsFor.{move_spot}
 use Rattle.cp_threaded.specs.View.{PlainIndex, index, root, term}
 use Rattle.cp_threaded.specs.declared.term.Index.{out-Index}
 use Rattle.cp_threaded.specs.declared.term.Spot.{out-Spot}
@@ -21,4 +21,4 @@ returns c =
     ∙ ap more (sym (index_is d) ∙ ap index c.index_mut-index.ensures.value) in
     spot_rolled s.root _
     ∙ (elements_moved n (plain.Rooted (root s.root)) s.indices.items (c.len-last.result - 1) _ _ last changed
-    ∙ ap (moved n) (sym (spot_is c.args.self)))
+    ∙ ap (move_spot n) (sym (spot_is c.args.self)))

@@ -67,10 +67,10 @@ select_elements-loop-i-preserved t c = λ s low before d scope place.
     let i = c.loop-i.i-index in
     let all = c.args.indices.now in
     let e = erase.expression (tree.expression o.value) in
-    let step : erase.indexed p (tree.indices_of (map tree.index (drop i all))) ≡ erase.indexed p (tree.indices_of (map tree.index (o ∷ drop (i + 1) all))) =
-    at_drop_more (λ os. erase.indexed p (tree.indices_of (map tree.index os))) all i o c.loop-i-test.true
-    ∙ ap (λ q. erase.indexed p (tree.indices_of (map tree.index (q ∷ drop (i + 1) all)))) (sym c.i-item.is) in
-    let view = ap (λ q. erase.indexed p (tree.indices_of (q ∷ map tree.index (drop (i + 1) all)))) (view_index o) in (
+    let step : erase.with_indices p (tree.indices_of (map tree.index (drop i all))) ≡ erase.with_indices p (tree.indices_of (map tree.index (o ∷ drop (i + 1) all))) =
+    at_drop_more (λ os. erase.with_indices p (tree.indices_of (map tree.index os))) all i o c.loop-i-test.true
+    ∙ ap (λ q. erase.with_indices p (tree.indices_of (map tree.index (q ∷ drop (i + 1) all)))) (sym c.i-item.is) in
+    let view = ap (λ q. erase.with_indices p (tree.indices_of (q ∷ map tree.index (drop (i + 1) all)))) (view_index o) in (
       a.At p e,
       c.in_ok-made.ensures s low before c.loop-i.calls.items c.term.new.calls.items p e scope so_far.1 (c.in_ok-index.ensures s scope),
       sym (step ∙ view) ∙ so_far.2,
@@ -80,8 +80,8 @@ pub select_elements-returns : goal.select_elements-returns
 select_elements-returns t c = λ s low before d scope place.
     let so_far = c.loop-i.invariant s low before d scope place in
     let all = c.args.indices.now in
-    let end : so_far.0 ≡ erase.indexed d (tree.indices_of (map tree.index all)) =
-    sym (ap (λ os. erase.indexed so_far.0 (tree.indices_of (map tree.index os))) (drop_all c.loop-i.i-index all c.loop-i-test.false)) ∙ so_far.2 in
+    let end : so_far.0 ≡ erase.with_indices d (tree.indices_of (map tree.index all)) =
+    sym (ap (λ os. erase.with_indices so_far.0 (tree.indices_of (map tree.index os))) (drop_all c.loop-i.i-index all c.loop-i-test.false)) ∙ so_far.2 in
     subst (λ x. IsPlace c.args.self.now.scope s low before c.loop-i.calls.items x c.loop-i.made) end so_far.1
 
 pub select-returns-in-Field : goal.select-returns-in-Field
@@ -96,7 +96,7 @@ pub spot-loop-selector-init : goal.spot-loop-selector-init
 spot-loop-selector-init t c = λ s scope. (
   a.Plain c.args.d.now.root.name,
   rw c.as_bytes.ensures at (c.in_ok-made.ensures s c.args.calls.now.items scope),
-  ap (λ ys. erase.selected (a.Plain c.args.d.now.root.name) (tree.selectors_of (map tree.selector ys))) c.deref-selector-items.ensures.value
+  ap (λ ys. erase.with_selectors (a.Plain c.args.d.now.root.name) (tree.selectors_of (map tree.selector ys))) c.deref-selector-items.ensures.value
       ∙ sym (ap erase.designator (view_designator c.args.d.now)),
 )
 
@@ -107,9 +107,9 @@ spot-loop-selector-preserved t c = λ s scope.
     let o = c.selector-item.result in
     let i = c.loop-selector.selector-index in
     let all = c.deref-selector-items.result.now in
-    let step : erase.selected p (tree.selectors_of (map tree.selector (drop i all))) ≡ erase.selected p (tree.selectors_of (map tree.selector (o ∷ drop (i + 1) all))) =
-    at_drop_more (λ os. erase.selected p (tree.selectors_of (map tree.selector os))) all i o c.loop-selector-test.true
-    ∙ ap (λ q. erase.selected p (tree.selectors_of (map tree.selector (q ∷ drop (i + 1) all)))) (sym c.selector-item.is) in (
+    let step : erase.with_selectors p (tree.selectors_of (map tree.selector (drop i all))) ≡ erase.with_selectors p (tree.selectors_of (map tree.selector (o ∷ drop (i + 1) all))) =
+    at_drop_more (λ os. erase.with_selectors p (tree.selectors_of (map tree.selector os))) all i o c.loop-selector-test.true
+    ∙ ap (λ q. erase.with_selectors p (tree.selectors_of (map tree.selector (q ∷ drop (i + 1) all)))) (sym c.selector-item.is) in (
       erase.select p (tree.selector o),
       c.in_ok-made-2.ensures s c.args.low (map coded_call c.args.calls.now.items) p scope so_far.1,
       sym step ∙ so_far.2,
@@ -120,7 +120,7 @@ spot-returns t c = λ s scope.
     let so_far = c.loop-selector.invariant s scope in
     let all = c.deref-selector-items.result.now in
     let end : so_far.0 ≡ erase.designator (tree.designator c.args.d.now) =
-    sym (ap (λ os. erase.selected so_far.0 (tree.selectors_of (map tree.selector os))) (drop_all c.loop-selector.selector-index all c.loop-selector-test.false))
+    sym (ap (λ os. erase.with_selectors so_far.0 (tree.selectors_of (map tree.selector os))) (drop_all c.loop-selector.selector-index all c.loop-selector-test.false))
     ∙ so_far.2 in
     subst (λ x. IsPlace c.args.self.now.scope s c.args.low (map coded_call c.args.calls.now.items) c.loop-selector.calls.items x c.loop-selector.made) end
     so_far.1
@@ -291,7 +291,7 @@ standard_call-returns-then-is_empty_test t c =
     (λ made h s d scope none named.
     let known = ap (λ x. bytes_eq x (codes "empty")) (sym named) ∙ (sym c.is_empty_test.ensures ∙ c.if-is_empty_test.true) in
     let b = base_of_type (expression_type (environment s) e) in
-    subst (λ xs. IsTerm before after made (coded_term s (erase.called d (erase.expressions (tree.expressions_of (map tree.expression xs)))) low)) (sym split)
+    subst (λ xs. IsTerm before after made (coded_term s (erase.call_or_name d (erase.expressions (tree.expressions_of (map tree.expression xs)))) low)) (sym split)
     (subst (IsTerm before after made)
     (sym (standard_as s d e es low none ∙ standard_empty (name_of d) b (coded_term s e low) (coded_variable s e low) known))
     (h before after (coded_variable s e low) (c.in_ok-made.ensures s scope))))
@@ -312,7 +312,7 @@ standard_call-returns t c =
     let known = ap (λ x. bytes_eq x (codes "empty")) (sym named) ∙ (sym c.is_empty_test.ensures ∙ c.if-is_empty_test.false) in
     let b = base_of_type (expression_type (environment s) e) in
     let f = c.in_ok-function.ensures s scope ∙ ap (λ x. function_named x b) named in
-    subst (λ xs. IsTerm before after made (coded_term s (erase.called d (erase.expressions (tree.expressions_of (map tree.expression xs)))) low)) (sym split)
+    subst (λ xs. IsTerm before after made (coded_term s (erase.call_or_name d (erase.expressions (tree.expressions_of (map tree.expression xs)))) low)) (sym split)
     (subst (IsTerm before after made)
     (sym (standard_as s d e es low none ∙ standard_other (name_of d) b (coded_term s e low) (coded_variable s e low) known))
     (subst (λ (g : Function). IsTerm before after made (record (coded_term s e low) { term = Standard g (coded_term s e low).term })) f

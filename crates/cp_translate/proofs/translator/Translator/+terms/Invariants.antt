@@ -29,7 +29,7 @@ abbrev pub invariant-spot-loop-selector : goal.invariant-spot-loop-selector
 invariant-spot-loop-selector l =
     (s : code.Scope) → IsScope l.self.scope s
     → (d : a.Designator) × IsPlace l.self.scope s l.fn.low (map coded_call l.fn.calls.items) l.calls.items d l.made
-    × (erase.selected d (tree.selectors_of (map tree.selector (drop l.selector-index l.selector-items)))
+    × (erase.with_selectors d (tree.selectors_of (map tree.selector (drop l.selector-index l.selector-items)))
     ≡ erase.designator (tree.designator l.fn.d))
 
 -- The spot so far is that of the indices so far.
@@ -38,8 +38,8 @@ invariant-select_elements-loop-i l =
     (s : code.Scope) (low : ℕ) (before : List coded.CodedCall) (d : a.Designator) → IsScope l.self.scope s
     → IsPlace l.self.scope s low before l.fn.calls.items d l.fn.of
     → (p : a.Designator) × IsPlace l.self.scope s low before l.calls.items p l.made
-    × (erase.indexed p (tree.indices_of (map tree.index (drop l.i-index l.indices)))
-    ≡ erase.indexed d (tree.indices_of (map tree.index l.fn.indices)))
+    × (erase.with_indices p (tree.indices_of (map tree.index (drop l.i-index l.indices)))
+    ≡ erase.with_indices d (tree.indices_of (map tree.index l.fn.indices)))
 
 -- The arguments so far and the remaining ones are all arguments.
 abbrev pub invariant-arguments-loop-e : goal.invariant-arguments-loop-e
