@@ -1,14 +1,13 @@
 -- What the grammar allows as a declaration is read.
-use Rattle.std.proofs.Common.{◌≡◌, ℕ, zero, suc, Bool, true, false, List, [], ◌∷◌, Option, Some, None, Ok, refl, sym, ap, ◌∙◌}
-use Rattle.cp_model.specs.Languages.{symbol, symbol_at, identifier, optional, each}
+use Rattle.std.proofs.Common.{◌≡◌, ℕ, zero, suc, Bool, true, false, List, [], ◌∷◌, Option, Some, Ok, refl, sym, ap, ◌∙◌}
+use Rattle.cp_model.specs.Languages.{symbol, symbol_at, identifier, each}
 use Rattle.cp_model.specs.Syntax as s
 use Rattle.cp_model.specs.View.{statements_of}
-use Rattle.cp_model.specs.GrammarTypes.{names, type_expression}
-use Rattle.cp_model.specs.Grammar.{body, variable_group, variables, parameter_group, parameters, routine_word, result_type, routine, sort_symbol, system, definition, constant_definition, type_definition, section}
+use Rattle.cp_model.specs.GrammarTypes.{type_expression}
+use Rattle.cp_model.specs.Grammar.{body, variable_group, variables, routine, sort_symbol, system, definition, constant_definition, type_definition, section}
 use Rattle.cp_model.specs.declared.token.Token.{Token}
 use Rattle.cp_model.specs.declared.token.Kind.{Kind}
 use Rattle.cp_model.specs.declared.token.Kind.TheVariants as kind
-use Rattle.cp_model.specs.declared.token.Symbol.{Symbol}
 use Rattle.cp_model.specs.declared.token.Symbol.TheVariants as symbol
 use Rattle.cp_model.specs.declared.tree.Identifier.{Identifier}
 use Rattle.cp_model.specs.declared.tree.Constant.TheVariants as written
@@ -16,21 +15,20 @@ use Rattle.cp_model.specs.declared.tree.ConstantDefinition.{ConstantDefinition}
 use Rattle.cp_model.specs.declared.tree.Sort.{Sort}
 use Rattle.cp_model.specs.declared.tree.Sort.TheVariants as sort
 use Rattle.cp_grammar.specs.Kinds.{is_symbol, is_name}
-use Rattle.cp_grammar.specs.Reading.{Reader, kind_at, tail, optional_symbol, repeat_while, one_or_more, separated_by}
-use Rattle.cp_grammar.specs.Names.{identifier_of, names_of}
+use Rattle.cp_grammar.specs.Reading.{Reader, kind_at, repeat_while, one_or_more}
+use Rattle.cp_grammar.specs.Names.{names_of}
 use Rattle.cp_grammar.specs.Types.{group_of, type_at}
 use Rattle.cp_grammar.specs.Statements.{Deeper, statements_from, block_of, deeper_at}
-use Rattle.cp_grammar.specs.Declarations.{constant_definition_of, parameter_group_of, some_parameters_of, parameters_of, result_type_of, Heading, heading_from, heading_of, begins_routine, variable_group_of, some_variables_of, variables_of, body_of, routine_of, routines_of, system_from, system_type, enumeration_of, written_type, defined_by, defined_of, type_definition_of, section_by, section_of, begins_section}
+use Rattle.cp_grammar.specs.Declarations.{constant_definition_of, parameters_of, Heading, heading_of, begins_routine, variable_group_of, some_variables_of, variables_of, body_of, routine_of, routines_of, system_from, system_type, enumeration_of, written_type, defined_by, defined_of, type_definition_of, section_by, section_of, begins_section}
 use Rattle.cp_grammar.specs.Follows.{ends_type}
-use Rattle.cp_grammar.proofs.Tokens.{is_symbol_refl, kind_of, kind_of_symbol, expect_reads}
-use Rattle.cp_grammar.proofs.Lists.{each_of, ItemReads, separated_reads, each_reads, some_reads}
-use Rattle.cp_grammar.proofs.NamesComplete.{identifier_reads, names_reads, constant_reads}
+use Rattle.cp_grammar.proofs.Tokens.{is_symbol_refl, kind_of_symbol, expect_reads}
+use Rattle.cp_grammar.proofs.Lists.{each_of, ItemReads, each_reads, some_reads}
+use Rattle.cp_grammar.proofs.NamesComplete.{identifier_reads, names_reads}
 use Rattle.cp_grammar.proofs.TypesComplete.{type_complete, group_complete}
 use Rattle.cp_grammar.proofs.StatementListsComplete.{listed_statements, statements_listed, statements_reads, end_follows, end_is_no_semicolon}
 use Rattle.cp_grammar.proofs.StatementsComplete.{readers, deeper_suc}
 use Rattle.cp_grammar.proofs.StatementsComplete as statements
-use Rattle.cp_grammar.proofs.DeclarationsSound.{heading}
-use Rattle.cp_grammar.proofs.DeclarationsShrink.{constant_definition_shrinks, parameter_group_shrinks, variable_group_shrinks, routine_shrinks, type_definition_shrinks, section_shrinks}
+use Rattle.cp_grammar.proofs.DeclarationsShrink.{constant_definition_shrinks, variable_group_shrinks, routine_shrinks, type_definition_shrinks, section_shrinks}
 use Rattle.cp_grammar.proofs.HeadingsComplete.{Anything, begins_block, block_begins, block_is_no_name, block_is_no_section, block_is_no_var, body_begins, body_is_block, close_is_no_comma, constant_definition_reads, heading_reads, names_begin, parameters_reads, routine_begins, section_is_no_name, semicolon_is_no_parenthesis}
 
 -- ---- variables, bodies and routines

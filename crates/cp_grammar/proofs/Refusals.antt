@@ -12,7 +12,7 @@ use Rattle.cp_grammar.specs.declared.stop.Stop.TheVariants.{Memory, Wrong, Deep}
 use Rattle.cp_grammar.specs.Reading.{Outcome}
 use Rattle.cp_grammar.specs.Text.{text_at}
 use Rattle.cp_grammar.specs.Laws.{StopsInside, FrontBeginsAText, WrongIsFirst, DeepIsFirst, DeepOpensTheNext, DeepBeginsADeeperText, LevelsAreOfTokens}
-use Rattle.cp_grammar.proofs.Steady.{Cut, Passed, Tame, TameStop}
+use Rattle.cp_grammar.proofs.Steady.{Cut, Passed, Tame}
 use Rattle.cp_grammar.proofs.TextSteady.{text_steady, text_wider}
 use Rattle.cp_grammar.proofs.TextComplete.{text_is_complete}
 use Rattle.cp_grammar.proofs.TextSound.{text_is_sound}

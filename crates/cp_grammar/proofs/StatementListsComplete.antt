@@ -1,31 +1,25 @@
 -- What the grammar allows as a list of statements or arms is read.
-use Rattle.std.proofs.Common.{◌≡◌, ℕ, zero, suc, ◌≤◌, true, false, List, [], ◌∷◌, length, Option, Some, Ok, refl, sym, ap, ◌∙◌, arith}
-use Rattle.cp_model.specs.Languages.{symbol_at, identifier, each_behind, separated_list}
+use Rattle.std.proofs.Common.{◌≡◌, ℕ, ◌≤◌, true, false, List, [], ◌∷◌, length, Option, Some, Ok, refl, ap, arith}
+use Rattle.cp_model.specs.Languages.{symbol_at, each_behind, separated_list}
 use Rattle.cp_model.specs.Syntax as s
-use Rattle.cp_model.specs.View.{LabelledStatement, expressions_of, statements_of, arms_of}
-use Rattle.cp_model.specs.GrammarExpressions.{arguments}
-use Rattle.cp_model.specs.GrammarStatements.{direction_symbol, init_item, statement, statements, more_statements, arms, more_arms}
+use Rattle.cp_model.specs.View.{LabelledStatement, statements_of, arms_of}
+use Rattle.cp_model.specs.GrammarStatements.{statement, statements, more_statements, arms, more_arms}
 use Rattle.cp_model.specs.declared.token.Token.{Token}
 use Rattle.cp_model.specs.declared.token.Kind.{Kind}
 use Rattle.cp_model.specs.declared.token.Kind.TheVariants as kind
 use Rattle.cp_model.specs.declared.token.Symbol.TheVariants as symbol
-use Rattle.cp_model.specs.declared.tree.Identifier.{Identifier}
 use Rattle.cp_model.specs.declared.tree.Constant.{Constant}
-use Rattle.cp_model.specs.declared.tree.Direction.{Direction}
-use Rattle.cp_model.specs.declared.tree.Direction.TheVariants as direction
 use Rattle.cp_grammar.specs.Kinds.{is_symbol}
-use Rattle.cp_grammar.specs.Reading.{Reader, pure, kind_at, separated_by}
+use Rattle.cp_grammar.specs.Reading.{Reader, kind_at, separated_by}
 use Rattle.cp_grammar.specs.Names.{constants_of}
-use Rattle.cp_grammar.specs.Expressions.{expression_of, factor_of, begins_selector, designator_of, optional_arguments_of, inner_at, expression_at}
-use Rattle.cp_grammar.specs.Statements.{Deeper, direction_of, statements_from, arm_of, else_part, block_of, compound_of, if_of, case_of, while_of, repeat_of, for_of, cycle_of, assign_or_perform, designated_of, init_item_of, init_of, statement_by, statement_of, deeper_at, statement_at}
+use Rattle.cp_grammar.specs.Expressions.{begins_selector}
+use Rattle.cp_grammar.specs.Statements.{statements_from, arm_of, statement_at}
 use Rattle.cp_grammar.specs.Follows.{ends_expression, ends_statement, MayFollow}
-use Rattle.cp_grammar.specs.Laws.{StatementsAreComplete}
-use Rattle.cp_grammar.proofs.Tokens.{is_symbol_refl, kind_of, kind_of_symbol, symbol_shrinks, expect_reads}
-use Rattle.cp_grammar.proofs.Lists.{Each, each_imply, each_of, ItemReads, separated_reads}
-use Rattle.cp_grammar.proofs.NamesComplete.{identifier_reads, constants_reads, constants_shrink}
-use Rattle.cp_grammar.proofs.FactorsComplete.{listed, expressions_listed, designators_complete, expression_complete, arguments_complete, name_begins}
+use Rattle.cp_grammar.proofs.Tokens.{kind_of_symbol, symbol_shrinks, expect_reads}
+use Rattle.cp_grammar.proofs.Lists.{Each, each_imply, ItemReads, separated_reads}
+use Rattle.cp_grammar.proofs.NamesComplete.{constants_reads, constants_shrink}
 use Rattle.cp_grammar.proofs.StatementsSound.{arm}
-use Rattle.cp_grammar.proofs.StatementsShrink.{init_item_shrinks, statement_shrinks}
+use Rattle.cp_grammar.proofs.StatementsShrink.{statement_shrinks}
 
 -- ---- what may follow
 

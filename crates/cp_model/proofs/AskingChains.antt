@@ -3,7 +3,7 @@ use Rattle.std.specs.Prelude.{Bool, List, None, if◌then◌else◌, Option, Som
 use Rattle.std.proofs.Common.{ap, arith, subst, sym, ◌∙◌}
 use Rattle.cp_model.specs.States.{Setup, State, processes}
 use Rattle.cp_model.specs.Chains.{IsAskingChain, chain_from, chain_within, holder_asked}
-use Rattle.cp_model.specs.Report.{AreChainLines, BeginsWithChain, IsReportWithChains, Text, chain_line, chain_lines_within, is_asking, report, report_with_chains_within, with_chain}
+use Rattle.cp_model.specs.Report.{AreChainLines, BeginsWithChain, IsReportWithChains, Text, chain_lines_within, is_asking, report, report_with_chains_within, with_chain}
 
 some_is : {A : Type 0} {x y : A} → Some x ≡ Some y → x ≡ y
 some_is h = Prim.cc

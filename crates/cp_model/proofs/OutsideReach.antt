@@ -1,32 +1,23 @@
 -- What a step of one process leaves unchanged of the reach of another.
-use Rattle.std.specs.Prelude.{Bool, List, None, Option, Some, [], false, fold, if◌then◌else◌, nat_eq, not, refl, suc, true, zero, ℕ, ◌%◌, ◌∷◌, ◌≡◌, ◌≢◌}
+use Rattle.std.specs.Prelude.{Bool, List, None, Option, Some, [], false, nat_eq, not, refl, true, ℕ, ◌∷◌, ◌≡◌, ◌≢◌}
 use Rattle.std.proofs.Common.{ap, arith, subst, sym, ◌∙◌}
-use Rattle.std.proofs.lemmas.Bool.{eq-eqb, eqb-false, eqb-true}
+use Rattle.std.proofs.lemmas.Bool.{eq-eqb, eqb-true}
 use Rattle.cp_model.specs.Locations.{Location, OfActivation, OfMonitor, OfProcess, Owner}
-use Rattle.cp_model.specs.Stores.{Reference, Store}
-use Rattle.cp_model.specs.Outcomes.{Fault, Gives}
+use Rattle.cp_model.specs.Stores.{Reference}
 use Rattle.cp_model.specs.Environments.{Environment, Frame}
-use Rattle.cp_model.specs.Continuations.{Do, EndBody, EndCall, EndProcess, ForNext, RepeatTest, Task, WhileTest, depth, marked_monitors, is_in_monitor}
-use Rattle.cp_model.specs.Configurations.{Asking, Continues, Delayed, Delays, Effect, Ended, Ends, Enters, Faulted, Fresh, Leaves, Opens, Own, Ready, Starts, Status, StepResult, Unstarted, Waiting, Waits}
-use Rattle.cp_model.specs.Step.{step_of}
-use Rattle.cp_model.specs.States.{Free, HeldBy, Holder, Setup, State, Unset, configuration, context, is_set, is_started, processes, set_status, with_at, with_configuration}
-use Rattle.cp_model.specs.Gates.{apply_effect, enter, made_ready, make_ready, pass_to, set_gate, start_process}
-use Rattle.cp_model.specs.Turns.{Kernel, Kind, NoStep, Private, after_step, if_kernel, if_private, kernel_step, kernel_turn, kind, kind_of, private_step, private_turn, step}
-use Rattle.cp_model.specs.Rounds.{Event, KernelTurn, PrivateStep, after_closing, all_turns, wake_status, close_round, replay_event, replay_round, run, sequential_round, wake}
+use Rattle.cp_model.specs.Continuations.{Do, EndBody, EndCall, EndProcess, ForNext, RepeatTest, Task, WhileTest, marked_monitors}
+use Rattle.cp_model.specs.Configurations.{Asking, Delayed, Ended, Faulted, Fresh, Ready, Status, Unstarted, Waiting}
+use Rattle.cp_model.specs.States.{State}
+use Rattle.cp_model.specs.Rounds.{after_closing, close_round}
 use Rattle.cp_model.specs.Reach.{in_reach}
-use Rattle.cp_model.specs.Invariant.{ContinuationInvariant, EnvironmentIn, FrameIn, FramesInvariant, Invariant, IsActivation, IsBlocked, NoneBeyond, StoreInvariant, TaskIn, TasksInReach}
+use Rattle.cp_model.specs.Invariant.{EnvironmentIn, FrameIn, Invariant, IsActivation, IsBlocked, TaskIn, TasksInReach}
 use Rattle.cp_model.specs.Parts.{is_own}
-use Rattle.cp_model.proofs.StateMaps.{differ, is_foreign, with_at_here}
-use Rattle.cp_model.proofs.MixedStores.{IsClosed, mix, mix_same}
-use Rattle.cp_model.proofs.ExpressionReach.{IfGives}
+use Rattle.cp_model.proofs.StateMaps.{differ, is_foreign}
+use Rattle.cp_model.proofs.MixedStores.{IsClosed}
 use Rattle.cp_model.proofs.ActionReach.{ContinuationIn}
-use Rattle.cp_model.proofs.ReturnReach.{result_mixed}
-use Rattle.cp_model.proofs.StepReach.{step_same}
 use Rattle.cp_model.proofs.QuietSteps.{no_gates-tail}
-use Rattle.cp_model.proofs.OwnSteps.{MayCommute, kind_private, result}
+use Rattle.cp_model.proofs.OwnSteps.{MayCommute, kind_private}
 use Rattle.cp_model.proofs.StoreInvariants.{is_closed}
-use Rattle.cp_model.proofs.ReturnInvariant.{EffectInvariant, StepInvariant}
-use Rattle.cp_model.proofs.CallInvariant.{step_invariant}
 
 in_reach_own : (p : ℕ) (o : Owner) → in_reach p [] o ≡ is_own p o
 in_reach_own p (OfProcess q) = refl

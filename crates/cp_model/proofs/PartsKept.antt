@@ -1,32 +1,29 @@
 -- What a private step, a kernel turn and a waking leave unchanged: the private states of other
 -- processes, and the kernel's part.
-use Rattle.std.specs.Prelude.{Bool, List, None, Some, [], false, if◌then◌else◌, nat_eq, not, refl, suc, true, zero, ℕ, ◌%◌, ◌∷◌, ◌≡◌, ◌≢◌}
+use Rattle.std.specs.Prelude.{Bool, List, None, Some, [], false, if◌then◌else◌, nat_eq, not, refl, suc, true, zero, ℕ, ◌∷◌, ◌≡◌, ◌≢◌}
 use Rattle.std.proofs.Common.{ap, arith, subst, sym, ◌∙◌}
 use Rattle.std.proofs.lemmas.Bool.{eqb-true}
-use Rattle.cp_model.specs.Abstract.{Process}
-use Rattle.cp_model.specs.Locations.{Location, OfActivation, OfMonitor, OfProcess, Owner}
+use Rattle.cp_model.specs.Locations.{Location, OfProcess}
 use Rattle.cp_model.specs.Stores.{Store}
 use Rattle.cp_model.specs.Outcomes.{Fault, Gives}
 use Rattle.cp_model.specs.Continuations.{Task}
 use Rattle.cp_model.specs.Configurations.{Asking, Continues, Delayed, Delays, Effect, Ended, Ends, Enters, Faulted, Fresh, Leaves, Opens, Own, Ready, Starts, Status, StepResult, Unstarted, Waiting, Waits}
 use Rattle.cp_model.specs.Step.{step_of}
-use Rattle.cp_model.specs.States.{Free, HeldBy, Holder, Setup, State, Unset, configuration, context, count_components, initial_variables, is_in, is_set, is_started, processes, set_status, with_configuration}
+use Rattle.cp_model.specs.States.{Free, HeldBy, Holder, Setup, State, Unset, configuration, context, is_set, is_started, set_status, with_configuration}
 use Rattle.cp_model.specs.Gates.{apply_effect, enter, made_ready, make_ready, pass_to, set_gate, start_process}
-use Rattle.cp_model.specs.Turns.{Kernel, Kind, NoStep, Private, after_step, if_kernel, if_private, kernel_step, kernel_turn, kind, kind_of, private_step, private_turn, step}
-use Rattle.cp_model.specs.Rounds.{after_own_turn, wake_status, own_parts, owner_process, wake}
+use Rattle.cp_model.specs.Turns.{Kernel, Kind, NoStep, Private, after_step, if_kernel, kernel_step, kernel_turn, kind, private_step, step}
 use Rattle.cp_model.specs.Invariant.{Invariant}
 use Rattle.cp_model.specs.Parts.{HasBegun, HasNotBegun, SameKernelPart, SamePrivateState, is_own, kernel_status, private_status}
-use Rattle.cp_model.proofs.StateMaps.{differ, is_foreign, own_apart, with_at_here, with_at_there}
+use Rattle.cp_model.proofs.StateMaps.{differ, is_foreign, own_apart, with_at_there}
 use Rattle.cp_model.proofs.MixedStores.{IsClosed, mix_same}
 use Rattle.cp_model.proofs.ActionReach.{ContinuationIn}
 use Rattle.cp_model.proofs.ReturnReach.{result_mixed}
 use Rattle.cp_model.proofs.StepReach.{step_same}
-use Rattle.cp_model.proofs.OwnSteps.{MayCommute, NotPrivate, install_stepped, kind_private, no_private_step, own_configuration, private_step_is, quiet_here, result_status, same_for_self, status_after}
+use Rattle.cp_model.proofs.OwnSteps.{MayCommute, NotPrivate, kind_private, no_private_step, own_configuration, private_step_is, same_for_self, status_after}
 use Rattle.cp_model.proofs.NotPrivate.{after_step_other}
 use Rattle.cp_model.proofs.StepOrder.{foreign_activation}
 use Rattle.cp_model.proofs.OutsideReach.{may_commute}
 use Rattle.cp_model.proofs.StateInvariant.{kernel_step_keeps}
-use Rattle.cp_model.proofs.LawfulRounds.{below_are_out}
 use Rattle.cp_model.proofs.PrivateStepsKept.{kernel_status_by, private_state_refl, private_state_trans}
 
 -- ---- What the kernel does beside p

@@ -3,7 +3,6 @@
 use Rattle.std.specs.Prelude.{Bool, if◌then◌else◌, refl, suc, true, zero, ℕ, ◌≡◌, ◌≢◌}
 use Rattle.std.proofs.Common.{ap, sym, ◌∙◌}
 use Rattle.cp_model.specs.Locations.{Location}
-use Rattle.cp_model.specs.Configurations.{Ready}
 use Rattle.cp_model.specs.States.{Setup, State}
 use Rattle.cp_model.specs.Turns.{Kernel, Kind, NoStep, Private, if_kernel, kernel_step, kernel_turn, kind, step}
 use Rattle.cp_model.specs.Invariant.{Invariant}

@@ -1,35 +1,19 @@
 -- A result that replaces its call, and a return, keep the invariant.
-use Rattle.std.specs.Prelude.{Bool, List, None, Option, Some, [], codes, false, if◌then◌else◌, nat_eq, refl, suc, true, ℕ, ℤ, ◌++◌, ◌∷◌, ◌≡◌, ◌≤◌}
-use Rattle.std.proofs.Common.{ap, arith, subst, sym, ◌∙◌}
-use Rattle.std.proofs.lemmas.Bool.{eq-eqb, eqb-false, eqb-true}
-use Rattle.cp_model.specs.Abstract.{Assign, Case, Char, Class, Cycle, Designator, Expression, Expressions, For, If, Init, Integer, Monitor, MoreExpressions, Name, NoExpression, Nothing, Perform, Plain, Process, Repeat, Seq, Sort, Statement, While}
-use Rattle.std.specs.Str.{bytes_eq}
-use Rattle.cp_model.specs.Types.{ArrayOf, ComponentOf, NoType, Queue, RecordOf, ResolvedType, Simple}
-use Rattle.cp_model.specs.Declarations.{Variable, declarations}
-use Rattle.cp_model.specs.Locations.{ByName, Location, OfActivation, OfProcess, Owner, under}
-use Rattle.cp_model.specs.Integers.{same_integer}
-use Rattle.cp_model.specs.Stores.{Absent, ClassRight, Initialised, MonitorRight, Ordinal, QueueHolds, Reference, Store, Value, Writes, forget, put, put_all}
-use Rattle.cp_model.specs.Outcomes.{Fault, Gives, Outcome, and_then}
+use Rattle.std.specs.Prelude.{Bool, List, None, Option, Some, [], false, nat_eq, refl, suc, true, ℕ, ◌∷◌, ◌≡◌, ◌≤◌}
+use Rattle.std.proofs.Common.{ap, arith, sym, ◌∙◌}
+use Rattle.std.proofs.lemmas.Bool.{eqb-false, eqb-true}
+use Rattle.cp_model.specs.Abstract.{Expression, Name, Statement}
+use Rattle.cp_model.specs.Locations.{ByName, Location, OfActivation, Owner}
+use Rattle.cp_model.specs.Stores.{Absent, ClassRight, Initialised, MonitorRight, Ordinal, QueueHolds, Reference, Store, Value, forget}
+use Rattle.cp_model.specs.Outcomes.{Gives, Outcome}
 use Rattle.cp_model.specs.Environments.{Environment, Frame}
-use Rattle.cp_model.specs.Places.{TypedValue, ordinal_of, simple_value}
-use Rattle.cp_model.specs.Expressions.{name_of, place, value}
-use Rattle.cp_model.specs.Continuations.{Do, EndBody, EndCall, EndProcess, ForNext, RepeatTest, Task, WhileTest, depth, marked_monitors, is_in_monitor, push}
-use Rattle.cp_model.specs.Components.{Component, class_location, class_or_here, component_named, monitor_location, monitor_number, name_location, process_location, process_number, same_sort}
+use Rattle.cp_model.specs.Continuations.{Do, EndBody, EndCall, EndProcess, ForNext, RepeatTest, Task, WhileTest, depth, is_in_monitor}
 use Rattle.cp_model.specs.Calls.{Found, call_in_statement, call_in_task, first_call, in_context}
-use Rattle.cp_model.specs.Configurations.{Configuration, Context, Delays, Effect, Ends, Enters, Own, Starts, StepResult, Waits, own_step}
-use Rattle.cp_model.specs.Assignments.{writes_of}
-use Rattle.cp_model.specs.Arguments.{bind, designator_of, init_argument_writes, named_right_writes, right_writes}
-use Rattle.cp_model.specs.CallSteps.{innermost_call, is_initialised, leaving, return_value, returns, with_answer}
-use Rattle.cp_model.specs.StandardCalls.{continue, delay, enqueue, next_input, next_place, process_in_queue, standard_procedure, standard_statement}
-use Rattle.cp_model.specs.Initialisation.{body_environment, init_arguments, init_component}
-use Rattle.cp_model.specs.StatementSteps.{chosen_arm, execute, for_step, is_past, is_true, next_counter}
-use Rattle.cp_model.specs.Step.{run_task}
-use Rattle.cp_model.specs.States.{is_in}
-use Rattle.cp_model.specs.Start.{start}
-use Rattle.cp_model.specs.Reach.{in_reach}
-use Rattle.cp_model.specs.Invariant.{ContinuationInvariant, EnvironmentIn, FrameIn, FramesInvariant, IsFrameOf, StoreInvariant, TasksInReach}
-use Rattle.cp_model.proofs.ExpressionReach.{IfGives, anything, then_gives}
-use Rattle.cp_model.proofs.StoreInvariants.{AllKeepStore, continuation_keeps_store, forget_no_new_reference, forget_store, forgotten, frames_keep_store, push_continuation, push_keeps, put_all_no_new_reference, put_all_store, writes_keep_store}
+use Rattle.cp_model.specs.Configurations.{Configuration, Delays, Effect, Enters, Starts}
+use Rattle.cp_model.specs.CallSteps.{innermost_call, return_value, returns, with_answer}
+use Rattle.cp_model.specs.Invariant.{ContinuationInvariant, FramesInvariant, IsFrameOf, StoreInvariant, TasksInReach}
+use Rattle.cp_model.proofs.ExpressionReach.{IfGives}
+use Rattle.cp_model.proofs.StoreInvariants.{forget_no_new_reference, forget_store, forgotten, frames_keep_store}
 
 -- What a started process has left to do.
 pub record StartedContinuation (r : ℕ) (k : List Task) : Type 0 where

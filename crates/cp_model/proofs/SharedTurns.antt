@@ -1,5 +1,5 @@
 -- Private turns that are shared out in any way, followed by the kernel turns, make a lawful order.
-use Rattle.std.specs.Prelude.{AllPairs, Bool, Contains, List, [], false, flat_map, if◌then◌else◌, length, map, nat_eq, refl, replicate, suc, true, zero, ℕ, ◌++◌, ◌+◌, ◌<◌, ◌∷◌, ◌≡◌, ◌≢◌}
+use Rattle.std.specs.Prelude.{AllPairs, Bool, Contains, List, [], false, if◌then◌else◌, map, nat_eq, refl, replicate, suc, true, zero, ℕ, ◌++◌, ◌+◌, ◌∷◌, ◌≡◌, ◌≢◌}
 use Rattle.std.proofs.Common.{ap, arith, sym, ◌∙◌}
 use Rattle.std.proofs.lemmas.Bool.{eq-eqb, eqb-true}
 use Rattle.cp_model.specs.States.{is_in}

@@ -18,7 +18,7 @@ use Rattle.cp_model.specs.Rounds.{Event, replay_round}
 use Rattle.cp_model.specs.Start.{component_writes, initial_environment, initial_writes, start, variable_writes}
 use Rattle.cp_model.specs.Orders.{replay}
 use Rattle.cp_model.specs.Invariant.{ContinuationInvariant, Invariant, IsBlocked, StoreInvariant}
-use Rattle.cp_model.proofs.StoreInvariants.{AllKeepStore, AllPlain, IsPlain, KeepsStore, continuation_keeps_store, leaves_of_members_plain, push_continuation, push_keeps, put_all_no_new_reference, put_all_store, starting_writes_keep}
+use Rattle.cp_model.proofs.StoreInvariants.{AllKeepStore, AllPlain, IsPlain, KeepsStore, continuation_keeps_store, leaves_of_members_plain, push_continuation, put_all_no_new_reference, put_all_store, starting_writes_keep}
 use Rattle.cp_model.proofs.StateInvariant.{invariant_of, replay_round_keeps}
 
 module _ (setup : Setup) where

@@ -1,30 +1,25 @@
 -- Each step of a ready process, each waking and each closing keeps the invariant of states.
-use Rattle.std.specs.Prelude.{Bool, List, None, Option, Some, [], false, fold, if◌then◌else◌, nat_eq, not, refl, suc, true, zero, ℕ, ◌%◌, ◌∷◌, ◌≡◌, ◌≢◌}
+use Rattle.std.specs.Prelude.{Bool, List, None, Some, [], false, fold, if◌then◌else◌, nat_eq, not, refl, suc, true, zero, ℕ, ◌%◌, ◌∷◌, ◌≡◌, ◌≢◌}
 use Rattle.std.proofs.Common.{ap, arith, subst, sym, ◌∙◌}
 use Rattle.std.proofs.lemmas.Bool.{eq-eqb, eqb-false, eqb-true}
 use Rattle.cp_model.specs.Locations.{Location, OfActivation, OfMonitor, OfProcess, Owner}
 use Rattle.cp_model.specs.Stores.{Reference, Store}
 use Rattle.cp_model.specs.Outcomes.{Fault, Gives}
-use Rattle.cp_model.specs.Environments.{Environment, Frame}
-use Rattle.cp_model.specs.Continuations.{Do, EndBody, EndCall, EndProcess, ForNext, RepeatTest, Task, WhileTest, depth, marked_monitors, is_in_monitor}
+use Rattle.cp_model.specs.Continuations.{Do, EndBody, EndCall, EndProcess, ForNext, RepeatTest, Task, WhileTest, depth, is_in_monitor}
 use Rattle.cp_model.specs.Configurations.{Asking, Continues, Delayed, Delays, Effect, Ended, Ends, Enters, Faulted, Fresh, Leaves, Opens, Own, Ready, Starts, Status, StepResult, Unstarted, Waiting, Waits}
 use Rattle.cp_model.specs.Step.{step_of}
 use Rattle.cp_model.specs.States.{Free, HeldBy, Holder, Setup, State, Unset, configuration, context, is_set, is_started, processes, set_status, with_at, with_configuration}
 use Rattle.cp_model.specs.Gates.{apply_effect, enter, made_ready, make_ready, pass_to, set_gate, start_process}
 use Rattle.cp_model.specs.Turns.{Kernel, Kind, NoStep, Private, after_step, if_kernel, if_private, kernel_step, kernel_turn, kind, kind_of, private_step, private_turn, step}
-use Rattle.cp_model.specs.Rounds.{Event, KernelTurn, PrivateStep, after_closing, all_turns, wake_status, close_round, replay_event, replay_round, run, sequential_round, wake}
+use Rattle.cp_model.specs.Rounds.{Event, KernelTurn, PrivateStep, all_turns, wake_status, replay_event, replay_round, run, sequential_round, wake}
 use Rattle.cp_model.specs.Reach.{in_reach}
-use Rattle.cp_model.specs.Invariant.{ContinuationInvariant, EnvironmentIn, FrameIn, FramesInvariant, Invariant, IsActivation, IsBlocked, NoneBeyond, StoreInvariant, TaskIn, TasksInReach}
-use Rattle.cp_model.specs.Parts.{is_own}
-use Rattle.cp_model.proofs.StateMaps.{differ, is_foreign, with_at_here}
-use Rattle.cp_model.proofs.MixedStores.{IsClosed, mix, mix_same}
+use Rattle.cp_model.specs.Invariant.{ContinuationInvariant, FramesInvariant, Invariant, IsBlocked, NoneBeyond, StoreInvariant}
+use Rattle.cp_model.proofs.StateMaps.{differ, with_at_here}
+use Rattle.cp_model.proofs.MixedStores.{mix, mix_same}
 use Rattle.cp_model.proofs.ExpressionReach.{IfGives}
-use Rattle.cp_model.proofs.ActionReach.{ContinuationIn}
 use Rattle.cp_model.proofs.ReturnReach.{result_mixed}
 use Rattle.cp_model.proofs.StepReach.{step_same}
-use Rattle.cp_model.proofs.QuietSteps.{no_gates-tail}
-use Rattle.cp_model.proofs.OwnSteps.{MayCommute, kind_private, result}
-use Rattle.cp_model.proofs.StoreInvariants.{is_closed}
+use Rattle.cp_model.proofs.OwnSteps.{kind_private, result}
 use Rattle.cp_model.proofs.ReturnInvariant.{EffectInvariant, StepInvariant}
 use Rattle.cp_model.proofs.CallInvariant.{step_invariant}
 use Rattle.cp_model.proofs.OutsideReach.{close_round_keeps, closed_but, tasks_more}

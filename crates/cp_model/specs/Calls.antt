@@ -8,7 +8,7 @@ use Rattle.cp_model.specs.Abstract.{Assign, At, Binary, Call, Case, Designator, 
 use Rattle.cp_model.specs.Names.{lookup}
 use Rattle.std.specs.Str.{bytes_eq}
 use Rattle.cp_model.specs.Types.{GlobalScope}
-use Rattle.cp_model.specs.Declarations.{Variable, declarations}
+use Rattle.cp_model.specs.Declarations.{declarations}
 use Rattle.cp_model.specs.Environments.{Environment, Frame}
 use Rattle.cp_model.specs.Continuations.{Do, RepeatTest, Task, WhileTest}
 use Rattle.cp_model.specs.Components.{Component, component_named, same_sort}

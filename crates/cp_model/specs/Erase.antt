@@ -1,7 +1,7 @@
 -- The abstract syntax of a syntax tree: what is left when places and parentheses are removed.
 -- Statement lists become `Seq` and `Nothing`, `init a, b` becomes two statements, `v[i, j]` becomes
 -- `v[i][j]`, and `array [a, b] of t` becomes an array of arrays.
-use Rattle.std.specs.Prelude.{ℕ, Bool, true, false, List, [], ◌∷◌, ◌++◌, Option, None, Some, map, is_some}
+use Rattle.std.specs.Prelude.{Bool, true, false, List, [], ◌∷◌, ◌++◌, Option, None, Some, map, is_some}
 use Rattle.cp_model.specs.Syntax as s
 use Rattle.cp_model.specs.Abstract as a
 use Rattle.cp_model.specs.declared.tree.Identifier.{Identifier}

@@ -12,7 +12,7 @@
 --             | "function" [ "entry" ] NAME [ params ] ":" NAME ) ";" [ vars ] body ";"
 --   body    = "begin" list "end"
 -- No level is open between declarations, so each declaration has the whole limit.
-use Rattle.std.specs.Prelude.{◌≡◌, ℕ, List, [], ◌∷◌, ◌++◌, Option, Some, None}
+use Rattle.std.specs.Prelude.{ℕ, List, [], ◌∷◌, ◌++◌, Option, Some, None}
 use Rattle.cp_model.specs.Languages.{Language, empty, never, symbol, symbol_at, identifier, ◌⋅◌, opens, optional, each, separated_list}
 use Rattle.cp_model.specs.GrammarExpressions.{constant}
 use Rattle.cp_model.specs.GrammarTypes.{names, type_expression}

@@ -11,13 +11,12 @@
 --        | "init" NAME [ args ] { "," NAME [ args ] }
 --   arm  = constant { "," constant } ":" stat
 -- An `else` belongs to the nearest `if` before it that has none.
-use Rattle.std.specs.Prelude.{◌≡◌, ℕ, Bool, true, false, List}
+use Rattle.std.specs.Prelude.{◌≡◌, ℕ, Bool, true, false}
 use Rattle.cp_model.specs.Languages.{Language, empty, never, symbol, symbol_at, identifier, ◌⋅◌, ◌▸◌, opens, separated_list}
 use Rattle.cp_model.specs.GrammarExpressions.{constant, expression, designator, arguments}
 use Rattle.cp_model.specs.Syntax as s
 use Rattle.cp_model.specs.declared.token.Symbol.{Symbol}
 use Rattle.cp_model.specs.declared.token.Symbol.TheVariants as symbol
-use Rattle.cp_model.specs.declared.tree.Constant.{Constant}
 use Rattle.cp_model.specs.declared.tree.Direction.{Direction}
 use Rattle.cp_model.specs.declared.tree.Direction.TheVariants as direction
 

@@ -3,7 +3,7 @@
 -- An owner is a process, a monitor, or an activation of a routine by a process. A class lies where
 -- its variable lies, so it belongs to the process or monitor that owns the variable. A location is
 -- an owner and a path of names and indices.
-use Rattle.std.specs.Prelude.{Bool, List, [], false, nat_eq, negsuc, pos, true, ℕ, ℤ, ◌&&◌, ◌++◌, ◌∷◌}
+use Rattle.std.specs.Prelude.{Bool, List, [], false, nat_eq, true, ℕ, ℤ, ◌&&◌, ◌++◌, ◌∷◌}
 use Rattle.cp_model.specs.Abstract.{Name}
 use Rattle.std.specs.Str.{bytes_eq}
 use Rattle.cp_model.specs.Integers.{same_integer}

@@ -23,7 +23,7 @@ shown_again : (n : ℕ) (rest : List ℕ) → is_printable n ≡ true → is_apo
 unfolding character
 shown_again n rest printable other = rw (printable, other) refl
 
--- what `coded` requires of the digits and of what follows them
+-- what `coded_character` requires of the digits and of what follows them
 abbrev pub is_small : ℕ → ℕ → Bool
 is_small n value = nat_le 1 n && nat_le n 3 && nat_le value 127
 

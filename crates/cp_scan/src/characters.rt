@@ -1,5 +1,5 @@
 //! Character constants: a character between apostrophes, or its ordinal between `'(:` and `:)'`.
-//! `character` and `coded` of `specs/Pieces.antt` define what is read.
+//! `character` and `coded_character` of `specs/Pieces.antt` define what is read.
 
 ghost use Rattle.std.specs.Prelude.{◌≡◌};
 ghost use Rattle.cp_scan.specs.Pieces as spec;

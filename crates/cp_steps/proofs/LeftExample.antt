@@ -4,7 +4,7 @@
 -- The example is the text of cp_code. Inside `get`, which `go` calls in an expression, `go` waits
 -- for the value with its whole assignment left to do, `run` continues after its call of `go`, and
 -- the process after its call of `run`.
-use Rattle.std.proofs.Common.{◌≡◌, ℤ, ℕ, ◌≤◌, ◌+◌, pos, negsuc, List, [], ◌∷◌, true, false, None, Some, refl}
+use Rattle.std.proofs.Common.{ℤ, ℕ, ◌+◌, pos, negsuc, List, [], ◌∷◌, true, false, None, Some, refl}
 use Rattle.std.specs.Prelude.{codes}
 use Rattle.cp_model.specs.Abstract as a
 use Rattle.cp_model.specs.Abstract.{Integer}

@@ -1,9 +1,7 @@
-use Rattle.std.proofs.Common.{◌≡◌, ◌++◌, ◌∙◌, List, ap, map}
+use Rattle.std.proofs.Common.{◌++◌, List, ap, map}
 use Rattle.cp_model.specs.Erase as erase
-use Rattle.cp_scope.specs.declared.types.Types.{Types}
 use Rattle.cp_scope.specs.declared.variables.Declared.{Declared}
-use Rattle.cp_scope.specs.Standing.{Grows}
-use Rattle.cp_scope.specs.Variables.{AreDeclared, declared_entry, parameters_of, variables_of}
+use Rattle.cp_scope.specs.Variables.{declared_entry, parameters_of, variables_of}
 use Rattle.cp_typing.specs.Needs.{result_words}
 use Rattle.cp_scope.proofs.Declaring.{both_declared, parameters_listed, result_still, variables_listed}
 use Rattle.cp_scope.proofs.Laying.{laid_later}
