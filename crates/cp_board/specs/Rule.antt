@@ -1,7 +1,7 @@
 -- The rule of a board, over its words and the views of all its seats. It holds between any two
 -- atomic steps.
--- The first words are the tickets: for each stripe, the next ticket to be drawn there. The last word
--- is the stop.
+-- The first words are the tickets: for each stripe, the next ticket to be drawn there. The last
+-- word is the stop.
 use Rattle.std.specs.Prelude.{◌≡◌, ℕ, ◌+◌, ◌<◌, ◌≤◌, min, Bool, true, false, if◌then◌else◌, List, [], ◌∷◌, length, slice_index}
 use mathlib.Core.Option.{some}
 use lib.ListN.{get_elem?}

@@ -1,10 +1,10 @@
 //! The shape of a board, and what a seat knows. The functions on views are in `specs/Views.antt`.
 use std::collections::LinkedList;
 
-/// The largest number of numbers that a board may have.
+/// How many numbers a board may have at most.
 pub const MOST_NUMBERS: usize = 255;
 
-/// The largest number of stripes over which a board may spread its numbers.
+/// How many stripes a board may spread its numbers over at most.
 pub const MOST_STRIPES: usize = 64;
 
 /// The allowance of a board's first seat, which is the number of seats that it may be split into.

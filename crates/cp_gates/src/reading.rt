@@ -57,7 +57,7 @@ impl Kernel {
         matches!(self.stage(p), Stage::Begun)
     }
 
-    /// Returns the shared word at a location. A missing word reads as 0.
+    /// Returns the shared word at an address. A missing word reads as 0.
     pub fn word(&self, at: usize) -> i32
         ensures { result ≡ word (kernel_of self.now).shared at }
     {

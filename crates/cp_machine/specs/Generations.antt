@@ -1,4 +1,4 @@
--- Kernel turns of a wave, made beside the private turns of the next one.
+-- Kernel turns of a wave, made alongside the private turns of the next one.
 use Rattle.std.specs.Prelude.{◌≡◌, ◌≤◌, ◌+◌, ◌-◌, ◌*◌, ℕ, suc, List, Some, length, slice_get, vec_len}
 use Rattle.cp_gates.specs.KernelOf.{HasRoomForAskers, HasRoomForBytes}
 use Rattle.cp_gates.specs.declared.kernel.Kernel.{Kernel}
@@ -27,8 +27,8 @@ pub record IsReadyFrom (t from : ℕ) (xs : List Private) (k : Kernel) : Type 0 
   pub asking : HasRoomForAskers k (length xs - from)
   pub room : (i : ℕ) (x : Private) → from ≤ i → slice_get xs i ≡ Some x → HasRoomAt t i x k
 
--- The kernel turns of the processes from index `from` to the end of the list xs are made, at this
--- time.
+-- The kernel turns of the processes from index `from` to the end of the list xs, made at this time,
+-- lead to ys and k'.
 pub record MakesTurns (g : Setting) (t : ℕ) (w : Moment) (from : ℕ) (xs ys : List Private) (k k' : Kernel) : Type 0 where
   pub turns : (m : Machine) → m.program ≡ view.program g.program → w ≡ moment_of m.tick m.rounds
       → TurnsMade t m g.inputs.items from xs k → TurnsMade t m g.inputs.items (length xs) ys k'
@@ -37,13 +37,14 @@ pub record MakesTurns (g : Setting) (t : ℕ) (w : Moment) (from : ℕ) (xs ys :
   pub stages : length k'.stages.items ≡ length k.stages.items
   pub asking : (n : ℕ) → HasRoomForAskers k (n + (length xs - from)) → HasRoomForAskers k' n
 
--- The private turns of all processes of xs are made, at this time.
+-- The private turns of all processes of xs, made at this time, lead to ys.
 pub record AreTurned (g : Setting) (t : ℕ) (w : Moment) (xs ys : List Private) : Type 0 where
   pub count : length ys ≡ length xs
   pub each : (i : ℕ) (y : Private) → slice_get ys i ≡ Some y → AfterPrivateTurn g t w xs i y
 
 -- In the round at this time that starts from xs and k, the private turns of as many processes as ys
--- has are made, and the kernel turns of those below index `from`. All other turns can be made.
+-- has are made, and the kernel turns of those below index `from`. The other kernel turns can be
+-- made.
 pub record WavesMade (g : Setting) (t : ℕ) (w : Moment) (xs : List Private) (k : Kernel) (from : ℕ) (ys : List Private) (k' : Kernel) : Type 0 where
   pub made : (rounds : ℕ) → w ≡ moment_of g.tick.rounds rounds
       → TurnsMade t (with_turn_taken t (machine_with g rounds xs k)) g.inputs.items from ys k'

@@ -14,7 +14,8 @@ abbrev pub after_turn : (PrivateState → PrivateState) → Bool → PrivateStat
 after_turn turned true o = turned o
 after_turn turned false o = o
 
--- How many bytes a private turn has written at most, if a turn writes at most `most` bytes.
+-- The largest number of bytes that a private turn has written, once it is made and before, if a
+-- turn writes at most `most` bytes.
 abbrev pub bytes_written : ℕ → Bool → ℕ
 bytes_written most true = most
 bytes_written most false = 0

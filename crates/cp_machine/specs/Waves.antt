@@ -23,7 +23,8 @@ pub record Adds {X : Type 0} (gives : ℕ → X → Type 0) (w : Wave) (k : ℕ)
   pub kept : (i : ℕ) → HasResult rs i → HasResult ss i
   pub chunk : (j : ℕ) → j < w.end - w.first → j / w.chunk ≡ k → HasResult ss (w.first + j)
 
--- rs has the results of each chunk that was drawn between the draws `before` and the draws `after`.
+-- rs has the results of each chunk that is among the draws `after` but not among the draws
+-- `before`.
 pub record IsWork {X : Type 0} (gives : ℕ → X → Type 0) (w : Wave) (before after : List ℕ) (rs : List (ℕ × X)) : Type 0 where
   pub results : AreResults gives w rs
   pub each : (j : ℕ) → j < w.end - w.first → Contains after (j / w.chunk) → Contains before (j / w.chunk) ⊎ HasResult rs (w.first + j)

@@ -1,6 +1,6 @@
 //! Turn gates, which are called just before each turn.
 
-/// Called before each turn with the number of its process, from 1.
+/// A gate that is called before each turn, with the number of the turn's process, from 1.
 pub trait TurnGate: Sync {
     /// Called once for each process in each round, just before its private turn, even if that turn
     /// has no step.

@@ -77,7 +77,7 @@ impl Machine {
     }
 
     /// Makes one round. Workers make the private turns, wave by wave. The calling thread is one of
-    /// them, but it first makes the kernel turns of the wave before, in order of process number,
+    /// them, but it first makes the kernel turns of the previous wave, in order of process number,
     /// while the others work. At the end, the processes that were started in the round begin. The
     /// gate is called before each turn.
     ///

@@ -84,7 +84,7 @@ impl Plan {
 
     /// Returns how many threads make the rounds of `processes` processes: at most one for each
     /// chunk of a wave, and one more if there are several waves, because the calling thread makes
-    /// the kernel turns of a wave beside the next one.
+    /// the kernel turns of a wave alongside the next one.
     pub fn threads(&self, processes: usize) -> usize
         ensures { result ≤ self.now.workers }
     {

@@ -81,7 +81,7 @@ impl Machine {
         }
     }
 
-    /// Returns the word at location `at` of process p. A missing word reads as 0.
+    /// Returns the word at address `at` of process p. A missing word reads as 0.
     pub fn value(&self, p: usize, at: usize) -> i32
         ensures { result ≡ word (words_of (machine_of self.now) p) at }
     {

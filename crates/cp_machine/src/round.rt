@@ -143,7 +143,7 @@ fn begin_wave<'a, C: Course, R: Wait, G: TurnGate>(
     desk.open(round, first.saturating_add(2 * wave));
 }
 
-// Makes all turns of a round whose tasks are at the desk: the kernel turns of a wave beside the
+// Makes all turns of a round whose tasks are at the desk: the kernel turns of a wave alongside the
 // private turns of the next one.
 fn finish_all<'a, C: Course, R: Wait, G: TurnGate>(
     rt: &R,

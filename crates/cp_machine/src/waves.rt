@@ -50,8 +50,8 @@ fn reserve_from(
     Ok(())
 }
 
-// Makes all turns of a round, wave by wave: the kernel turns of a wave beside the private turns of
-// the next one.
+// Makes all turns of a round, wave by wave: the kernel turns of a wave alongside the private turns
+// of the next one.
 fn all_waves<'x, R: Threads + Wait + Sync, G: TurnGate>(
     rt: &R,
     alloc: Global,

@@ -18,8 +18,8 @@ const SUMS: &str = "type c = class(k: integer); var n: integer;
     var a, b: p;
     begin init a(3), b(-4) end.";
 
-// The words of a process here are its mark, j, and the mark, k and n of `u`. With 3 the sum is 100
-// + 1 * 3 + 2 * 3 = 109, and with -4 it is 100 - 4 - 8 = 88.
+// The words of a process here are its mark, j, and the mark, k and n of `u`. With 3 the sum is 109
+// (100 + 1 * 3 + 2 * 3), and with -4 it is 88 (100 - 4 - 8).
 #[test]
 fn processes_have_classes_of_their_own(rt: HostRuntime) -> Result<(), Fail> {
     for way in ways() {

@@ -11,7 +11,7 @@ use cp_process::private::Activity;
 use std::process::Abort;
 use std::test::Fail;
 
-// Expects a holder and askers of a monitor's gate.
+// Expects a monitor's gate to have this holder and these askers.
 fn expect_gate(
     rt: &impl Abort,
     machine: &Machine,
@@ -27,7 +27,7 @@ fn expect_gate(
     );
 }
 
-// Expects a stage of a process. Processes that ask or are delayed aren't begun.
+// Expects a process to be in a stage. Processes that ask or are delayed aren't begun.
 fn expect_stage(rt: &impl Abort, machine: &Machine, p: u32, stage: Stage, way: Way) {
     assert_eq!(rt; machine.kernel().stage(p), stage, "process {p}, {way:?}");
     assert_eq!(rt;

@@ -23,7 +23,7 @@ pub set_neither : (own shared : List ℤ) (at : ℕ) (n : ℤ) → length own �
     → own ++ shared ≡ slice_set (own ++ shared) at n
 set_neither own shared at n h k = sym (set_past (own ++ shared) at n (omega (arith, length-append own shared)))
 
--- A location that is capped to the largest number is not the location of a word.
+-- An address that is capped to the largest number is not the address of a word.
 pub set_capped : (ws : List ℤ) (place at : ℕ) (n : ℤ) → length ws < 2 ^ 32 → cap_place place ≡ at → slice_set ws at n ≡ slice_set ws place n
 set_capped ws place at n small is = by (leb_tells (2 ^ 32) place)
   where
@@ -192,7 +192,7 @@ brought_all source ws to from i count h = by (leb_tells count i)
         let lt : i < count = e.1 in
         paste_beyond (block source (from + i) (count - i)) (to + i) ws (omega arith)
 
--- Locations that are capped to the largest number are not locations of words.
+-- Addresses that are capped to the largest number are not addresses of words.
 pub copied_capped : (ws : List ℤ) (to from i j count : ℕ) → length ws < 2 ^ 32 → cap_place i ≡ to → cap_place j ≡ from
     → paste to (block ws from count) ws ≡ paste i (block ws j count) ws
 copied_capped ws to from i j count small toward away =

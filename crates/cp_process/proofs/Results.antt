@@ -1,10 +1,10 @@
--- What is known of a location that was found, of a fault, and of gates.
+-- What is known of an address that was found, of a fault, and of gates.
 use Rattle.std.proofs.Common.{◌≡◌, ℕ, zero, suc, true, false, Result, Ok, Err, refl, ap, sym}
 use Rattle.cp_model.specs.declared.state.Fault.{Fault}
 use Rattle.cp_steps.specs.Steps.{is_held}
 use Rattle.cp_threaded.specs.Reaches.{cap_place, capped_result}
 
--- A location may be capped to the largest number.
+-- An address may be capped to the largest number.
 pub placed : (r : Result ℕ Fault) (at : ℕ) → Ok at ≡ capped_result r → (n : ℕ) × (r ≡ Ok n) × (cap_place n ≡ at)
 placed (Ok n) at is = (n, (λ i. Ok n), (cc))
 placed (Err f) at is = absurd (cc)

@@ -42,7 +42,7 @@ impl Bounds {
 }
 
 impl Private {
-    // The location may be capped to the largest `usize`.
+    // The address may be capped to the largest `usize`.
     #[inline(always)]
     fn set_within(
         &mut self,

@@ -5,7 +5,7 @@ ghost use Rattle.std.specs.Prelude.{◌≡◌};
 /// The component whose routine is called.
 #[derive(Clone, Copy)]
 pub(crate) struct Called {
-    /// The location of its first word.
+    /// The address of its first word.
     pub(crate) component: usize,
     /// Whether it has been initialised.
     pub(crate) is_set: bool,

@@ -12,7 +12,7 @@ use crate::words;
 use cp_threaded::program::Start;
 
 impl Private {
-    /// Writes the word at a location, which may be capped to the largest `usize`.
+    /// Writes the word at an address, which may be capped to the largest `usize`.
     #[inline(always)]
     pub(crate) fn set_word(&mut self, shared: &mut [i32], at: usize, n: i32)
         requires { length shared.old < 2 ^ 30 }
@@ -42,7 +42,7 @@ impl Private {
         }
     }
 
-    /// Copies `count` words. The locations may be capped to the largest `usize`.
+    /// Copies `count` words. The addresses may be capped to the largest `usize`.
     pub(crate) fn move_words(&mut self, shared: &mut [i32], to: usize, from: usize, count: usize)
         requires { length shared.old < 2 ^ 30 }
         ensures step { (input : List ℕ) (i j : ℕ) → cap_place i ≡ to → cap_place j ≡ from
@@ -56,7 +56,7 @@ impl Private {
         words::copy(&mut self.memory.words, shared, to, from, count);
     }
 
-    /// Makes words start as a plan says. The plan counts from location `base`. The plan of a
+    /// Makes words start as a plan says. The plan counts from address `base`. The plan of a
     /// function without variables marks only its result.
     #[inline(always)]
     pub(crate) fn start_words(&mut self, shared: &mut [i32], base: usize, plan: &[Start])

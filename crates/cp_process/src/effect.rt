@@ -12,7 +12,7 @@ pub enum Effect {
     Opens(u32),
     /// The process has initialised this process.
     Starts(u32),
-    /// The process waits in a queue of the monitor, given by its location.
+    /// The process waits in a queue of the monitor, given by its address.
     Delays { monitor: u32, queue: u32 },
     /// The process has left the monitor by `continue`. `resumed` is what the word of the queue
     /// held: the number of the process that was waiting in it, or 0.

@@ -197,7 +197,7 @@ impl Private {
         self.activity
     }
 
-    /// Returns the word at a location. A missing word reads as 0.
+    /// Returns the word at an address. A missing word reads as 0.
     pub fn value(&self, at: usize) -> i32
         ensures { (input : List ℕ) → result ≡ word (private_of self.now input).words at }
     {

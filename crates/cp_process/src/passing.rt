@@ -16,7 +16,7 @@ use cp_model::state::Fault;
 use cp_threaded::operation::{Argument, Target};
 use cp_threaded::term::{Spot, Term};
 
-/// Where arguments are put: the location of the first word there, and the location of the first
+/// Where arguments are put: the address of the first word there, and the address of the first
 /// word of the activation or component that they belong to in the end.
 #[derive(Clone, Copy)]
 pub(crate) struct Destination {
@@ -80,7 +80,7 @@ impl Private {
         Ok(())
     }
 
-    // Returns a location as a word, or 0 if it lies beyond all words.
+    // Returns an address as a word, or 0 if it lies beyond all words.
     fn reference_word(&self, shared: &[i32], at: usize) -> i32
         requires { length shared.now < 2 ^ 30 }
         ensures { (input : List ℕ) (place : ℕ) → cap_place place ≡ at

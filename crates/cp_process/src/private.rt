@@ -44,8 +44,8 @@ pub struct Private {
     pub(crate) place: u32,
     /// The innermost gate that the process holds, or 0.
     pub(crate) gate: u32,
-    /// The words of its component and, after them, of the running activations, the values of calls,
-    /// and the counters of `for`.
+    /// The words of its component followed by those of the running activations, and the temps,
+    /// which hold the values of calls and the counters of `for`.
     pub(crate) memory: Memory,
     /// Room for all frames. The first `depth` frames are in use.
     pub(crate) frames: SmallVec<Frame, 4>,

@@ -1,4 +1,4 @@
-//! What evaluation reads of a private state, and the values and locations that it finds.
+//! What evaluation reads of a private state, and the values and addresses that it finds.
 
 ghost use Rattle.std.specs.Prelude.{◌≡◌, ◌<◌, ◌^◌, ℕ, List, length};
 ghost use Rattle.cp_code.specs.Starts.{word};
@@ -30,7 +30,7 @@ impl Private {
         }
     }
 
-    /// Returns the word at a location, which may be capped to the largest `usize`.
+    /// Returns the word at an address, which may be capped to the largest `usize`.
     #[inline(always)]
     pub(crate) fn word(&self, shared: &[i32], at: usize) -> i32
         requires { length shared.now < 2 ^ 30 }
@@ -72,7 +72,7 @@ impl Private {
         term.value_here(&self.reach(shared, outside))
     }
 
-    /// Returns the location of a spot. A location beyond all words may be capped to the largest
+    /// Returns the address of a spot. An address beyond all words may be capped to the largest
     /// `usize`.
     #[inline(always)]
     pub(crate) fn place(

@@ -7,7 +7,7 @@ ghost use Rattle.cp_threaded.specs.View as view;
 use crate::words;
 use cp_threaded::program::Start;
 
-/// Makes words start as a plan says. The plan counts from location `base`.
+/// Makes words start as a plan says. The plan counts from address `base`.
 pub fn start_words(all: &mut [i32], base: usize, plan: &[Start])
     requires words { length all.old < 2 ^ 32 }
     requires base { base < 2 ^ 33 }

@@ -136,7 +136,7 @@ impl Private {
         }
     }
 
-    // Makes a private step that assigns a value. This is the most common step, so it is found
+    // Makes a private step that assigns a value. This is the most common step, so it is tested for
     // before all other operations. Returns whether the process is as ready as before: if not, a
     // fault has ended it.
     #[inline(always)]

@@ -50,7 +50,7 @@ fn natural(n: i32) -> u32
     if n < 0 { 0 } else { n as u32 }
 }
 
-// Returns the location at the distance `far` from `place`.
+// Returns the address at the distance `far` from `place`.
 fn displace(place: usize, far: i32) -> usize
     requires { place < 2 ^ 34 }
     ensures place { result ≡ layout.natural (pos place +ℤ far) }
@@ -81,7 +81,7 @@ impl Private {
         self.memory.component as usize + at as usize
     }
 
-    // Returns the location of the class to which a word of the component holds a right.
+    // Returns the address of the class to which a word of the component holds a right.
     fn class_right(&self, shared: &[i32], at: u32) -> usize
         requires { length shared.now < 2 ^ 30 }
         ensures place { (input : List ℕ) → result ≡ plain.class_right
@@ -150,7 +150,7 @@ impl Private {
         }
     }
 
-    // Returns the distance from the word at `from` to the class at `at`, or 0 if either location is
+    // Returns the distance from the word at `from` to the class at `at`, or 0 if either address is
     // missing.
     fn distance_word(&self, shared: &[i32], at: usize, from: usize) -> i32
         requires { length shared.now < 2 ^ 30 }

@@ -20,7 +20,7 @@ fn word(words: &[i32], at: usize) -> i32
     }
 }
 
-/// Returns the word at a location.
+/// Returns the word at an address.
 #[inline(always)]
 pub(crate) fn read(own: &[i32], shared: &[i32], at: usize) -> i32
     requires { length own.now + length shared.now < 2 ^ 32 }
@@ -34,7 +34,7 @@ pub(crate) fn read(own: &[i32], shared: &[i32], at: usize) -> i32
     }
 }
 
-/// Writes the word at a location.
+/// Writes the word at an address.
 #[inline(always)]
 #[tactic(auto, using(crate::proofs::Blocks::set_own, crate::proofs::Blocks::set_shared, crate::proofs::Blocks::set_neither))]
 pub(crate) fn write(own: &mut [i32], shared: &mut [i32], at: usize, n: i32)
@@ -122,7 +122,7 @@ pub(crate) fn copy(own: &mut [i32], shared: &mut [i32], to: usize, from: usize, 
     }
 }
 
-// Repeats the block of `size` words at location `at` `count` more times after it.
+// Repeats the block of `size` words at address `at` `count` more times after it.
 fn repeat(own: &mut [i32], shared: &mut [i32], at: usize, size: usize, count: usize)
     requires words { length own.old + length shared.old < 2 ^ 32 }
     requires at { at < 2 ^ 34 }
@@ -165,7 +165,7 @@ fn start_by(own: &mut [i32], shared: &mut [i32], base: usize, start: Start)
     }
 }
 
-/// Makes words start as a plan says. The plan counts from location `base`.
+/// Makes words start as a plan says. The plan counts from address `base`.
 pub(crate) fn start(own: &mut [i32], shared: &mut [i32], base: usize, plan: &[Start])
     requires words { length own.old + length shared.old < 2 ^ 32 }
     requires base { base < 2 ^ 33 }

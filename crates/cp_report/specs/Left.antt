@@ -16,7 +16,7 @@ abbrev pub path_of : Left → Path
 path_of (MembersLeft path ms) = path
 path_of (ElementsLeft path is t) = path
 
--- The text of what is left. The innermost variable comes first, and begins at location `at`.
+-- The text of what is left. The innermost variable comes first, and begins at address `at`.
 abbrev pub left_text : GlobalScope → Visit → List Left → ℕ → Text
 left_text g v [] at = []
 left_text g v (MembersLeft path ms ∷ rest) at =

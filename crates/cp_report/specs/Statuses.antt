@@ -14,7 +14,7 @@ use Rattle.cp_scope.specs.declared.tables.Tables.{Tables}
 use Rattle.cp_scope.specs.declared.types.Types.{Types}
 use Rattle.cp_report.specs.Lists.{AreListed}
 
--- The path of the queue that lies at location `at` of the shared words of these monitors is added.
+-- The path of the queue that lies at address `at` of the shared words of these monitors is added.
 abbrev pub TellsQueue : Tables → Program → List (Name × ℕ) → ℕ → Text → Text → Type 0
 TellsQueue tables program es at out after =
     (g : GlobalScope) (vs : List (Name × Variable)) → ScopeStands tables.names tables.types g → AreListed tables.types es vs

@@ -13,7 +13,7 @@ use cp_scope::{Declared, Field, Tables, TypeRow};
 use std::alloc::AllocError;
 
 impl Walk {
-    /// Reports members of a component, one after another, from the next location on.
+    /// Reports members of a component, one after another, from the next address on.
     pub(crate) fn members(
         &mut self,
         tables: &Tables,
@@ -55,7 +55,7 @@ impl Walk {
         self.members(tables, telling, out, members)
     }
 
-    // Reports variables of the initial process, one after another, from the next location on.
+    // Reports variables of the initial process, one after another, from the next address on.
     fn variables(
         &mut self,
         tables: &Tables,

@@ -29,7 +29,7 @@ pub(crate) fn monitor_start(program: &Program, number: usize) -> usize
     }
 }
 
-// Adds the path of the queue at a location of the shared words.
+// Adds the path of the queue at an address of the shared words.
 fn push_queue(
     walk: &mut Walk,
     tables: &Tables,

@@ -18,7 +18,7 @@ pub enum Leaf {
     Queue,
 }
 
-/// Words that are read by their locations.
+/// Words that are read by their addresses.
 #[derive(Clone, Copy)]
 pub enum Words<'w> {
     /// The words of a process.
@@ -28,7 +28,7 @@ pub enum Words<'w> {
 }
 
 impl<'w> Words<'w> {
-    // Returns the word at a location. A missing word reads as 0.
+    // Returns the word at an address. A missing word reads as 0.
     fn at(&self, place: usize) -> i32
         ensures { result ≡ word (words_in self.now) place }
     {
@@ -44,7 +44,7 @@ impl<'w> Words<'w> {
 pub enum Telling<'w> {
     /// A line for each part, with its value, which is in these words.
     Lines(Words<'w>),
-    /// The path of the queue at this location.
+    /// The path of the queue at this address.
     PathOf(usize),
 }
 
@@ -69,7 +69,7 @@ fn push_queue_line(out: &mut Vec<u8>, path: &[u8], n: i32) -> Result<(), AllocEr
 }
 
 impl<'w> Telling<'w> {
-    /// Adds what is reported of a simple part or a queue at a location. `path` is the text of its
+    /// Adds what is reported of a simple part or a queue at an address. `path` is the text of its
     /// path.
     pub fn tell(
         &self,

@@ -1,8 +1,8 @@
-//! The simple parts and queues of a variable, one after another, with their paths and the locations
+//! The simple parts and queues of a variable, one after another, with their paths and the addresses
 //! of their words.
 //!
 //! A chain of named types may be very long, so the variables around a part are kept on a stack.
-//! Parts lie in the order in which they are visited, so the location of the next word only grows.
+//! Parts lie in the order in which they are visited, so the address of the next word only grows.
 
 ghost use Rattle.std.specs.Prelude.{◌≡◌, ◌+◌, ◌+ℤ◌, ◌++◌, ◌∷◌, ◌<◌, ◌^◌, pos, [], Some, OnOk, IfOk, codes, length, map, take};
 ghost use Rattle.std.specs.Borrow.{Bor};
@@ -45,7 +45,7 @@ pub struct Walk {
     /// The text of the path of the part that is visited. It may be followed by text of another
     /// path.
     pub(crate) path: Vec<u8>,
-    /// The location of the next word.
+    /// The address of the next word.
     pub(crate) at: usize,
 }
 
@@ -58,7 +58,7 @@ fn index_at(low: i32, next: usize) -> i64
 }
 
 impl Walk {
-    /// Returns a walk that begins at a location.
+    /// Returns a walk that begins at an address.
     pub fn new(alloc: Global, at: usize) -> Walk
         ensures { result.at ≡ at }
     {
@@ -133,7 +133,7 @@ impl Walk {
         }
     }
 
-    // Makes the path that of a member of the variable.
+    // Changes the path to that of a member of the variable.
     fn name_member(&mut self, cursor: Cursor, name: &[u8]) -> Result<(), AllocError>
         ensures path { OnOk result (self.new.path.items
             ≡ take cursor.path self.old.path.items ++ (codes "." ++ name.now)) }
@@ -145,7 +145,7 @@ impl Walk {
         self.path.extend_from_slice(name)
     }
 
-    // Makes the path that of an element of the variable.
+    // Changes the path to that of an element of the variable.
     fn name_element(&mut self, cursor: Cursor, index: i64) -> Result<(), AllocError>
         ensures path { OnOk result (self.new.path.items ≡ take cursor.path self.old.path.items ++
             (codes "[" ++ (decimal index ++ codes "]"))) }
@@ -244,7 +244,7 @@ impl Walk {
         }
     }
 
-    // Makes the rest of the walk.
+    // Walks over everything that is left.
     fn finish(
         &mut self,
         tables: &Tables,
@@ -263,7 +263,7 @@ impl Walk {
         Err(AllocError)
     }
 
-    /// Reports all parts of a variable with this name and type, which lies at the next location.
+    /// Reports all parts of a variable with this name and type, which lies at the next address.
     ///
     /// # Errors
     ///
