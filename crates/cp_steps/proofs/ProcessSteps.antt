@@ -91,7 +91,7 @@ module _ {G : Ground} {s : State} {w : Outside} {before : List ℕ} {o : Private
   room_is : from + (1 + size) ≤ G.own
   room_is = room Z
 
-  -- Passing changes only the process's own unused words.
+  -- Passing the arguments changes only the process's own words from `from` on.
   pub passes_same : (ws : Writes) (us : List ℤ) → WellBound ws us → (i : ℕ) → (i < from) ⊎ (G.own ≤ i) → word us i ≡ word o.words i
   passes_same ws us B i below =
       B.outside i (λ p j there off e.
