@@ -61,7 +61,7 @@ TEXTS = {
 
 
 def spent(text, turns):
-    """The processor time of so many compilations, with the scanner's and the parser's."""
+    """The processor time of this many compilations, including the scanner's and the parser's."""
     before = resource.getrusage(resource.RUSAGE_CHILDREN)
     subprocess.run([PROGRAM, str(turns)], input=text.encode(), capture_output=True, check=True)
     after = resource.getrusage(resource.RUSAGE_CHILDREN)

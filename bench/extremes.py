@@ -1,7 +1,7 @@
 #!/usr/bin/env python3
-"""Measures extreme texts: seconds and memory of `cpm run` where calls are deep, arrays large and dimensions many.
+"""Measures extreme texts: seconds and memory of `cpm run` with deep calls, large arrays and many dimensions.
 
-Build the program first (`rt run < stdin` in crates/cpm leaves out/cpm), then call this script. Each should be within a second.
+Build the program first (`rt run < stdin` in crates/cpm leaves out/cpm), then call this script. Each should take less than a second.
 """
 import itertools
 import os

@@ -32,7 +32,7 @@ PIECES = {
 
 
 def texts(size):
-    """Each kind of text of this size; all are spelled by tokens."""
+    """A text of each kind of this size; tokens spell each of them."""
     for name, piece in PIECES.items():
         text = piece * (size // len(piece))
         yield name, text + b' ' * (size - len(text))
@@ -41,7 +41,7 @@ def texts(size):
 
 
 def times(text, turns):
-    """The processor times of a process that scans the text so often: its own, and the system's."""
+    """The processor times of a process that scans the text this many times: its own, and the system's."""
     before = resource.getrusage(resource.RUSAGE_CHILDREN)
     answer = subprocess.run([PROGRAM, str(turns)], input=text, capture_output=True, check=True).stdout
     after = resource.getrusage(resource.RUSAGE_CHILDREN)

@@ -31,7 +31,7 @@ def command(text, rounds, turn, workers):
 
 
 def seconds(words, copies=1):
-    """How long so many runs beside each other take."""
+    """How long this many runs take side by side."""
     began = time.perf_counter()
     runs = [subprocess.Popen(words, stdout=subprocess.DEVNULL) for _ in range(copies)]
     for run in runs:
@@ -47,7 +47,7 @@ def best(cases):
 
 
 def measure_turns(text, turn, rounds):
-    """Private steps a second by workers, and by as many programs of one worker beside each other."""
+    """Private steps a second by workers, and by as many programs of one worker side by side."""
     cases = {workers: (command(text, rounds, turn, workers), 1) for workers in (1, 2, 4)}
     apart = {f'{copies} programs': (command(text, rounds, turn, 1), copies) for copies in (2, 4)}
     times = best({**cases, **apart})

@@ -1,9 +1,9 @@
 #!/usr/bin/env python3
-"""Tries the built program cpm from outside: the examples, its exits, and each allocation, thread
+"""Tests the built program cpm from outside: the examples, its exits, and each allocation, thread
 start, read and write refused in turn.
 
 Build the program first (`rt run < stdin` in crates/cpm leaves out/cpm), then call this script. It needs a C compiler (`cc`).
-It prints what is wrong and how much was tried, and ends with status 0 where nothing was wrong.
+It prints what is wrong and how much was tried, and ends with status 0 if nothing was wrong.
 """
 import json
 import os
@@ -22,7 +22,7 @@ wrong = []
 
 
 def run(words, environment=None, folder=EXAMPLES):
-    """Exit status, standard output and standard error of cpm with these words."""
+    """The exit status, standard output and standard error of cpm with these arguments."""
     ended = subprocess.run([PROGRAM, *words], capture_output=True, stdin=subprocess.DEVNULL, cwd=folder, timeout=60,
                            env={**os.environ, **(environment or {})})
     return ended.returncode, ended.stdout, ended.stderr
@@ -34,7 +34,7 @@ def expect(what, found, wanted):
 
 
 def try_examples():
-    """Each text with a report beside it, by the command that stands in it."""
+    """Runs each text that has a report beside it, with the command in its comment."""
     count = 0
     for report in sorted(EXAMPLES.glob('*.report')):
         text = report.with_suffix('.cp').read_text()
@@ -45,7 +45,7 @@ def try_examples():
 
 
 def try_rules():
-    """Each text that is refused, with the line of its refusal beside it."""
+    """Checks each text that has the line of its refusal beside it."""
     count = 0
     for refusal in sorted(EXAMPLES.glob('**/*.refusal')):
         text = refusal.with_suffix('.cp').relative_to(EXAMPLES)
@@ -55,7 +55,7 @@ def try_rules():
 
 
 def try_explanations():
-    """Each text that breaks a rule, with its explanation beside it, and the same text mended."""
+    """Explains each text that breaks a rule, with its explanation beside it, and checks the mended text."""
     count = 0
     for explanation in sorted((EXAMPLES / 'rules').glob('*.explanation')):
         text = explanation.with_suffix('.cp').name
@@ -67,7 +67,7 @@ def try_explanations():
 
 
 def words_of(case, text, given):
-    """The words by which the program answers a worked text, or None. Its input is put into a file."""
+    """The arguments with which the program gives the answer of a worked text, or None. Writes its input to a file."""
     if case['command'] == 'check':
         return ['check', text]
     if case['command'] != 'run' or case['chains']:
@@ -80,7 +80,7 @@ def words_of(case, text, given):
 
 
 def try_worked():
-    """Each worked text that the program answers, by its answer."""
+    """Compares the program with the answer of each worked text for which it has a command."""
     listed = subprocess.run([sys.executable, ROOT / 'worked' / 'make_rows.py', '--list'], capture_output=True, check=True).stdout
     count = 0
     with tempfile.TemporaryDirectory() as folder:
@@ -117,7 +117,7 @@ def try_exits():
 
 
 def try_each(preloaded, name, count, words, right):
-    """Refuses each of so many calls in turn."""
+    """Refuses each of `count` calls in turn."""
     for n in range(1, count + 1):
         found = run(words, {**preloaded, name: str(n)})
         if not right(found):
@@ -125,12 +125,12 @@ def try_each(preloaded, name, count, words, right):
 
 
 def is_refused_or(due):
-    """Whether a run is refused memory, or has this report: a collection that is refused the room it foresees takes less."""
+    """Whether a run is refused memory, or has this report: a collection that can't reserve the room it foresees takes less."""
     return lambda found: found in [(3, b'', b'fault M\n'), (0, due, b'')]
 
 
 def count_calls(library, words, short):
-    """What a run writes, and its counts of allocations, thread starts, reads and writes."""
+    """The output of a run, and its counts of allocations, thread starts, reads and writes."""
     _, due, _ = run(words)
     calls = library.with_name('calls')
     expect('a run that is counted', run(words, {'LD_PRELOAD': str(library), 'CALLS': str(calls), **short}), (0, due, b''))
@@ -138,7 +138,7 @@ def count_calls(library, words, short):
 
 
 def try_explained(library, words, due):
-    """Refuses each allocation, read and write of an explanation, which ends with status 1. How many of each."""
+    """Refuses each allocation, read and write of an explanation, which ends with status 1. Returns how many there are of each."""
     short = {'SHORT_WRITES': '1'}
     preloaded, calls = {'LD_PRELOAD': str(library), **short}, library.with_name('calls')
     expect('an explanation that is counted', run(words, {**preloaded, 'CALLS': str(calls)}), (1, due, b''))
@@ -151,7 +151,7 @@ def try_explained(library, words, due):
 
 
 def try_refusals(library, words):
-    """Refuses each allocation, read and write of a run. Each write takes one byte then, so that there are many. How many of each."""
+    """Refuses each allocation, read and write of a run. Each write takes only one byte, so that there are many. Returns how many there are of each."""
     short = {'SHORT_WRITES': '1'}
     preloaded = {'LD_PRELOAD': str(library), **short}
     due, (memory, _, reads, writes) = count_calls(library, words, short)
@@ -163,7 +163,7 @@ def try_refusals(library, words):
 
 
 def try_threads(library, words):
-    """Refuses each allocation and each thread start of a run by several workers. How many of each."""
+    """Refuses each allocation and each thread start of a run by several workers. Returns how many there are of each."""
     preloaded = {'LD_PRELOAD': str(library)}
     due, (memory, threads, _, _) = count_calls(library, words, {})
     expect('threads are started', threads > 0, True)

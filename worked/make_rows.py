@@ -1,20 +1,20 @@
 #!/usr/bin/env python3
-"""Writes the worked texts of this folder as statements of the crate cp_rows, and runs of some as those of cp_steps_rows.
+"""Writes the worked texts of this folder as statements of the crate cp_rows, and runs of some of them as statements of cp_steps_rows.
 
 Each folder is a module of statements, each file a text with its answers:
 
     == text                        the text, up to the next line that begins with ==, without its last line feed
     == text of EXPRESSION          the text as a Python expression, for long ones
-    == check                       what `cpm check` answers: `accepted`, or the line of a refusal
+    == check                       the output of `cpm check`: `accepted`, or the line of a refusal
     == run --rounds N [--turn N] [--tick N] [--input STRING] [--chains]
     == replay --order STRING [..]  strings are written as in Python
-    == consumed --rounds N [..]    how much of its input each process has taken, which no report tells: no command of the program
+    == consumed --rounds N [..]    how much of its input each process has taken; no report shows it, and cpm has no such command
     the answer, up to the next line that begins with ==
 
-Lines before the first == say what the text shows. `make_rows.py` writes crates/cp_rows/specs, proofs and src/rows.rt; of the texts
-that COMPILED names, that their compiled programs answer as the meaning does, to specs/Runs.antt and proofs of crates/cp_steps_rows; and
-the cases as JSON, which the program cp_worked reads. `make_rows.py --list` prints these, and `make_rows.py --unchanged` fails where the
-files aren't those that it would write.
+Lines before the first == say what the text shows. `make_rows.py` writes crates/cp_rows/specs, proofs and src/rows.rt; for the texts
+that COMPILED names, the statement that their compiled programs behave as the meaning does, in specs/Runs.antt and proofs of
+crates/cp_steps_rows; and the cases as JSON, which the program cp_worked reads. `make_rows.py --list` prints these, and
+`make_rows.py --unchanged` fails if the files differ from what it would write.
 """
 import json, pathlib, re, sys
 
@@ -25,7 +25,7 @@ CASES = CRATES / 'cp_worked' / 'stdin'
 COMPILED = ('examples/buffer', 'meaning/input_in_subrange', 'monitors/a_chain_of_askers', 'processes/routines_types_and_loops')
 WRITTEN = {}
 DEFAULTS = {'rounds': '0', 'turn': '100', 'tick': '1', 'chains': 'false', 'input': '', 'order': ''}
-# What the answer of a command is computed from but a text.
+# What the answer of a command is computed from, besides the text.
 OPTIONS = {
     'check': (),
     'run': ('rounds', 'turn', 'tick', 'chains', 'input'),
@@ -67,7 +67,7 @@ def options(head):
 
 
 def as_bytes(text):
-    """A term for the bytes of a text."""
+    """The term that stands for the bytes of a text."""
     parts = []
     for match in re.finditer(rb'[ -~\n]+|[^ -~\n]', text.encode('latin-1')):
         piece = match.group()
@@ -87,7 +87,7 @@ def applied(function, head, text):
 
 
 def statement(text, head, answer):
-    """The statement that this answer is given of a text."""
+    """The statement that the definitions give a text this answer."""
     command, _ = options(head)
     expected = as_bytes(answer if answer.startswith(('rounds ', 'accepted', 'consumed ')) else answer[:-1])
     return applied(f'{command}_answer', head, text) + f' ≡ {expected}'
@@ -105,18 +105,18 @@ def unfoldable():
 
 
 def write(path, text):
-    """Keeps what a file of the crate shall hold."""
+    """Records what a file of the crate has to contain."""
     WRITTEN[path] = text
 
 
 def named_texts(path):
-    """The texts of a file that have several answers, each with its name."""
+    """Names for the texts of a file that have several answers."""
     texts = [text for text, _, _ in cases_of(path)]
     return {text: f'{path.stem}_{texts.index(text) + 1}_text' for text in texts if texts.count(text) > 1}
 
 
 def write_module(folder):
-    """One folder: its texts and statements, their proof, and the public function that stands on them."""
+    """One folder: its texts and statements, their proof, and the public function that states them."""
     name, title = folder.name, folder.name.capitalize()
     texts = {path: named_texts(path) for path in sorted(folder.glob('*.txt'))}
     lines = [f'-- Worked texts and their answers: {name}. Written by worked/make_rows.py.',
@@ -155,7 +155,7 @@ def write_proofs(crate, name, title, holds):
 
 
 def write_rows():
-    """The crate cp_rows, but its Answers.antt."""
+    """The crate cp_rows, except for its Answers.antt."""
     modules = [write_module(folder) for folder in sorted(HERE.iterdir()) if list(folder.glob('*.txt'))]
     path = CRATES / 'cp_rows'
     write(path / 'proofs' / 'Lib.antt', ''.join(f'mod {title}Computed\n' for title, _, _ in modules))
@@ -189,7 +189,7 @@ def write_compiled():
 
 
 def listed():
-    """All cases as JSON, a case a line."""
+    """All cases as JSON, one on each line."""
     found = []
     for path in sorted(HERE.glob('*/*.txt')):
         for k, (text, head, answer) in enumerate(cases_of(path), 1):
