@@ -64,8 +64,8 @@ pub data Operation : Type 0 where
 
 -- ---- Units
 
--- How words start: `count` words with one value, or `count` blocks that are all like the first one,
--- of `size` words.
+-- How words start: `count` words with one value, or `count` blocks of `size` words that all equal
+-- the first one, which is there already.
 pub data Start : Type 0 where
   Fill : (at count : ℕ) (value : ℤ) → Start
   Repeat : (at size count : ℕ) → Start

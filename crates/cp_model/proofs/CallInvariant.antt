@@ -349,7 +349,7 @@ action_invariant p st (i ∷ k) o = go (call_in_task (Literal 0) i)
     go None h = by_procedure (procedure_call i) (procedure i o)
     go (Some f) h = (h, o)
 
--- A step keeps the reach.
+-- A step keeps the invariant.
 pub step_invariant : (w : Context) (config : Configuration) → StoreInvariant config.store
     → ContinuationInvariant w.process config.store config.continuation
     → IfGives (StepInvariant w.process) (step_of w config)

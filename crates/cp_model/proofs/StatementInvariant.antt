@@ -379,7 +379,3 @@ module _ (w : Context) (config : Configuration) (s : StoreInvariant config.store
       go k (Some m) = tt
   run_task_after EndProcess k o l = goes_on k config.transcript Ends tt
       (continuation_tail w.process config.store EndProcess k tt o)
-
--- ---- Calls
-
--- Writes at one owner, whose references lead into a reach.

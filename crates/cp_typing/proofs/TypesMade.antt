@@ -25,7 +25,7 @@ use Rattle.cp_typing.proofs.StructuredTypes.{subrange_made, IndexAs, IndicesAs, 
 module _ (G : GlobalScope → Type 0) where
   -- ---- all written types
 
-  -- each element of an array of arrays is sound
+  -- the index types and the element type of an array of arrays are all sound
   arrays_are_sound : (env : Environment) (at : ℕ) (js : List (Judged ℕ)) (e : Judged ℕ) (n : ℕ) → (arrays env at js e).of ≡ Sound n
       → (ns : List ℕ) × (m : ℕ) × (js ≡ map (λ i. Sound i) ns) × (e ≡ Sound m)
   arrays_are_sound env at [] e n h = ([], n, refl, h)

@@ -237,7 +237,7 @@ IsProcedureCall p None d es = IsStandardStatement p d es
 
 -- ---- Init
 
--- a bare name of a component of the parameter's very system type, or a value
+-- a component given by its bare name, of exactly the parameter's system type
 abbrev pub IsComponentArgument : Environment → System → Expression → Type 0
 IsComponentArgument env s (Use (Plain x)) =
     (callee env (Plain x) ≡ None) × (c : Component) × (component_named env x ≡ Some c) × (c.system ≡ s)
@@ -264,7 +264,7 @@ pub record Initialises (p : Place) (x : Name) (es : Expressions) : Type 0 where
 
 -- ---- Statements
 
--- each label is a constant of the base, and occurs once
+-- n isn't among the numbers seen before
 abbrev pub IsNew : ℤ → List ℤ → Type 0
 IsNew n [] = Unit {0}
 IsNew n (m ∷ ms) = (same_integer n m ≡ false) × IsNew n ms
