@@ -10,7 +10,7 @@ use cp_compile::compile;
 use cp_model::rules::Violation;
 use cp_model::tree::Tree;
 use cp_rules::text::{Refusal, judge};
-use cp_threaded::program::Program;
+use cp_program::program::Program;
 use std::alloc::{AllocError, Global};
 
 /// Why a text has no program.

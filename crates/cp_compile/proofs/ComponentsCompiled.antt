@@ -29,7 +29,7 @@ use Rattle.cp_scope.specs.Components.{own_members}
 use Rattle.cp_scope.specs.Layouts.{rights_of}
 use Rattle.cp_scope.specs.Scopes.{IsWritten}
 use Rattle.cp_scope.specs.Variables.{AreDeclared, Entry, declared_entry, parameters_of}
-use Rattle.cp_threaded.specs.declared.program.Plan.{Plan}
+use Rattle.cp_program.specs.declared.program.Plan.{Plan}
 use Rattle.cp_compile.specs.declared.components.Owner.{Owner}
 use Rattle.cp_compile.specs.declared.components.InitialCompiler.{InitialCompiler}
 use Rattle.cp_compile.specs.CompiledComponents.{AreOwners, IsInitial, IsOwner, OwnerIs, PutsOwner}

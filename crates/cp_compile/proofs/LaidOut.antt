@@ -8,10 +8,10 @@ use Rattle.cp_code.specs.Compile.{monitors_at, processes_at, sum_words, waiting_
 use Rattle.cp_code.specs.Layout.{component_words}
 use Rattle.cp_code.specs.Plans.{plan_of_component}
 use Rattle.cp_code.specs.Programs as program
-use Rattle.cp_threaded.specs.View as view
-use Rattle.cp_threaded.specs.declared.program.Monitor.{Monitor}
-use Rattle.cp_threaded.specs.declared.program.Plan.{Plan}
-use Rattle.cp_threaded.specs.declared.program.Process.{Process}
+use Rattle.cp_program.specs.View as view
+use Rattle.cp_program.specs.declared.program.Monitor.{Monitor}
+use Rattle.cp_program.specs.declared.program.Plan.{Plan}
+use Rattle.cp_program.specs.declared.program.Process.{Process}
 use Rattle.cp_compile.specs.declared.components.Owner.{Owner}
 use Rattle.cp_compile.specs.CompiledComponents.{AreOwners, OwnerIs}
 

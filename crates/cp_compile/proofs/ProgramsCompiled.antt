@@ -21,9 +21,9 @@ use Rattle.cp_scope.specs.Layouts.{AreLaid}
 use Rattle.cp_scope.specs.Standing.{ScopeStands}
 use Rattle.cp_scope.specs.Texts.{AreSystems, TablesStand}
 use Rattle.cp_scope.specs.Variables.{AreDeclared, Entry}
-use Rattle.cp_threaded.specs.declared.program.Plan.{Plan}
-use Rattle.cp_threaded.specs.View as view
-use Rattle.cp_threaded.specs.View.{plan_at, plan_or_none}
+use Rattle.cp_program.specs.declared.program.Plan.{Plan}
+use Rattle.cp_program.specs.View as view
+use Rattle.cp_program.specs.View.{plan_at, plan_or_none}
 use Rattle.cp_compile.specs.declared.compiler.Code.{Code}
 use Rattle.cp_compile.specs.declared.compiler.Plans.{Plans}
 use Rattle.cp_compile.specs.declared.components.InitialCompiler.{InitialCompiler}

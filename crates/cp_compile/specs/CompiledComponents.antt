@@ -24,8 +24,8 @@ use Rattle.cp_scope.specs.Systems.{SystemStands}
 use Rattle.cp_scope.specs.Texts.{AreSystems}
 use Rattle.cp_scope.specs.TypeNames.{AreTypeNames}
 use Rattle.cp_scope.specs.Variables.{AreDeclared, declared_entry}
-use Rattle.cp_threaded.specs.View.{plan_at}
-use Rattle.cp_threaded.specs.declared.program.Plan.{Plan}
+use Rattle.cp_program.specs.View.{plan_at}
+use Rattle.cp_program.specs.declared.program.Plan.{Plan}
 use Rattle.cp_compile.specs.declared.components.InitialCompiler.{InitialCompiler}
 use Rattle.cp_compile.specs.declared.components.Owner.{Owner}
 

@@ -15,9 +15,9 @@ use Rattle.cp_code.specs.Plans.{plan_of_component}
 use Rattle.cp_emit.specs.declared.plan.Planner.{Planner}
 use Rattle.cp_emit.specs.Planning.{Knows}
 use Rattle.cp_scope.specs.declared.tables.Tables.{Tables}
-use Rattle.cp_threaded.specs.View as view
-use Rattle.cp_threaded.specs.View.{plan_at}
-use Rattle.cp_threaded.specs.declared.program.Plan.{Plan}
+use Rattle.cp_program.specs.View as view
+use Rattle.cp_program.specs.View.{plan_at}
+use Rattle.cp_program.specs.declared.program.Plan.{Plan}
 use Rattle.cp_compile.specs.declared.compiler.Code.{Code}
 use Rattle.cp_compile.specs.declared.compiler.Components.{Components}
 use Rattle.cp_compile.specs.declared.compiler.Plans.{Plans}

@@ -4,8 +4,8 @@ use Rattle.cp_model.specs.Types.{GlobalScope}
 use Rattle.cp_code.specs.Compile as code
 use Rattle.cp_code.specs.Compile.{monitors_at, processes_at, sum_words, waiting_words}
 use Rattle.cp_code.specs.Layout.{component_words}
-use Rattle.cp_threaded.specs.View as view
-use Rattle.cp_threaded.specs.declared.program.Plan.{Plan}
+use Rattle.cp_program.specs.View as view
+use Rattle.cp_program.specs.declared.program.Plan.{Plan}
 use Rattle.cp_compile.specs.declared.layout.MonitorLayout.{MonitorLayout}
 use Rattle.cp_compile.specs.declared.layout.ProcessLayout.{ProcessLayout}
 

@@ -8,7 +8,7 @@ ghost use Rattle.cp_model.specs.View as syntax;
 ghost use Rattle.cp_model.specs.declared.tree.Tree as text;
 ghost use Rattle.cp_code.specs.Compile as code;
 ghost use Rattle.cp_scope.specs.Texts.{TablesStand};
-ghost use Rattle.cp_threaded.specs.View as view;
+ghost use Rattle.cp_program.specs.View as view;
 ghost use Rattle.cp_compile.specs.CompiledPrograms.{ArePlansOf, ComponentsLie, IsCode, IsPlanner, text_of};
 
 use crate::components::{InitialCompiler, Owner};
@@ -20,7 +20,7 @@ use cp_emit::plan::Planner;
 use cp_model::tree::{Sort, Tree};
 use cp_names::NameTable;
 use cp_scope::{CompileError, Tables, small_number};
-use cp_threaded::program::{Monitor, Plan, Process, Program};
+use cp_program::program::{Monitor, Plan, Process, Program};
 use std::alloc::Global;
 
 /// The code of a text: its operations and units, the first unit of each type by name, and the first

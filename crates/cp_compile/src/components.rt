@@ -9,7 +9,7 @@ ghost use Rattle.cp_code.specs.Compile as code;
 ghost use Rattle.cp_code.specs.Compile.{of_sort, owners_of};
 ghost use Rattle.cp_scope.specs.Numbering.{system_of};
 ghost use Rattle.cp_scope.specs.Standing.{Stands, row_at};
-ghost use Rattle.cp_threaded.specs.declared.program.Plan.{Plan};
+ghost use Rattle.cp_program.specs.declared.program.Plan.{Plan};
 ghost use Rattle.cp_compile.specs.CompiledComponents.{AreOwners, IsInitial, IsOwner, PutsOwner};
 
 use cp_model::tree::Sort;

@@ -3,13 +3,13 @@
 ghost use Rattle.std.specs.Prelude.{List, IfOk};
 ghost use Rattle.cp_model.specs.Types.{GlobalScope};
 ghost use Rattle.cp_code.specs.Compile as code;
-ghost use Rattle.cp_threaded.specs.declared.program.Plan.{Plan};
+ghost use Rattle.cp_program.specs.declared.program.Plan.{Plan};
 ghost use Rattle.cp_compile.specs.CompiledComponents.{AreOwners};
 ghost use Rattle.cp_compile.specs.LaidComponents.{MonitorsLie, ProcessesLie};
 
 use crate::components::Owner;
 use cp_scope::CompileError;
-use cp_threaded::program::{Monitor, Process};
+use cp_program::program::{Monitor, Process};
 use std::alloc::Global;
 
 /// Monitors that lie one after another, and the number of words that they take.

@@ -9,7 +9,7 @@ ghost use Rattle.cp_code.specs.Compile.{Compiled, with_body, with_routine, with_
 ghost use Rattle.cp_code.specs.StandsFor.{end_of};
 ghost use Rattle.cp_scope.specs.Routines.{RoutineStands};
 ghost use Rattle.cp_scope.specs.Systems.{routines_of};
-ghost use Rattle.cp_threaded.specs.View as view;
+ghost use Rattle.cp_program.specs.View as view;
 ghost use Rattle.cp_compile.specs.Compiles.{IsCompiled, body_of};
 ghost use Rattle.cp_compile.specs.CompiledSystems.{IsSystem};
 
@@ -19,7 +19,7 @@ use cp_emit::plan::Planner;
 use cp_model::tree::{Routine, Sort, Statement};
 use cp_names::NameTable;
 use cp_scope::{CompileError, RoutineTable, Scope, SystemTable, Tables};
-use cp_threaded::operation::Operation;
+use cp_program::operation::Operation;
 
 /// What the units of a system type are compiled with: the tables of the text, the planner, the
 /// first unit of each type that was defined before, by name, the table of the system type, and its

@@ -4,14 +4,14 @@ ghost use Rattle.std.specs.Prelude.{OnOk, map};
 ghost use Rattle.cp_code.specs.Compile.{Compiled, with_unit};
 ghost use Rattle.cp_code.specs.Scopes as code;
 ghost use Rattle.cp_scope.specs.Scopes.{IsScope};
-ghost use Rattle.cp_threaded.specs.View as view;
+ghost use Rattle.cp_program.specs.View as view;
 ghost use Rattle.cp_compile.specs.Compiles.{IsCompiled, body_of};
 
 use cp_emit::Emitter;
 use cp_model::tree::Statement;
 use cp_scope::{CompileError, Scope};
-use cp_threaded::operation::Operation;
-use cp_threaded::program::Start;
+use cp_program::operation::Operation;
+use cp_program::program::Start;
 use cp_translate::Translator;
 use std::alloc::Global;
 

@@ -11,8 +11,8 @@ use Rattle.cp_scope.specs.declared.types.Types.{Types}
 use Rattle.cp_scope.specs.Texts.{AreSystems}
 use Rattle.cp_scope.specs.Variables.{AreDeclared, declared_entry}
 use Rattle.cp_scope.proofs.Laying.{last_or_before}
-use Rattle.cp_threaded.specs.declared.program.Plan.{Plan}
-use Rattle.cp_threaded.specs.View as view
+use Rattle.cp_program.specs.declared.program.Plan.{Plan}
+use Rattle.cp_program.specs.View as view
 use Rattle.cp_emit.specs.ComponentPlans.{ArePlans}
 
 pub no_plans : (g : GlobalScope) (types : Types) (plans : List Plan) → plans ≡ [] → ArePlans g types plans

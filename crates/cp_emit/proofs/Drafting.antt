@@ -7,8 +7,8 @@ use Rattle.std.proofs.Math.Facts.{no_eqb}
 use Rattle.std.specs.Option.{option_to_list}
 use Rattle.cp_code.specs.Programs as code
 use Rattle.cp_code.specs.Plans.{fill_before}
-use Rattle.cp_threaded.specs.declared.program.Start.{Start}
-use Rattle.cp_threaded.specs.View as view
+use Rattle.cp_program.specs.declared.program.Start.{Start}
+use Rattle.cp_program.specs.View as view
 use Rattle.cp_emit.specs.Drafts.{Joins, drop_repeat, starts_of}
 
 pub one_more : (xs ys : List Start) (x : Start) → ys ≡ xs ++ x ∷ [] → starts_of ys ≡ view.start x ∷ starts_of xs

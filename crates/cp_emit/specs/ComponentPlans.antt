@@ -8,8 +8,8 @@ use Rattle.cp_model.specs.declared.tree.System.{System}
 use Rattle.cp_code.specs.Plans.{plan_of_component}
 use Rattle.cp_scope.specs.declared.types.Types.{Types}
 use Rattle.cp_scope.specs.Standing.{system_at}
-use Rattle.cp_threaded.specs.declared.program.Plan.{Plan}
-use Rattle.cp_threaded.specs.View as view
+use Rattle.cp_program.specs.declared.program.Plan.{Plan}
+use Rattle.cp_program.specs.View as view
 
 -- The plan of each number is that of the components of the system type of that number.
 abbrev pub ArePlans : GlobalScope → Types → List Plan → Type 0

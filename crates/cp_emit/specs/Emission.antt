@@ -5,9 +5,9 @@ use Rattle.cp_code.specs.CodedTerms as coded
 use Rattle.cp_code.specs.CodeNeeds.{need_of_all}
 use Rattle.cp_code.specs.CodedStatements.{Emitted, calls_at, with_calls}
 use Rattle.cp_code.specs.Compile.{code_unit}
-use Rattle.cp_threaded.specs.declared.operation.Operation.{Operation}
-use Rattle.cp_threaded.specs.declared.program.Start.{Start}
-use Rattle.cp_threaded.specs.View as view
+use Rattle.cp_program.specs.declared.operation.Operation.{Operation}
+use Rattle.cp_program.specs.declared.program.Start.{Start}
+use Rattle.cp_program.specs.View as view
 use Rattle.cp_emit.specs.declared.emitter.CodedCall.{CodedCall}
 use Rattle.cp_emit.specs.declared.emitter.Emitter.{Emitter}
 

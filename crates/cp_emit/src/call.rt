@@ -3,12 +3,12 @@
 ghost use Rattle.std.specs.Prelude.{◌≡◌, [], ◌∷◌, ◌++◌, IfOk, OnOk, map, suc};
 ghost use Rattle.cp_code.specs.Terms as plain;
 ghost use Rattle.cp_emit.specs.Emission.{coded_call};
-ghost use Rattle.cp_threaded.specs.View as view;
+ghost use Rattle.cp_program.specs.View as view;
 
 use crate::emitter::CodedCall;
 use cp_scope::CompileError;
-use cp_threaded::operation::Call;
-use cp_threaded::term::Term;
+use cp_program::operation::Call;
+use cp_program::term::Term;
 use std::alloc::Global;
 
 /// A term for the value of a call, and the first temp after it.

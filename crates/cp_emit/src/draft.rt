@@ -4,10 +4,10 @@ ghost use Rattle.std.specs.Prelude.{◌≡◌, [], ◌∷◌, IfOk, OnOk, length
 ghost use Rattle.cp_code.specs.Plans.{fill_before, fill_unless};
 ghost use Rattle.cp_code.specs.Programs as code;
 ghost use Rattle.cp_emit.specs.Drafts.{Joins, drop_repeat, plan_of, with_end};
-ghost use Rattle.cp_threaded.specs.View as view;
+ghost use Rattle.cp_program.specs.View as view;
 
 use cp_scope::CompileError;
-use cp_threaded::program::Start;
+use cp_program::program::Start;
 use std::alloc::Global;
 
 /// A piece of work that is left to plan.

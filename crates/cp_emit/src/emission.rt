@@ -3,12 +3,12 @@
 
 ghost use Rattle.std.specs.Prelude.{◌≡◌, [], ◌∷◌, ◌++◌, IfOk, OnOk, length, map};
 ghost use Rattle.cp_emit.specs.Emission.{Emits, Goes, calls_from, changed_at, operation_from, operations_of, place_of, with_body, with_repeated};
-ghost use Rattle.cp_threaded.specs.View as view;
+ghost use Rattle.cp_program.specs.View as view;
 
 use crate::emitter::{CodedCall, Emitter};
 use crate::need::Need;
 use cp_scope::CompileError;
-use cp_threaded::operation::Operation;
+use cp_program::operation::Operation;
 
 // Completes the operation that closes a loop, by making it lead to `body`, where the loop's body
 // begins.

@@ -3,12 +3,12 @@
 ghost use Rattle.std.specs.Prelude.{◌≡◌, ◌≤◌, drop, length, map};
 ghost use Rattle.cp_code.specs.CodeNeeds.{need_of_all};
 ghost use Rattle.cp_emit.specs.PlainNeeds.{plain_need};
-ghost use Rattle.cp_threaded.specs.View as view;
+ghost use Rattle.cp_program.specs.View as view;
 
 use crate::allowance::Allowance;
 use crate::need::Need;
-use cp_threaded::operation::{Call, Operation};
-use cp_threaded::program::CodeUnit;
+use cp_program::operation::{Call, Operation};
+use cp_program::program::CodeUnit;
 
 /// A call that is made before a statement, and the temp that takes its value.
 #[derive(Debug, Drop)]

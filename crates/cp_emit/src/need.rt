@@ -3,11 +3,11 @@
 ghost use Rattle.std.specs.Prelude.{◌≡◌, ◌+◌, max, suc, IfOk, map, length};
 ghost use Rattle.cp_code.specs.CodeNeeds as needs;
 ghost use Rattle.cp_emit.specs.PlainNeeds.{plain_need};
-ghost use Rattle.cp_threaded.specs.View as view;
+ghost use Rattle.cp_program.specs.View as view;
 
 use cp_scope::{CompileError, small_number};
-use cp_threaded::operation::{Argument, Call, Operation};
-use cp_threaded::program::CodeUnit;
+use cp_program::operation::{Argument, Call, Operation};
+use cp_program::program::CodeUnit;
 
 /// The numbers of words, temps and frames that are needed.
 #[derive(Clone, Copy, Debug, PartialEq, Eq)]

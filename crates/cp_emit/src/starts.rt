@@ -13,14 +13,14 @@ ghost use Rattle.cp_model.specs.Types.{GlobalScope, Members};
 ghost use Rattle.cp_scope.specs.Standing.{AreMembers, entry};
 ghost use Rattle.cp_scope.specs.Texts.{AreSystems};
 ghost use Rattle.cp_scope.specs.Variables.{AreDeclared, declared_entry};
-ghost use Rattle.cp_threaded.specs.View as view;
+ghost use Rattle.cp_program.specs.View as view;
 
 use crate::allowance::Allowance;
 use crate::draft::Draft;
 use crate::members::{add_members, own_parameters};
 use crate::plan::Planner;
 use cp_scope::{CompileError, Declared, Field, SystemTable};
-use cp_threaded::program::{Plan, Start};
+use cp_program::program::{Plan, Start};
 
 /// The word of a result that isn't set yet.
 const UNSET: i32 = i32::MIN;

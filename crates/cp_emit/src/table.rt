@@ -6,13 +6,13 @@ ghost use Rattle.cp_code.specs.CodedStatements as coded;
 ghost use Rattle.cp_code.specs.Layout.{distance};
 ghost use Rattle.cp_scope.specs.declared.error.CompileError.TheVariants as error;
 ghost use Rattle.cp_emit.specs.Arms.{bounds_of};
-ghost use Rattle.cp_threaded.specs.Labels.{arm};
-ghost use Rattle.cp_threaded.specs.View as view;
+ghost use Rattle.cp_program.specs.Labels.{arm};
+ghost use Rattle.cp_program.specs.View as view;
 
 use cp_scope::{CompileError, count_between};
-use cp_threaded::arm::Arm;
-use cp_threaded::arms::Arms;
-use cp_threaded::operation::Table;
+use cp_program::arm::Arm;
+use cp_program::arms::Arms;
+use cp_program::operation::Table;
 use std::alloc::Global;
 
 // The lowest of `n` and the labels.

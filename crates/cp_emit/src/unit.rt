@@ -3,14 +3,14 @@
 ghost use Rattle.std.specs.Prelude.{◌≡◌, [], ◌∷◌, ◌++◌, IfErr, IfOk, OnOk, length, map};
 ghost use Rattle.cp_scope.specs.declared.error.CompileError.TheVariants as error;
 ghost use Rattle.cp_emit.specs.Emission.{operations_of, place_of, unit_ended, units_of};
-ghost use Rattle.cp_threaded.specs.View as view;
+ghost use Rattle.cp_program.specs.View as view;
 
 use crate::allowance::Allowance;
 use crate::emitter::Emitter;
 use crate::need::Need;
 use cp_scope::CompileError;
-use cp_threaded::operation::Operation;
-use cp_threaded::program::{CodeUnit, Start};
+use cp_program::operation::Operation;
+use cp_program::program::{CodeUnit, Start};
 use std::alloc::Global;
 
 impl Emitter {

@@ -4,13 +4,13 @@ ghost use Rattle.std.specs.Prelude.{◌≡◌, ◌-◌, ◌<◌, ◌^◌, ◌∷
 ghost use Rattle.cp_code.specs.Programs as code;
 ghost use Rattle.cp_process.specs.States as states;
 ghost use Rattle.cp_steps.specs.Machines as plain;
-ghost use Rattle.cp_threaded.specs.View as view;
+ghost use Rattle.cp_program.specs.View as view;
 ghost use Rattle.cp_gates.specs.KernelOf.{Bytes, kernel_of, transcripts_of, unset_gate};
 
 use crate::kernel::Kernel;
 use cp_process::outside::{Gate, Holder, Stage};
 use cp_process::starting::start_words;
-use cp_threaded::program::Program;
+use cp_program::program::Program;
 use std::alloc::{AllocError, Global};
 
 /// There are fewer shared words than this.

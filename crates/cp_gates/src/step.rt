@@ -7,7 +7,7 @@ ghost use Rattle.cp_process.specs.States.{private_of};
 ghost use Rattle.cp_process.specs.States.{effect, join};
 ghost use Rattle.cp_steps.specs.KernelSteps as plain;
 ghost use Rattle.cp_steps.specs.Steps.{step_with};
-ghost use Rattle.cp_threaded.specs.View as view;
+ghost use Rattle.cp_program.specs.View as view;
 ghost use Rattle.cp_gates.specs.Due;
 ghost use Rattle.cp_gates.specs.KernelOf.{HasRoomForAskers, IsAmong, IsBegun, turning};
 
@@ -17,7 +17,7 @@ use cp_process::kind::{Kind, next_kind};
 use cp_process::outside::Outside;
 use cp_process::private::Private;
 use cp_process::turns::step;
-use cp_threaded::program::Program;
+use cp_program::program::Program;
 
 fn is_kernel(kind: Kind) -> bool
     ensures { result ≡ Due.is_kernel kind }

@@ -4,7 +4,7 @@ ghost use Rattle.std.specs.Prelude.{◌≡◌, ◌≤◌, ◌+◌, ◌*◌, ℕ,
 ghost use Rattle.cp_process.specs.Rooms.{HasRoomFor};
 ghost use Rattle.cp_process.specs.States.{private_of};
 ghost use Rattle.cp_steps.specs.KernelSteps as plain;
-ghost use Rattle.cp_threaded.specs.View as view;
+ghost use Rattle.cp_program.specs.View as view;
 ghost use Rattle.cp_gates.specs.KernelOf.{HasRoomForAskers, HasRoomForBytes, IsAmong, kernel_of, turning};
 ghost use Rattle.cp_gates.specs.Turns.{IsTurned, Moves};
 
@@ -12,7 +12,7 @@ use crate::kernel::Kernel;
 use crate::step::{is_due, kernel_step};
 use cp_process::private::Private;
 use cp_process::turn::Turn;
-use cp_threaded::program::Program;
+use cp_program::program::Program;
 
 // Makes at most `count` steps, as long as the next one is due.
 fn take_steps(

@@ -3,18 +3,18 @@
 use denote.Param.Send.{IsSync, sendable}
 use denote.Param.SendFields.{declared_sync, variants_sync}
 use Rattle.std.proofs.Crossing.{crosses}
-use Rattle.cp_threaded.proofs.term.Application.TheLaws.TheKnot as terms
-use Rattle.cp_threaded.proofs.operation.Counting.TheSendSync as counting
-use Rattle.cp_threaded.proofs.operation.Table.TheSendSync as table
-use Rattle.cp_threaded.proofs.operation.Target.TheSendSync as target
-use Rattle.cp_threaded.proofs.program.CodeUnit.TheSendSync as unit
-use Rattle.cp_threaded.proofs.program.Monitor.TheSendSync as monitor
-use Rattle.cp_threaded.proofs.program.Plan.TheSendSync as plan
-use Rattle.cp_threaded.proofs.program.Process.TheSendSync as process
-use Rattle.cp_threaded.specs.contracts.operation.Argument as argument
-use Rattle.cp_threaded.specs.contracts.operation.Call as call
-use Rattle.cp_threaded.specs.contracts.operation.Operation as operation
-use Rattle.cp_threaded.specs.contracts.program.Program as program
+use Rattle.cp_program.proofs.term.Application.TheLaws.TheKnot as terms
+use Rattle.cp_program.proofs.operation.Counting.TheSendSync as counting
+use Rattle.cp_program.proofs.operation.Table.TheSendSync as table
+use Rattle.cp_program.proofs.operation.Target.TheSendSync as target
+use Rattle.cp_program.proofs.program.CodeUnit.TheSendSync as unit
+use Rattle.cp_program.proofs.program.Monitor.TheSendSync as monitor
+use Rattle.cp_program.proofs.program.Plan.TheSendSync as plan
+use Rattle.cp_program.proofs.program.Process.TheSendSync as process
+use Rattle.cp_program.specs.contracts.operation.Argument as argument
+use Rattle.cp_program.specs.contracts.operation.Call as call
+use Rattle.cp_program.specs.contracts.operation.Operation as operation
+use Rattle.cp_program.specs.contracts.program.Program as program
 use Rattle.cp_machine.proofs.tick.Tick.TheSendSync as tick
 use Rattle.cp_machine.specs.contracts.setting.Setting as setting
 

@@ -11,7 +11,7 @@ use Rattle.cp_steps.specs.KernelSteps as steps
 use Rattle.cp_steps.specs.KernelSteps.{Turning, kernel_steps}
 use Rattle.cp_steps.specs.Machines.{Machine, after_kernel_turn, clock, end_round, kernel_turn, kernel_turns, phased_round, phased_rounds, transcript_of}
 use Rattle.cp_steps.specs.PrivateStates.{PrivateState}
-use Rattle.cp_threaded.specs.View as view
+use Rattle.cp_program.specs.View as view
 use Rattle.cp_gates.specs.Turns.{IsTurned, parts_of}
 use Rattle.cp_machine.specs.Ends.{RoundEnds}
 use Rattle.cp_machine.specs.Made.{Stands, TurnsMade}

@@ -12,7 +12,7 @@ use Rattle.cp_steps.specs.KernelSteps as steps
 use Rattle.cp_steps.specs.KernelSteps.{Begun, Stage, Unstarted}
 use Rattle.cp_steps.specs.Machines.{first_machine, first_part, first_parts, first_stages}
 use Rattle.cp_steps.specs.PrivateStates.{PrivateState}
-use Rattle.cp_threaded.specs.View as view
+use Rattle.cp_program.specs.View as view
 use Rattle.cp_machine.specs.MachineOf.{input_at, input_of, machine_with}
 use Rattle.cp_machine.specs.Numbers.{AreNumbered}
 use Rattle.cp_machine.specs.Starts.{AreFirst, IsStart}

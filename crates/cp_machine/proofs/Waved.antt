@@ -6,7 +6,7 @@ use Rattle.cp_gates.specs.declared.kernel.Kernel.{Kernel}
 use Rattle.cp_gates.proofs.Asking.{room_kept}
 use Rattle.cp_process.specs.declared.private.Private.{Private}
 use Rattle.cp_process.specs.States.{private_of}
-use Rattle.cp_threaded.specs.View as view
+use Rattle.cp_program.specs.View as view
 use Rattle.cp_machine.specs.Generations.{AreTurned, MakesTurns, WavesMade}
 use Rattle.cp_machine.specs.Made.{AfterPrivateTurn, TurnsMade}
 use Rattle.cp_machine.specs.MachineOf.{input_at, machine_with}

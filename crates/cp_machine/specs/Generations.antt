@@ -5,7 +5,7 @@ use Rattle.cp_gates.specs.declared.kernel.Kernel.{Kernel}
 use Rattle.cp_process.specs.Rooms.{HasRoomFor}
 use Rattle.cp_process.specs.declared.private.Private.{Private}
 use Rattle.cp_steps.specs.Machines.{Machine}
-use Rattle.cp_threaded.specs.View as view
+use Rattle.cp_program.specs.View as view
 use Rattle.cp_machine.specs.Made.{AfterPrivateTurn, TurnsMade}
 use Rattle.cp_machine.specs.Numbers.{AreNumbered}
 use Rattle.cp_machine.specs.MachineOf.{machine_with}

@@ -5,7 +5,7 @@ use Rattle.cp_gates.specs.Turns.{parts_of}
 use Rattle.cp_gates.specs.declared.kernel.Kernel.{Kernel}
 use Rattle.cp_process.specs.declared.private.Private.{Private}
 use Rattle.cp_steps.specs.Machines as plain
-use Rattle.cp_threaded.specs.View as view
+use Rattle.cp_program.specs.View as view
 use Rattle.cp_machine.specs.declared.setting.Setting.{Setting}
 
 abbrev pub bytes_or_none : Option Bytes → List ℕ

@@ -7,7 +7,7 @@ use Rattle.cp_process.specs.Rooms.{HasRoomFor}
 use Rattle.cp_process.specs.States.{private_of}
 use Rattle.cp_process.specs.declared.private.Private.{Private}
 use Rattle.cp_steps.specs.Machines.{Machine, kernel_turns}
-use Rattle.cp_threaded.specs.View as view
+use Rattle.cp_program.specs.View as view
 use Rattle.cp_machine.specs.MachineOf.{input_at}
 use Rattle.cp_machine.specs.Turned as plain
 use Rattle.cp_machine.specs.declared.moment.Moment.{Moment}

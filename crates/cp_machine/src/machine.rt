@@ -4,7 +4,7 @@
 ghost use Rattle.std.specs.Prelude.{◌≡◌, ◌<◌, ◌≤◌, ◌+◌, ◌-◌, ◌^◌, length, IfErr, IfOk};
 ghost use Rattle.cp_model.specs.States.{numbers_from};
 ghost use Rattle.cp_steps.specs.Machines as plain;
-ghost use Rattle.cp_threaded.specs.View as view;
+ghost use Rattle.cp_program.specs.View as view;
 ghost use Rattle.cp_machine.specs.InStates.{IsStarted, MakesRound, MakesRounds};
 ghost use Rattle.cp_machine.specs.MachineOf.{input_of};
 ghost use Rattle.cp_machine.specs.Views.{IsAfter, machine_of, processes_of};
@@ -19,7 +19,7 @@ use crate::starting::first_parts;
 use crate::tick::Tick;
 use crate::waves::make_turns;
 use cp_steps::law;
-use cp_threaded::program::Program;
+use cp_program::program::Program;
 use std::alloc::{AllocError, Global};
 use std::mem;
 use std::sync::Wait;

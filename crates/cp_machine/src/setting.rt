@@ -6,7 +6,7 @@ ghost use Rattle.cp_machine.specs.Turned.{moment_of};
 
 use crate::moment::Moment;
 use crate::tick::Tick;
-use cp_threaded::program::Program;
+use cp_program::program::Program;
 
 /// The program, the inputs of its processes by number, and the tick.
 #[derive(Drop)]

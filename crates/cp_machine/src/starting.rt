@@ -1,14 +1,14 @@
 //! How the private states and the kernel of a machine start.
 
 ghost use Rattle.std.specs.Prelude.{◌≡◌, IfOk, length};
-ghost use Rattle.cp_threaded.specs.View as view;
+ghost use Rattle.cp_program.specs.View as view;
 ghost use Rattle.cp_machine.specs.Numbers.{AreNumbered};
 ghost use Rattle.cp_machine.specs.Starts.{AreFirst, IsStart};
 
 use crate::parts::Parts;
 use cp_gates::kernel::Kernel;
 use cp_process::private::Private;
-use cp_threaded::program::Program;
+use cp_program::program::Program;
 use std::alloc::{AllocError, Global};
 
 // Returns the private states of all processes at the start.

@@ -3,7 +3,7 @@
 ghost use Rattle.std.specs.Prelude.{◌≡◌, ◌<◌, ◌≤◌, ◌+◌, ◌-◌, ◌*◌, ℕ, List, IfOk, length, vec_capacity, vec_len};
 ghost use Rattle.cp_process.specs.Rooms.{HasRoomFor};
 ghost use Rattle.cp_process.specs.States.{private_of};
-ghost use Rattle.cp_threaded.specs.View as view;
+ghost use Rattle.cp_program.specs.View as view;
 ghost use Rattle.cp_machine.specs.MachineOf.{input_at};
 ghost use Rattle.cp_machine.specs.Made.{AfterPrivateTurn};
 ghost use Rattle.cp_machine.specs.Turned as plain;

@@ -1,13 +1,13 @@
 //! Machines of texts, and what can be read of them.
 
 ghost use Rattle.std.specs.Prelude.{◌≡◌, IfOk, length};
-ghost use Rattle.cp_threaded.specs.View as view;
+ghost use Rattle.cp_program.specs.View as view;
 
 use crate::texts::program;
 use cp_machine::machine::Machine;
 use cp_machine::tick::Tick;
 use cp_process::private::Activity;
-use cp_threaded::program::Program;
+use cp_program::program::Program;
 use std::alloc::Global;
 use std::test::Fail;
 

@@ -3,7 +3,7 @@
 use cp_check::checking::check;
 use cp_scan::scan;
 use cp_syntax::parse;
-use cp_threaded::program::Program;
+use cp_program::program::Program;
 use std::alloc::Global;
 use std::test::Fail;
 

@@ -2,7 +2,7 @@
 use Rattle.std.proofs.Common.{◌≡◌, ℕ, zero, suc, true, false, Result, Ok, Err, refl, ap, sym}
 use Rattle.cp_model.specs.declared.state.Fault.{Fault}
 use Rattle.cp_steps.specs.Steps.{is_held}
-use Rattle.cp_threaded.specs.Reaches.{cap_place, capped_result}
+use Rattle.cp_program.specs.Reaches.{cap_place, capped_result}
 
 -- An address may be capped to the largest number.
 pub placed : (r : Result ℕ Fault) (at : ℕ) → Ok at ≡ capped_result r → (n : ℕ) × (r ≡ Ok n) × (cap_place n ≡ at)

@@ -11,8 +11,8 @@ use Rattle.cp_steps.specs.Passing as passing
 use Rattle.cp_process.specs.declared.called.Called.{Called}
 use Rattle.cp_process.specs.declared.called.Back.{Back}
 use Rattle.cp_process.specs.declared.private.Private.{Private}
-use Rattle.cp_threaded.specs.declared.operation.Call.{Call}
-use Rattle.cp_threaded.specs.declared.program.CodeUnit.{CodeUnit}
+use Rattle.cp_program.specs.declared.operation.Call.{Call}
+use Rattle.cp_program.specs.declared.program.CodeUnit.{CodeUnit}
 
 abbrev pub called_of : Called → passing.Called
 called_of c = record { component = c.component; is_set = c.is_set; gate = c.gate }

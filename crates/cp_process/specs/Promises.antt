@@ -8,8 +8,8 @@ use Rattle.cp_model.specs.Turns as meaning
 use Rattle.cp_code.specs.StandsFor.{StandsFor}
 use Rattle.cp_steps.specs.Laws.{ground_of}
 use Rattle.cp_steps.specs.PartOf.{PartOf}
-use Rattle.cp_threaded.specs.declared.program.Program.{Program}
-use Rattle.cp_threaded.specs.View as view
+use Rattle.cp_program.specs.declared.program.Program.{Program}
+use Rattle.cp_program.specs.View as view
 use Rattle.cp_process.specs.States.{private_of}
 use Rattle.cp_process.specs.declared.kind.Kind.{Kind}
 use Rattle.cp_process.specs.declared.kind.Kind.TheVariants as kind

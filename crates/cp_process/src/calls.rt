@@ -6,7 +6,7 @@ ghost use Rattle.cp_process.specs.Calls.{HasRoom, back};
 ghost use Rattle.cp_process.specs.States.{IsStep, join};
 ghost use Rattle.cp_steps.specs.Calling as plain;
 ghost use Rattle.cp_steps.specs.PrivateStates as states;
-ghost use Rattle.cp_threaded.specs.View as view;
+ghost use Rattle.cp_program.specs.View as view;
 
 use crate::called::Back;
 use crate::effect::Effect;
@@ -15,8 +15,8 @@ use crate::outside::Outside;
 use crate::passing::Destination;
 use crate::private::Private;
 use cp_model::state::Fault;
-use cp_threaded::operation::Call;
-use cp_threaded::program::{CodeUnit, Program};
+use cp_program::operation::Call;
+use cp_program::program::{CodeUnit, Program};
 
 // Whether there are `count` elements after the `before` elements that begin at `first`.
 fn fits(first: u32, before: u32, count: u32, all: usize) -> bool

@@ -4,12 +4,12 @@ ghost use Rattle.std.specs.Prelude.{◌≡◌, ◌<◌, ◌^◌, ℕ, ℤ, List,
 ghost use Rattle.cp_code.specs.Starts.{block, paste, carry_out};
 ghost use Rattle.cp_process.specs.States.{IsReady, join};
 ghost use Rattle.cp_steps.specs.PrivateStates as plain;
-ghost use Rattle.cp_threaded.specs.Reaches.{cap_place};
-ghost use Rattle.cp_threaded.specs.View as view;
+ghost use Rattle.cp_program.specs.Reaches.{cap_place};
+ghost use Rattle.cp_program.specs.View as view;
 
 use crate::private::Private;
 use crate::words;
-use cp_threaded::program::Start;
+use cp_program::program::Start;
 
 impl Private {
     /// Writes the word at an address, which may be capped to the largest `usize`.

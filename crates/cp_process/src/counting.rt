@@ -6,15 +6,15 @@ ghost use Rattle.cp_model.specs.StatementSteps as statements;
 ghost use Rattle.cp_code.specs.Starts.{word};
 ghost use Rattle.cp_process.specs.States.{IsStep};
 ghost use Rattle.cp_steps.specs.Steps as plain;
-ghost use Rattle.cp_threaded.specs.View as view;
+ghost use Rattle.cp_program.specs.View as view;
 
 use crate::assignments::Bounds;
 use crate::effect::Effect;
 use crate::outside::Outside;
 use crate::private::Private;
 use cp_model::state::Fault;
-use cp_threaded::operation::Counting;
-use cp_threaded::term::Term;
+use cp_program::operation::Counting;
+use cp_program::term::Term;
 
 impl Private {
     // Returns the temp at a place, or 0 if it is missing.

@@ -7,14 +7,14 @@ ghost use Rattle.cp_process.specs.States.{effect, frame as view_frame, frames_in
 ghost use Rattle.cp_process.specs.Calls.{back, called_of, returning, value_to_return};
 ghost use Rattle.cp_steps.specs.Calling as plain;
 ghost use Rattle.cp_steps.specs.PrivateStates.{Enters, Leaves};
-ghost use Rattle.cp_threaded.specs.View as view;
+ghost use Rattle.cp_program.specs.View as view;
 
 use crate::called::{Back, Called};
 use crate::effect::Effect;
 use crate::private::{Frame, Private};
 use cp_model::state::Fault;
-use cp_threaded::operation::Call;
-use cp_threaded::program::CodeUnit;
+use cp_program::operation::Call;
+use cp_program::program::CodeUnit;
 
 /// The word of a result that has not been set.
 const UNSET: i32 = i32::MIN;

@@ -4,7 +4,7 @@ ghost use Rattle.std.specs.Prelude.{◌≡◌, ◌<◌, ◌^◌, ℕ, List, leng
 ghost use Rattle.cp_process.specs.States.{IsStep, join};
 ghost use Rattle.cp_steps.specs.Calling as plain;
 ghost use Rattle.cp_steps.specs.Passing.{component_called};
-ghost use Rattle.cp_threaded.specs.View as view;
+ghost use Rattle.cp_program.specs.View as view;
 
 use crate::called::{Back, Called};
 use crate::effect::Effect;
@@ -12,8 +12,8 @@ use crate::outside::Outside;
 use crate::passing::Destination;
 use crate::private::Private;
 use cp_model::state::Fault;
-use cp_threaded::operation::{Argument, Call};
-use cp_threaded::program::Program;
+use cp_program::operation::{Argument, Call};
+use cp_program::program::Program;
 
 // Returns where the parameters of the process wait among the shared words.
 fn parameters_start(program: &Program, process: u32) -> u32

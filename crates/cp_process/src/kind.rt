@@ -4,11 +4,11 @@ ghost use Rattle.std.specs.Prelude.{◌≡◌, ℕ, List};
 ghost use Rattle.cp_process.specs.Kinds.{kind_of};
 ghost use Rattle.cp_process.specs.Promises.{TellsKind};
 ghost use Rattle.cp_process.specs.States.{private_of};
-ghost use Rattle.cp_threaded.specs.View as view;
+ghost use Rattle.cp_program.specs.View as view;
 
 use crate::private::{Activity, Private};
 use crate::step::needs_kernel;
-use cp_threaded::program::Program;
+use cp_program::program::Program;
 
 /// Whether the next step of a process is private or the kernel's.
 #[derive(Clone, Copy, Debug, PartialEq, Eq)]

@@ -7,13 +7,13 @@ ghost use Rattle.cp_process.specs.Rooms.{HasRoomFor};
 ghost use Rattle.cp_process.specs.States.{activity, private_of};
 ghost use Rattle.cp_steps.specs.KernelSteps.{Kernel};
 ghost use Rattle.cp_steps.specs.Machines as plain;
-ghost use Rattle.cp_threaded.specs.View as view;
+ghost use Rattle.cp_program.specs.View as view;
 
 use crate::private::{Activity, Frame, Private};
 use crate::turn::Turn;
 use crate::words;
-use cp_threaded::program::{Process, Program};
-use cp_threaded::reach::Memory;
+use cp_program::program::{Process, Program};
+use cp_program::reach::Memory;
 use smallvec::SmallVec;
 use std::alloc::{AllocError, Global};
 

@@ -6,15 +6,15 @@ ghost use Rattle.cp_process.specs.States.{join, outside_of};
 ghost use Rattle.cp_steps.specs.Passing as plain;
 ghost use Rattle.cp_steps.specs.PrivateStates.{view_of};
 ghost use Rattle.cp_steps.specs.Values.{place_of, value_of};
-ghost use Rattle.cp_threaded.specs.Reaches.{cap_place};
-ghost use Rattle.cp_threaded.specs.View as view;
+ghost use Rattle.cp_program.specs.Reaches.{cap_place};
+ghost use Rattle.cp_program.specs.View as view;
 
 use crate::assignments::Bounds;
 use crate::outside::Outside;
 use crate::private::Private;
 use cp_model::state::Fault;
-use cp_threaded::operation::{Argument, Target};
-use cp_threaded::term::{Spot, Term};
+use cp_program::operation::{Argument, Target};
+use cp_program::term::{Spot, Term};
 
 /// Where arguments are put: the address of the first word there, and the address of the first
 /// word of the activation or component that they belong to in the end.

@@ -3,7 +3,7 @@
 ghost use Rattle.std.specs.Prelude.{◌≤◌, ◌<◌, ◌^◌, length};
 
 use cp_model::state::Fault;
-use cp_threaded::reach::Memory;
+use cp_program::reach::Memory;
 use smallvec::SmallVec;
 
 /// Whether a process runs.

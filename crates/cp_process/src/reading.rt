@@ -5,15 +5,15 @@ ghost use Rattle.cp_code.specs.Starts.{word};
 ghost use Rattle.cp_process.specs.States.{join, outside_of};
 ghost use Rattle.cp_steps.specs.PrivateStates as plain;
 ghost use Rattle.cp_steps.specs.Values.{place_of, value_of};
-ghost use Rattle.cp_threaded.specs.Reaches.{cap_place, capped_result, view_of};
-ghost use Rattle.cp_threaded.specs.View as view;
+ghost use Rattle.cp_program.specs.Reaches.{cap_place, capped_result, view_of};
+ghost use Rattle.cp_program.specs.View as view;
 
 use crate::outside::Outside;
 use crate::private::Private;
 use crate::words;
 use cp_model::state::Fault;
-use cp_threaded::reach::Reach;
-use cp_threaded::term::{Spot, Term};
+use cp_program::reach::Reach;
+use cp_program::term::{Spot, Term};
 
 impl Private {
     /// Returns what evaluation reads.

@@ -5,14 +5,14 @@ ghost use Rattle.cp_process.specs.States.{IsStep};
 ghost use Rattle.cp_steps.specs.Calling as calling;
 ghost use Rattle.cp_steps.specs.PrivateStates.{Leaves};
 ghost use Rattle.cp_steps.specs.Steps as plain;
-ghost use Rattle.cp_threaded.specs.View as view;
+ghost use Rattle.cp_program.specs.View as view;
 
 use crate::effect::Effect;
 use crate::frames::leaves;
 use crate::outside::Outside;
 use crate::private::Private;
 use cp_model::state::Fault;
-use cp_threaded::term::Spot;
+use cp_program::term::Spot;
 
 impl Private {
     /// Returns from the running routine. It is a fault if a function has set no result.

@@ -7,15 +7,15 @@ ghost use Rattle.cp_model.specs.StandardCalls as standard;
 ghost use Rattle.cp_steps.specs.PrivateStates as states;
 ghost use Rattle.cp_steps.specs.PrivateStates.{go_to, private_outcome};
 ghost use Rattle.cp_steps.specs.Steps as plain;
-ghost use Rattle.cp_threaded.specs.Reaches.{cap_place};
-ghost use Rattle.cp_threaded.specs.View as view;
+ghost use Rattle.cp_program.specs.Reaches.{cap_place};
+ghost use Rattle.cp_program.specs.View as view;
 
 use crate::assignments::Bounds;
 use crate::effect::Effect;
 use crate::outside::Outside;
 use crate::private::{Activity, Private};
 use cp_model::state::Fault;
-use cp_threaded::term::{Spot, Term};
+use cp_program::term::{Spot, Term};
 use itoa::Buffer;
 
 // Returns a character as its byte.

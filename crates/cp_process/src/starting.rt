@@ -2,10 +2,10 @@
 
 ghost use Rattle.std.specs.Prelude.{◌≡◌, ◌<◌, ◌^◌, length, map};
 ghost use Rattle.cp_code.specs.Starts.{carry_out};
-ghost use Rattle.cp_threaded.specs.View as view;
+ghost use Rattle.cp_program.specs.View as view;
 
 use crate::words;
-use cp_threaded::program::Start;
+use cp_program::program::Start;
 
 /// Makes words start as a plan says. The plan counts from address `base`.
 pub fn start_words(all: &mut [i32], base: usize, plan: &[Start])

@@ -6,7 +6,7 @@ ghost use Rattle.cp_process.specs.States.{IsAlone, IsReady, IsStep, activity, ef
 ghost use Rattle.cp_code.specs.Programs as code;
 ghost use Rattle.cp_steps.specs.PrivateStates.{is_running};
 ghost use Rattle.cp_steps.specs.Steps as plain;
-ghost use Rattle.cp_threaded.specs.View as view;
+ghost use Rattle.cp_program.specs.View as view;
 
 use crate::assignments::Bounds;
 use crate::called::Back;
@@ -14,9 +14,9 @@ use crate::effect::Effect;
 use crate::outside::Outside;
 use crate::private::{Activity, Private};
 use cp_model::state::Fault;
-use cp_threaded::operation::{Operation, Target};
-use cp_threaded::program::Program;
-use cp_threaded::term::{Spot, Term};
+use cp_program::operation::{Operation, Target};
+use cp_program::program::Program;
+use cp_program::term::{Spot, Term};
 
 impl Private {
     // Makes the step of an operation. If it faults, nothing has changed except what was passed to a

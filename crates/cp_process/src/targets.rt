@@ -7,13 +7,13 @@ ghost use Rattle.cp_process.specs.Calls.{called_of};
 ghost use Rattle.cp_process.specs.States.{holder_of, join, outside_of, stage_of};
 ghost use Rattle.cp_steps.specs.KernelSteps as kernel;
 ghost use Rattle.cp_steps.specs.Passing as plain;
-ghost use Rattle.cp_threaded.specs.View as view;
+ghost use Rattle.cp_program.specs.View as view;
 
 use crate::called::Called;
 use crate::outside::{Holder, Outside, Stage};
 use crate::private::Private;
-use cp_threaded::operation::Target;
-use cp_threaded::program::Program;
+use cp_program::operation::Target;
+use cp_program::program::Program;
 
 impl<'a> Outside<'a> {
     // Whether the monitor has been initialised.

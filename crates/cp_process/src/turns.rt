@@ -5,14 +5,14 @@ ghost use Rattle.cp_process.specs.Promises.{MakesStep, MakesTurn};
 ghost use Rattle.cp_process.specs.Rooms.{HasRoomFor, KeepsRoom};
 ghost use Rattle.cp_process.specs.States.{IsAlone, effect, join, outside_of, private_of};
 ghost use Rattle.cp_steps.specs.Steps as plain;
-ghost use Rattle.cp_threaded.specs.View as view;
+ghost use Rattle.cp_program.specs.View as view;
 
 use crate::effect::Effect;
 use crate::outside::Outside;
 use crate::private::Private;
 use crate::turn::Turn;
 use cp_steps::law;
-use cp_threaded::program::Program;
+use cp_program::program::Program;
 
 // Makes `count` steps, as long as the next one is private.
 fn take_steps(program: &Program, private: &mut Private, outside: &Outside, count: u32)

@@ -5,10 +5,10 @@
 
 ghost use Rattle.std.specs.Prelude.{◌≡◌, ◌+◌, ◌-◌, ◌≤◌, ◌<◌, ◌^◌, ◌++◌, ℕ, length, map, slice_set};
 ghost use Rattle.cp_code.specs.Starts as plain;
-ghost use Rattle.cp_threaded.specs.Reaches.{cap_place};
-ghost use Rattle.cp_threaded.specs.View as view;
+ghost use Rattle.cp_program.specs.Reaches.{cap_place};
+ghost use Rattle.cp_program.specs.View as view;
 
-use cp_threaded::program::Start;
+use cp_program::program::Start;
 
 #[inline(always)]
 fn word(words: &[i32], at: usize) -> i32

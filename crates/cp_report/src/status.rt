@@ -6,7 +6,7 @@ ghost use Rattle.cp_process.specs.States as states;
 ghost use Rattle.cp_scope.specs.Standing.{entry};
 ghost use Rattle.cp_steps.specs.Passing as plain;
 ghost use Rattle.cp_steps.specs.Reports.{activity_text};
-ghost use Rattle.cp_threaded.specs.View as view;
+ghost use Rattle.cp_program.specs.View as view;
 ghost use Rattle.cp_report.specs.Statuses.{NamesMonitor, TellsQueue, TellsStage};
 
 use crate::telling::Telling;
@@ -16,7 +16,7 @@ use cp_model::state::Fault;
 use cp_process::outside::Stage;
 use cp_process::private::Activity;
 use cp_scope::{Field, Tables};
-use cp_threaded::program::Program;
+use cp_program::program::Program;
 use std::alloc::AllocError;
 
 /// Returns where the words of a monitor begin among the shared words.

@@ -20,7 +20,7 @@ use Rattle.cp_scope.specs.declared.variables.Declared.{Declared}
 use Rattle.cp_scope.specs.Expressions.{is_simple}
 use Rattle.cp_scope.specs.Standing.{Stands}
 use Rattle.cp_scope.specs.Variables.{AreDeclared, declared_entry}
-use Rattle.cp_threaded.specs.View as view
+use Rattle.cp_program.specs.View as view
 use Rattle.cp_translate.specs.declared.made.MadeArgument.{MadeArgument}
 use Rattle.cp_translate.specs.declared.made.MadeArguments.{MadeArguments}
 use Rattle.cp_translate.specs.declared.made.MadeSpot.{MadeSpot}

@@ -22,7 +22,7 @@ use Rattle.cp_emit.specs.declared.emitter.CodedCall.{CodedCall}
 use Rattle.cp_scope.specs.declared.scope.Callee.{Callee}
 use Rattle.cp_scope.specs.declared.scope.Scope.{Scope}
 use Rattle.cp_scope.specs.Scopes.{CalleeIs, IsCallee}
-use Rattle.cp_threaded.specs.View as view
+use Rattle.cp_program.specs.View as view
 use Rattle.cp_translate.specs.declared.made.MadeArgument.{MadeArgument}
 use Rattle.cp_translate.specs.declared.made.MadeArguments.{MadeArguments}
 use Rattle.cp_translate.specs.Translated.{AreArguments, IsArgument}

@@ -5,8 +5,8 @@ use Rattle.cp_code.specs.CodedStatements.{arms_at, emitted, emitted_arms}
 use Rattle.cp_code.specs.Scopes.{Scope}
 use Rattle.cp_emit.specs.Emission.{place_of}
 use Rattle.cp_emit.specs.declared.emitter.Emitter.{Emitter}
-use Rattle.cp_threaded.specs.Labels.{arm}
-use Rattle.cp_threaded.specs.declared.arm.Arm.{Arm}
+use Rattle.cp_program.specs.Labels.{arm}
+use Rattle.cp_program.specs.declared.arm.Arm.{Arm}
 use Rattle.cp_translate.specs.Statements.{ArmsEnter, Enters}
 use Rattle.cp_translate.proofs.Sequencing.{emits_both, place_after}
 

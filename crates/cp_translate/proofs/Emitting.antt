@@ -6,8 +6,8 @@ use Rattle.cp_code.specs.Programs as op
 use Rattle.cp_emit.specs.Emission.{Emits, coded_call, operation_from, place_of}
 use Rattle.cp_emit.specs.declared.emitter.CodedCall.{CodedCall}
 use Rattle.cp_emit.specs.declared.emitter.Emitter.{Emitter}
-use Rattle.cp_threaded.specs.declared.operation.Operation.{Operation}
-use Rattle.cp_threaded.specs.View as view
+use Rattle.cp_program.specs.declared.operation.Operation.{Operation}
+use Rattle.cp_program.specs.View as view
 use Rattle.cp_translate.specs.Statements.{Enters}
 
 -- The emitted operation and its calls are those of the definition.

@@ -6,8 +6,8 @@ use Rattle.cp_model.specs.Abstract.{BaseType}
 use Rattle.cp_model.specs.Types.{GlobalScope, constant_value}
 use Rattle.cp_code.specs.CodedStatements.{arms_at}
 use Rattle.cp_code.specs.Programs as code
-use Rattle.cp_threaded.specs.Labels.{arm}
-use Rattle.cp_threaded.specs.declared.arm.Arm.{Arm}
+use Rattle.cp_program.specs.Labels.{arm}
+use Rattle.cp_program.specs.declared.arm.Arm.{Arm}
 
 abbrev with_arm : ℕ → Option (BaseType × ℤ) → List code.Arm → List code.Arm
 with_arm place o rest = elim o [ None ↦ rest | Some b ↦ record { label = b.1; place = place } ∷ rest ]

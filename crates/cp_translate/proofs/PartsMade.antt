@@ -26,7 +26,7 @@ use Rattle.cp_scope.specs.declared.types.Types.{Types}
 use Rattle.cp_scope.specs.Layouts.{PartIs}
 use Rattle.cp_scope.specs.Places.{TypeIs, elements_of}
 use Rattle.cp_scope.specs.Standing.{Stands, row_at}
-use Rattle.cp_threaded.specs.View as view
+use Rattle.cp_program.specs.View as view
 use Rattle.cp_translate.specs.declared.made.MadeSpot.{MadeSpot}
 use Rattle.cp_translate.specs.Translated.{IsPlace, IsSpot, IsTerm}
 

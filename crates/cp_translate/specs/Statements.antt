@@ -7,8 +7,8 @@ use Rattle.cp_emit.specs.Emission.{Emits, place_of}
 use Rattle.cp_emit.specs.declared.emitter.Emitter.{Emitter}
 use Rattle.cp_scope.specs.declared.scope.Scope.{Scope}
 use Rattle.cp_scope.specs.Scopes.{IsScope}
-use Rattle.cp_threaded.specs.Labels.{arm}
-use Rattle.cp_threaded.specs.declared.arm.Arm.{Arm}
+use Rattle.cp_program.specs.Labels.{arm}
+use Rattle.cp_program.specs.declared.arm.Arm.{Arm}
 
 -- The operations of `e` are emitted, and `place` is where they are entered.
 pub record Enters (old new : Emitter) (place : ℕ) (e : Emitted) : Type 0 where

@@ -8,7 +8,7 @@ use Rattle.cp_model.specs.Syntax.{chain_of}
 use Rattle.cp_code.specs.CodedTerms as coded
 use Rattle.cp_code.specs.CodedTerms.{coded_arguments, coded_spot, coded_term, coded_variable}
 use Rattle.cp_code.specs.Scopes as code
-use Rattle.cp_threaded.specs.View as view
+use Rattle.cp_program.specs.View as view
 use Rattle.cp_scope.specs.declared.scope.Scope.{Scope}
 use Rattle.cp_scope.specs.Places.{PlaceIs}
 use Rattle.cp_scope.specs.Scopes.{IsScope}

@@ -18,7 +18,7 @@ use crate::made::{MadeArgument, MadeSpot};
 use crate::translator::Translator;
 use cp_emit::call::MadeTerm;
 use cp_scope::{CompileError, Declared, Simple};
-use cp_threaded::operation::Argument;
+use cp_program::operation::Argument;
 
 /// Passes a reference to a variable.
 pub fn reference(at: u32, made: MadeSpot) -> MadeArgument

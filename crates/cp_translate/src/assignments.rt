@@ -23,7 +23,7 @@ use crate::translator::Translator;
 use cp_emit::{CodedCall, Emitter};
 use cp_model::tree::{Designator, Expression};
 use cp_scope::{CompileError, Simple, refuse_no_index};
-use cp_threaded::operation::Operation;
+use cp_program::operation::Operation;
 
 impl<'s, 't> Translator<'s, 't> {
     // Whether a name is that of the running function, and not that of one of its parameters or

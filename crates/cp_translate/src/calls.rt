@@ -16,7 +16,7 @@ ghost use Rattle.cp_scope.specs.Routines.{RoutineStands};
 ghost use Rattle.cp_scope.specs.Scopes.{IsCallee, IsScope};
 ghost use Rattle.cp_scope.specs.Systems.{ComponentIs, IsComponent};
 ghost use Rattle.cp_scope.specs.declared.types.Types.{Types};
-ghost use Rattle.cp_threaded.specs.View as view;
+ghost use Rattle.cp_program.specs.View as view;
 ghost use Rattle.cp_translate.specs.Translated.{AreArguments, IsTerm};
 
 use crate::made::MadeArguments;
@@ -25,7 +25,7 @@ use cp_emit::CodedCall;
 use cp_emit::call::{MadeTerm, make_call};
 use cp_model::tree::Sort;
 use cp_scope::{Callee, CompileError, Component, RoutineTable, small_number};
-use cp_threaded::operation::{Argument, Call, Target};
+use cp_program::operation::{Argument, Call, Target};
 
 /// The number of words before the parameters of a routine. A function has one, for its result.
 pub fn words_before(routine: &RoutineTable) -> u32

@@ -16,14 +16,14 @@ ghost use Rattle.cp_code.specs.Scopes.{environment, part_start, right_start};
 ghost use Rattle.cp_scope.specs.Scopes.{IsScope, Names};
 ghost use Rattle.cp_scope.specs.Systems.{ComponentIs};
 ghost use Rattle.cp_scope.specs.declared.types.Types.{Types};
-ghost use Rattle.cp_threaded.specs.View as view;
+ghost use Rattle.cp_program.specs.View as view;
 ghost use Rattle.cp_translate.specs.Initialisation.{IsTable};
 
 use crate::standard::lone_name;
 use crate::translator::Translator;
 use cp_model::tree::{Designator, Expression};
 use cp_scope::{CompileError, Component, SystemTable, small_number};
-use cp_threaded::operation::Target;
+use cp_program::operation::Target;
 
 /// The word at which a member lies in a component of a system type.
 pub fn member_at(table: &SystemTable, name: &[u8]) -> Result<u32, CompileError>

@@ -16,7 +16,7 @@ ghost use Rattle.cp_emit.specs.Emission.{coded_call, place_of};
 ghost use Rattle.cp_emit.specs.declared.emitter.CodedCall.{CodedCall};
 ghost use Rattle.cp_scope.specs.Scopes.{IsScope, Names};
 ghost use Rattle.cp_scope.specs.Standing.{Stands};
-ghost use Rattle.cp_threaded.specs.View as view;
+ghost use Rattle.cp_program.specs.View as view;
 ghost use Rattle.cp_translate.specs.Initialisation.{IsTable, right_argument};
 ghost use Rattle.cp_translate.specs.Statements.{Enters, StatementOf};
 ghost use Rattle.cp_translate.specs.Translated.{AreArguments, IsArgument};
@@ -28,7 +28,7 @@ use crate::translator::Translator;
 use cp_emit::{CodedCall, Emitter};
 use cp_model::tree::{Expression, InitItem, Sort};
 use cp_scope::{CompileError, Component, Declared, SystemTable, small_number};
-use cp_threaded::operation::{Argument, Call, Operation};
+use cp_program::operation::{Argument, Call, Operation};
 
 impl<'s, 't> Translator<'s, 't> {
     // Passes a right to a component.

@@ -3,8 +3,8 @@
 
 ghost use Rattle.std.specs.Prelude.{◌≡◌, []};
 
-use cp_threaded::operation::Argument;
-use cp_threaded::term::Spot;
+use cp_program::operation::Argument;
+use cp_program::term::Spot;
 use std::alloc::Global;
 
 /// The spot of a designator, the first temp after the values of its calls, and the number of the

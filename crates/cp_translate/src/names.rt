@@ -12,12 +12,12 @@ ghost use Rattle.cp_scope.specs.Layouts.{PartIs};
 ghost use Rattle.cp_scope.specs.Locals.{LocalIs};
 ghost use Rattle.cp_scope.specs.Scopes.{IsScope};
 ghost use Rattle.cp_scope.specs.declared.types.Types.{Types};
-ghost use Rattle.cp_threaded.specs.View as view;
+ghost use Rattle.cp_program.specs.View as view;
 ghost use Rattle.cp_typing.specs.StaticTypes.{is_clock};
 
 use crate::translator::Translator;
 use cp_scope::{CompileError, Local, Part};
-use cp_threaded::term::{Root, Term};
+use cp_program::term::{Root, Term};
 
 // Whether a name is that of the clock.
 fn is_clock(name: &[u8]) -> bool

@@ -10,8 +10,8 @@ ghost use Rattle.cp_code.specs.Programs as op;
 ghost use Rattle.cp_code.specs.Scopes as code;
 ghost use Rattle.cp_emit.specs.Emission.{place_of};
 ghost use Rattle.cp_scope.specs.Scopes.{IsScope};
-ghost use Rattle.cp_threaded.specs.Labels.{arm};
-ghost use Rattle.cp_threaded.specs.View as view;
+ghost use Rattle.cp_program.specs.Labels.{arm};
+ghost use Rattle.cp_program.specs.View as view;
 ghost use Rattle.cp_translate.specs.Statements.{Enters};
 
 use crate::translator::Translator;
@@ -19,8 +19,8 @@ use cp_emit::Emitter;
 use cp_emit::table::table_of;
 use cp_model::tree::{Constant, Direction, Expression};
 use cp_scope::CompileError;
-use cp_threaded::arm::Arm;
-use cp_threaded::operation::{Counting, Operation};
+use cp_program::arm::Arm;
+use cp_program::operation::{Counting, Operation};
 
 // Whether a `for` counts down.
 fn is_down(direction: Direction) -> bool

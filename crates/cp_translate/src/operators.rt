@@ -15,7 +15,7 @@ use crate::translator::Translator;
 use cp_emit::call::MadeTerm;
 use cp_model::tree::{Operator, Sign};
 use cp_scope::CompileError;
-use cp_threaded::term::Term;
+use cp_program::term::Term;
 
 impl<'s, 't> Translator<'s, 't> {
     /// A number, which needs no calls.

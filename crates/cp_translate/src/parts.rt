@@ -15,7 +15,7 @@ use crate::made::MadeSpot;
 use crate::translator::Translator;
 use cp_emit::call::MadeTerm;
 use cp_scope::CompileError;
-use cp_threaded::term::{Spot, Term};
+use cp_program::term::{Spot, Term};
 
 impl<'s, 't> Translator<'s, 't> {
     /// The spot of the variable with this name, and the type of its place.

@@ -24,7 +24,7 @@ use crate::translator::Translator;
 use cp_emit::Emitter;
 use cp_model::tree::{Designator, Expression};
 use cp_scope::{Base, Callee, CompileError};
-use cp_threaded::operation::Operation;
+use cp_program::operation::Operation;
 
 // Whether values of a base type are displayed as bytes.
 fn is_char(base: Base) -> bool

@@ -16,7 +16,7 @@ ghost use Rattle.cp_code.specs.Terms as plain;
 ghost use Rattle.cp_emit.specs.declared.emitter.CodedCall.{CodedCall};
 ghost use Rattle.cp_scope.specs.Scopes.{IsScope};
 ghost use Rattle.cp_scope.specs.Standing.{base_of};
-ghost use Rattle.cp_threaded.specs.View as view;
+ghost use Rattle.cp_program.specs.View as view;
 ghost use Rattle.cp_translate.specs.Translated.{IsSpot, IsTerm};
 
 use crate::made::MadeSpot;
@@ -24,7 +24,7 @@ use crate::translator::Translator;
 use cp_emit::call::MadeTerm;
 use cp_model::tree::{Designator, Expression};
 use cp_scope::{Base, CompileError, base_type, first_ordinal, last_ordinal};
-use cp_threaded::term::{Function, Term};
+use cp_program::term::{Function, Term};
 
 /// The name that a designator consists of. A designator of a part is refused.
 pub fn lone_name(d: &Designator) -> Result<&[u8], CompileError>

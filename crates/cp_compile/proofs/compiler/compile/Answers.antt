@@ -1,7 +1,7 @@
 use Rattle.std.proofs.Common.{◌∙◌, ap}
 use Rattle.cp_model.specs.Declarations.{globals}
 use Rattle.cp_code.specs.Compile as code
-use Rattle.cp_threaded.specs.View as view
+use Rattle.cp_program.specs.View as view
 use Rattle.cp_compile.specs.CompiledPrograms.{text_of}
 use Rattle.cp_compile.proofs.ProgramsCompiled.{planner_is, same_program}
 use Rattle.cp_compile.proofs.compiler.compile.Goals as goal

@@ -1,8 +1,8 @@
 use Rattle.std.proofs.Common.{rules, ◌≡◌, ◌++◌, ◌∷◌, ◌∙◌, List, [], ap, length, map, subst, sym}
 use Rattle.cp_model.specs.Declarations.{declarations}
 use Rattle.cp_scope.specs.Variables.{declared_entry}
-use Rattle.cp_threaded.specs.declared.program.Plan.{Plan}
-use Rattle.cp_threaded.specs.View.{plan_at}
+use Rattle.cp_program.specs.declared.program.Plan.{Plan}
+use Rattle.cp_program.specs.View.{plan_at}
 use Rattle.cp_compile.specs.CompiledComponents.{PlansAre}
 use Rattle.cp_compile.specs.CompiledPrograms.{text_of}
 use Rattle.cp_compile.proofs.ProgramsCompiled.{initial_plan, planner_types, plans_are}

@@ -2,8 +2,8 @@ use Rattle.std.proofs.Common.{rules, ◌≡◌, ◌+◌, ◌∷◌, List, arith,
 use Rattle.std.proofs.lemmas.List.{at_drop_more, drop_all}
 use Rattle.cp_code.specs.Compile.{monitors_at}
 use Rattle.cp_code.specs.Layout.{component_words}
-use Rattle.cp_threaded.specs.View as view
-use Rattle.cp_threaded.specs.declared.program.Monitor.{Monitor}
+use Rattle.cp_program.specs.View as view
+use Rattle.cp_program.specs.declared.program.Monitor.{Monitor}
 use Rattle.cp_compile.specs.declared.components.Owner.{Owner}
 use Rattle.cp_compile.proofs.LaidOut.{PartlyLaid, all_laid, monitor_first, one_laid}
 use Rattle.cp_compile.proofs.layout.lay_monitors.Goals as goal

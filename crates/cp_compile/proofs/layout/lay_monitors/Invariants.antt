@@ -3,8 +3,8 @@ use Rattle.cp_model.specs.Types.{GlobalScope}
 use Rattle.cp_code.specs.Compile as code
 use Rattle.cp_code.specs.Compile.{monitors_at}
 use Rattle.cp_code.specs.Layout.{component_words}
-use Rattle.cp_threaded.specs.View as view
-use Rattle.cp_threaded.specs.declared.program.Plan.{Plan}
+use Rattle.cp_program.specs.View as view
+use Rattle.cp_program.specs.declared.program.Plan.{Plan}
 use Rattle.cp_compile.specs.CompiledComponents.{AreOwners}
 use Rattle.cp_compile.proofs.LaidOut.{PartlyLaid}
 use Rattle.cp_compile.proofs.layout.lay_monitors.Given as goal

@@ -3,7 +3,7 @@ use Rattle.cp_code.specs.CodeNeeds.{need_of_all}
 use Rattle.cp_code.specs.CodedStatements as statements
 use Rattle.cp_code.specs.Compile.{code_unit}
 use Rattle.cp_emit.specs.Emission.{operations_of, place_of, units_of}
-use Rattle.cp_threaded.specs.View as view
+use Rattle.cp_program.specs.View as view
 use Rattle.cp_compile.specs.Compiles.{body_of}
 use Rattle.cp_compile.proofs.UnitsCompiled.{unit_compiled}
 use Rattle.cp_compile.proofs.unit.compile_unit.Goals as goal

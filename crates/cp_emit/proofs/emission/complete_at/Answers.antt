@@ -1,6 +1,6 @@
 use Rattle.std.proofs.Common.{◌≤◌, ◌<◌, length, ap, ◌∙◌, arith}
 use Rattle.std.proofs.lemmas.List.{length-map}
-use Rattle.cp_threaded.specs.View as view
+use Rattle.cp_program.specs.View as view
 use Rattle.cp_emit.specs.Emission.{with_body}
 use Rattle.cp_emit.proofs.Changing.{changed_past, changed_set}
 use Rattle.cp_emit.proofs.emission.complete_at.Goals as goal

@@ -1,5 +1,5 @@
 use Rattle.std.proofs.Common.{rules, arith, ◌<◌, length}
-use Rattle.cp_threaded.proofs.Wide.{narrow}
+use Rattle.cp_program.proofs.Wide.{narrow}
 use Rattle.cp_emit.proofs.MembersStarted.{all_filled}
 use Rattle.cp_emit.proofs.start_values.fill_of_members.Goals as goal
 

@@ -1,6 +1,6 @@
 use Rattle.std.proofs.Common.{◌≡◌, drop, map}
 use Rattle.cp_code.specs.CodedStatements as coded
-use Rattle.cp_threaded.specs.Labels.{arm}
+use Rattle.cp_program.specs.Labels.{arm}
 use Rattle.cp_emit.proofs.table.lowest.Given as goal
 
 abbrev pub invariant-loop-x : goal.invariant-loop-x

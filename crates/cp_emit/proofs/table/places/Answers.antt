@@ -4,9 +4,9 @@ use Rattle.std.specs.Prelude.{int_le, if◌then◌else◌}
 use Rattle.std.proofs.lemmas.List.{at_drop_all, at_drop_more}
 use Rattle.cp_code.specs.Layout.{distance}
 use Rattle.cp_code.specs.CodedStatements.{places_from}
-use Rattle.cp_threaded.specs.Labels.{arm}
-use Rattle.cp_threaded.specs.declared.arm.Arm.{Arm}
-use Rattle.cp_threaded.proofs.Wide.{narrow}
+use Rattle.cp_program.specs.Labels.{arm}
+use Rattle.cp_program.specs.declared.arm.Arm.{Arm}
+use Rattle.cp_program.proofs.Wide.{narrow}
 use Rattle.cp_emit.proofs.Placing.{arm_put, none_left}
 use Rattle.cp_emit.proofs.table.places.Goals as goal
 

@@ -1,6 +1,6 @@
 use Rattle.std.proofs.Common.{◌≡◌, drop, map}
 use Rattle.cp_code.specs.CodedStatements as coded
-use Rattle.cp_threaded.specs.Labels.{arm}
+use Rattle.cp_program.specs.Labels.{arm}
 use Rattle.cp_emit.proofs.table.places.Given as goal
 
 -- The arms from this one on have been put.

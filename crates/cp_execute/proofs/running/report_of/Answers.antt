@@ -1,7 +1,7 @@
 use Rattle.std.proofs.Common.{◌∙◌, refl, subst, sym}
 use Rattle.cp_code.specs.StandsFor.{StandsFor}
 use Rattle.cp_model.specs.View as view
-use Rattle.cp_threaded.specs.View as threaded
+use Rattle.cp_program.specs.View as threaded
 use Rattle.cp_execute.specs.Cutting.{AreParts}
 use Rattle.cp_execute.specs.Executed.{setup_of}
 use Rattle.cp_execute.proofs.Faults.{from_ok}

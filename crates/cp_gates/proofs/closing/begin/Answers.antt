@@ -3,7 +3,7 @@ use Rattle.cp_process.specs.States as states
 use Rattle.cp_steps.specs.KernelSteps.{stage_of}
 use Rattle.cp_steps.specs.Machines as plain
 use Rattle.cp_steps.specs.PrivateStates.{PrivateState}
-use Rattle.cp_threaded.specs.View as view
+use Rattle.cp_program.specs.View as view
 use Rattle.cp_gates.specs.KernelOf.{kernel_of}
 use Rattle.cp_gates.proofs.Begins.{begun_number, not_fresh}
 use Rattle.cp_gates.proofs.closing.begin.Goals as goal

@@ -4,7 +4,7 @@ use Rattle.std.proofs.lemmas.Option.{slice_get-get_or}
 use Rattle.cp_process.specs.States.{private_of}
 use Rattle.cp_process.specs.declared.private.Private.{Private}
 use Rattle.cp_steps.specs.Machines as plain
-use Rattle.cp_threaded.specs.View as view
+use Rattle.cp_program.specs.View as view
 use Rattle.cp_gates.specs.KernelOf.{kernel_of}
 use Rattle.cp_gates.specs.Turns.{parts_of}
 use Rattle.cp_gates.proofs.Changed.{all_changed, changed_below, got_changed, next_changed, parts_count, parts_got, parts_set, same_at}

@@ -1,7 +1,7 @@
 use Rattle.std.proofs.Common.{◌≡◌, ℕ, List, map}
 use Rattle.cp_process.specs.declared.private.Private.{Private}
 use Rattle.cp_steps.specs.Machines as plain
-use Rattle.cp_threaded.specs.View as view
+use Rattle.cp_program.specs.View as view
 use Rattle.cp_gates.specs.KernelOf.{kernel_of}
 use Rattle.cp_gates.specs.Turns.{parts_of}
 use Rattle.cp_gates.proofs.Changed.{changed_below}

@@ -1,7 +1,7 @@
 use Rattle.std.proofs.Common.{rules, ◌≡◌, ◌<◌, ◌+◌, ◌-◌, slice_get, suc, length, drop, ap, sym, ◌∙◌, arith}
 use Rattle.cp_code.specs.Programs as code
 use Rattle.cp_steps.specs.Machines as plain
-use Rattle.cp_threaded.specs.View as view
+use Rattle.cp_program.specs.View as view
 use Rattle.std.specs.Prelude.{List}
 use Rattle.cp_gates.proofs.Starts.{next_monitor}
 use Rattle.cp_gates.proofs.starting.start_monitors.Goals as goal

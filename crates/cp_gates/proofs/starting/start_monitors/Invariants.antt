@@ -1,6 +1,6 @@
 use Rattle.std.proofs.Common.{◌≡◌, ◌≤◌, length, drop}
 use Rattle.cp_steps.specs.Machines as plain
-use Rattle.cp_threaded.specs.View as view
+use Rattle.cp_program.specs.View as view
 use Rattle.cp_gates.proofs.starting.start_monitors.Given as goal
 
 -- The iterations that are left lead to the same words as all of them.

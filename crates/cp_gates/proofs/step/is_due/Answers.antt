@@ -1,6 +1,6 @@
 use Rattle.std.proofs.Common.{[], ap, sym, ◌∙◌}
 use Rattle.cp_steps.specs.KernelSteps.{is_begun, stage_of}
-use Rattle.cp_threaded.specs.View as view
+use Rattle.cp_program.specs.View as view
 use Rattle.cp_gates.specs.Due.{is_kernel}
 use Rattle.cp_gates.specs.KernelOf.{kernel_of, turning}
 use Rattle.cp_gates.proofs.Stepping.{due_begun, due_not_begun}

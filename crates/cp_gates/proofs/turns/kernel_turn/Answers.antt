@@ -1,6 +1,6 @@
 use Rattle.std.proofs.Common.{ℕ, [], [], ap, subst, ◌∙◌}
 use Rattle.cp_steps.specs.KernelSteps as plain
-use Rattle.cp_threaded.specs.View as view
+use Rattle.cp_program.specs.View as view
 use Rattle.cp_gates.specs.KernelOf.{turning}
 use Rattle.cp_gates.specs.Turns.{Moves}
 use Rattle.cp_gates.proofs.Asking.{room_kept}

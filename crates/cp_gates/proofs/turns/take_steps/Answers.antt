@@ -2,7 +2,7 @@ use Rattle.std.proofs.Common.{◌≡◌, suc, ◌+◌, ◌-◌, length, ap, subs
 use Rattle.std.specs.Prelude.{Vec}
 use Rattle.std.specs.Global.{Global}
 use Rattle.cp_steps.specs.KernelSteps as plain
-use Rattle.cp_threaded.specs.View as view
+use Rattle.cp_program.specs.View as view
 use Rattle.cp_gates.specs.KernelOf.{Bytes, IsBegun, turning}
 use Rattle.cp_gates.proofs.Stepping.{steps_more, steps_rest}
 use Rattle.cp_gates.proofs.turns.take_steps.Goals as goal

@@ -3,7 +3,7 @@ use Rattle.cp_gates.specs.KernelOf.{HasRoomForAskers}
 use Rattle.cp_gates.specs.Turns.{IsTurned}
 use Rattle.cp_process.specs.States.{private_of}
 use Rattle.cp_process.specs.declared.private.Private.{Private}
-use Rattle.cp_threaded.specs.View as view
+use Rattle.cp_program.specs.View as view
 use Rattle.cp_machine.specs.MachineOf.{input_at}
 use Rattle.cp_machine.specs.Numbers.{AreNumbered}
 use Rattle.cp_machine.specs.Runs.{TurnsTaken}

@@ -1,5 +1,5 @@
 use Rattle.std.proofs.Common.{◌+◌, ◌*◌, slice_get}
-use Rattle.cp_threaded.specs.View as view
+use Rattle.cp_program.specs.View as view
 use Rattle.cp_machine.specs.MachineOf.{input_at}
 use Rattle.cp_machine.specs.Runs.{name_of}
 use Rattle.cp_machine.specs.Turned as plain

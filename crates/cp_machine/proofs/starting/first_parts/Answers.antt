@@ -1,4 +1,4 @@
-use Rattle.cp_threaded.specs.View as view
+use Rattle.cp_program.specs.View as view
 use Rattle.cp_machine.specs.Starts.{IsStart}
 use Rattle.cp_machine.proofs.Starts.{first_stages_count, numbered_first}
 use Rattle.cp_machine.proofs.starting.first_parts.Goals as goal

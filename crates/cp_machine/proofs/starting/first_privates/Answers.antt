@@ -2,7 +2,7 @@ use Rattle.std.proofs.Common.{◌≡◌, ◌+◌, ◌-◌, ℕ, suc, List, Some,
 use Rattle.cp_process.specs.States.{private_of}
 use Rattle.cp_process.specs.declared.private.Private.{Private}
 use Rattle.cp_steps.specs.Machines.{first_part}
-use Rattle.cp_threaded.specs.View as view
+use Rattle.cp_program.specs.View as view
 use Rattle.cp_machine.specs.Starts.{AreFirst}
 use Rattle.cp_machine.proofs.Lists.{got_snoc}
 use Rattle.cp_machine.proofs.Rounds.{longer}

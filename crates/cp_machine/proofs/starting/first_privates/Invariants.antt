@@ -1,5 +1,5 @@
 use Rattle.std.proofs.Common.{◌≡◌, length}
-use Rattle.cp_threaded.specs.View as view
+use Rattle.cp_program.specs.View as view
 use Rattle.cp_machine.specs.Starts.{AreFirst}
 use Rattle.cp_machine.proofs.starting.first_privates.Given as goal
 

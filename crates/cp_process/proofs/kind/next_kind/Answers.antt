@@ -1,7 +1,7 @@
 use Rattle.std.proofs.Common.{ap, sym, ◌∙◌}
 use Rattle.cp_process.specs.Promises.{meaning_kind}
 use Rattle.cp_process.specs.States.{private_of}
-use Rattle.cp_threaded.specs.View as view
+use Rattle.cp_program.specs.View as view
 use Rattle.cp_process.proofs.KindsMeant.{kind_is_meant}
 use Rattle.cp_process.proofs.kind.next_kind.Goals as goal
 

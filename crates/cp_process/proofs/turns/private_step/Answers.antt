@@ -3,7 +3,7 @@ use Rattle.cp_model.specs.Turns as meaning
 use Rattle.cp_steps.specs.Laws.{ground_of}
 use Rattle.cp_steps.specs.PartOf.{PartOf}
 use Rattle.cp_steps.specs.Steps.{private_step}
-use Rattle.cp_threaded.specs.View as view
+use Rattle.cp_program.specs.View as view
 use Rattle.cp_process.specs.States.{private_of}
 use Rattle.cp_process.proofs.turns.private_step.Goals as goal
 

@@ -1,6 +1,6 @@
 use Rattle.std.proofs.Common.{◌≡◌, suc, ◌+◌, ◌-◌, refl, ap, sym, ◌∙◌, arith}
 use Rattle.cp_steps.specs.Steps as plain
-use Rattle.cp_threaded.specs.View as view
+use Rattle.cp_program.specs.View as view
 use Rattle.cp_process.specs.States.{private_of}
 use Rattle.cp_process.proofs.Lasting.{steps_more, steps_rest}
 use Rattle.cp_process.proofs.turns.take_steps.Goals as goal

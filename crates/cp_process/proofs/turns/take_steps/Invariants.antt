@@ -1,6 +1,6 @@
 use Rattle.std.proofs.Common.{◌≡◌, ◌≤◌, ◌+◌, ◌*◌, ◌-◌, vec_capacity, vec_len}
 use Rattle.cp_steps.specs.Steps as plain
-use Rattle.cp_threaded.specs.View as view
+use Rattle.cp_program.specs.View as view
 use Rattle.cp_process.specs.Rooms.{HasRoomFor}
 use Rattle.cp_process.specs.States.{IsReady, private_of}
 use Rattle.cp_process.proofs.turns.take_steps.Given as goal

@@ -1,6 +1,6 @@
 use Rattle.std.proofs.Common.{◌≡◌, ◌++◌, map, drop, length}
 use Rattle.cp_code.specs.Starts.{carry_out}
-use Rattle.cp_threaded.specs.View as view
+use Rattle.cp_program.specs.View as view
 use Rattle.cp_process.proofs.words.start.Given as goal
 
 -- The iterations that are left lead to the same words as all of them.

@@ -4,7 +4,7 @@ use Rattle.cp_steps.specs.Passing as plain
 use Rattle.cp_steps.specs.Reports.{queue_visit, queues_text}
 use Rattle.cp_scope.specs.Standing.{entry}
 use Rattle.cp_scope.specs.declared.types.Field.{Field}
-use Rattle.cp_threaded.specs.View as view
+use Rattle.cp_program.specs.View as view
 use Rattle.cp_report.proofs.MembersTold.{drop_first}
 use Rattle.cp_report.proofs.QueuesTold.{QueuesToTell, one_searched}
 use Rattle.cp_report.specs.Walks.{TellsComponent}

@@ -4,7 +4,7 @@ use Rattle.cp_model.specs.Declarations.{Variable}
 use Rattle.cp_model.specs.Types.{GlobalScope}
 use Rattle.cp_steps.specs.Reports.{queues_text}
 use Rattle.cp_scope.specs.Standing.{ScopeStands, entry}
-use Rattle.cp_threaded.specs.View as view
+use Rattle.cp_program.specs.View as view
 use Rattle.cp_report.specs.Lists.{AreListed}
 use Rattle.cp_report.proofs.QueuesTold.{QueuesToTell}
 use Rattle.cp_report.proofs.status.push_queue.Given as goal

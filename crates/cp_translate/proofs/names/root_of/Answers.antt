@@ -1,4 +1,4 @@
-use Rattle.cp_threaded.specs.View as view
+use Rattle.cp_program.specs.View as view
 use Rattle.cp_translate.proofs.Beginning.{local_begins, member_begins}
 use Rattle.cp_translate.proofs.names.root_of.Goals as goal
 

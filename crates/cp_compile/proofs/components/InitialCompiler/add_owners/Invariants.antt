@@ -6,7 +6,7 @@ use Rattle.cp_model.specs.Types.{GlobalScope}
 use Rattle.cp_code.specs.Compile as code
 use Rattle.cp_code.specs.Compile.{of_sort, owners_of}
 use Rattle.cp_scope.specs.Variables.{declared_entry}
-use Rattle.cp_threaded.specs.declared.program.Plan.{Plan}
+use Rattle.cp_program.specs.declared.program.Plan.{Plan}
 use Rattle.cp_compile.specs.CompiledComponents.{AreOwners, IsInitial}
 use Rattle.cp_compile.proofs.ComponentsCompiled.{PartlyOwned}
 use Rattle.cp_compile.proofs.components.InitialCompiler.add_owners.Given as goal

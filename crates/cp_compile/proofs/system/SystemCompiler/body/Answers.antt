@@ -1,7 +1,7 @@
 use Rattle.std.proofs.Common.{◌∙◌, None, ap, map, sym}
 use Rattle.cp_code.specs.StandsFor.{end_of}
 use Rattle.cp_scope.proofs.Unrefused.{on_ok}
-use Rattle.cp_threaded.specs.View as view
+use Rattle.cp_program.specs.View as view
 use Rattle.cp_compile.specs.Compiles.{body_of}
 use Rattle.cp_compile.proofs.SystemsCompiled.{body_compiled, scope_made, unit_scope}
 use Rattle.cp_compile.proofs.system.SystemCompiler.body.Goals as goal

@@ -5,7 +5,7 @@ use Rattle.cp_code.specs.Programs.{Return}
 use Rattle.cp_model.specs.Declarations.{declarations}
 use Rattle.cp_scope.specs.Variables.{declared_entry}
 use Rattle.cp_scope.proofs.Unrefused.{on_ok}
-use Rattle.cp_threaded.specs.View as view
+use Rattle.cp_program.specs.View as view
 use Rattle.cp_compile.proofs.SystemsCompiled.{function_written, planner_knows, result_written, routine_compiled, scope_made, unit_scope}
 use Rattle.cp_compile.proofs.system.SystemCompiler.routine.Goals as goal
 

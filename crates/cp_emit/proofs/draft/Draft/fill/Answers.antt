@@ -1,10 +1,10 @@
 use Rattle.std.proofs.Common.{rules, ◌≡◌, ◌∙◌, ◌∷◌, ◌++◌, [], ap, sym, refl, subst, None, Some, w32}
 use Rattle.std.proofs.lemmas.Int.{to_z-of_z}
 use Rattle.cp_code.specs.Plans.{fill_before}
-use Rattle.cp_threaded.specs.declared.program.Start.TheVariants as start
+use Rattle.cp_program.specs.declared.program.Start.TheVariants as start
 use Rattle.cp_emit.specs.Drafts.{Joins, plan_of}
 use Rattle.cp_emit.proofs.Drafting.{one_filled, one_joined}
-use Rattle.cp_threaded.proofs.Wide.{narrow}
+use Rattle.cp_program.proofs.Wide.{narrow}
 use Rattle.cp_emit.proofs.draft.Draft.fill.Goals as goal
 
 pub returns-in_ok-push-in-Some-2-clause-starts : goal.returns-in_ok-push-in-Some-2-clause-starts

@@ -1,7 +1,7 @@
 use Rattle.std.proofs.Common.{rules, ◌≡◌, Some, length, slice_get, subst, sym}
 use Rattle.cp_emit.specs.ComponentPlans.{ArePlans}
 use Rattle.cp_emit.specs.Planning.{types_of}
-use Rattle.cp_threaded.specs.declared.program.Plan.{Plan}
+use Rattle.cp_program.specs.declared.program.Plan.{Plan}
 use Rattle.cp_emit.proofs.ComponentsPlanned.{no_plans, one_plan}
 use Rattle.cp_emit.proofs.plan.Planner.components.Goals as goal
 

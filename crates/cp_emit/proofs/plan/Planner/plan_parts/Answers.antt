@@ -3,7 +3,7 @@ use Rattle.cp_code.specs.Plans.{plan}
 use Rattle.cp_scope.specs.Standing.{row_at}
 use Rattle.cp_scope.specs.declared.types.TypeRow.TheVariants as row
 use Rattle.cp_scope.proofs.Unrefused.{on_ok}
-use Rattle.cp_threaded.proofs.Wide.{narrow}
+use Rattle.cp_program.proofs.Wide.{narrow}
 use Rattle.cp_emit.specs.Planning.{Leaves, types_of}
 use Rattle.cp_emit.specs.StartValues.{HasParts}
 use Rattle.cp_emit.proofs.Planning.{as_array}

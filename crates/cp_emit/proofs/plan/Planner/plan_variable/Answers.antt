@@ -1,6 +1,6 @@
 use Rattle.std.proofs.Common.{rules, ◌≡◌, ◌∙◌, ℤ, Some, ap, slice_get, subst, sym}
 use Rattle.cp_scope.proofs.Unrefused.{on_ok}
-use Rattle.cp_threaded.proofs.Wide.{narrow}
+use Rattle.cp_program.proofs.Wide.{narrow}
 use Rattle.cp_emit.specs.Planning.{types_of}
 use Rattle.cp_emit.specs.StartValues.{FillIs}
 use Rattle.cp_emit.proofs.Planning.{nothing_planned, words_filled}

@@ -1,5 +1,5 @@
 use Rattle.std.proofs.Common.{sym, ◌∙◌}
-use Rattle.cp_threaded.specs.View as view
+use Rattle.cp_program.specs.View as view
 use Rattle.cp_gates.proofs.Starts.{empty_of, unset_of}
 use Rattle.cp_gates.proofs.kernel.Kernel.new.Goals as goal
 

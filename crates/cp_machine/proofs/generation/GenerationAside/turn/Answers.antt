@@ -5,7 +5,7 @@ use Rattle.cp_process.specs.Rooms.{HasRoomFor}
 use Rattle.cp_process.specs.declared.private.Private.{Private}
 use Rattle.cp_process.specs.declared.turn.Turn.{Turn}
 use Rattle.cp_steps.specs.Machines.{Machine, clock}
-use Rattle.cp_threaded.specs.View as view
+use Rattle.cp_program.specs.View as view
 use Rattle.cp_gates.specs.Turns.{IsTurned}
 use Rattle.cp_machine.specs.Made.{TurnsMade}
 use Rattle.cp_machine.specs.MachineOf.{input_at}

@@ -1,7 +1,7 @@
 use Rattle.std.proofs.Common.{◌≡◌, ◌≤◌, ◌+◌, ◌-◌, ℕ, length}
 use Rattle.cp_gates.specs.KernelOf.{HasRoomForAskers}
 use Rattle.cp_steps.specs.Machines.{Machine}
-use Rattle.cp_threaded.specs.View as view
+use Rattle.cp_program.specs.View as view
 use Rattle.cp_machine.specs.Generations.{IsReadyFrom}
 use Rattle.cp_machine.specs.Made.{TurnsMade}
 use Rattle.cp_machine.specs.Turned.{moment_of}

@@ -1,4 +1,4 @@
-use Rattle.cp_threaded.specs.View as threaded
+use Rattle.cp_program.specs.View as threaded
 use Rattle.cp_machine.specs.declared.machine.Machine.{Machine}
 use Rattle.cp_machine.specs.declared.setting.Setting.{Setting}
 use Rattle.cp_machine.proofs.InStates.{is_started}

@@ -4,7 +4,7 @@ use Rattle.cp_steps.specs.PrivateStates.{PrivateState, guard}
 use Rattle.cp_steps.specs.Calling.{enter}
 use Rattle.cp_steps.specs.Passing.{when_passed}
 use Rattle.cp_code.specs.Starts.{carry_out}
-use Rattle.cp_threaded.specs.View as view
+use Rattle.cp_program.specs.View as view
 use Rattle.cp_process.specs.Calls.{back, called_of, passing_of}
 use Rattle.cp_process.specs.States.{join, outcome, outside_of}
 use Rattle.cp_process.proofs.Calling.{call_by, call_done, call_rest, call_unit}

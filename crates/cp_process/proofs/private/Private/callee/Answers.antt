@@ -2,8 +2,8 @@ use Rattle.std.proofs.Common.{rules, arith, ◌≡◌, ◌+◌, length, to_z, of
 use Rattle.std.specs.Int.{w32}
 use Rattle.cp_code.specs.Layout.{natural}
 use Rattle.cp_steps.specs.Passing as plain
-use Rattle.cp_threaded.specs.Reaches.{cap_place}
-use Rattle.cp_threaded.specs.View as view
+use Rattle.cp_program.specs.Reaches.{cap_place}
+use Rattle.cp_program.specs.View as view
 use Rattle.cp_process.specs.States.{join, outside_of}
 use Rattle.cp_process.proofs.private.Private.callee.Goals as goal
 

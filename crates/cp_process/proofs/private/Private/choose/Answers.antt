@@ -2,7 +2,7 @@ use Rattle.std.proofs.Common.{rules, ◌≡◌, Err, length, to_z, of_z, ap, ref
 use Rattle.std.specs.Int.{w32}
 use Rattle.cp_code.specs.Tables.{place_in}
 use Rattle.cp_steps.specs.Steps.{go_to_arm}
-use Rattle.cp_threaded.specs.View as view
+use Rattle.cp_program.specs.View as view
 use Rattle.cp_process.specs.States.{join}
 use Rattle.cp_process.proofs.private.Private.choose.Goals as goal
 

@@ -2,7 +2,7 @@ use Rattle.std.proofs.Common.{rules, arith, ◌≡◌, pos, of_z, ap, ◌∙◌}
 use Rattle.std.specs.Prelude.{nat_eq, not}
 use Rattle.std.specs.Int.{w32}
 use Rattle.cp_model.specs.Integers.{same_integer}
-use Rattle.cp_threaded.specs.Reaches.{cap_place}
+use Rattle.cp_program.specs.Reaches.{cap_place}
 use Rattle.cp_process.proofs.private.Private.class_callee.Goals as goal
 
 pub returns : goal.returns

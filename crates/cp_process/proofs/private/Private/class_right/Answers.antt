@@ -1,7 +1,7 @@
 use Rattle.std.proofs.Common.{rules, arith, ◌≡◌, ◌+◌, ◌+ℤ◌, pos, to_z, of_z, ◌∙◌}
 use Rattle.std.specs.Int.{w32}
 use Rattle.cp_code.specs.Layout.{natural}
-use Rattle.cp_threaded.specs.Reaches.{cap_place}
+use Rattle.cp_program.specs.Reaches.{cap_place}
 use Rattle.cp_process.proofs.private.Private.class_right.Goals as goal
 
 pub returns-clause-place : goal.returns-clause-place

@@ -3,8 +3,8 @@ use Rattle.std.specs.Int.{w32}
 use Rattle.cp_model.specs.Places.{within}
 use Rattle.cp_steps.specs.PrivateStates.{go_to, private_outcome, set_temp, view_of}
 use Rattle.cp_steps.specs.Values.{root_place}
-use Rattle.cp_threaded.specs.Reaches.{cap_place}
-use Rattle.cp_threaded.specs.View as view
+use Rattle.cp_program.specs.Reaches.{cap_place}
+use Rattle.cp_program.specs.View as view
 use Rattle.cp_process.specs.States.{join, outside_of}
 use Rattle.cp_process.proofs.private.Private.count_to.Goals as goal
 

@@ -1,6 +1,6 @@
 use Rattle.std.proofs.Common.{◌∙◌}
 use Rattle.cp_steps.specs.Calling.{enter}
-use Rattle.cp_threaded.specs.View as view
+use Rattle.cp_program.specs.View as view
 use Rattle.cp_process.specs.Calls.{back, called_of}
 use Rattle.cp_process.specs.States.{join}
 use Rattle.cp_process.proofs.private.Private.enter.Goals as goal

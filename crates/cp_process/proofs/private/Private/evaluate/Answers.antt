@@ -1,6 +1,6 @@
 use Rattle.std.proofs.Common.{ap, ◌∙◌}
 use Rattle.cp_steps.specs.Values.{value_of}
-use Rattle.cp_threaded.specs.View as view
+use Rattle.cp_program.specs.View as view
 use Rattle.cp_process.proofs.private.Private.evaluate.Goals as goal
 
 pub returns : goal.returns

@@ -5,8 +5,8 @@ use Rattle.cp_model.specs.declared.state.Fault.TheVariants as fault
 use Rattle.cp_steps.specs.PrivateStates.{PrivateState, private_outcome, guard, set_word}
 use Rattle.cp_steps.specs.Calling.{Back, class_at, enter, settle}
 use Rattle.cp_steps.specs.Passing.{when_passed}
-use Rattle.cp_threaded.specs.Reaches.{cap_place}
-use Rattle.cp_threaded.specs.View as view
+use Rattle.cp_program.specs.Reaches.{cap_place}
+use Rattle.cp_program.specs.View as view
 use Rattle.cp_process.specs.Calls.{passing_of}
 use Rattle.cp_process.specs.States.{join, outcome, outside_of}
 use Rattle.cp_process.proofs.Calling.{init_by, init_done, init_rest, init_unit}

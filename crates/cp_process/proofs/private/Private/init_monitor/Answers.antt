@@ -5,7 +5,7 @@ use Rattle.cp_model.specs.declared.state.Fault.TheVariants as fault
 use Rattle.cp_steps.specs.PrivateStates.{Opens, PrivateState, guard}
 use Rattle.cp_steps.specs.Calling.{Back, enter, init_monitor, settle}
 use Rattle.cp_steps.specs.Passing.{when_passed}
-use Rattle.cp_threaded.specs.View as view
+use Rattle.cp_program.specs.View as view
 use Rattle.cp_process.specs.Calls.{called_of, passing_of}
 use Rattle.cp_process.specs.States.{join, outcome, outside_of}
 use Rattle.cp_process.proofs.Calling.{open_by, open_done, open_rest, open_unit}

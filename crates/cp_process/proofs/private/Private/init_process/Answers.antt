@@ -5,7 +5,7 @@ use Rattle.cp_model.specs.declared.state.Fault.TheVariants as fault
 use Rattle.cp_steps.specs.PrivateStates.{Acting, PrivateState, Starts, go_to, guard}
 use Rattle.cp_steps.specs.Calling.{parameters_start, settle}
 use Rattle.cp_steps.specs.Passing.{Passing, pass_all, when_passed}
-use Rattle.cp_threaded.specs.View as view
+use Rattle.cp_program.specs.View as view
 use Rattle.cp_process.specs.Calls.{passing_of}
 use Rattle.cp_process.specs.States.{join, outside_of}
 use Rattle.cp_process.proofs.private.Private.init_process.Goals as goal

@@ -1,6 +1,6 @@
 use Rattle.std.proofs.Common.{◌≡◌, ℕ, map, drop, length}
 use Rattle.cp_steps.specs.Passing.{pass_all}
-use Rattle.cp_threaded.specs.View as view
+use Rattle.cp_program.specs.View as view
 use Rattle.cp_process.specs.States.{join, outside_of}
 use Rattle.cp_process.proofs.private.Private.pass_all.Given as goal
 

@@ -1,7 +1,7 @@
 use Rattle.std.proofs.Common.{ap, ◌∙◌}
 use Rattle.cp_steps.specs.Values.{place_of}
-use Rattle.cp_threaded.specs.Reaches.{capped_result}
-use Rattle.cp_threaded.specs.View as view
+use Rattle.cp_program.specs.Reaches.{capped_result}
+use Rattle.cp_program.specs.View as view
 use Rattle.cp_process.proofs.private.Private.place.Goals as goal
 
 pub returns : goal.returns

@@ -1,7 +1,7 @@
 use Rattle.std.proofs.Common.{rules, arith, ◌≡◌, ◌+◌, to_z, of_z, ap, ◌∙◌}
 use Rattle.std.specs.Int.{w32}
 use Rattle.cp_steps.specs.Passing as plain
-use Rattle.cp_threaded.specs.Reaches.{cap_place}
+use Rattle.cp_program.specs.Reaches.{cap_place}
 use Rattle.cp_process.specs.States.{join}
 use Rattle.cp_process.proofs.private.Private.right_word.Goals as goal
 

@@ -2,8 +2,8 @@ use Rattle.std.proofs.Common.{rules, ◌≡◌, to_z, of_z, Err, length, refl, a
 use Rattle.std.specs.Int.{w32}
 use Rattle.cp_steps.specs.Steps.{set_within}
 use Rattle.cp_steps.specs.Values.{place_of, value_of}
-use Rattle.cp_threaded.specs.Reaches.{capped_result}
-use Rattle.cp_threaded.specs.View as view
+use Rattle.cp_program.specs.Reaches.{capped_result}
+use Rattle.cp_program.specs.View as view
 use Rattle.cp_process.specs.States.{join, outcome}
 use Rattle.cp_process.proofs.Results.{placed, unplaced}
 use Rattle.cp_process.proofs.private.Private.set.Goals as goal

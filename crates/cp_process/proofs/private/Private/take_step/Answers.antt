@@ -3,7 +3,7 @@ use Rattle.std.specs.Prelude.{option_map}
 use Rattle.std.proofs.lemmas.List.{nil_from_length}
 use Rattle.cp_steps.specs.PrivateStates.{Acting, is_running}
 use Rattle.cp_steps.specs.Steps.{act, alone, is_private, operation_of}
-use Rattle.cp_threaded.specs.View as view
+use Rattle.cp_program.specs.View as view
 use Rattle.cp_process.specs.States.{join, outside_of, private_of}
 use Rattle.cp_process.proofs.Unshared.{outside_alone, private_joined, stepped}
 use Rattle.cp_process.proofs.private.Private.take_step.Goals as goal

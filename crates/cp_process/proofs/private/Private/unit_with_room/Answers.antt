@@ -1,6 +1,6 @@
 use Rattle.std.proofs.Common.{rules, ◌≡◌, Some, true, false, ap, sym, ◌∙◌}
 use Rattle.std.specs.Prelude.{option_map, slice_get}
-use Rattle.cp_threaded.specs.View as view
+use Rattle.cp_program.specs.View as view
 use Rattle.cp_process.specs.States.{join}
 use Rattle.cp_process.proofs.Calling.{unit_full, unit_there}
 use Rattle.cp_process.proofs.private.Private.unit_with_room.Goals as goal

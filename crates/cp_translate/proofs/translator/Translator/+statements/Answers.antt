@@ -11,7 +11,7 @@ use Rattle.cp_code.specs.CodedTerms.{coded_term}
 use Rattle.cp_code.specs.Programs as op
 use Rattle.cp_emit.specs.Emission.{Emits, place_of, with_body, with_repeated}
 use Rattle.cp_scope.proofs.Unrefused.{if_ok}
-use Rattle.cp_threaded.specs.View as view
+use Rattle.cp_program.specs.View as view
 use Rattle.cp_translate.specs.Statements.{ArmsEnter, Enters}
 use Rattle.cp_translate.proofs.Counting.{for_entered}
 use Rattle.cp_translate.proofs.Sequencing.{body_made, if_entered, loop_made, nothing_entered, seq_entered, then_entered}

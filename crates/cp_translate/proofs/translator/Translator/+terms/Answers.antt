@@ -22,7 +22,7 @@ use Rattle.cp_code.specs.Terms.{Function, Number, Standard}
 use Rattle.cp_emit.specs.Emission.{coded_call}
 use Rattle.cp_scope.proofs.Unrefused.{if_ok}
 use Rattle.cp_emit.specs.declared.call.MadeTerm.{MadeTerm}
-use Rattle.cp_threaded.proofs.Wide.{narrow}
+use Rattle.cp_program.proofs.Wide.{narrow}
 use Rattle.cp_translate.specs.Translated.{AreArguments, IsPlace, IsTerm}
 use Rattle.cp_translate.proofs.ArgumentsMade.{Finishes, all_made, declared_at, got, none_made, one_made}
 use Rattle.cp_translate.proofs.CallsMade.{called_as, called_by, first_at, nothing_passed, standard_as, standard_empty, standard_other, valued}

@@ -5,8 +5,8 @@ use Rattle.std.proofs.lemmas.Int.{to_z-of_z}
 use Rattle.cp_model.specs.Erase as erase
 use Rattle.cp_code.specs.Programs as code
 use Rattle.cp_scope.specs.Standing.{value_of}
-use Rattle.cp_threaded.proofs.Wide.{narrow}
-use Rattle.cp_threaded.specs.declared.arm.Arm.{Arm}
+use Rattle.cp_program.proofs.Wide.{narrow}
+use Rattle.cp_program.specs.declared.arm.Arm.{Arm}
 use Rattle.cp_translate.proofs.Labelling.{label_added, no_label}
 use Rattle.cp_translate.proofs.translator.Translator.add_label.Goals as goal
 

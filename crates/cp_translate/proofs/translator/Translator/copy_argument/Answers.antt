@@ -1,5 +1,5 @@
 use Rattle.std.proofs.Common.{refl}
-use Rattle.cp_threaded.specs.declared.operation.Argument.TheVariants as argument
+use Rattle.cp_program.specs.declared.operation.Argument.TheVariants as argument
 use Rattle.cp_translate.specs.declared.made.MadeArgument.{MadeArgument}
 use Rattle.cp_translate.proofs.ArgumentsMade.{copied_made}
 use Rattle.cp_translate.proofs.translator.Translator.copy_argument.Goals as goal

@@ -3,7 +3,7 @@ use Rattle.std.specs.Int.{w32}
 use Rattle.std.specs.Prelude.{FitsSigned}
 use Rattle.std.proofs.lemmas.Int.{to_z-of_z}
 use Rattle.cp_code.specs.Terms as plain
-use Rattle.cp_threaded.specs.View as view
+use Rattle.cp_program.specs.View as view
 use Rattle.cp_typing.specs.StaticTypes.{element_type, place_type}
 use Rattle.cp_typing.specs.Words.{words}
 use Rattle.cp_code.specs.CodedTerms.{coded_spot, coded_term}

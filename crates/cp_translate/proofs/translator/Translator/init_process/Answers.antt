@@ -4,7 +4,7 @@ use Rattle.cp_model.specs.Components.{count_before, process_number}
 use Rattle.cp_model.specs.Declarations.{declarations}
 use Rattle.cp_code.specs.Programs as op
 use Rattle.cp_code.specs.Scopes.{environment}
-use Rattle.cp_threaded.specs.View as view
+use Rattle.cp_program.specs.View as view
 use Rattle.cp_translate.proofs.translator.Translator.init_process.Goals as goal
 
 pub returns : goal.returns

@@ -3,7 +3,7 @@ use Rattle.cp_model.specs.Erase as erase
 use Rattle.cp_code.specs.CodedStatements.{arms_at}
 use Rattle.cp_code.specs.Scopes as code
 use Rattle.cp_scope.specs.Scopes.{IsScope}
-use Rattle.cp_threaded.specs.Labels.{arm}
+use Rattle.cp_program.specs.Labels.{arm}
 use Rattle.cp_translate.proofs.translator.Translator.label.Given as goal
 
 -- The labels from this one on have been added.

@@ -5,7 +5,7 @@ use Rattle.cp_code.specs.CodedTerms.{call_of, coded_arguments, parameters_of}
 use Rattle.cp_code.specs.Programs as op
 use Rattle.cp_code.specs.Scopes.{environment, target_of, unit_of}
 use Rattle.cp_code.specs.Sites.{first_parameter}
-use Rattle.cp_threaded.specs.declared.operation.Operation.TheVariants as operation
+use Rattle.cp_program.specs.declared.operation.Operation.TheVariants as operation
 use Rattle.cp_translate.specs.Translated.{AreArguments}
 use Rattle.cp_translate.proofs.Answered.{both_ok}
 use Rattle.cp_translate.proofs.Emitting.{entered}

@@ -1,0 +1,130 @@
+-- Chains of operands and of indices: what they are as terms and spots, and their values.
+use Rattle.std.proofs.Math.ListN.{get_or, set}
+use Rattle.std.proofs.Common.{arith, Bool, true, false, zero, suc, length, ◌≡◌, ◌+◌, ◌*◌, ℕ, ℤ, map, List, [], ◌∷◌, ◌++◌, Result, Ok, Err, Vec, Global, refl, ap, ◌∙◌}
+use Rattle.cp_model.specs.declared.state.Fault.{Fault}
+use Rattle.cp_model.specs.declared.state.Fault.TheVariants as fault
+use Rattle.cp_model.specs.Places.{within}
+use Rattle.cp_code.specs.Functions.{unless}
+use Rattle.cp_code.specs.Layout.{distance}
+use Rattle.cp_code.specs.Terms as plain
+use Rattle.cp_code.specs.TermsFor.{move_spot}
+use Rattle.cp_steps.specs.Values.{View, apply, bind, place_of, value_of}
+use Rattle.cp_program.specs.declared.term.Operand.{Operand}
+use Rattle.cp_program.specs.declared.term.Root.{Root}
+use Rattle.cp_program.specs.declared.term.Term.{Term, out-Term, roll-Term}
+use Rattle.cp_program.specs.declared.term.Spot.{Spot, out-Spot, roll-Spot}
+use Rattle.cp_program.specs.declared.term.Index.{Index, out-Index, roll-Index}
+use Rattle.cp_program.specs.declared.term.Application.{Application}
+use Rattle.cp_program.specs.declared.term.Application.TheFolds.{fold-roll-Index, fold-roll-Spot, fold-roll-Term, fold_out-Index, fold_out-Spot, fold_out-Term}
+use Rattle.cp_program.specs.Reaches.{apply_operation, cap_place, capped_result, chain_value, elements_place, offset_of}
+use Rattle.cp_program.specs.View.{PlainApplication, PlainIndex, application, application_layer, chain_of, elements_of, index, index_layer, operand, operand_layer, root, spot, spot_layer, term, term_layer}
+
+-- The value of a chain is computed from its first operand and then from the others.
+pub value_chain : (v : View) (e : plain.Term) (xs : List PlainApplication)
+    → value_of v (chain_of e xs) ≡ bind (value_of v e) (λ x. chain_value v x xs)
+value_chain v e [] = keep (value_of v e)
+  where
+    keep : (r : Result ℤ Fault) → r ≡ bind r (λ x. Ok x)
+    keep (Ok x) = refl
+    keep (Err f) = refl
+value_chain v e (o ∷ os) = value_chain v (plain.Binary o.operator e o.operand) os ∙ after (value_of v e)
+  where
+    after : (r : Result ℤ Fault)
+        → bind (bind r (λ x. bind (value_of v o.operand) (λ y. apply o.operator x y))) (λ z. chain_value v z os)
+        ≡ bind r (λ x. bind (apply_operation v x o) (λ z. chain_value v z os))
+    after (Ok x) = refl
+    after (Err f) = refl
+
+-- The place of an element is the place of the whole, moved on as far as the indices lead.
+pub place_elements : (v : View) (s : plain.Spot) (is : List PlainIndex)
+    → place_of v (elements_of s is) ≡ bind (place_of v s) (λ at. elements_place v at is)
+place_elements v s [] = keep (place_of v s)
+  where
+    keep : (r : Result ℕ Fault) → r ≡ bind r (λ x. Ok x)
+    keep (Ok x) = refl
+    keep (Err f) = refl
+place_elements v s (i ∷ is) = place_elements v (plain.Element s i.low i.high i.size i.plus i.value) is ∙ after (place_of v s)
+  where
+    move_spot : (b : Bool) (a far : ℕ) → bind (unless b fault.Index (a + far)) (λ c. elements_place v c is)
+        ≡ bind (unless b fault.Index far) (λ k. elements_place v (a + k) is)
+    move_spot true a far = refl
+    move_spot false a far = refl
+
+    last : (r : Result ℤ Fault) (a : ℕ)
+        → bind (bind r (λ n. unless (within i.low i.high n) fault.Index (a + (distance i.low n * i.size + i.plus)))) (λ b. elements_place v b is)
+        ≡ bind r (λ n. bind (offset_of i n) (λ k. elements_place v (a + k) is))
+    last (Ok y) a = move_spot (within i.low i.high y) a (distance i.low y * i.size + i.plus)
+    last (Err f) a = refl
+
+    after : (r : Result ℕ Fault)
+        → bind (bind r (λ a. bind (value_of v i.value) (λ n. unless (within i.low i.high n) fault.Index (a + (distance i.low n * i.size + i.plus))))) (λ b. elements_place v b is)
+        ≡ bind r (λ a. bind (value_of v i.value) (λ n. bind (offset_of i n) (λ k. elements_place v (a + k) is)))
+    after (Ok x) = last (value_of v i.value) x
+    after (Err f) = refl
+
+-- Indices lead to the same capped place from a place that is capped itself.
+pub elements_capped : (v : View) (a b : ℕ) (is : List PlainIndex) → cap_place a ≡ cap_place b
+    → capped_result (elements_place v a is) ≡ capped_result (elements_place v b is)
+elements_capped v a b [] h = ap (λ n. Ok n) h
+elements_capped v a b (i ∷ is) h = by (value_of v i.value) (λ k. elements_capped v (a + k) (b + k) is (farther a b k h))
+  where
+    farther : (a b far : ℕ) → cap_place a ≡ cap_place b → cap_place (a + far) ≡ cap_place (b + far)
+    farther a b far e = omega arith
+
+    next : (r : Result ℕ Fault) → ((k : ℕ) → capped_result (elements_place v (a + k) is) ≡ capped_result (elements_place v (b + k) is))
+        → capped_result (bind r (λ k. elements_place v (a + k) is)) ≡ capped_result (bind r (λ k. elements_place v (b + k) is))
+    next (Ok k) rest = rest k
+    next (Err f) rest = refl
+
+    by : (r : Result ℤ Fault) → ((k : ℕ) → capped_result (elements_place v (a + k) is) ≡ capped_result (elements_place v (b + k) is))
+        → capped_result (bind r (λ n. bind (offset_of i n) (λ k. elements_place v (a + k) is)))
+        ≡ capped_result (bind r (λ n. bind (offset_of i n) (λ k. elements_place v (b + k) is)))
+    by (Ok n) rest = next (offset_of i n) rest
+    by (Err f) rest = refl
+
+pub term_is : (t : Term) → term t ≡ chain_of (operand (out-Term t).first) (map application (out-Term t).rest.items)
+term_is = fold_out-Term PlainApplication plain.Term PlainIndex plain.Spot plain.Term application_layer operand_layer index_layer spot_layer term_layer
+
+pub spot_is : (s : Spot) → spot s ≡ elements_of (plain.Rooted (root (out-Spot s).root)) (map index (out-Spot s).indices.items)
+spot_is = fold_out-Spot PlainApplication plain.Term PlainIndex plain.Spot plain.Term application_layer operand_layer index_layer spot_layer term_layer
+
+pub index_is : (i : Index) → index i ≡ (let x = out-Index i in record { low = x.low; high = x.high; size = x.size; plus = x.plus; value = term x.value })
+index_is = fold_out-Index PlainApplication plain.Term PlainIndex plain.Spot plain.Term application_layer operand_layer index_layer spot_layer term_layer
+
+-- ---- Chains that grow
+
+pub chain_more : (e : plain.Term) (xs : List PlainApplication) (x : PlainApplication)
+    → chain_of e (xs ++ x ∷ []) ≡ plain.Binary x.operator (chain_of e xs) x.operand
+chain_more e [] x = refl
+chain_more e (y ∷ ys) x = chain_more (plain.Binary y.operator e y.operand) ys x
+
+pub elements_more : (s : plain.Spot) (is : List PlainIndex) (i : PlainIndex)
+    → elements_of s (is ++ i ∷ []) ≡ plain.Element (elements_of s is) i.low i.high i.size i.plus i.value
+elements_more s [] i = refl
+elements_more s (j ∷ js) i = elements_more (plain.Element s j.low j.high j.size j.plus j.value) js i
+
+pub term_rolled : (first : Operand) (rest : Vec Application Global)
+    → term (roll-Term (record { first = first; rest = rest })) ≡ chain_of (operand first) (map application rest.items)
+term_rolled first rest = fold-roll-Term PlainApplication plain.Term PlainIndex plain.Spot plain.Term application_layer operand_layer index_layer spot_layer term_layer _
+
+pub spot_rolled : (r : Root) (is : Vec Index Global)
+    → spot (roll-Spot (record { root = r; indices = is })) ≡ elements_of (plain.Rooted (root r)) (map index is.items)
+spot_rolled r is = fold-roll-Spot PlainApplication plain.Term PlainIndex plain.Spot plain.Term application_layer operand_layer index_layer spot_layer term_layer _
+
+pub index_rolled : (low high : ℤ) (size plus : ℕ) (value : Term)
+    → index (roll-Index (record { low = low; high = high; size = size; plus = plus; value = value }))
+    ≡ record { low = low; high = high; size = size; plus = plus; value = term value }
+index_rolled low high size plus value =
+    fold-roll-Index PlainApplication plain.Term PlainIndex plain.Spot plain.Term application_layer operand_layer index_layer spot_layer term_layer _
+
+-- The last index can lead further on.
+pub elements_moved : (n : ℕ) (s : plain.Spot) (xs : List Index) (j : ℕ) (y d : Index) → suc j ≡ length xs
+    → index y ≡ (let i = index (get_or xs j d) in record { low = i.low; high = i.high; size = i.size; plus = i.plus + n; value = i.value })
+    → elements_of s (map index (set xs j y)) ≡ move_spot n (elements_of s (map index xs))
+elements_moved n s [] j y d h e = absurd (omega arith)
+elements_moved n s (x ∷ []) zero y d h e = ap (λ i. plain.Element s i.low i.high i.size i.plus i.value) e
+elements_moved n s (x ∷ []) (suc j) y d h e = absurd (omega arith)
+elements_moved n s (x ∷ z ∷ zs) zero y d h e = absurd (omega arith)
+elements_moved n s (x ∷ z ∷ zs) (suc j) y d h e =
+    let i = index x in
+    elements_moved n (plain.Element s i.low i.high i.size i.plus i.value) (z ∷ zs) j y d (omega arith) e

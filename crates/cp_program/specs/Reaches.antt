@@ -1,0 +1,48 @@
+-- What evaluation reads, as the view of the definitions, and how the code represents places that
+-- are too large.
+use Rattle.std.specs.Prelude.{ℕ, ◌++◌, ◌-◌, ◌^◌, min, List, [], ◌∷◌, Result, Ok, Err, ℤ, ◌+◌, ◌*◌}
+use Rattle.cp_model.specs.declared.state.Fault.{Fault}
+use Rattle.cp_model.specs.declared.state.Fault.TheVariants as fault
+use Rattle.cp_model.specs.Places.{within}
+use Rattle.cp_code.specs.Functions.{unless}
+use Rattle.cp_code.specs.Layout.{distance}
+use Rattle.cp_steps.specs.Values.{View, apply, bind, value_of}
+use Rattle.cp_program.specs.declared.reach.Reach.{Reach}
+use Rattle.cp_program.specs.View.{PlainApplication, PlainIndex}
+
+abbrev pub view_of : Reach → View
+view_of r = record {
+  words = r.memory.now.words.items ++ r.shared.now;
+  temps = r.memory.now.temps.items;
+  base = r.memory.now.base;
+  temp = r.memory.now.temp;
+  component = r.memory.now.component;
+  clock = r.clock;
+}
+
+-- A place that doesn't fit in 64 bits is represented by the greatest number that does.
+abbrev pub cap_place : ℕ → ℕ
+cap_place n = min n (2 ^ 64 - 1)
+
+abbrev pub capped_result : Result ℕ Fault → Result ℕ Fault
+capped_result (Ok n) = Ok (cap_place n)
+capped_result (Err f) = Err f
+
+-- The value of an operator, if its left operand has the value `x`.
+abbrev pub apply_operation : View → ℤ → PlainApplication → Result ℤ Fault
+apply_operation v x o = bind (value_of v o.operand) (λ y. apply o.operator x y)
+
+-- The value of a chain whose first operands have the value `x`.
+abbrev pub chain_value : View → ℤ → List PlainApplication → Result ℤ Fault
+chain_value v x [] = Ok x
+chain_value v x (o ∷ os) = bind (apply_operation v x o) (λ z. chain_value v z os)
+
+-- The distance in words to the part that an index of the value `n` selects.
+abbrev pub offset_of : PlainIndex → ℤ → Result ℕ Fault
+offset_of i n = unless (within i.low i.high n) fault.Index (distance i.low n * i.size + i.plus)
+
+-- The place to which the indices lead, starting from the place `at`.
+abbrev pub elements_place : View → ℕ → List PlainIndex → Result ℕ Fault
+elements_place v at [] = Ok at
+elements_place v at (i ∷ is) =
+    bind (value_of v i.value) (λ n. bind (offset_of i n) (λ far. elements_place v (at + far) is))

@@ -1,0 +1,224 @@
+-- Threaded code as the plain data of the definitions. Chains of operands become terms that group to
+-- the left, and indices become elements of elements. Each component has its plan, which components
+-- share in the code.
+use Rattle.std.specs.Prelude.{ℕ, ℤ, List, [], ◌∷◌, Option, Some, None, map, slice_get}
+use Rattle.cp_model.specs.Abstract as a
+use Rattle.cp_model.specs.Erase.{operator_of}
+use Rattle.cp_code.specs.Terms as plain
+use Rattle.cp_code.specs.Programs as code
+use Rattle.cp_program.specs.declared.term.Root.{Root}
+use Rattle.cp_program.specs.declared.term.Root.TheVariants as root_case
+use Rattle.cp_program.specs.declared.term.Function.{Function}
+use Rattle.cp_program.specs.declared.term.Function.TheVariants as function_case
+use Rattle.cp_program.specs.declared.term.Operand.{Operand}
+use Rattle.cp_program.specs.declared.term.Application.{Application}
+use Rattle.cp_program.specs.declared.term.Index.{Index}
+use Rattle.cp_program.specs.declared.term.Spot.{Spot}
+use Rattle.cp_program.specs.declared.term.Term.{Term}
+use Rattle.cp_program.specs.declared.term.Application.TheOpen.{Application-F, Index-F, Operand-F, Spot-F, Term-F}
+use Rattle.cp_program.specs.declared.term.Application.TheFolds.{fold-Application, fold-Index, fold-Operand, fold-Spot, fold-Term}
+use Rattle.cp_program.specs.declared.operation.Target.{Target}
+use Rattle.cp_program.specs.declared.operation.Target.TheVariants as target_case
+use Rattle.cp_program.specs.declared.operation.Argument.{Argument}
+use Rattle.cp_program.specs.declared.operation.Argument.TheVariants as argument_case
+use Rattle.cp_program.specs.declared.operation.Call.{Call}
+use Rattle.cp_program.specs.Labels.{arm}
+use Rattle.cp_program.specs.declared.operation.Table.{Table}
+use Rattle.cp_program.specs.declared.operation.Table.TheVariants as table_case
+use Rattle.cp_program.specs.declared.operation.Counting.{Counting}
+use Rattle.cp_program.specs.declared.operation.Operation.{Operation}
+use Rattle.cp_program.specs.declared.operation.Operation.TheVariants as operation_case
+use Rattle.cp_program.specs.declared.program.Start.{Start}
+use Rattle.cp_program.specs.declared.program.Start.TheVariants as start_case
+use Rattle.cp_program.specs.declared.program.CodeUnit.{CodeUnit}
+use Rattle.cp_program.specs.declared.program.Monitor.{Monitor}
+use Rattle.cp_program.specs.declared.program.Process.{Process}
+use Rattle.cp_program.specs.declared.program.Plan.{Plan}
+use Rattle.cp_program.specs.declared.program.Program.{Program}
+
+-- ---- Terms
+
+abbrev pub root : Root → plain.Root
+root (root_case.Local at) = plain.Local at
+root (root_case.Member at) = plain.Member at
+root (root_case.Through parameter plus) = plain.Through parameter plus
+
+abbrev pub function : Function → plain.Function
+function function_case.Abs = plain.Abs
+function function_case.Ord = plain.Ord
+function function_case.Chr = plain.Chr
+function (function_case.Shift by low high) = plain.Shift by low high
+
+-- An operator and its right operand.
+pub record PlainApplication : Type 0 where
+  pub operator : a.Operator
+  pub operand : plain.Term
+
+pub record PlainIndex : Type 0 where
+  pub low : ℤ
+  pub high : ℤ
+  pub size : ℕ
+  pub plus : ℕ
+  pub value : plain.Term
+
+-- The term for operands with operators between them, which group to the left.
+abbrev pub chain_of : plain.Term → List PlainApplication → plain.Term
+chain_of e [] = e
+chain_of e (x ∷ xs) = chain_of (plain.Binary x.operator e x.operand) xs
+
+-- The element of an element, and so on, one for each index.
+abbrev pub elements_of : plain.Spot → List PlainIndex → plain.Spot
+elements_of s [] = s
+elements_of s (i ∷ is) = elements_of (plain.Element s i.low i.high i.size i.plus i.value) is
+
+abbrev pub operand_layer : Operand-F PlainApplication plain.Term PlainIndex plain.Spot plain.Term → plain.Term
+operand_layer (Operand-F.Number n) = plain.Number n
+operand_layer (Operand-F.Made temp) = plain.Made temp
+operand_layer (Operand-F.Local at) = plain.Item (plain.Rooted (plain.Local at))
+operand_layer (Operand-F.Member at) = plain.Item (plain.Rooted (plain.Member at))
+operand_layer (Operand-F.Through parameter plus) = plain.Item (plain.Rooted (plain.Through parameter plus))
+operand_layer (Operand-F.Item s) = plain.Item s.value
+operand_layer (Operand-F.Nested t) = t.value
+operand_layer (Operand-F.Not t) = plain.Not t.value
+operand_layer (Operand-F.Negative t) = plain.Negative t.value
+operand_layer (Operand-F.Standard f t) = plain.Standard (function f) t.value
+operand_layer (Operand-F.Empty s) = plain.Empty s.value
+operand_layer Operand-F.Realtime = plain.Realtime
+
+abbrev pub application_layer : Application-F PlainApplication plain.Term PlainIndex plain.Spot plain.Term → PlainApplication
+application_layer (Application-F.WithNumber o n) = record { operator = operator_of o; operand = plain.Number n }
+application_layer (Application-F.WithOperand o x) = record { operator = operator_of o; operand = x }
+
+abbrev pub index_layer : Index-F PlainApplication plain.Term PlainIndex plain.Spot plain.Term → PlainIndex
+index_layer i = record { low = i.low; high = i.high; size = i.size; plus = i.plus; value = i.value }
+
+abbrev pub spot_layer : Spot-F PlainApplication plain.Term PlainIndex plain.Spot plain.Term → plain.Spot
+spot_layer s = elements_of (plain.Rooted (root s.root)) s.indices.items
+
+abbrev pub term_layer : Term-F PlainApplication plain.Term PlainIndex plain.Spot plain.Term → plain.Term
+term_layer t = chain_of t.first t.rest.items
+
+abbrev pub operand : Operand → plain.Term
+operand = fold-Operand PlainApplication plain.Term PlainIndex plain.Spot plain.Term application_layer operand_layer index_layer spot_layer term_layer
+
+abbrev pub application : Application → PlainApplication
+application = fold-Application PlainApplication plain.Term PlainIndex plain.Spot plain.Term application_layer operand_layer index_layer spot_layer term_layer
+
+abbrev pub index : Index → PlainIndex
+index = fold-Index PlainApplication plain.Term PlainIndex plain.Spot plain.Term application_layer operand_layer index_layer spot_layer term_layer
+
+abbrev pub spot : Spot → plain.Spot
+spot = fold-Spot PlainApplication plain.Term PlainIndex plain.Spot plain.Term application_layer operand_layer index_layer spot_layer term_layer
+
+abbrev pub term : Term → plain.Term
+term = fold-Term PlainApplication plain.Term PlainIndex plain.Spot plain.Term application_layer operand_layer index_layer spot_layer term_layer
+
+-- ---- Operations
+
+abbrev pub target : Target → plain.Target
+target target_case.Own = plain.Own
+target (target_case.Class at) = plain.Class at
+target (target_case.ClassRight at) = plain.ClassRight at
+target (target_case.Monitor number) = plain.Monitor number
+target (target_case.MonitorRight at) = plain.MonitorRight at
+
+abbrev pub argument : Argument → plain.Argument
+argument (argument_case.Value at low high t) = plain.Value at low high (term t)
+argument (argument_case.Copy at size from) = plain.Copy at size (spot from)
+argument (argument_case.Reference at to) = plain.Reference at (spot to)
+argument (argument_case.Right at of) = plain.Right at (target of)
+
+abbrev pub call : Call → code.Call
+call c = record {
+  routine = c.routine;
+  target = target c.target;
+  arguments = map argument c.arguments.items;
+  words = c.words;
+  temps = c.temps;
+}
+
+abbrev pub table : Table → code.Table
+table (table_case.Dense low places) = code.Dense low places.items
+table (table_case.Sparse xs) = code.Sparse (map arm xs.arms.items)
+
+abbrev pub counting : Counting → code.Counting
+counting c = record {
+  variable = root c.variable;
+  low = c.low;
+  high = c.high;
+  down = c.down;
+  temp = c.temp;
+  body = c.body;
+  next = c.next;
+}
+
+abbrev pub operation : Operation → code.Operation
+operation (operation_case.Set to low high value next) = code.Set (spot to) low high (term value) next
+operation (operation_case.SetResult low high value next) = code.SetResult low high (term value) next
+operation (operation_case.CopyWords to from size next) = code.CopyWords (spot to) (spot from) size next
+operation (operation_case.Test value yes' no') = code.Test (term value) yes' no'
+operation (operation_case.Case value t) = code.Case (term value) (table t)
+operation (operation_case.For c first last) = code.For (counting c) (term first) (term last)
+operation (operation_case.ForNext c) = code.ForNext (counting c)
+operation (operation_case.Cycle body) = code.Cycle body
+operation (operation_case.Procedure c next) = code.Procedure (call c) next
+operation (operation_case.Function c into next) = code.Function (call c) into next
+operation (operation_case.Return function) = code.Return function
+operation (operation_case.InitClass c next) = code.InitClass (call c) next
+operation (operation_case.InitMonitor c next) = code.InitMonitor (call c) next
+operation (operation_case.InitProcess process arguments words next) =
+    code.InitProcess process (map argument arguments.items) words next
+operation operation_case.EndBody = code.EndBody
+operation operation_case.End = code.End
+operation (operation_case.Display value as_byte next) = code.Display (term value) as_byte next
+operation (operation_case.Accept to low high next) = code.Accept (spot to) low high next
+operation (operation_case.Delay queue next) = code.Delay (spot queue) next
+operation (operation_case.Continue queue function) = code.Continue (spot queue) function
+operation (operation_case.Wait next) = code.Wait next
+
+-- ---- Programs
+
+abbrev pub start : Start → code.Start
+start (start_case.Fill at count value) = code.Fill at count value
+start (start_case.Repeat at size count) = code.Repeat at size count
+
+abbrev pub code_unit : CodeUnit → code.CodeUnit
+code_unit u = record {
+  start = u.start;
+  starts = map start u.starts.items;
+  words = u.words;
+  temps = u.temps;
+  frames = u.frames;
+}
+
+-- The starts of a plan, of which there are none without a plan.
+abbrev pub plan_or_none : Option Plan → List code.Start
+plan_or_none None = []
+plan_or_none (Some p) = map start p.starts.items
+
+abbrev pub plan_at : List Plan → ℕ → List code.Start
+plan_at plans n = plan_or_none (slice_get plans n)
+
+abbrev pub monitor : List Plan → Monitor → code.Monitor
+monitor plans m = record { start = m.start; body = m.body; words = m.words; starts = plan_at plans m.plan }
+
+abbrev pub process : List Plan → Process → code.Process
+process plans p = record {
+  body = p.body;
+  words = p.words;
+  parameters = p.parameters;
+  waiting = p.waiting;
+  starts = plan_at plans p.plan;
+}
+
+abbrev pub plans_of : Program → List Plan
+plans_of p = p.plans.items
+
+abbrev pub program : Program → code.Program
+program p = record {
+  operations = map operation p.operations.items;
+  units = map code_unit p.units.items;
+  monitors = map (monitor p.plans.items) p.monitors.items;
+  processes = map (process p.plans.items) p.processes.items;
+  shared = p.shared;
+}

@@ -1,0 +1,389 @@
+//! Evaluates terms and computes the places of spots, over words.
+//!
+//! Words have 32 bits, which the ordinals of long enumerations and addresses need. The results of
+//! arithmetic lie within -32768..32767.
+
+ghost use Rattle.std.specs.Prelude.{◌≡◌, ℕ, ◌+◌, ◌*◌, ◌<◌, ◌^◌, ◌++◌, length, map};
+ghost use Rattle.cp_code.specs.Functions as functions;
+ghost use Rattle.cp_code.specs.Layout as layout;
+ghost use Rattle.cp_code.specs.Starts as starts;
+ghost use Rattle.cp_code.specs.Terms as terms;
+ghost use Rattle.cp_model.specs.Abstract as abstract;
+ghost use Rattle.cp_model.specs.Erase.{operator_of};
+ghost use Rattle.cp_model.specs.Places.{within};
+ghost use Rattle.cp_model.specs.declared.state.Fault.TheVariants as fault;
+ghost use Rattle.cp_steps.specs.Values as values;
+ghost use Rattle.cp_program.specs.Reaches.{apply_operation, cap_place, capped_result, chain_value, elements_place, offset_of, view_of};
+ghost use Rattle.cp_program.specs.View as view;
+
+use crate::reach::Reach;
+use crate::term::{Application, Function, Index, Operand, Root, Spot, Term};
+use cp_model::state::Fault;
+use cp_model::tree::Operator;
+
+fn in_range(n: i64) -> Result<i32, Fault>
+    ensures { result ≡ functions.in_range n }
+{
+    if -32768 <= n && n <= 32767 {
+        Ok(n as i32)
+    } else {
+        Err(Fault::Overflow)
+    }
+}
+
+fn truth(b: bool) -> i32
+    ensures { result ≡ values.truth b }
+{
+    if b { 1 } else { 0 }
+}
+
+fn quotient(a: i32, b: i32) -> Result<i32, Fault>
+    ensures { result ≡ values.apply abstract.Divide a b }
+{
+    if b == 0 {
+        return Err(Fault::DivisionByZero);
+    }
+    if b == -1 {
+        return in_range(-i64::from(a));
+    }
+    in_range(i64::from(a / b))
+}
+
+fn remainder(a: i32, b: i32) -> Result<i32, Fault>
+    ensures { result ≡ values.apply abstract.Modulo a b }
+{
+    if b == 0 {
+        return Err(Fault::DivisionByZero);
+    }
+    if b == -1 {
+        return Ok(0);
+    }
+    in_range(i64::from(a % b))
+}
+
+// `div` truncates toward zero, and `mod` is its remainder.
+#[inline(always)]
+fn apply(operator: Operator, a: i32, b: i32) -> Result<i32, Fault>
+    ensures { result ≡ values.apply (operator_of operator) a b }
+{
+    match operator {
+        Operator::Add => in_range(i64::from(a) + i64::from(b)),
+        Operator::Subtract => in_range(i64::from(a) - i64::from(b)),
+        Operator::Multiply => in_range(i64::from(a) * i64::from(b)),
+        Operator::Divide => quotient(a, b),
+        Operator::Modulo => remainder(a, b),
+        Operator::And => Ok(truth(a == 1 && b == 1)),
+        Operator::Or => Ok(truth(a == 1 || b == 1)),
+        Operator::Equal => Ok(truth(a == b)),
+        Operator::Unequal => Ok(truth(a != b)),
+        Operator::Less => Ok(truth(a < b)),
+        Operator::Greater => Ok(truth(b < a)),
+        Operator::AtMost => Ok(truth(a <= b)),
+        Operator::AtLeast => Ok(truth(b <= a)),
+    }
+}
+
+// Returns `n` if it lies within the bounds.
+fn check_range(n: i64, low: i32, high: i32) -> Result<i32, Fault>
+    ensures { result ≡ functions.unless (within low high n) fault.Range n }
+{
+    if i64::from(low) <= n && n <= i64::from(high) {
+        Ok(n as i32)
+    } else {
+        Err(Fault::Range)
+    }
+}
+
+fn shift(n: i32, by: i32, low: i32, high: i32) -> Result<i32, Fault>
+    ensures { result ≡ functions.standard (terms.Shift by low high) n }
+{
+    check_range(i64::from(n) + i64::from(by), low, high)
+}
+
+fn standard(function: Function, n: i32) -> Result<i32, Fault>
+    ensures { result ≡ functions.standard (view.function function) n }
+{
+    match function {
+        Function::Abs => {
+            let n = i64::from(n);
+            in_range(if n < 0 { -n } else { n })
+        }
+        Function::Ord => in_range(i64::from(n)),
+        Function::Chr => check_range(i64::from(n), 0, 127),
+        Function::Shift { by, low, high } => shift(n, by, low, high),
+    }
+}
+
+// The word at an index, or 0 if there is no such word.
+#[inline(always)]
+fn word(words: &[i32], at: usize) -> i32
+    ensures { result ≡ starts.word words.now at }
+{
+    match words.get(at) {
+        Some(n) => *n,
+        None => 0,
+    }
+}
+
+// A word as a number that isn't negative. A negative word counts as 0.
+fn natural(n: i32) -> usize
+    ensures natural { result ≡ layout.natural n }
+    ensures small { result < 2 ^ 32 }
+{
+    if n < 0 { 0 } else { n as usize }
+}
+
+impl<'a> Reach<'a> {
+    // The word at a place, or 0 if there is no such word. A place that is too large may be given as
+    // the greatest `usize`.
+    #[inline(always)]
+    fn word(&self, at: usize) -> i32
+        ensures word { result
+            ≡ starts.word (self.now.memory.now.words.items ++ self.now.shared.now) at }
+        ensures capped { (place : ℕ) → cap_place place ≡ at
+            → result ≡ starts.word (self.now.memory.now.words.items ++ self.now.shared.now) place }
+    {
+        match self.memory.words.get(at) {
+            Some(n) => *n,
+            None => word(self.shared, at.saturating_sub(self.memory.words.len())),
+        }
+    }
+
+    #[inline(always)]
+    fn local(&self, at: u32) -> usize
+        ensures place { result ≡ values.root_place (view_of self.now) (terms.Local at) }
+        ensures small { result < 2 ^ 33 }
+    {
+        self.memory.base as usize + at as usize
+    }
+
+    #[inline(always)]
+    fn member(&self, at: u32) -> usize
+        ensures place { result ≡ values.root_place (view_of self.now) (terms.Member at) }
+        ensures small { result < 2 ^ 33 }
+    {
+        self.memory.component as usize + at as usize
+    }
+
+    // The temp with this number, counted from the first temp of the running activation.
+    #[inline(always)]
+    fn temp(&self, temp: u32) -> i32
+        ensures { result ≡ starts.word self.now.memory.now.temps.items
+            (self.now.memory.now.temp + temp) }
+    {
+        word(
+            &self.memory.temps,
+            self.memory.temp as usize + temp as usize,
+        )
+    }
+
+    fn through(&self, parameter: u32, plus: u32) -> usize
+        ensures place { result ≡ values.root_place (view_of self.now)
+            (terms.Through parameter plus) }
+        ensures small { result < 2 ^ 33 }
+    {
+        natural(self.word(self.local(parameter))) + plus as usize
+    }
+
+    /// The place where a variable begins.
+    pub fn root_place(&self, root: Root) -> usize
+        ensures place { result ≡ values.root_place (view_of self.now) (view.root root) }
+        ensures small { result < 2 ^ 33 }
+    {
+        match root {
+            Root::Local(at) => self.local(at),
+            Root::Member(at) => self.member(at),
+            Root::Through { parameter, plus } => self.through(parameter, plus),
+        }
+    }
+
+    // The number of seconds since the start. Faults if it is greater than 32767.
+    fn realtime(&self) -> Result<i32, Fault>
+        ensures { result ≡ values.value_of (view_of self.now) terms.Realtime }
+    {
+        if self.clock <= 32767 {
+            Ok(self.clock as i32)
+        } else {
+            Err(Fault::Overflow)
+        }
+    }
+}
+
+impl Operand {
+    // The value of an operand that the inlined functions don't evaluate. Most of these are values
+    // of calls and elements, so those are matched first.
+    #[cycle(value)]
+    #[inline(never)]
+    fn deep_value(&self, reach: &Reach) -> Result<i32, Fault>
+        ensures { result ≡ values.value_of (view_of reach.now) (view.operand self.now) }
+    {
+        match self {
+            Operand::Made(temp) => Ok(reach.temp(*temp)),
+            Operand::Item(s) => s.word(reach),
+            _ => self.deeper_value(reach),
+        }
+    }
+
+    #[cycle(value)]
+    #[inline(never)]
+    fn deeper_value(&self, reach: &Reach) -> Result<i32, Fault>
+        ensures { result ≡ values.value_of (view_of reach.now) (view.operand self.now) }
+    {
+        match self {
+            Operand::Item(s) => s.word(reach),
+            Operand::Nested(t) => t.value(reach),
+            Operand::Not(t) => Ok(truth(t.value(reach)? == 0)),
+            Operand::Negative(t) => in_range(-i64::from(t.value(reach)?)),
+            Operand::Standard(function, t) => standard(*function, t.value(reach)?),
+            Operand::Empty(s) => Ok(truth(reach.word(s.place(reach)?) <= 0)),
+            Operand::Through { parameter, plus } => Ok(reach.word(reach.through(
+                *parameter, *plus,
+            ))),
+            Operand::Realtime => reach.realtime(),
+            Operand::Number(n) => Ok(*n),
+            Operand::Made(temp) => Ok(reach.temp(*temp)),
+            Operand::Local(at) => Ok(reach.word(reach.local(*at))),
+            Operand::Member(at) => Ok(reach.word(reach.member(*at))),
+        }
+    }
+
+    /// Evaluates an operand. Numbers and words of variables are matched first, since they are the
+    /// most common.
+    #[cycle(value)]
+    #[inline(always)]
+    pub fn value(&self, reach: &Reach) -> Result<i32, Fault>
+        ensures { result ≡ values.value_of (view_of reach.now) (view.operand self.now) }
+    {
+        match self {
+            Operand::Number(n) => Ok(*n),
+            Operand::Local(at) => Ok(reach.word(reach.local(*at))),
+            Operand::Member(at) => Ok(reach.word(reach.member(*at))),
+            _ => self.nested_value(reach),
+        }
+    }
+
+    #[cycle(value)]
+    #[inline(always)]
+    fn nested_value(&self, reach: &Reach) -> Result<i32, Fault>
+        ensures { result ≡ values.value_of (view_of reach.now) (view.operand self.now) }
+    {
+        match self {
+            Operand::Nested(t) => t.value(reach),
+            _ => self.deep_value(reach),
+        }
+    }
+}
+
+impl Application {
+    // The value of the operator, if its left operand has the value `left`.
+    #[cycle(value)]
+    #[inline(always)]
+    fn value_after(&self, left: i32, reach: &Reach) -> Result<i32, Fault>
+        ensures { result ≡ apply_operation (view_of reach.now) left (view.application self.now) }
+    {
+        match self {
+            Application::WithNumber(operator, number) => apply(*operator, left, *number),
+            Application::WithOperand(operator, operand) => {
+                let right = operand.value(reach)?;
+                apply(*operator, left, right)
+            }
+        }
+    }
+}
+
+// The value of a chain whose first operands have the value `first`.
+#[cycle(value)]
+#[inline(always)]
+fn value_of_chain(first: i32, rest: &[Application], reach: &Reach) -> Result<i32, Fault>
+    ensures { result ≡ chain_value (view_of reach.now) first (map view.application rest.now) }
+{
+    let mut n = first;
+    for x in rest {
+        n = x.value_after(n, reach)?;
+    }
+    Ok(n)
+}
+
+impl Term {
+    /// Evaluates a term.
+    ///
+    /// # Errors
+    ///
+    /// The first fault that occurs from left to right.
+    #[cycle(value)]
+    pub fn value(&self, reach: &Reach) -> Result<i32, Fault>
+        ensures { result ≡ values.value_of (view_of reach.now) (view.term self.now) }
+    {
+        self.value_here(reach)
+    }
+
+    /// Returns the same as `value`. It is inlined, so operands that are numbers or words need no
+    /// call. Use it for the most common operations.
+    ///
+    /// # Errors
+    ///
+    /// The first fault that occurs from left to right.
+    #[cycle(value)]
+    #[inline(always)]
+    pub fn value_here(&self, reach: &Reach) -> Result<i32, Fault>
+        ensures { result ≡ values.value_of (view_of reach.now) (view.term self.now) }
+    {
+        let first = self.first.value(reach)?;
+        value_of_chain(first, &self.rest, reach)
+    }
+}
+
+// The distance in words of the part that an index of the value `n` selects.
+fn offset(i: &Index, n: i32) -> Result<usize, Fault>
+    ensures { result ≡ offset_of (view.index i.now) n }
+{
+    if n < i.low || i.high < n {
+        return Err(Fault::Index);
+    }
+    let distance = (i64::from(n) - i64::from(i.low)) as usize;
+    Ok(distance * i.size as usize + i.plus as usize)
+}
+
+// The place to which the indices lead, starting from the place `from`.
+#[cycle(value)]
+fn place_of_element(from: usize, indices: &[Index], reach: &Reach) -> Result<usize, Fault>
+    ensures { result ≡ capped_result
+        (elements_place (view_of reach.now) from (map view.index indices.now)) }
+{
+    let mut at = from;
+    for i in indices {
+        let n = i.value.value_here(reach)?;
+        at = at.saturating_add(offset(i, n)?);
+    }
+    Ok(at)
+}
+
+impl Spot {
+    /// The place of a variable or of a part of one. A place that is too large is returned as the
+    /// greatest `usize`.
+    ///
+    /// # Errors
+    ///
+    /// The first fault that occurs from left to right.
+    #[cycle(value)]
+    #[inline(always)]
+    pub fn place(&self, reach: &Reach) -> Result<usize, Fault>
+        ensures { result ≡ capped_result
+            (values.place_of (view_of reach.now) (view.spot self.now)) }
+    {
+        let from = reach.root_place(self.root);
+        if self.indices.is_empty() {
+            return Ok(from);
+        }
+        place_of_element(from, &self.indices, reach)
+    }
+
+    // The word at the place of the spot.
+    #[cycle(value)]
+    #[inline(never)]
+    fn word(&self, reach: &Reach) -> Result<i32, Fault>
+        ensures { result ≡ values.value_of (view_of reach.now) (terms.Item (view.spot self.now)) }
+    {
+        Ok(reach.word(self.place(reach)?))
+    }
+}

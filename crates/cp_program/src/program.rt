@@ -1,0 +1,161 @@
+//! Programs, which consist of operations, units of code and components.
+
+ghost use Rattle.std.specs.Prelude.{◌≡◌, ◌-◌, length, map, option_map, slice_get};
+ghost use Rattle.cp_program.specs.View as view;
+ghost use Rattle.cp_program.specs.View.{plans_of};
+
+use crate::operation::Operation;
+
+/// How words start: `count` words with one value, or `count` blocks of `size` words like the first
+/// one.
+#[derive(Clone, Copy, Debug, PartialEq, Eq)]
+pub enum Start {
+    Fill { at: u32, count: u32, value: i32 },
+    Repeat { at: u32, size: u32, count: u32 },
+}
+
+/// The code of a routine or of the body of a system type: the place of its first operation, how the
+/// words of its activations start, and how many words, temps and frames it needs with all that it
+/// calls.
+#[derive(Debug, Drop)]
+pub struct CodeUnit {
+    pub start: u32,
+    pub starts: Vec<Start>,
+    pub words: u32,
+    pub temps: u32,
+    pub frames: u32,
+}
+
+/// A monitor. Its words lie among the shared words, from `start` on. They start by the plan with
+/// the number `plan` in the program.
+#[derive(Clone, Copy, Debug, PartialEq, Eq)]
+pub struct Monitor {
+    pub start: u32,
+    /// The number of the unit of the monitor's body.
+    pub body: u32,
+    pub words: u32,
+    pub plan: u32,
+}
+
+/// A process, which has words of its own. The arguments of its `init` wait among the shared words,
+/// from `parameters` on.
+#[derive(Clone, Copy, Debug, PartialEq, Eq)]
+pub struct Process {
+    pub body: u32,
+    pub words: u32,
+    pub parameters: u32,
+    pub waiting: u32,
+    pub plan: u32,
+}
+
+/// The start values of the words of the components of one system type.
+#[derive(Debug, Drop)]
+pub struct Plan {
+    pub starts: Vec<Start>,
+}
+
+/// A program. Monitors have the numbers from 1 on, and so do processes, of which the first is the
+/// initial one.
+#[derive(Debug, Drop)]
+pub struct Program {
+    operations: Vec<Operation>,
+    units: Vec<CodeUnit>,
+    monitors: Vec<Monitor>,
+    processes: Vec<Process>,
+    plans: Vec<Plan>,
+    shared: u32,
+}
+
+impl Program {
+    /// Creates a program of these parts. Plans have the numbers from 0 on.
+    pub fn new(
+        operations: Vec<Operation>,
+        units: Vec<CodeUnit>,
+        monitors: Vec<Monitor>,
+        processes: Vec<Process>,
+        plans: Vec<Plan>,
+        shared: u32,
+    ) -> Program
+        ensures operations { (view.program result).operations ≡ map view.operation
+            operations.items }
+        ensures units { (view.program result).units ≡ map view.code_unit units.items }
+        ensures monitors { (view.program result).monitors ≡ map (view.monitor plans.items)
+            monitors.items }
+        ensures processes { (view.program result).processes ≡ map (view.process plans.items)
+            processes.items }
+        ensures shared { (view.program result).shared ≡ shared }
+    {
+        Program {
+            operations,
+            units,
+            monitors,
+            processes,
+            plans,
+            shared,
+        }
+    }
+
+    /// The operation at a place, if there is one.
+    #[inline(always)]
+    pub fn operation(&self, place: u32) -> Option<&Operation>
+        ensures { option_map (λ o. view.operation o.now) result ≡ slice_get
+            (view.program self.now).operations place }
+    {
+        self.operations.get(place as usize)
+    }
+
+    /// The unit with this number, from 0 on, if there is one.
+    pub fn unit(&self, number: u32) -> Option<&CodeUnit>
+        ensures { option_map (λ u. view.code_unit u.now) result ≡ slice_get
+            (view.program self.now).units number }
+    {
+        self.units.get(number as usize)
+    }
+
+    /// The monitor with this number, from 1 on, if there is one. The number 0 counts as 1.
+    pub fn monitor(&self, number: usize) -> Option<&Monitor>
+        ensures { option_map (λ m. view.monitor (plans_of self.now) m.now) result ≡ slice_get
+            (view.program self.now).monitors (number - 1) }
+    {
+        self.monitors.get(number.saturating_sub(1))
+    }
+
+    /// The process with this number, from 1 on, if there is one. The number 0 counts as 1.
+    pub fn process(&self, number: usize) -> Option<&Process>
+        ensures { option_map (λ p. view.process (plans_of self.now) p.now) result ≡ slice_get
+            (view.program self.now).processes (number - 1) }
+    {
+        self.processes.get(number.saturating_sub(1))
+    }
+
+    /// The starts of the plan with this number. They are empty if there is no such plan.
+    pub fn starts(&self, plan: u32) -> &[Start]
+        ensures { map view.start result.now ≡ view.plan_at (plans_of self.now) plan }
+    {
+        match self.plans.get(plan as usize) {
+            Some(plan) => plan.starts.as_slice(),
+            None => &[],
+        }
+    }
+
+    /// The number of monitors, which is also the greatest number of a monitor.
+    pub fn monitors(&self) -> usize
+        ensures { result ≡ length (view.program self.now).monitors }
+    {
+        self.monitors.len()
+    }
+
+    /// The number of processes, which is also the greatest number of a process.
+    pub fn processes(&self) -> usize
+        ensures { result ≡ length (view.program self.now).processes }
+    {
+        self.processes.len()
+    }
+
+    /// The number of shared words, which the monitors and the waiting parameters take.
+    pub fn shared_words(&self) -> u32
+        ensures { result ≡ (view.program self.now).shared }
+    {
+        self.shared
+    }
+}

@@ -1,0 +1,276 @@
+//! Expressions and places of variables, over words.
+//!
+//! A term is a chain: a first operand, followed by operators with their right operands, which group
+//! to the left. An operand that is itself a term is boxed, while numbers, words and temps are
+//! stored inline.
+
+ghost use Rattle.std.specs.Prelude.{◌≡◌, IfOk, IfSome};
+ghost use Rattle.cp_code.specs.Terms as plain;
+ghost use Rattle.cp_code.specs.TermsFor.{move_spot, move_root};
+ghost use Rattle.cp_model.specs.Erase.{operator_of};
+ghost use Rattle.cp_program.specs.View as view;
+
+use cp_model::tree::Operator;
+use std::alloc::{AllocError, Global};
+
+/// The place where a variable begins.
+#[derive(Clone, Copy, Debug, PartialEq, Eq)]
+pub enum Root {
+    /// The word at this offset from the first word of the running activation.
+    Local(u32),
+    /// The word at this offset from the first word of the running component.
+    Member(u32),
+    /// The word `plus` words after the one to which the reference in word `parameter` of the
+    /// activation points.
+    Through { parameter: u32, plus: u32 },
+}
+
+/// A standard function of one simple value. `Shift` stands for `succ` and `pred`, within the bounds
+/// of a base type.
+#[derive(Clone, Copy, Debug, PartialEq, Eq)]
+pub enum Function {
+    Abs,
+    Ord,
+    Chr,
+    Shift { by: i32, low: i32, high: i32 },
+}
+
+/// An operand of a term.
+#[cycle(terms)]
+#[derive(Debug, Drop)]
+pub enum Operand {
+    Number(i32),
+    /// A word of the activation.
+    Local(u32),
+    /// A word of the component.
+    Member(u32),
+    /// The value of a call, in the temp with this number.
+    Made(u32),
+    /// The word `plus` words after the one to which the reference in word `parameter` of the
+    /// activation points.
+    Through { parameter: u32, plus: u32 },
+    /// The word at a place.
+    Item(Box<Spot>),
+    Nested(Box<Term>),
+    Not(Box<Term>),
+    Negative(Box<Term>),
+    Standard(Function, Box<Term>),
+    /// Whether a queue is empty.
+    Empty(Box<Spot>),
+    Realtime,
+}
+
+/// An operator and its right operand. Most right operands are numbers, so these have a case of
+/// their own.
+#[cycle(terms)]
+#[derive(Debug, Drop)]
+pub enum Application {
+    WithNumber(Operator, i32),
+    WithOperand(Operator, Operand),
+}
+
+/// An index: the bounds of the array, the size of an element in words, the offset of a part within
+/// the element, and the value of the index.
+#[cycle(terms)]
+#[derive(Debug, Drop)]
+pub struct Index {
+    pub low: i32,
+    pub high: i32,
+    pub size: u32,
+    pub plus: u32,
+    pub value: Term,
+}
+
+/// The place of a variable or of a part of one.
+#[cycle(terms)]
+#[derive(Debug, Drop)]
+pub struct Spot {
+    pub root: Root,
+    pub indices: Vec<Index>,
+}
+
+/// An expression.
+#[cycle(terms)]
+#[derive(Debug, Drop)]
+pub struct Term {
+    pub first: Operand,
+    pub rest: Vec<Application>,
+}
+
+impl Root {
+    /// The root `words` words further on, if its offset fits in 32 bits.
+    pub fn advance(self, words: u32) -> Option<Root>
+        ensures { IfSome result (λ r. view.root r ≡ move_root words (view.root self)) }
+    {
+        match self {
+            Root::Local(at) => Some(Root::Local(at.checked_add(words)?)),
+            Root::Member(at) => Some(Root::Member(at.checked_add(words)?)),
+            Root::Through { parameter, plus } => Some(Root::Through {
+                parameter,
+                plus: plus.checked_add(words)?,
+            }),
+        }
+    }
+}
+
+impl Spot {
+    /// The spot of a whole variable.
+    pub fn variable(alloc: Global, root: Root) -> Spot
+        ensures { view.spot result ≡ plain.Rooted (view.root root) }
+    {
+        Spot {
+            root,
+            indices: Vec::new(alloc),
+        }
+    }
+
+    /// The spot of an element of this spot.
+    pub fn element(self, low: i32, high: i32, size: u32, value: Term) -> Result<Spot, AllocError>
+        ensures { IfOk result
+            (λ s. view.spot s ≡ plain.Element (view.spot self) low high size 0 (view.term value)) }
+    {
+        let Spot { root, mut indices } = self;
+        indices.push(Index {
+            low,
+            high,
+            size,
+            plus: 0,
+            value,
+        })?;
+        Ok(Spot { root, indices })
+    }
+
+    /// The spot `words` words further on, if its offset fits in 32 bits.
+    pub fn advance(self, words: u32) -> Option<Spot>
+        ensures { IfSome result (λ s. view.spot s ≡ move_spot words (view.spot self)) }
+    {
+        let Spot { root, mut indices } = self;
+        if indices.is_empty() {
+            return Some(Spot {
+                root: root.advance(words)?,
+                indices,
+            });
+        }
+        let last = indices.len() - 1;
+        let index = &mut indices[last];
+        index.plus = index.plus.checked_add(words)?;
+        Some(Spot { root, indices })
+    }
+}
+
+impl Application {
+    fn new(operator: Operator, operand: Operand) -> Application
+        ensures { view.application
+            result ≡ record { operator = operator_of operator; operand = view.operand operand } }
+    {
+        match operand {
+            Operand::Number(number) => Application::WithNumber(operator, number),
+            operand => Application::WithOperand(operator, operand),
+        }
+    }
+}
+
+impl Term {
+    // A term that consists of one operand.
+    fn lone(alloc: Global, first: Operand) -> Term
+        ensures { view.term result ≡ view.operand first }
+    {
+        Term {
+            first,
+            rest: Vec::new(alloc),
+        }
+    }
+
+    pub fn number(alloc: Global, n: i32) -> Term
+        ensures { view.term result ≡ plain.Number n }
+    {
+        Term::lone(alloc, Operand::Number(n))
+    }
+
+    /// The value of a call, in the temp with this number.
+    pub fn temp(alloc: Global, temp: u32) -> Term
+        ensures { view.term result ≡ plain.Made temp }
+    {
+        Term::lone(alloc, Operand::Made(temp))
+    }
+
+    pub fn realtime(alloc: Global) -> Term
+        ensures { view.term result ≡ plain.Realtime }
+    {
+        Term::lone(alloc, Operand::Realtime)
+    }
+
+    /// The first word of a variable.
+    pub fn variable(alloc: Global, root: Root) -> Term
+        ensures { view.term result ≡ plain.Item (plain.Rooted (view.root root)) }
+    {
+        let operand = match root {
+            Root::Local(at) => Operand::Local(at),
+            Root::Member(at) => Operand::Member(at),
+            Root::Through { parameter, plus } => Operand::Through { parameter, plus },
+        };
+        Term::lone(alloc, operand)
+    }
+
+    /// The word at a place.
+    pub fn item(alloc: Global, spot: Spot) -> Result<Term, AllocError>
+        ensures { IfOk result (λ t. view.term t ≡ plain.Item (view.spot spot)) }
+    {
+        if spot.indices.is_empty() {
+            return Ok(Term::variable(alloc, spot.root));
+        }
+        Ok(Term::lone(alloc, Operand::Item(Box::new(alloc, spot)?)))
+    }
+
+    /// Whether a queue is empty.
+    pub fn empty(alloc: Global, queue: Spot) -> Result<Term, AllocError>
+        ensures { IfOk result (λ t. view.term t ≡ plain.Empty (view.spot queue)) }
+    {
+        Ok(Term::lone(alloc, Operand::Empty(Box::new(alloc, queue)?)))
+    }
+
+    /// The negation of a Boolean term.
+    pub fn not(self, alloc: Global) -> Result<Term, AllocError>
+        ensures { IfOk result (λ t. view.term t ≡ plain.Not (view.term self)) }
+    {
+        Ok(Term::lone(alloc, Operand::Not(Box::new(alloc, self)?)))
+    }
+
+    /// The term with its sign changed.
+    pub fn negative(self, alloc: Global) -> Result<Term, AllocError>
+        ensures { IfOk result (λ t. view.term t ≡ plain.Negative (view.term self)) }
+    {
+        Ok(Term::lone(alloc, Operand::Negative(Box::new(alloc, self)?)))
+    }
+
+    /// A standard function applied to the term.
+    pub fn standard(self, alloc: Global, function: Function) -> Result<Term, AllocError>
+        ensures { IfOk result
+            (λ t. view.term t ≡ plain.Standard (view.function function) (view.term self)) }
+    {
+        let argument = Box::new(alloc, self)?;
+        Ok(Term::lone(alloc, Operand::Standard(function, argument)))
+    }
+
+    // The term as an operand. A term that is just one operand needs no box.
+    fn into_operand(self, alloc: Global) -> Result<Operand, AllocError>
+        ensures { IfOk result (λ x. view.operand x ≡ view.term self) }
+    {
+        if self.rest.is_empty() {
+            return Ok(self.first);
+        }
+        Ok(Operand::Nested(Box::new(alloc, self)?))
+    }
+
+    /// A binary operator, with this term on its left.
+    pub fn binary(self, alloc: Global, operator: Operator, right: Term) -> Result<Term, AllocError>
+        ensures { IfOk result
+            (λ t. view.term t ≡ plain.Binary (operator_of operator) (view.term self)
+            (view.term right)) }
+    {
+        let operand = right.into_operand(alloc)?;
+        let Term { first, mut rest } = self;
+        rest.push(Application::new(operator, operand))?;
+        Ok(Term { first, rest })
+    }
+}
