@@ -5,9 +5,9 @@ use Rattle.cp_code.specs.Programs.{Program}
 use Rattle.cp_code.specs.Starts.{block, paste}
 use Rattle.cp_steps.specs.KernelSteps.{Kernel}
 use Rattle.cp_steps.specs.Machines.{begin_from, begin_if}
-use Rattle.cp_process.specs.States as states
-use Rattle.cp_process.specs.declared.outside.Stage.{Stage}
-use Rattle.cp_process.specs.declared.outside.Stage.TheVariants as stage
+use Rattle.cp_private.specs.States as states
+use Rattle.cp_private.specs.declared.outside.Stage.{Stage}
+use Rattle.cp_private.specs.declared.outside.Stage.TheVariants as stage
 use Rattle.cp_steps.specs.PrivateStates.{PrivateState, Running}
 
 pub begun_number : (program : Program) (k : Kernel) (o : PrivateState) → (begin_from program k o).number ≡ o.number

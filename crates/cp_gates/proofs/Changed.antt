@@ -1,8 +1,8 @@
 -- Lists whose first items have been changed.
 use Rattle.std.proofs.Common.{◌≡◌, ◌+◌, ℕ, zero, suc, List, [], ◌∷◌, Option, Some, None, slice_get, slice_set, length, map, refl, ap, ◌∙◌, sym, arith}
 use Rattle.std.specs.Prelude.{option_map, slice_index_or}
-use Rattle.cp_process.specs.States.{private_of}
-use Rattle.cp_process.specs.declared.private.Private.{Private}
+use Rattle.cp_private.specs.States.{private_of}
+use Rattle.cp_private.specs.declared.private.Private.{Private}
 use Rattle.cp_gates.specs.Turns.{parts_of}
 
 abbrev pub changed_below : {A : Type 0} → (A → A) → ℕ → List A → List A

@@ -6,10 +6,10 @@ use Rattle.cp_code.specs.Programs.{Program}
 use Rattle.cp_steps.specs.KernelSteps as plain
 use Rattle.cp_steps.specs.PrivateStates.{Effect}
 use Rattle.cp_steps.specs.Steps.{step_with}
-use Rattle.cp_process.specs.States as states
-use Rattle.cp_process.specs.declared.outside.Gate.{Gate}
-use Rattle.cp_process.specs.declared.outside.Stage.{Stage}
-use Rattle.cp_process.specs.declared.private.Private.{Private}
+use Rattle.cp_private.specs.States as states
+use Rattle.cp_private.specs.declared.outside.Gate.{Gate}
+use Rattle.cp_private.specs.declared.outside.Stage.{Stage}
+use Rattle.cp_private.specs.declared.private.Private.{Private}
 use Rattle.cp_gates.specs.declared.kernel.Kernel.{Kernel}
 use Rattle.cp_gates.specs.KernelOf.{kernel_of, turning}
 use Rattle.cp_gates.proofs.Places.{gate_looked, gate_or_unset, stage_looked, stage_or_begun}

@@ -5,9 +5,9 @@ use Rattle.std.proofs.lemmas.Option.{slice_get-get_or, slice_get-map, slice_get_
 use Rattle.std.proofs.lemmas.List.{map-set}
 use Rattle.cp_model.specs.States as model
 use Rattle.cp_steps.specs.KernelSteps as plain
-use Rattle.cp_process.specs.States as states
-use Rattle.cp_process.specs.declared.outside.Gate.{Gate}
-use Rattle.cp_process.specs.declared.outside.Stage.{Stage}
+use Rattle.cp_private.specs.States as states
+use Rattle.cp_private.specs.declared.outside.Gate.{Gate}
+use Rattle.cp_private.specs.declared.outside.Stage.{Stage}
 use Rattle.cp_gates.specs.KernelOf.{unset_gate}
 
 abbrev pub gate_or_unset : Option model.Gate → model.Gate

@@ -4,9 +4,9 @@ use Rattle.std.specs.Prelude.{replicate, slice_index_or}
 use Rattle.cp_code.specs.Programs as code
 use Rattle.cp_steps.specs.KernelSteps as plain
 use Rattle.cp_steps.specs.Machines as machines
-use Rattle.cp_process.specs.States as states
+use Rattle.cp_private.specs.States as states
 use Rattle.cp_gates.specs.KernelOf.{unset_gate}
-use Rattle.cp_process.specs.declared.outside.Stage.TheVariants as stage
+use Rattle.cp_private.specs.declared.outside.Stage.TheVariants as stage
 
 pub one_more : {X Y : Type 0} (f : X → Y) (xs : List X) (n : ℕ) (x : X) (y : Y) → map f xs ≡ replicate n y → f x ≡ y
     → map f (xs ++ x ∷ []) ≡ replicate (suc n) y

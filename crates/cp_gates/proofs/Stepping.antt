@@ -5,9 +5,9 @@ use Rattle.cp_code.specs.Programs.{Operation, Program}
 use Rattle.cp_steps.specs.KernelSteps.{Turning, is_begun, is_due, kernel_step, kernel_steps, needs_kernel, stage_of}
 use Rattle.cp_steps.specs.PrivateStates.{PrivateState, is_running}
 use Rattle.cp_steps.specs.Steps.{is_held, is_kernel_operation, is_private, operation_of}
-use Rattle.cp_process.specs.Kinds.{kind_of}
-use Rattle.cp_process.specs.declared.kind.Kind.{Kind}
-use Rattle.cp_process.specs.declared.kind.Kind.TheVariants as kind
+use Rattle.cp_private.specs.Kinds.{kind_of}
+use Rattle.cp_private.specs.declared.kind.Kind.{Kind}
+use Rattle.cp_private.specs.declared.kind.Kind.TheVariants as kind
 use Rattle.cp_gates.specs.Due.{is_kernel}
 
 in_monitor : (b : Bool) → is_kernel (if b then kind.Kernel else kind.None) ≡ b

@@ -4,10 +4,10 @@ use Rattle.std.specs.Prelude.{◌≡◌, ℕ, ◌+◌, ◌-◌, ◌≤◌, true,
 use Rattle.std.specs.Global.{Global}
 use Rattle.cp_model.specs.States as model
 use Rattle.cp_steps.specs.KernelSteps as plain
-use Rattle.cp_process.specs.States as states
-use Rattle.cp_process.specs.States.{private_of}
-use Rattle.cp_process.specs.declared.private.Private.{Private}
-use Rattle.cp_process.specs.declared.outside.Gate.{Gate}
+use Rattle.cp_private.specs.States as states
+use Rattle.cp_private.specs.States.{private_of}
+use Rattle.cp_private.specs.declared.private.Private.{Private}
+use Rattle.cp_private.specs.declared.outside.Gate.{Gate}
 use Rattle.cp_gates.specs.declared.kernel.Kernel.{Kernel}
 
 -- ---- The kernel

@@ -4,8 +4,8 @@ use Rattle.cp_code.specs.Programs.{Program}
 use Rattle.cp_steps.specs.KernelSteps as plain
 use Rattle.cp_steps.specs.Machines.{transcript_of}
 use Rattle.cp_steps.specs.PrivateStates.{PrivateState}
-use Rattle.cp_process.specs.States.{private_of}
-use Rattle.cp_process.specs.declared.private.Private.{Private}
+use Rattle.cp_private.specs.States.{private_of}
+use Rattle.cp_private.specs.declared.private.Private.{Private}
 use Rattle.cp_gates.specs.declared.kernel.Kernel.{Kernel}
 use Rattle.cp_gates.specs.KernelOf.{HasRoomForBytes, kernel_of, transcripts_of, turning}
 

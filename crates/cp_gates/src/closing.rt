@@ -1,16 +1,16 @@
 //! The end of a round: the processes that were started in it begin.
 
 ghost use Rattle.std.specs.Prelude.{◌≡◌, ℕ, List, length, map};
-ghost use Rattle.cp_process.specs.declared.private.Private.{Private};
-ghost use Rattle.cp_process.specs.States.{private_of, stage as stage_view};
+ghost use Rattle.cp_private.specs.declared.private.Private.{Private};
+ghost use Rattle.cp_private.specs.States.{private_of, stage as stage_view};
 ghost use Rattle.cp_steps.specs.Machines as plain;
 ghost use Rattle.cp_program.specs.View as view;
 ghost use Rattle.cp_gates.specs.KernelOf.{kernel_of};
 ghost use Rattle.cp_gates.specs.Turns.{parts_of};
 
 use crate::kernel::Kernel;
-use cp_process::outside::Stage;
-use cp_process::private::Private;
+use cp_private::outside::Stage;
+use cp_private::private::Private;
 use cp_program::program::Program;
 
 // Begins the process if it is fresh.

@@ -1,11 +1,11 @@
 //! Kernels with the same content, and an empty kernel.
 
 ghost use Rattle.std.specs.Prelude.{◌≡◌, IfOk, length, map};
-ghost use Rattle.cp_process.specs.States as states;
+ghost use Rattle.cp_private.specs.States as states;
 ghost use Rattle.cp_gates.specs.KernelOf.{Bytes, kernel_of, transcripts_of};
 
 use crate::kernel::Kernel;
-use cp_process::outside::Gate;
+use cp_private::outside::Gate;
 use std::alloc::{AllocError, Global};
 
 fn copy_gates(alloc: Global, gates: &[Gate]) -> Result<Vec<Gate>, AllocError>

@@ -6,13 +6,13 @@
 ghost use Rattle.std.specs.Prelude.{◌≡◌, ◌+◌, ◌-◌, ◌∷◌, ◌++◌, [], ℕ, List, MatchOption};
 ghost use Rattle.cp_code.specs.Layout as layout;
 ghost use Rattle.cp_model.specs.States as model;
-ghost use Rattle.cp_process.specs.States.{effect as effect_view, holder as holder_view, stage as stage_view};
+ghost use Rattle.cp_private.specs.States.{effect as effect_view, holder as holder_view, stage as stage_view};
 ghost use Rattle.cp_steps.specs.KernelSteps as plain;
 ghost use Rattle.cp_gates.specs.KernelOf.{HasRoomForAskers, IsAmong, IsBegun, kernel_of};
 
 use crate::kernel::Kernel;
-use cp_process::effect::Effect;
-use cp_process::outside::{Holder, Stage};
+use cp_private::effect::Effect;
+use cp_private::outside::{Holder, Stage};
 
 // Returns the index of the monitor or process with this number. The number 0 is read as 1.
 fn index(number: u32) -> usize

@@ -2,7 +2,7 @@
 
 ghost use Rattle.std.specs.Prelude.{◌≡◌, ◌<◌, ◌^◌, length};
 
-use cp_process::outside::{Gate, Stage};
+use cp_private::outside::{Gate, Stage};
 
 /// What is known of all monitors and processes, and the shared words.
 #[derive(Debug, Drop)]

@@ -2,13 +2,13 @@
 
 ghost use Rattle.std.specs.Prelude.{◌≡◌};
 ghost use Rattle.cp_code.specs.Starts.{word};
-ghost use Rattle.cp_process.specs.States.{holder as holder_view, stage as stage_view};
+ghost use Rattle.cp_private.specs.States.{holder as holder_view, stage as stage_view};
 ghost use Rattle.cp_steps.specs.KernelSteps as plain;
 ghost use Rattle.cp_gates.specs.KernelOf.{kernel_of, transcripts_of};
 ghost use Rattle.cp_steps.specs.Machines.{transcript_of};
 
 use crate::kernel::Kernel;
-use cp_process::outside::{Holder, Stage};
+use cp_private::outside::{Holder, Stage};
 
 impl Kernel {
     /// Returns the holder of monitor m's gate. A missing monitor is unset.

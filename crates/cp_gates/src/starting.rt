@@ -2,14 +2,14 @@
 
 ghost use Rattle.std.specs.Prelude.{◌≡◌, ◌-◌, ◌<◌, ◌^◌, ◌∷◌, ℕ, List, [], IfOk, Some, map, pos, replicate, length, slice_get};
 ghost use Rattle.cp_code.specs.Programs as code;
-ghost use Rattle.cp_process.specs.States as states;
+ghost use Rattle.cp_private.specs.States as states;
 ghost use Rattle.cp_steps.specs.Machines as plain;
 ghost use Rattle.cp_program.specs.View as view;
 ghost use Rattle.cp_gates.specs.KernelOf.{Bytes, kernel_of, transcripts_of, unset_gate};
 
 use crate::kernel::Kernel;
-use cp_process::outside::{Gate, Holder, Stage};
-use cp_process::starting::start_words;
+use cp_private::outside::{Gate, Holder, Stage};
+use cp_private::starting::start_words;
 use cp_program::program::Program;
 use std::alloc::{AllocError, Global};
 

@@ -2,9 +2,9 @@
 //! starts a process.
 
 ghost use Rattle.std.specs.Prelude.{◌≡◌, ◌≢◌, ◌≤◌, ◌+◌, ◌-◌, ◌*◌, ◌++◌, true, ℕ, List, length};
-ghost use Rattle.cp_process.specs.Rooms.{HasRoomFor, KeepsRoom};
-ghost use Rattle.cp_process.specs.States.{private_of};
-ghost use Rattle.cp_process.specs.States.{effect, join};
+ghost use Rattle.cp_private.specs.Rooms.{HasRoomFor, KeepsRoom};
+ghost use Rattle.cp_private.specs.States.{private_of};
+ghost use Rattle.cp_private.specs.States.{effect, join};
 ghost use Rattle.cp_steps.specs.KernelSteps as plain;
 ghost use Rattle.cp_steps.specs.Steps.{step_with};
 ghost use Rattle.cp_program.specs.View as view;
@@ -12,11 +12,11 @@ ghost use Rattle.cp_gates.specs.Due;
 ghost use Rattle.cp_gates.specs.KernelOf.{HasRoomForAskers, IsAmong, IsBegun, turning};
 
 use crate::kernel::Kernel;
-use cp_process::effect::Effect;
-use cp_process::kind::{Kind, next_kind};
-use cp_process::outside::Outside;
-use cp_process::private::Private;
-use cp_process::turns::step;
+use cp_private::effect::Effect;
+use cp_private::kind::{Kind, next_kind};
+use cp_private::outside::Outside;
+use cp_private::private::Private;
+use cp_private::turns::step;
 use cp_program::program::Program;
 
 fn is_kernel(kind: Kind) -> bool

@@ -1,8 +1,8 @@
 //! Kernel turns: the kernel's steps of a process, and the move of its output to its transcript.
 
 ghost use Rattle.std.specs.Prelude.{◌≡◌, ◌≤◌, ◌+◌, ◌*◌, ℕ, List, [], length, vec_capacity, vec_len};
-ghost use Rattle.cp_process.specs.Rooms.{HasRoomFor};
-ghost use Rattle.cp_process.specs.States.{private_of};
+ghost use Rattle.cp_private.specs.Rooms.{HasRoomFor};
+ghost use Rattle.cp_private.specs.States.{private_of};
 ghost use Rattle.cp_steps.specs.KernelSteps as plain;
 ghost use Rattle.cp_program.specs.View as view;
 ghost use Rattle.cp_gates.specs.KernelOf.{HasRoomForAskers, HasRoomForBytes, IsAmong, kernel_of, turning};
@@ -10,8 +10,8 @@ ghost use Rattle.cp_gates.specs.Turns.{IsTurned, Moves};
 
 use crate::kernel::Kernel;
 use crate::step::{is_due, kernel_step};
-use cp_process::private::Private;
-use cp_process::turn::Turn;
+use cp_private::private::Private;
+use cp_private::turn::Turn;
 use cp_program::program::Program;
 
 // Makes at most `count` steps, as long as the next one is due.

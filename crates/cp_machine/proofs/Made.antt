@@ -5,8 +5,8 @@ use Rattle.cp_code.specs.Programs.{Program}
 use Rattle.cp_model.specs.States.{numbers_from}
 use Rattle.cp_gates.specs.KernelOf.{Bytes, kernel_of, transcripts_of, turning}
 use Rattle.cp_gates.specs.declared.kernel.Kernel.{Kernel}
-use Rattle.cp_process.specs.States.{private_of}
-use Rattle.cp_process.specs.declared.private.Private.{Private}
+use Rattle.cp_private.specs.States.{private_of}
+use Rattle.cp_private.specs.declared.private.Private.{Private}
 use Rattle.cp_steps.specs.KernelSteps as steps
 use Rattle.cp_steps.specs.KernelSteps.{Turning, kernel_steps}
 use Rattle.cp_steps.specs.Machines.{Machine, after_kernel_turn, clock, end_round, kernel_turn, kernel_turns, phased_round, phased_rounds, transcript_of}

@@ -4,9 +4,9 @@ use Rattle.std.proofs.Common.{sym, ap, ◌∙◌, arith, ⊎_elim}
 use Rattle.cp_gates.specs.KernelOf.{Bytes, HasRoomForAskers, kernel_of, transcripts_of}
 use Rattle.cp_gates.specs.Turns.{Moves, parts_of}
 use Rattle.cp_gates.specs.declared.kernel.Kernel.{Kernel}
-use Rattle.cp_process.specs.States as states
-use Rattle.cp_process.specs.States.{private_of}
-use Rattle.cp_process.specs.declared.private.Private.{Private}
+use Rattle.cp_private.specs.States as states
+use Rattle.cp_private.specs.States.{private_of}
+use Rattle.cp_private.specs.declared.private.Private.{Private}
 use Rattle.cp_machine.specs.Numbers.{AreNumbered}
 use Rattle.cp_steps.specs.KernelSteps as plain
 use Rattle.cp_steps.specs.Machines.{next_stage}

@@ -5,9 +5,9 @@ use Rattle.cp_code.specs.Programs as code
 use Rattle.cp_code.specs.Programs.{Program}
 use Rattle.cp_gates.specs.Turns.{parts_of}
 use Rattle.cp_gates.specs.declared.kernel.Kernel.{Kernel}
-use Rattle.cp_process.specs.States.{private_of}
-use Rattle.cp_process.specs.States as states
-use Rattle.cp_process.specs.declared.private.Private.{Private}
+use Rattle.cp_private.specs.States.{private_of}
+use Rattle.cp_private.specs.States as states
+use Rattle.cp_private.specs.declared.private.Private.{Private}
 use Rattle.cp_steps.specs.KernelSteps as steps
 use Rattle.cp_steps.specs.KernelSteps.{Begun, Stage, Unstarted}
 use Rattle.cp_steps.specs.Machines.{first_machine, first_part, first_parts, first_stages}

@@ -4,8 +4,8 @@ use Rattle.std.proofs.Common.{sym, ◌∙◌, ap, subst, arith, inl, inr, ⊎_el
 use Rattle.cp_gates.specs.KernelOf.{HasRoomForAskers, HasRoomForBytes, kernel_of, transcripts_of}
 use Rattle.cp_gates.specs.declared.kernel.Kernel.{Kernel}
 use Rattle.cp_gates.proofs.Asking.{room_kept}
-use Rattle.cp_process.specs.declared.private.Private.{Private}
-use Rattle.cp_process.specs.States.{private_of}
+use Rattle.cp_private.specs.declared.private.Private.{Private}
+use Rattle.cp_private.specs.States.{private_of}
 use Rattle.cp_program.specs.View as view
 use Rattle.cp_machine.specs.Generations.{AreTurned, MakesTurns, WavesMade}
 use Rattle.cp_machine.specs.Made.{AfterPrivateTurn, TurnsMade}

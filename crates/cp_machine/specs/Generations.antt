@@ -2,8 +2,8 @@
 use Rattle.std.specs.Prelude.{◌≡◌, ◌≤◌, ◌+◌, ◌-◌, ◌*◌, ℕ, suc, List, Some, length, slice_get, vec_len}
 use Rattle.cp_gates.specs.KernelOf.{HasRoomForAskers, HasRoomForBytes}
 use Rattle.cp_gates.specs.declared.kernel.Kernel.{Kernel}
-use Rattle.cp_process.specs.Rooms.{HasRoomFor}
-use Rattle.cp_process.specs.declared.private.Private.{Private}
+use Rattle.cp_private.specs.Rooms.{HasRoomFor}
+use Rattle.cp_private.specs.declared.private.Private.{Private}
 use Rattle.cp_steps.specs.Machines.{Machine}
 use Rattle.cp_program.specs.View as view
 use Rattle.cp_machine.specs.Made.{AfterPrivateTurn, TurnsMade}

@@ -3,9 +3,9 @@ use Rattle.std.specs.Prelude.{◌≡◌, ◌≤◌, ◌+◌, ◌-◌, ℕ, suc, 
 use Rattle.cp_gates.specs.KernelOf.{Bytes, HasRoomForAskers, HasRoomForBytes, kernel_of, transcripts_of}
 use Rattle.cp_gates.specs.declared.kernel.Kernel.{Kernel}
 use Rattle.cp_model.specs.States.{numbers_from}
-use Rattle.cp_process.specs.Rooms.{HasRoomFor}
-use Rattle.cp_process.specs.States.{private_of}
-use Rattle.cp_process.specs.declared.private.Private.{Private}
+use Rattle.cp_private.specs.Rooms.{HasRoomFor}
+use Rattle.cp_private.specs.States.{private_of}
+use Rattle.cp_private.specs.declared.private.Private.{Private}
 use Rattle.cp_steps.specs.Machines.{Machine, kernel_turns}
 use Rattle.cp_program.specs.View as view
 use Rattle.cp_machine.specs.MachineOf.{input_at}

@@ -5,8 +5,8 @@ use Rattle.cp_gates.specs.KernelOf.{kernel_of, transcripts_of}
 use Rattle.cp_gates.specs.Turns.{parts_of}
 use Rattle.cp_gates.specs.declared.kernel.Kernel.{Kernel}
 use Rattle.cp_model.specs.States.{numbers_from}
-use Rattle.cp_process.specs.States.{private_of}
-use Rattle.cp_process.specs.declared.private.Private.{Private}
+use Rattle.cp_private.specs.States.{private_of}
+use Rattle.cp_private.specs.declared.private.Private.{Private}
 use Rattle.cp_steps.specs.Machines.{phased_rounds}
 use Rattle.cp_machine.specs.Made.{TurnsMade}
 use Rattle.cp_machine.specs.MachineOf.{machine_with}

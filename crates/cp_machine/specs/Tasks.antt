@@ -1,7 +1,7 @@
 -- What a private state comes from, while any thread may make its private turn.
 use Rattle.std.specs.Prelude.{◌≡◌, ◌≤◌, ◌+◌, ◌*◌, ℕ, Bool, true, false, List, Some, slice_get, vec_len, vec_capacity}
-use Rattle.cp_process.specs.States.{private_of}
-use Rattle.cp_process.specs.declared.private.Private.{Private}
+use Rattle.cp_private.specs.States.{private_of}
+use Rattle.cp_private.specs.declared.private.Private.{Private}
 use Rattle.cp_steps.specs.PrivateStates.{PrivateState}
 use Rattle.cp_program.specs.View as view
 use Rattle.cp_machine.specs.MachineOf.{input_at}

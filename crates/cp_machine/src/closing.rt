@@ -5,7 +5,7 @@ ghost use Rattle.cp_machine.specs.Ends.{RoundEnds};
 use crate::setting::Setting;
 use cp_gates::closing::end_round;
 use cp_gates::kernel::Kernel;
-use cp_process::private::Private;
+use cp_private::private::Private;
 
 /// Ends a round: the processes that were started in it begin.
 pub(crate) fn close_round(setting: &Setting, privates: &mut Vec<Private>, kernel: &mut Kernel)

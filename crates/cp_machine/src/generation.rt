@@ -10,8 +10,8 @@ use crate::setting::Setting;
 use crate::team::Aside;
 use cp_gates::kernel::Kernel;
 use cp_gates::turns::kernel_turn;
-use cp_process::private::Private;
-use cp_process::turn::Turn;
+use cp_private::private::Private;
+use cp_private::turn::Turn;
 
 /// The private states of the first processes after their private turns, and the kernel after the
 /// kernel turns of the processes below index `from`.

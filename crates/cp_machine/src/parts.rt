@@ -4,7 +4,7 @@ ghost use Rattle.std.specs.Prelude.{◌≡◌, length};
 ghost use Rattle.cp_machine.specs.Numbers.{AreNumbered};
 
 use cp_gates::kernel::Kernel;
-use cp_process::private::Private;
+use cp_private::private::Private;
 use std::alloc::Global;
 
 /// The private states by process, and the kernel.

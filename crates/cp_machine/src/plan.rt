@@ -4,7 +4,7 @@ ghost use Rattle.std.specs.Prelude.{◌≡◌, ◌<◌, ◌≤◌, ◌-◌, ◌�
 ghost use Rattle.cp_machine.specs.Plans.{AreInRange, IsFirstOut};
 
 use crate::wave::Wave;
-use cp_process::turn::Turn;
+use cp_private::turn::Turn;
 
 /// How a round is made: a turn has at most `turn` steps, and `workers` workers draw chunks of
 /// consecutive processes, wave by wave.

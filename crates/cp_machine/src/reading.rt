@@ -6,7 +6,7 @@
 ghost use Rattle.std.specs.Prelude.{◌≡◌, ◌-◌, length, option_map, slice_get};
 ghost use Rattle.cp_code.specs.Starts.{word};
 ghost use Rattle.cp_gates.specs.KernelOf.{kernel_of, transcripts_of};
-ghost use Rattle.cp_process.specs.States.{private_of};
+ghost use Rattle.cp_private.specs.States.{private_of};
 ghost use Rattle.cp_steps.specs.Machines as plain;
 ghost use Rattle.cp_program.specs.View as view;
 ghost use Rattle.cp_machine.specs.MachineOf.{input_of};
@@ -14,7 +14,7 @@ ghost use Rattle.cp_machine.specs.Views.{machine_of, output_of, processes_of, wo
 
 use crate::machine::Machine;
 use cp_gates::kernel::Kernel;
-use cp_process::private::Private;
+use cp_private::private::Private;
 use cp_program::program::Program;
 
 impl Machine {

@@ -7,7 +7,7 @@ ghost use Rattle.cp_machine.specs.Starts.{AreFirst, IsStart};
 
 use crate::parts::Parts;
 use cp_gates::kernel::Kernel;
-use cp_process::private::Private;
+use cp_private::private::Private;
 use cp_program::program::Program;
 use std::alloc::{AllocError, Global};
 

@@ -1,8 +1,8 @@
 //! Private turns: a single one in place, and those of a round as a job for workers.
 
 ghost use Rattle.std.specs.Prelude.{◌≡◌, ◌<◌, ◌≤◌, ◌+◌, ◌-◌, ◌*◌, ℕ, List, IfOk, length, vec_capacity, vec_len};
-ghost use Rattle.cp_process.specs.Rooms.{HasRoomFor};
-ghost use Rattle.cp_process.specs.States.{private_of};
+ghost use Rattle.cp_private.specs.Rooms.{HasRoomFor};
+ghost use Rattle.cp_private.specs.States.{private_of};
 ghost use Rattle.cp_program.specs.View as view;
 ghost use Rattle.cp_machine.specs.MachineOf.{input_at};
 ghost use Rattle.cp_machine.specs.Made.{AfterPrivateTurn};
@@ -12,9 +12,9 @@ use crate::gate::TurnGate;
 use crate::moment::Moment;
 use crate::setting::Setting;
 use crate::worker::Job;
-use cp_process::private::Private;
-use cp_process::turn::Turn;
-use cp_process::turns::private_turn;
+use cp_private::private::Private;
+use cp_private::turn::Turn;
+use cp_private::turns::private_turn;
 use std::alloc::{AllocError, Global};
 
 /// Makes the private turn of process p in a round. It takes no memory.

@@ -5,7 +5,7 @@
 
 ghost use Rattle.std.specs.Prelude.{◌≡◌, ◌≤◌, ◌+◌, ◌*◌, ℕ, suc, Some, IfErr, IfOk, length, slice_get, vec_len};
 ghost use Rattle.cp_gates.specs.KernelOf.{HasRoomForAskers, HasRoomForBytes, kernel_of, transcripts_of};
-ghost use Rattle.cp_process.specs.declared.private.Private as declared;
+ghost use Rattle.cp_private.specs.declared.private.Private as declared;
 ghost use Rattle.cp_machine.specs.Generations.{AreTurned, WavesMade};
 ghost use Rattle.cp_machine.specs.Numbers.{AreNumbered};
 ghost use Rattle.cp_machine.specs.Runs.{AreSame, TurnsTaken};
@@ -22,8 +22,8 @@ use crate::team::Idle;
 use crate::turns::Turns;
 use crate::whole::{append, whole_wave};
 use cp_gates::kernel::Kernel;
-use cp_process::private::Private;
-use cp_process::turn::Turn;
+use cp_private::private::Private;
+use cp_private::turn::Turn;
 use std::alloc::{AllocError, Global};
 use std::mem;
 use std::sync::Wait;

@@ -6,7 +6,7 @@ ghost use Rattle.cp_program.specs.View as view;
 use crate::texts::program;
 use cp_machine::machine::Machine;
 use cp_machine::tick::Tick;
-use cp_process::private::Activity;
+use cp_private::private::Activity;
 use cp_program::program::Program;
 use std::alloc::Global;
 use std::test::Fail;

@@ -6,8 +6,8 @@ use crate::ways::{Way, ways};
 use cp_machine::gate::Open;
 use cp_machine::machine::Machine;
 use cp_model::state::Fault;
-use cp_process::outside::{Holder, Stage};
-use cp_process::private::Activity;
+use cp_private::outside::{Holder, Stage};
+use cp_private::private::Activity;
 use std::process::Abort;
 use std::test::Fail;
 

@@ -3,8 +3,8 @@
 use crate::machines::{activity, has_written, machine_of};
 use crate::ways::{Way, ways};
 use cp_machine::gate::Open;
-use cp_process::outside::{Holder, Stage};
-use cp_process::private::Activity;
+use cp_private::outside::{Holder, Stage};
+use cp_private::private::Activity;
 use std::test::Fail;
 
 pub(crate) const SEVENS: &str =

@@ -3,7 +3,7 @@ use Rattle.std.proofs.Common.{◌≡◌, suc, ◌^◌, ◌<◌, ℤ, pos, negsuc
 use Rattle.std.specs.Fmt.{signed_decimal}
 use Rattle.std.specs.Int.Signed.{mag}
 use Rattle.cp_model.specs.Decimal.{decimal}
-use Rattle.cp_process.proofs.Digits.{natural_is}
+use Rattle.cp_private.proofs.Digits.{natural_is}
 
 pub decimal_is : (n : ℤ) → mag n < 2 ^ 63 → signed_decimal n ≡ decimal n
 decimal_is (pos n) h = natural_is n (omega (arith, h))

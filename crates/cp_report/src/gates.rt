@@ -2,11 +2,11 @@
 
 ghost use Rattle.std.specs.Prelude.{◌≡◌, ◌++◌, OnOk, flat_map};
 ghost use Rattle.cp_model.specs.Report.{askers_text, gate_text};
-ghost use Rattle.cp_process.specs.States as states;
+ghost use Rattle.cp_private.specs.States as states;
 ghost use Rattle.cp_report.specs.Lines.{gate_line_of, number_text};
 
 use crate::text::push_natural;
-use cp_process::outside::Holder;
+use cp_private::outside::Holder;
 use std::alloc::AllocError;
 
 fn push_holder(out: &mut Vec<u8>, holder: Holder) -> Result<(), AllocError>

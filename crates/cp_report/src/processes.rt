@@ -1,7 +1,7 @@
 //! The lines of processes.
 
 ghost use Rattle.std.specs.Prelude.{◌≡◌, OnOk, map};
-ghost use Rattle.cp_process.specs.States as states;
+ghost use Rattle.cp_private.specs.States as states;
 ghost use Rattle.cp_scope.specs.Standing.{entry};
 ghost use Rattle.cp_report.specs.Subjects.{TellsFront, TellsInitial, TellsStatus};
 ghost use Rattle.cp_report.specs.Subjects.{TellsProcess, TellsProcesses};
@@ -11,7 +11,7 @@ use crate::status::push_stage;
 use crate::subject::{Subject, small_number};
 use crate::telling::{Telling, Words};
 use crate::walk::Walk;
-use cp_process::private::{Activity, Private};
+use cp_private::private::{Activity, Private};
 use cp_scope::Field;
 use std::alloc::AllocError;
 

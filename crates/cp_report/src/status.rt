@@ -2,7 +2,7 @@
 
 ghost use Rattle.std.specs.Prelude.{◌≡◌, ◌++◌, ◌-◌, OnOk, map, option_map, slice_get};
 ghost use Rattle.cp_model.specs.StateViews as state;
-ghost use Rattle.cp_process.specs.States as states;
+ghost use Rattle.cp_private.specs.States as states;
 ghost use Rattle.cp_scope.specs.Standing.{entry};
 ghost use Rattle.cp_steps.specs.Passing as plain;
 ghost use Rattle.cp_steps.specs.Reports.{activity_text};
@@ -13,8 +13,8 @@ use crate::telling::Telling;
 use crate::text::push_natural;
 use crate::walk::Walk;
 use cp_model::state::Fault;
-use cp_process::outside::Stage;
-use cp_process::private::Activity;
+use cp_private::outside::Stage;
+use cp_private::private::Activity;
 use cp_scope::{Field, Tables};
 use cp_program::program::Program;
 use std::alloc::AllocError;

@@ -8,7 +8,7 @@ ghost use Rattle.cp_report.specs.Tellings.{queue_line_of, tell_leaf, value_line_
 
 use crate::text::{push_integer, push_occupant};
 use cp_gates::kernel::Kernel;
-use cp_process::private::Private;
+use cp_private::private::Private;
 use std::alloc::AllocError;
 
 /// What is visited.

@@ -1,5 +1,5 @@
 use Rattle.std.proofs.Common.{[], refl, ap, sym, ◌∙◌}
-use Rattle.cp_process.specs.States as states
+use Rattle.cp_private.specs.States as states
 use Rattle.cp_steps.specs.KernelSteps.{stage_of}
 use Rattle.cp_steps.specs.Machines as plain
 use Rattle.cp_steps.specs.PrivateStates.{PrivateState}

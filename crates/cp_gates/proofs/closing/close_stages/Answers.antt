@@ -2,8 +2,8 @@ use Rattle.std.proofs.Common.{◌≡◌, ◌+◌, ◌<◌, suc, Some, slice_get,
 use Rattle.std.specs.Prelude.{option_map, slice_index_or}
 use Rattle.std.proofs.lemmas.List.{length-map, map-set}
 use Rattle.std.proofs.lemmas.Option.{slice_get-get_or, slice_get-map}
-use Rattle.cp_process.specs.States.{stage as stage_view}
-use Rattle.cp_process.specs.declared.outside.Stage.TheVariants as stage
+use Rattle.cp_private.specs.States.{stage as stage_view}
+use Rattle.cp_private.specs.declared.outside.Stage.TheVariants as stage
 use Rattle.cp_steps.specs.Machines as plain
 use Rattle.cp_gates.proofs.Changed.{all_changed, changed_below, got_changed, next_changed}
 use Rattle.cp_gates.proofs.closing.close_stages.Goals as goal

@@ -1,6 +1,6 @@
 use Rattle.std.proofs.Common.{◌≡◌, map}
 use Rattle.cp_steps.specs.Machines as plain
-use Rattle.cp_process.specs.States.{stage as stage_view}
+use Rattle.cp_private.specs.States.{stage as stage_view}
 use Rattle.cp_gates.proofs.Changed.{changed_below}
 use Rattle.cp_gates.proofs.closing.close_stages.Given as goal
 

@@ -1,6 +1,6 @@
 use Rattle.std.proofs.Common.{◌≡◌, map, ap, ◌∙◌, arith}
-use Rattle.cp_process.specs.States as states
-use Rattle.cp_process.specs.declared.outside.Gate.{Gate}
+use Rattle.cp_private.specs.States as states
+use Rattle.cp_private.specs.declared.outside.Gate.{Gate}
 use Rattle.cp_gates.proofs.Copies.{all_copied, copied_more}
 use Rattle.cp_gates.proofs.copying.copy_gates.Goals as goal
 

@@ -1,5 +1,5 @@
 use Rattle.std.proofs.Common.{◌≡◌, map, take}
-use Rattle.cp_process.specs.States as states
+use Rattle.cp_private.specs.States as states
 use Rattle.cp_gates.proofs.copying.copy_gates.Given as goal
 
 abbrev pub invariant-loop-gate : goal.invariant-loop-gate

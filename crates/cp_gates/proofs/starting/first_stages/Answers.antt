@@ -1,7 +1,7 @@
 use Rattle.std.proofs.Common.{rules, ◌≡◌, slice_set, map, ap, ◌∙◌}
 use Rattle.std.specs.Prelude.{replicate}
-use Rattle.cp_process.specs.States as states
-use Rattle.cp_process.specs.declared.outside.Stage.TheVariants as stage
+use Rattle.cp_private.specs.States as states
+use Rattle.cp_private.specs.declared.outside.Stage.TheVariants as stage
 use Rattle.cp_gates.proofs.Starts.{first_begun}
 use Rattle.cp_gates.proofs.starting.first_stages.Goals as goal
 

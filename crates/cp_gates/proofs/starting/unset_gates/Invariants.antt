@@ -1,6 +1,6 @@
 use Rattle.std.proofs.Common.{◌≡◌, map}
 use Rattle.std.specs.Prelude.{replicate}
-use Rattle.cp_process.specs.States as states
+use Rattle.cp_private.specs.States as states
 use Rattle.cp_gates.specs.KernelOf.{unset_gate}
 use Rattle.cp_gates.proofs.starting.unset_gates.Given as goal
 

@@ -1,10 +1,10 @@
 use Rattle.std.proofs.Common.{◌≡◌, ◌+◌, [], length, subst, sym, ap, ◌∙◌, arith}
 use Rattle.std.specs.Prelude.{Vec}
 use Rattle.std.specs.Global.{Global}
-use Rattle.cp_process.specs.declared.outside.Stage.{Stage}
+use Rattle.cp_private.specs.declared.outside.Stage.{Stage}
 use Rattle.cp_program.specs.View as view
 use Rattle.cp_steps.specs.KernelSteps as plain
-use Rattle.cp_process.specs.States as states
+use Rattle.cp_private.specs.States as states
 use Rattle.cp_gates.specs.KernelOf.{IsAmong, IsBegun, kernel_of, turning}
 use Rattle.cp_gates.proofs.Asking.{room_kept}
 use Rattle.cp_gates.proofs.Parting.{kernel_same, parted_as, step_due}

@@ -1,7 +1,7 @@
 use Rattle.std.proofs.Common.{◌≡◌, ◌≤◌, ◌+◌, ◌*◌, ◌-◌, ℕ, vec_capacity, vec_len}
 use Rattle.cp_steps.specs.KernelSteps as plain
 use Rattle.cp_program.specs.View as view
-use Rattle.cp_process.specs.Rooms.{HasRoomFor}
+use Rattle.cp_private.specs.Rooms.{HasRoomFor}
 use Rattle.cp_gates.specs.KernelOf.{HasRoomForAskers, IsBegun, turning}
 use Rattle.cp_gates.proofs.turns.take_steps.Given as goal
 

@@ -1,5 +1,5 @@
 use Rattle.std.proofs.Common.{rules, ◌≡◌, List, length, sym, ◌∙◌, subst, arith}
-use Rattle.cp_process.specs.declared.private.Private.{Private}
+use Rattle.cp_private.specs.declared.private.Private.{Private}
 use Rattle.cp_machine.specs.Runs.{TurnsTaken}
 use Rattle.cp_machine.proofs.Made.{one_round_made}
 use Rattle.cp_machine.proofs.round.make_round.Goals as goal

@@ -1,9 +1,9 @@
 use denote.Param.Send.{sendable}
 use Rattle.std.proofs.Common.{rules, ◌≡◌, ℕ, List, [], Some, slice_get, length, sym, ap, ◌∙◌, arith, ⊎_elim}
 use Rattle.std.proofs.Crossing.{crosses}
-use Rattle.cp_process.proofs.private.Private.TheSendSync as private
-use Rattle.cp_process.proofs.turn.Turn.TheSendSync as turn
-use Rattle.cp_process.specs.declared.private.Private.{Private}
+use Rattle.cp_private.proofs.private.Private.TheSendSync as private
+use Rattle.cp_private.proofs.turn.Turn.TheSendSync as turn
+use Rattle.cp_private.specs.declared.private.Private.{Private}
 use Rattle.cp_machine.proofs.moment.Moment.TheSendSync as moment
 use Rattle.cp_machine.proofs.Crossing.{setting_sync}
 use Rattle.cp_machine.proofs.Lists.{none_some}

@@ -2,7 +2,7 @@ use Rattle.std.proofs.Common.{rules, ◌≡◌, ◌≢◌, ◌+◌, ◌*◌, [],
 use mathlib.Core.Logic.{dite}
 use native.Mathlib.Decide.{ℕ_discrete}
 use Rattle.cp_gates.specs.KernelOf.{HasRoomForBytes}
-use Rattle.cp_process.specs.declared.private.Private.{Private}
+use Rattle.cp_private.specs.declared.private.Private.{Private}
 use Rattle.cp_machine.proofs.Lists.{got_below, got_or, some_is}
 use Rattle.cp_machine.proofs.waves.reserve_from.Goals as goal
 

@@ -1,6 +1,6 @@
 use Rattle.std.proofs.Common.{◌≡◌, ◌++◌, ◌∙◌, OnOk, subst, rules}
 use Rattle.std.specs.Fmt as text
-use Rattle.cp_process.proofs.Digits.{natural_is}
+use Rattle.cp_private.proofs.Digits.{natural_is}
 use Rattle.cp_report.proofs.text.push_natural.Goals as goal
 
 pub returns : goal.returns

@@ -1,7 +1,7 @@
 use Rattle.std.proofs.Common.{◌≡◌, ◌-◌, ◌≤◌, slice_set, map, length, true, false, ap, sym, ◌∙◌, arith}
 use Rattle.std.proofs.lemmas.List.{length-map}
 use Rattle.cp_steps.specs.KernelSteps as plain
-use Rattle.cp_process.specs.States as states
+use Rattle.cp_private.specs.States as states
 use Rattle.cp_gates.proofs.Places.{asking_set}
 use Rattle.cp_gates.proofs.Asking.{less, room_kept}
 use Rattle.cp_gates.proofs.kernel.Kernel.enter.Goals as goal

@@ -1,8 +1,8 @@
 use Rattle.std.proofs.Common.{rules, ◌≡◌, ◌≤◌, ◌<◌, ◌-◌, List, length, map, slice_index_or, refl, ap, ◌∙◌, arith}
 use Rattle.std.specs.Prelude.{remove}
 use Rattle.cp_model.specs.States as model
-use Rattle.cp_process.specs.States as states
-use Rattle.cp_process.specs.declared.outside.Gate.{Gate}
+use Rattle.cp_private.specs.States as states
+use Rattle.cp_private.specs.declared.outside.Gate.{Gate}
 use Rattle.cp_gates.specs.KernelOf.{kernel_of}
 use Rattle.cp_gates.proofs.Places.{first_and_rest, gate_at, gates_same, gates_set, nothing}
 use Rattle.cp_gates.proofs.kernel.Kernel.grant.Goals as goal

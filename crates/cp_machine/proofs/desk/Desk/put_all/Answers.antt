@@ -1,5 +1,5 @@
 use Rattle.std.proofs.Common.{rules, ◌≡◌, ◌∷◌, [], List, Some, slice_get, sym, subst}
-use Rattle.cp_process.specs.declared.private.Private.{Private}
+use Rattle.cp_private.specs.declared.private.Private.{Private}
 use Rattle.cp_machine.proofs.Results.{got_left}
 use Rattle.cp_machine.proofs.desk.Desk.put_all.Goals as goal
 

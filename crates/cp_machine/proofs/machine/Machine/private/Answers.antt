@@ -1,5 +1,5 @@
 use Rattle.std.proofs.Common.{rules, ◌≡◌, ◌≤◌, ◌<◌, ◌-◌, ◌∙◌, Some, ap, length, slice_get, slice_index_or, sym}
-use Rattle.cp_process.specs.declared.private.Private.{Private}
+use Rattle.cp_private.specs.declared.private.Private.{Private}
 use Rattle.cp_machine.proofs.Lists.{got_or}
 use Rattle.cp_machine.proofs.Made.{part_at, part_past}
 use Rattle.cp_machine.proofs.machine.Machine.private.Goals as goal

@@ -1,6 +1,6 @@
 use Rattle.std.proofs.Common.{◌≡◌, ◌-◌, List, [], ℕ, None, Option, Some, slice_get, sym, ap, ◌∙◌}
 use Rattle.std.specs.Prelude.{option_map}
-use Rattle.cp_process.specs.States.{private_of}
+use Rattle.cp_private.specs.States.{private_of}
 use Rattle.cp_steps.specs.PrivateStates.{PrivateState}
 use Rattle.cp_machine.specs.MachineOf.{input_of}
 use Rattle.cp_machine.specs.Views.{machine_of}

@@ -1,7 +1,7 @@
 use Rattle.std.proofs.Common.{rules, ◌≡◌, ◌-◌, List, [], ℤ, None, Option, Some, slice_get, sym, ap, ◌∙◌, of_z, to_z, w32}
 use Rattle.std.specs.Prelude.{option_map}
 use Rattle.cp_code.specs.Starts.{word}
-use Rattle.cp_process.specs.States.{private_of}
+use Rattle.cp_private.specs.States.{private_of}
 use Rattle.cp_steps.specs.PrivateStates.{PrivateState}
 use Rattle.cp_machine.specs.MachineOf.{input_of}
 use Rattle.cp_machine.specs.Views.{machine_of}

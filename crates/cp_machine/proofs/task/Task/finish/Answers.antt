@@ -1,5 +1,5 @@
 use Rattle.std.proofs.Common.{◌≡◌, ◌-◌, ℕ, Bool, true, Some, slice_get, sym, ap, ◌∙◌, subst}
-use Rattle.cp_process.specs.States.{private_of}
+use Rattle.cp_private.specs.States.{private_of}
 use Rattle.cp_machine.specs.Tasks.{after_turn}
 use Rattle.cp_machine.specs.declared.moment.Moment.{Moment}
 use Rattle.cp_machine.proofs.task.Task.finish.Goals as goal

@@ -1,5 +1,5 @@
 use Rattle.std.proofs.Common.{◌≡◌, ◌-◌, Bool, false, sym, ap, ◌∙◌, subst, arith, List, ℕ}
-use Rattle.cp_process.specs.States.{private_of}
+use Rattle.cp_private.specs.States.{private_of}
 use Rattle.cp_program.specs.View as view
 use Rattle.cp_machine.specs.Turned as plain
 use Rattle.cp_machine.specs.Tasks.{after_turn, bytes_to_write, bytes_written}

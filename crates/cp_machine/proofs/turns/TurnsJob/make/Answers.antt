@@ -1,6 +1,6 @@
 use Rattle.std.proofs.Common.{◌≡◌, ◌+◌, ◌-◌, ℕ, Some, slice_get, sym, ap, ◌∙◌, subst, arith}
-use Rattle.cp_process.specs.States.{private_of}
-use Rattle.cp_process.specs.declared.private.Private.{Private}
+use Rattle.cp_private.specs.States.{private_of}
+use Rattle.cp_private.specs.declared.private.Private.{Private}
 use Rattle.cp_program.specs.View as view
 use Rattle.cp_machine.specs.MachineOf.{input_at}
 use Rattle.cp_machine.specs.Turned as plain

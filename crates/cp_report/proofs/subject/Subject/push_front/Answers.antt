@@ -1,6 +1,6 @@
 use Rattle.std.proofs.Common.{rules, ◌≡◌, ◌++◌, ◌∷◌, [], ap, ◌∙◌}
 use Rattle.std.proofs.lemmas.Result.{on_ok_weaker}
-use Rattle.cp_process.specs.States.{private_of}
+use Rattle.cp_private.specs.States.{private_of}
 use Rattle.cp_steps.specs.KernelSteps.{stage_of}
 use Rattle.cp_steps.specs.Machines.{transcript_of}
 use Rattle.cp_steps.specs.Reports.{stage_text, transcript_line}

@@ -1,6 +1,6 @@
 use Rattle.std.proofs.Common.{◌++◌, ap, ◌∙◌}
 use Rattle.std.proofs.lemmas.Result.{on_ok_weaker}
-use Rattle.cp_process.specs.States as states
+use Rattle.cp_private.specs.States as states
 use Rattle.cp_steps.specs.KernelSteps.{stage_of}
 use Rattle.cp_steps.specs.Reports.{stage_text}
 use Rattle.cp_report.specs.Subjects.{machine_in}

@@ -1,0 +1,34 @@
+use Rattle.std.proofs.Common.{rules, arith, ◌≡◌, to_z, of_z, Err, length, refl, ap, sym, ◌∙◌}
+use Rattle.std.specs.Int.{w32}
+use Rattle.cp_steps.specs.Steps.{set_within}
+use Rattle.cp_private.specs.States.{join, outcome}
+use Rattle.cp_private.proofs.private.Private.set_result.Goals as goal
+
+pub returns-in_err-n-clause-step : goal.returns-in_err-n-clause-step
+returns-in_err-n-clause-step c =
+    let own = length c.args.self.now.memory.words.items in
+    let input = c.args.outside.now.input.now in
+    let given : c.from_residual.result ≡ Err c.in_err-n.field-0.0 = search rules in
+    let is = sym c.in_err-n.was ∙ c.evaluate_here.ensures input own in
+    rw (given, ← is) refl
+
+pub returns-clause-step : goal.returns-clause-step
+returns-clause-step c =
+    let own = length c.args.self.now.memory.words.items in
+    let input = c.args.outside.now.input.now in
+    let base = c.args.self.now.memory.base in
+    let is = sym c.in_ok-n.was ∙ c.evaluate_here.ensures input own in
+    let whole : to_z w32 (of_z w32 c.in_ok-n.n) ≡ c.in_ok-n.n = search rules in
+    let o = join c.args.self.now input c.args.shared.now in
+    let low = c.args.low.now in
+    let high = c.args.high.now in
+    let next = c.args.next.now in
+    let bounds = c.new.result in
+    let lowest : bounds.low ≡ low = search rules in
+    let highest : bounds.high ≡ high = search rules in
+    let done : outcome (join c.set_within.new.self input c.set_within.new.shared) c.set_within.result ≡ set_within o low high base c.in_ok-n.n next =
+    c.set_within.ensures.step input base (omega arith)
+    ∙ (ap (λ n. set_within o bounds.low bounds.high base n next) whole
+    ∙ (ap (λ n. set_within o n bounds.high base c.in_ok-n.n next) lowest
+    ∙ ap (λ n. set_within o low n base c.in_ok-n.n next) highest)) in
+    rw (← is) done

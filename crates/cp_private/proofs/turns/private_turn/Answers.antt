@@ -1,0 +1,19 @@
+use Rattle.std.proofs.Common.{rules, ◌≡◌, ap, subst, sym, ◌∙◌}
+use Rattle.cp_model.specs.Turns as meaning
+use Rattle.cp_steps.specs.Laws.{ground_of}
+use Rattle.cp_steps.specs.PartOf.{PartOf}
+use Rattle.cp_steps.specs.Steps.{private_steps}
+use Rattle.cp_program.specs.View as view
+use Rattle.cp_private.specs.States.{private_of}
+use Rattle.cp_private.proofs.turns.private_turn.Goals as goal
+
+pub returns-clause-meaning : goal.returns-clause-meaning
+returns-clause-meaning c =
+    λ setup F p own s before I now P.
+    let program = view.program c.args.program.now in
+    let n = c.args.turn.steps in
+    let o = private_of c.args.private.now c.args.input.now in
+    let steps : private_of c.take_steps.new.private c.args.input.now ≡ private_steps program c.args.clock n o = search rules in
+    let there = steps ∙ ap (λ k. private_steps program k n o) now in
+    subst (PartOf (ground_of program setup F p own) (meaning.private_turn setup n s p) before) (sym there)
+    (c.private_steps.ensures.turn program setup F p own n s before o I P)

@@ -1,0 +1,216 @@
+//! Assignments, and the operations that choose which operation comes next.
+
+ghost use Rattle.std.specs.Prelude.{◌≡◌, ◌<◌, ◌^◌, ℕ, pos, List, if◌then◌else◌, length};
+ghost use Rattle.cp_code.specs.Tables.{place_in};
+ghost use Rattle.cp_model.specs.Integers.{same_integer};
+ghost use Rattle.cp_model.specs.Places.{within};
+ghost use Rattle.cp_steps.specs.Steps as plain;
+ghost use Rattle.cp_steps.specs.PrivateStates.{go_to, private_outcome};
+ghost use Rattle.cp_private.specs.States.{IsReady, IsStep, join, outcome};
+ghost use Rattle.cp_program.specs.Reaches.{cap_place};
+ghost use Rattle.cp_program.specs.View as view;
+
+use crate::effect::Effect;
+use crate::outside::Outside;
+use crate::private::Private;
+use cp_model::state::Fault;
+use cp_program::operation::Table;
+use cp_program::term::{Spot, Term};
+
+/// The bounds of the values that may be assigned.
+#[derive(Clone, Copy)]
+pub(crate) struct Bounds {
+    pub(crate) low: i32,
+    pub(crate) high: i32,
+}
+
+impl Bounds {
+    #[inline(always)]
+    pub(crate) fn new(low: i32, high: i32) -> Bounds
+        ensures low { result.low ≡ low }
+        ensures high { result.high ≡ high }
+    {
+        Bounds { low, high }
+    }
+
+    #[inline(always)]
+    pub(crate) fn contain(self, n: i32) -> bool
+        ensures { result ≡ within self.low self.high n }
+    {
+        self.low <= n && n <= self.high
+    }
+}
+
+impl Private {
+    // The address may be capped to the largest `usize`.
+    #[inline(always)]
+    fn set_within(
+        &mut self,
+        shared: &mut [i32],
+        at: usize,
+        n: i32,
+        bounds: Bounds,
+        next: u32,
+    ) -> Result<Effect, Fault>
+        requires { length shared.old < 2 ^ 30 }
+        ensures step { (input : List ℕ) (place : ℕ) → cap_place place ≡ at
+            → outcome (join self.new input shared.new) result ≡ plain.set_within
+            (join self.old input shared.old) bounds.low bounds.high place n next }
+        ensures output { self.new.output ≡ self.old.output }
+        ensures own { length self.new.memory.words.items ≡ length self.old.memory.words.items }
+        ensures number { self.new.number ≡ self.old.number }
+        ensures ready { IsReady self.old → IsReady self.new }
+        ensures shared { length shared.new ≡ length shared.old }
+    {
+        if !bounds.contain(n) {
+            return Err(Fault::Range);
+        }
+        self.set_word(shared, at, n);
+        self.place = next;
+        Ok(Effect::None)
+    }
+
+    // The bounds and the next place are read once the value is known, so that they needn't be kept
+    // while it is evaluated.
+    #[inline(always)]
+    pub(crate) fn set(
+        &mut self,
+        shared: &mut [i32],
+        outside: &Outside,
+        to: &Spot,
+        value: &Term,
+        low: &i32,
+        high: &i32,
+        next: &u32,
+    ) -> Result<Effect, Fault>
+        requires { length shared.old < 2 ^ 30 }
+        ensures step { IsStep self.old shared.old outside.now self.new shared.new result
+            (λ w o. plain.with_place w o (view.spot to.now) (λ at. plain.with_value w o
+            (view.term value.now) (λ n. plain.set_within o low.now high.now at n
+            next.now))) }
+        ensures output { self.new.output ≡ self.old.output }
+        ensures own { length self.new.memory.words.items ≡ length self.old.memory.words.items }
+        ensures number { self.new.number ≡ self.old.number }
+        ensures ready { IsReady self.old → IsReady self.new }
+        ensures shared { length shared.new ≡ length shared.old }
+    {
+        let reach = self.reach(shared, outside);
+        let at = to.place(&reach)?;
+        let n = value.value_here(&reach)?;
+        self.set_within(shared, at, n, Bounds::new(*low, *high), *next)
+    }
+
+    #[inline(always)]
+    pub(crate) fn set_result(
+        &mut self,
+        shared: &mut [i32],
+        outside: &Outside,
+        value: &Term,
+        low: &i32,
+        high: &i32,
+        next: &u32,
+    ) -> Result<Effect, Fault>
+        requires { length shared.old < 2 ^ 30 }
+        ensures step { IsStep self.old shared.old outside.now self.new shared.new result
+            (λ w o. plain.with_value w o (view.term value.now) (λ n. plain.set_within o
+            low.now high.now o.base n next.now)) }
+        ensures output { self.new.output ≡ self.old.output }
+        ensures own { length self.new.memory.words.items ≡ length self.old.memory.words.items }
+        ensures number { self.new.number ≡ self.old.number }
+        ensures shared { length shared.new ≡ length shared.old }
+    {
+        let n = self.evaluate_here(shared, outside, value)?;
+        let at = self.memory.base as usize;
+        self.set_within(shared, at, n, Bounds::new(*low, *high), *next)
+    }
+
+    pub(crate) fn copy_words(
+        &mut self,
+        shared: &mut [i32],
+        outside: &Outside,
+        to: &Spot,
+        from: &Spot,
+        size: u32,
+        next: u32,
+    ) -> Result<Effect, Fault>
+        requires { length shared.old < 2 ^ 30 }
+        ensures step { IsStep self.old shared.old outside.now self.new shared.new result
+            (λ w o. plain.with_place w o (view.spot to.now) (λ at. plain.with_place w o
+            (view.spot from.now) (λ b. plain.copy_words o at b size next))) }
+        ensures output { self.new.output ≡ self.old.output }
+        ensures own { length self.new.memory.words.items ≡ length self.old.memory.words.items }
+        ensures number { self.new.number ≡ self.old.number }
+        ensures shared { length shared.new ≡ length shared.old }
+    {
+        let at = self.place(shared, outside, to)?;
+        let from = self.place(shared, outside, from)?;
+        self.move_words(shared, at, from, size as usize);
+        self.place = next;
+        Ok(Effect::None)
+    }
+
+    #[inline(always)]
+    pub(crate) fn test(
+        &mut self,
+        shared: &[i32],
+        outside: &Outside,
+        value: &Term,
+        yes: u32,
+        no: u32,
+    ) -> Result<Effect, Fault>
+        requires { length shared.now < 2 ^ 30 }
+        ensures step { IsStep self.old shared.now outside.now self.new shared.now result
+            (λ w o. plain.with_value w o (view.term value.now) (λ n. private_outcome (go_to (if
+            same_integer n (pos 1) then yes else no) o))) }
+        ensures output { self.new.output ≡ self.old.output }
+        ensures own { length self.new.memory.words.items ≡ length self.old.memory.words.items }
+        ensures number { self.new.number ≡ self.old.number }
+    {
+        let n = self.evaluate(shared, outside, value)?;
+        self.place = if n == 1 { yes } else { no };
+        Ok(Effect::None)
+    }
+
+    pub(crate) fn choose(
+        &mut self,
+        shared: &[i32],
+        outside: &Outside,
+        value: &Term,
+        table: &Table,
+    ) -> Result<Effect, Fault>
+        requires { length shared.now < 2 ^ 30 }
+        ensures step { IsStep self.old shared.now outside.now self.new shared.now result
+            (λ w o. plain.with_value w o (view.term value.now) (λ n. plain.go_to_arm o (place_in
+            (view.table table.now) n))) }
+        ensures output { self.new.output ≡ self.old.output }
+        ensures own { length self.new.memory.words.items ≡ length self.old.memory.words.items }
+        ensures number { self.new.number ≡ self.old.number }
+    {
+        let n = self.evaluate(shared, outside, value)?;
+        match table.place(n) {
+            Some(place) => {
+                self.place = place;
+                Ok(Effect::None)
+            }
+            None => Err(Fault::NoLabel),
+        }
+    }
+
+    /// Goes on with the operation at `place`.
+    #[inline(always)]
+    pub(crate) fn go_to(
+        &mut self,
+        shared: &[i32],
+        outside: &Outside,
+        place: u32,
+    ) -> Result<Effect, Fault>
+        ensures step { IsStep self.old shared.now outside.now self.new shared.now result
+            (λ w o. private_outcome (go_to place o)) }
+        ensures output { self.new.output ≡ self.old.output }
+        ensures own { length self.new.memory.words.items ≡ length self.old.memory.words.items }
+        ensures number { self.new.number ≡ self.old.number }
+    {
+        self.place = place;
+        Ok(Effect::None)
+    }
+}

@@ -1,0 +1,118 @@
+//! Calls of routines.
+
+ghost use Rattle.std.specs.Prelude.{◌≡◌, ◌+◌, ◌<◌, ◌≤◌, ◌^◌, true, ℕ, List, IfSome, MatchOption, length, nat_le};
+ghost use Rattle.cp_code.specs.Programs.{CodeUnit as PlainUnit};
+ghost use Rattle.cp_private.specs.Calls.{HasRoom, back};
+ghost use Rattle.cp_private.specs.States.{IsStep, join};
+ghost use Rattle.cp_steps.specs.Calling as plain;
+ghost use Rattle.cp_steps.specs.PrivateStates as states;
+ghost use Rattle.cp_program.specs.View as view;
+
+use crate::called::Back;
+use crate::effect::Effect;
+use crate::frames::enters;
+use crate::outside::Outside;
+use crate::passing::Destination;
+use crate::private::Private;
+use cp_model::state::Fault;
+use cp_program::operation::Call;
+use cp_program::program::{CodeUnit, Program};
+
+// Whether there are `count` elements after the `before` elements that begin at `first`.
+fn fits(first: u32, before: u32, count: u32, all: usize) -> bool
+    ensures { result ≡ nat_le (first + before + count) all }
+{
+    first as usize + before as usize + count as usize <= all
+}
+
+impl Private {
+    // Whether own words, temps and a frame are left for the unit, and its component exists.
+    fn has_room(&self, shared: &[i32], call: &Call, unit: &CodeUnit, component: usize) -> bool
+        requires { length shared.now < 2 ^ 30 }
+        ensures value { (w : states.Outside) (input : List ℕ)
+            → w.own ≡ length self.now.memory.words.items
+            → result ≡ plain.has_room w (join self.now input shared.now) (view.call call.now)
+            (view.code_unit unit.now) component }
+        ensures room { result ≡ true → HasRoom self.now shared.now call.now unit.now component }
+    {
+        if self.frames.len() <= self.depth {
+            return false;
+        }
+        if !fits(
+            self.memory.base,
+            call.words,
+            unit.words,
+            self.memory.words.len(),
+        ) {
+            return false;
+        }
+        if !fits(
+            self.memory.temp,
+            call.temps,
+            unit.temps,
+            self.memory.temps.len(),
+        ) {
+            return false;
+        }
+        component <= self.memory.words.len() + shared.len()
+    }
+
+    /// Returns the unit of a call, if it exists and there is room for it.
+    pub(crate) fn unit_with_room<'a>(
+        &self,
+        program: &'a Program,
+        shared: &[i32],
+        call: &Call,
+        component: usize,
+    ) -> Option<&'a CodeUnit>
+        requires { length shared.now < 2 ^ 30 }
+        ensures unit { (w : states.Outside) (input : List ℕ)
+            → w.own ≡ length self.now.memory.words.items
+            → let o = join self.now input shared.now in MatchOption result
+            ((go : PlainUnit → states.Acting) → plain.with_unit (view.program program.now) w o
+            (view.call call.now) component go ≡ states.private_outcome o)
+            (λ u. (go : PlainUnit → states.Acting) → plain.with_unit (view.program program.now) w o
+            (view.call call.now) component go ≡ go (view.code_unit u.now)) }
+        ensures room { IfSome result (λ u. HasRoom self.now shared.now call.now u.now component) }
+    {
+        let unit = program.unit(call.routine)?;
+        if self.has_room(shared, call, unit, component) {
+            Some(unit)
+        } else {
+            None
+        }
+    }
+
+    /// Calls a routine.
+    pub(crate) fn call(
+        &mut self,
+        program: &Program,
+        shared: &mut [i32],
+        outside: &Outside,
+        call: &Call,
+        link: Back,
+    ) -> Result<Effect, Fault>
+        requires { length shared.old < 2 ^ 30 }
+        ensures step { IsStep self.old shared.old outside.now self.new shared.new result
+            (λ w o. plain.call_step (view.program program.now) w o (view.call call.now) (back
+            link)) }
+        ensures output { self.new.output ≡ self.old.output }
+        ensures own { length self.new.memory.words.items ≡ length self.old.memory.words.items }
+        ensures number { self.new.number ≡ self.old.number }
+        ensures shared { length shared.new ≡ length shared.old }
+    {
+        let callee = self.callee(program, shared, outside, call.target);
+        let Some(unit) = self.unit_with_room(program, shared, call, callee.component) else {
+            return Ok(Effect::None);
+        };
+        if !callee.is_set {
+            return Err(Fault::NotInitialised);
+        }
+        let to = self.memory.base as usize + call.words as usize;
+        let destination = Destination { to, home: to };
+        self.pass_all(shared, outside, destination, &call.arguments)?;
+        self.start_words(shared, to, &unit.starts);
+        self.enter(callee, unit, call, link);
+        Ok(enters(callee.gate))
+    }
+}

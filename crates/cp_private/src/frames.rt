@@ -1,0 +1,150 @@
+//! Frames: what is kept for callers, and the registers of the running activation.
+
+ghost use Rattle.std.specs.Prelude.{◌≡◌, ◌+◌, ◌-◌, ◌<◌, ◌^◌, ℕ, ℤ, suc, [], ◌∷◌, List, MatchOption, length};
+ghost use Rattle.cp_code.specs.Starts as starts;
+ghost use Rattle.cp_model.specs.declared.state.Fault.TheVariants as fault;
+ghost use Rattle.cp_private.specs.States.{effect, frame as view_frame, frames_in, join};
+ghost use Rattle.cp_private.specs.Calls.{back, called_of, returning, value_to_return};
+ghost use Rattle.cp_steps.specs.Calling as plain;
+ghost use Rattle.cp_steps.specs.PrivateStates.{Enters, Leaves};
+ghost use Rattle.cp_program.specs.View as view;
+
+use crate::called::{Back, Called};
+use crate::effect::Effect;
+use crate::private::{Frame, Private};
+use cp_model::state::Fault;
+use cp_program::operation::Call;
+use cp_program::program::CodeUnit;
+
+/// The word of a result that has not been set.
+const UNSET: i32 = i32::MIN;
+
+/// Returns the effect of entering a monitor. The number 0 stands for no monitor.
+pub(crate) fn enters(gate: u32) -> Effect
+    ensures { effect result ≡ plain.gate_effect gate Enters }
+{
+    if gate == 0 {
+        Effect::None
+    } else {
+        Effect::Enters(gate)
+    }
+}
+
+pub(crate) fn leaves(gate: u32) -> Effect
+    ensures { effect result ≡ plain.gate_effect gate Leaves }
+{
+    if gate == 0 {
+        Effect::None
+    } else {
+        Effect::Leaves(gate)
+    }
+}
+
+fn innermost_gate(entered: u32, held: u32) -> u32
+    ensures { result ≡ plain.innermost entered held }
+{
+    if entered == 0 { held } else { entered }
+}
+
+impl Private {
+    /// Returns the frame of the innermost call, if there is one.
+    pub(crate) fn innermost(&self) -> Option<Frame>
+        ensures { MatchOption result (self.now.depth ≡ 0) (λ f. (depth : ℕ)
+            × (self.now.depth ≡ suc depth)
+            × (frames_in self.now.depth self.now.frames.items ≡ view_frame f ∷ frames_in depth
+            self.now.frames.items)) }
+    {
+        let depth = self.depth;
+        if depth == 0 {
+            return None;
+        }
+        Some(self.frames.as_slice()[depth - 1])
+    }
+
+    fn keep(&mut self, frame: Frame)
+        requires { self.old.depth < length self.old.frames.items }
+        ensures step { (input : List ℕ) (shared : List ℤ) → let o = join self.old input shared in
+            join self.new input shared ≡ record o { frames = view_frame frame ∷ o.frames } }
+        ensures output { self.new.output ≡ self.old.output }
+        ensures own { length self.new.memory.words.items ≡ length self.old.memory.words.items }
+        ensures number { self.new.number ≡ self.old.number }
+    {
+        let depth = self.depth;
+        self.frames.as_mut_slice()[depth] = frame;
+        self.depth = depth + 1;
+    }
+
+    /// Enters the unit in the component whose routine is called. A frame keeps what the caller
+    /// needs.
+    pub(crate) fn enter(&mut self, callee: Called, unit: &CodeUnit, call: &Call, link: Back)
+        requires frame { self.old.depth < length self.old.frames.items }
+        requires base { self.old.memory.base + call.now.words < 2 ^ 32 }
+        requires temp { self.old.memory.temp + call.now.temps < 2 ^ 32 }
+        requires component { callee.component < 2 ^ 32 }
+        ensures step { (input : List ℕ) (shared : List ℤ)
+            → join self.new input shared ≡ plain.enter
+            (join self.old input shared) (called_of callee) (view.code_unit unit.now)
+            (view.call call.now) (back link) }
+        ensures output { self.new.output ≡ self.old.output }
+        ensures own { length self.new.memory.words.items ≡ length self.old.memory.words.items }
+        ensures number { self.new.number ≡ self.old.number }
+    {
+        let frame = Frame {
+            place: link.place,
+            base: self.memory.base,
+            temp: self.memory.temp,
+            component: self.memory.component,
+            into: link.into,
+            gate: callee.gate,
+            held: self.gate,
+        };
+        self.place = unit.start;
+        self.memory.base += call.words;
+        self.memory.temp += call.temps;
+        self.memory.component = callee.component as u32;
+        self.gate = innermost_gate(callee.gate, self.gate);
+        self.keep(frame);
+    }
+
+    /// Returns the value that the running routine returns, if it is a function.
+    pub(crate) fn value_to_return(
+        &self,
+        shared: &[i32],
+        function: bool,
+    ) -> Result<Option<i32>, Fault>
+        requires { length shared.now < 2 ^ 30 }
+        ensures { (input : List ℕ) → result ≡ value_to_return (join self.now input shared.now)
+            function }
+    {
+        if !function {
+            return Ok(None);
+        }
+        let value = self.word(shared, self.memory.base as usize);
+        if value == UNSET {
+            return Err(Fault::NoResult);
+        }
+        Ok(Some(value))
+    }
+
+    /// Returns to the caller, which receives the value.
+    pub(crate) fn return_to(&mut self, caller: Frame, value: Option<i32>)
+        requires { 0 < self.old.depth }
+        ensures step { (input : List ℕ) (shared : List ℤ)
+            → join self.new input shared ≡ plain.leave
+            (returning (join self.old input shared) (view_frame caller) value) (view_frame caller)
+            (frames_in (self.old.depth - 1) self.old.frames.items) }
+        ensures output { self.new.output ≡ self.old.output }
+        ensures own { length self.new.memory.words.items ≡ length self.old.memory.words.items }
+        ensures number { self.new.number ≡ self.old.number }
+    {
+        self.depth -= 1;
+        self.place = caller.place;
+        self.memory.base = caller.base;
+        self.memory.temp = caller.temp;
+        self.memory.component = caller.component;
+        self.gate = caller.held;
+        if let Some(value) = value {
+            self.set_temp(caller.temp as usize + caller.into as usize, value);
+        }
+    }
+}

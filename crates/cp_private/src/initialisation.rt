@@ -1,0 +1,159 @@
+//! The steps of `init`.
+
+ghost use Rattle.std.specs.Prelude.{◌≡◌, ◌<◌, ◌^◌, ℕ, List, length, map};
+ghost use Rattle.cp_private.specs.States.{IsStep, join};
+ghost use Rattle.cp_steps.specs.Calling as plain;
+ghost use Rattle.cp_steps.specs.Passing.{component_called};
+ghost use Rattle.cp_program.specs.View as view;
+
+use crate::called::{Back, Called};
+use crate::effect::Effect;
+use crate::outside::Outside;
+use crate::passing::Destination;
+use crate::private::Private;
+use cp_model::state::Fault;
+use cp_program::operation::{Argument, Call};
+use cp_program::program::Program;
+
+// Returns where the parameters of the process wait among the shared words.
+fn parameters_start(program: &Program, process: u32) -> u32
+    ensures { result ≡ plain.parameters_start (view.program program.now) process }
+{
+    match program.process(process as usize) {
+        Some(process) => process.parameters,
+        None => 0,
+    }
+}
+
+impl Private {
+    // Copies the arguments to where they belong, after the mark of the component.
+    fn settle(&mut self, shared: &mut [i32], from: usize, to: usize, count: usize)
+        requires shared { length shared.old < 2 ^ 30 }
+        requires from { from < 2 ^ 35 }
+        requires to { to < 2 ^ 35 }
+        ensures step { (input : List ℕ) → join self.new input shared.new ≡ plain.settle
+            (join self.old input shared.old) from to count }
+        ensures output { self.new.output ≡ self.old.output }
+        ensures own { length self.new.memory.words.items ≡ length self.old.memory.words.items }
+        ensures number { self.new.number ≡ self.old.number }
+        ensures shared { length shared.new ≡ length shared.old }
+    {
+        self.move_words(shared, to + 1, from + 1, count);
+    }
+
+    /// Initialises a class, whose body runs next.
+    pub(crate) fn init_class(
+        &mut self,
+        program: &Program,
+        shared: &mut [i32],
+        outside: &Outside,
+        call: &Call,
+        next: u32,
+    ) -> Result<Effect, Fault>
+        requires { length shared.old < 2 ^ 30 }
+        ensures step { IsStep self.old shared.old outside.now self.new shared.new result
+            (λ w o. let program = view.program program.now in
+            plain.init_class program w o (view.call call.now) (component_called program
+            w o (view.target call.now.target)).component next) }
+        ensures output { self.new.output ≡ self.old.output }
+        ensures own { length self.new.memory.words.items ≡ length self.old.memory.words.items }
+        ensures number { self.new.number ≡ self.old.number }
+        ensures shared { length shared.new ≡ length shared.old }
+    {
+        let at = self.callee(program, shared, outside, call.target).component;
+        let Some(unit) = self.unit_with_room(program, shared, call, at) else {
+            return Ok(Effect::None);
+        };
+        if self.word(shared, at) != 0 {
+            return Err(Fault::InitialisedTwice);
+        }
+        let from = self.memory.base as usize + call.words as usize;
+        let destination = Destination { to: from, home: at };
+        self.pass_all(shared, outside, destination, &call.arguments)?;
+        self.settle(shared, from, at, call.arguments.len());
+        self.set_word(shared, at, 1);
+        let class = Called {
+            component: at,
+            is_set: true,
+            gate: 0,
+        };
+        let link = Back {
+            place: next,
+            into: 0,
+        };
+        self.enter(class, unit, call, link);
+        Ok(Effect::None)
+    }
+
+    /// Initialises a monitor, whose body runs next.
+    pub(crate) fn init_monitor(
+        &mut self,
+        program: &Program,
+        shared: &mut [i32],
+        outside: &Outside,
+        call: &Call,
+        next: u32,
+    ) -> Result<Effect, Fault>
+        requires { length shared.old < 2 ^ 30 }
+        ensures step { IsStep self.old shared.old outside.now self.new shared.new result
+            (λ w o. let program = view.program program.now in
+            plain.init_monitor program w o (view.call call.now) (component_called
+            program w o (view.target call.now.target)).gate next) }
+        ensures output { self.new.output ≡ self.old.output }
+        ensures own { length self.new.memory.words.items ≡ length self.old.memory.words.items }
+        ensures number { self.new.number ≡ self.old.number }
+        ensures shared { length shared.new ≡ length shared.old }
+    {
+        let number = self.callee(program, shared, outside, call.target).gate;
+        let monitor = self.monitor_callee(program, outside, number);
+        let at = monitor.component;
+        let Some(unit) = self.unit_with_room(program, shared, call, at) else {
+            return Ok(Effect::None);
+        };
+        if monitor.is_set {
+            return Err(Fault::InitialisedTwice);
+        }
+        let from = self.memory.base as usize + call.words as usize;
+        let destination = Destination { to: from, home: at };
+        self.pass_all(shared, outside, destination, &call.arguments)?;
+        self.settle(shared, from, at, call.arguments.len());
+        let link = Back {
+            place: next,
+            into: 0,
+        };
+        self.enter(monitor, unit, call, link);
+        Ok(Effect::Opens(number))
+    }
+
+    /// Initialises a process, which begins with the next round.
+    pub(crate) fn init_process(
+        &mut self,
+        program: &Program,
+        shared: &mut [i32],
+        outside: &Outside,
+        process: u32,
+        arguments: &[Argument],
+        words: u32,
+        next: u32,
+    ) -> Result<Effect, Fault>
+        requires { length shared.old < 2 ^ 30 }
+        ensures step { IsStep self.old shared.old outside.now self.new shared.new result
+            (λ w o. plain.init_process (view.program program.now) w o process (map view.argument
+            arguments.now) words next) }
+        ensures output { self.new.output ≡ self.old.output }
+        ensures own { length self.new.memory.words.items ≡ length self.old.memory.words.items }
+        ensures number { self.new.number ≡ self.old.number }
+        ensures shared { length shared.new ≡ length shared.old }
+    {
+        if outside.is_started(process) {
+            return Err(Fault::InitialisedTwice);
+        }
+        let from = self.memory.base as usize + words as usize;
+        let to = self.memory.words.len() + parameters_start(program, process) as usize;
+        let destination = Destination { to: from, home: to };
+        self.pass_all(shared, outside, destination, arguments)?;
+        self.settle(shared, from, to, arguments.len());
+        self.place = next;
+        Ok(Effect::Starts(process))
+    }
+}

@@ -1,0 +1,248 @@
+//! How private states are made, copied and read, and how the kernel and rounds change them.
+
+ghost use Rattle.std.specs.Prelude.{◌≡◌, ◌<◌, ◌≤◌, ◌-◌, ◌*◌, ◌^◌, ℕ, List, [], IfOk, OnOk, Some, pos, replicate, length, slice_get, vec_capacity, vec_len};
+ghost use Rattle.cp_code.specs.Programs as code;
+ghost use Rattle.cp_code.specs.Starts.{carry_out, word};
+ghost use Rattle.cp_private.specs.Rooms.{HasRoomFor};
+ghost use Rattle.cp_private.specs.States.{activity, private_of};
+ghost use Rattle.cp_steps.specs.KernelSteps.{Kernel};
+ghost use Rattle.cp_steps.specs.Machines as plain;
+ghost use Rattle.cp_program.specs.View as view;
+
+use crate::private::{Activity, Frame, Private};
+use crate::turn::Turn;
+use crate::words;
+use cp_program::program::{Process, Program};
+use cp_program::reach::Memory;
+use smallvec::SmallVec;
+use std::alloc::{AllocError, Global};
+
+/// A process has fewer words, and fewer temps, than this.
+const TOO_MANY: usize = 1 << 30;
+
+// The number of words that are left free after those of a process, so that no cache line holds
+// words of two processes, which may run at the same time.
+const WORDS_APART: usize = 16;
+
+// What a process needs for its body and everything that it calls.
+#[derive(Clone, Copy)]
+struct Needs {
+    start: u32,
+    words: u32,
+    temps: u32,
+    frames: u32,
+}
+
+fn needs_of(program: &Program, body: u32) -> Needs
+    ensures start { result.start ≡ (plain.unit_at (view.program program.now) body).start }
+    ensures words { result.words ≡ (plain.unit_at (view.program program.now) body).words }
+    ensures temps { result.temps ≡ (plain.unit_at (view.program program.now) body).temps }
+    ensures frames { result.frames ≡ (plain.unit_at (view.program program.now) body).frames }
+{
+    match program.unit(body) {
+        Some(unit) => Needs {
+            start: unit.start,
+            words: unit.words,
+            temps: unit.temps,
+            frames: unit.frames,
+        },
+        None => Needs {
+            start: 0,
+            words: 0,
+            temps: 0,
+            frames: 0,
+        },
+    }
+}
+
+// Returns the words of a process at the start.
+fn first_words(
+    alloc: Global,
+    program: &Program,
+    process: &Process,
+    count: usize,
+) -> Result<Vec<i32>, AllocError>
+    requires { count < 2 ^ 30 }
+    ensures words { IfOk result (λ ws. ws.items ≡ carry_out 0
+        (view.plan_at (view.plans_of program.now)
+        process.now.plan) (replicate count (pos 0))) }
+    ensures count { IfOk result (λ ws. length ws.items ≡ count) }
+{
+    let mut all = Vec::from_elem(alloc, 0, count)?;
+    all.reserve(WORDS_APART)?;
+    words::start(&mut all, &mut [], 0, program.starts(process.plan));
+    Ok(all)
+}
+
+impl Private {
+    /// Returns the private state of process p at the start.
+    ///
+    /// # Errors
+    ///
+    /// `AllocError` if memory runs out, if the process has 2^30 or more words or temps, or if its
+    /// number is 2^30 or more.
+    pub fn new(alloc: Global, program: &Program, p: usize) -> Result<Private, AllocError>
+        requires first { 1 ≤ p }
+        requires last { p ≤ length (view.program program.now).processes }
+        ensures { IfOk result (λ x. (input : List ℕ) (row : code.Process)
+            → slice_get (view.program program.now).processes (p - 1) ≡ Some row
+            → private_of x input ≡ plain.first_part (view.program program.now) (λ q. input) p row) }
+    {
+        let Some(process) = program.process(p) else {
+            return Err(AllocError);
+        };
+        let needs = needs_of(program, process.body);
+        let count = process.words as usize + needs.words as usize;
+        let temps = needs.temps as usize;
+        if TOO_MANY <= count || TOO_MANY <= temps || TOO_MANY <= p {
+            return Err(AllocError);
+        }
+        Ok(Private {
+            number: p,
+            activity: if p == 1 {
+                Activity::Running
+            } else {
+                Activity::NotBegun
+            },
+            place: needs.start,
+            gate: 0,
+            memory: Memory {
+                words: first_words(alloc, program, process, count)?,
+                temps: Vec::from_elem(alloc, 0, temps)?,
+                base: process.words,
+                temp: 0,
+                component: 0,
+            },
+            frames: SmallVec::from_elem(alloc, Frame::default(), needs.frames as usize)?,
+            depth: 0,
+            output: Vec::new(alloc),
+            consumed: 0,
+        })
+    }
+
+    /// Returns a private state with the same content.
+    ///
+    /// # Errors
+    ///
+    /// `AllocError` if memory runs out.
+    pub fn copy(&self, alloc: Global) -> Result<Private, AllocError>
+        ensures { IfOk result
+            (λ x. (input : List ℕ) → private_of x input ≡ private_of self.now input) }
+    {
+        Ok(Private {
+            number: self.number,
+            activity: self.activity,
+            place: self.place,
+            gate: self.gate,
+            memory: Memory {
+                words: Vec::from_slice(alloc, &self.memory.words)?,
+                temps: Vec::from_slice(alloc, &self.memory.temps)?,
+                base: self.memory.base,
+                temp: self.memory.temp,
+                component: self.memory.component,
+            },
+            frames: SmallVec::from_slice(alloc, self.frames.as_slice())?,
+            depth: self.depth,
+            output: Vec::from_slice(alloc, &self.output)?,
+            consumed: self.consumed,
+        })
+    }
+
+    /// Reserves room for the output of a turn. The content stays as it is.
+    ///
+    /// # Errors
+    ///
+    /// `AllocError` if memory runs out.
+    pub fn reserve(&mut self, turn: Turn) -> Result<(), AllocError>
+        ensures room { OnOk result (HasRoomFor self.new turn.steps) }
+        ensures content { (input : List ℕ) → private_of self.new input ≡ private_of self.old input }
+    {
+        self.output.reserve(11 * turn.steps() as usize)
+    }
+
+    /// Reserves room for the output of a round, which is a private turn and then a kernel turn. The
+    /// content stays as it is.
+    ///
+    /// # Errors
+    ///
+    /// `AllocError` if memory runs out.
+    pub fn reserve_round(&mut self, turn: Turn) -> Result<(), AllocError>
+        ensures room { OnOk result (HasRoomFor self.new (2 * turn.steps)) }
+        ensures number { self.new.number ≡ self.old.number }
+        ensures content { (input : List ℕ) → private_of self.new input ≡ private_of self.old input }
+    {
+        self.output.reserve(22 * turn.steps() as usize)
+    }
+
+    /// Returns the number of the process, from 1.
+    pub fn number(&self) -> usize
+        ensures number { (input : List ℕ) → result ≡ (private_of self.now input).number }
+        ensures small { result < 2 ^ 31 }
+    {
+        self.number
+    }
+
+    /// Returns how many words of its own the process has.
+    pub fn words(&self) -> usize
+        ensures words { (input : List ℕ) → result ≡ length (private_of self.now input).words }
+        ensures few { result < 2 ^ 30 }
+    {
+        self.memory.words.len()
+    }
+
+    /// Returns whether the process runs, waits, has ended or has faulted.
+    pub fn activity(&self) -> Activity
+        ensures { (input : List ℕ) → activity result ≡ (private_of self.now input).activity }
+    {
+        self.activity
+    }
+
+    /// Returns the word at an address. A missing word reads as 0.
+    pub fn value(&self, at: usize) -> i32
+        ensures { (input : List ℕ) → result ≡ word (private_of self.now input).words at }
+    {
+        words::read(&self.memory.words, &[], at)
+    }
+
+    /// Returns the output that isn't in the transcript yet.
+    pub fn output(&self) -> &[u8]
+        ensures { (input : List ℕ) → result.now ≡ (private_of self.now input).output }
+    {
+        &self.output
+    }
+
+    /// Clears the output, once it is in the transcript. The room for it stays.
+    pub fn clear_output(&mut self)
+        ensures content { (input : List ℕ) → private_of self.new input
+            ≡ record (private_of self.old input) { output = [] } }
+        ensures empty { vec_len self.new.output ≡ 0 }
+        ensures room { vec_capacity self.old.output ≤ vec_capacity self.new.output }
+    {
+        self.output.clear();
+    }
+
+    /// Lets the process run again if it waits for the clock.
+    pub fn wake(&mut self)
+        ensures content { (input : List ℕ) → private_of self.new input ≡ plain.wake_one
+            (private_of self.old input) }
+        ensures number { self.new.number ≡ self.old.number }
+        ensures output { self.new.output ≡ self.old.output }
+    {
+        if matches!(self.activity, Activity::Waiting) {
+            self.activity = Activity::Running;
+        }
+    }
+
+    /// Begins the process, with its parameters, which wait among the shared words.
+    pub fn begin(&mut self, program: &Program, shared: &[i32])
+        ensures { (input : List ℕ) (k : Kernel) → k.shared ≡ shared.now → private_of self.new input
+            ≡ plain.begin_from (view.program program.now) k (private_of self.old input) }
+    {
+        if let Some(process) = program.process(self.number) {
+            let from = process.parameters as usize + 1;
+            let count = process.waiting.saturating_sub(1) as usize;
+            words::bring(&mut self.memory.words, 1, shared, from, count);
+            self.activity = Activity::Running;
+        }
+    }
+}

@@ -1,0 +1,199 @@
+//! The arguments of calls and of `init`.
+
+ghost use Rattle.std.specs.Prelude.{◌≡◌, ◌+◌, ◌<◌, ◌^◌, ℕ, List, None, length, map};
+ghost use Rattle.cp_private.specs.Calls.{passing_of};
+ghost use Rattle.cp_private.specs.States.{join, outside_of};
+ghost use Rattle.cp_steps.specs.Passing as plain;
+ghost use Rattle.cp_steps.specs.PrivateStates.{view_of};
+ghost use Rattle.cp_steps.specs.Values.{place_of, value_of};
+ghost use Rattle.cp_program.specs.Reaches.{cap_place};
+ghost use Rattle.cp_program.specs.View as view;
+
+use crate::assignments::Bounds;
+use crate::outside::Outside;
+use crate::private::Private;
+use cp_model::state::Fault;
+use cp_program::operation::{Argument, Target};
+use cp_program::term::{Spot, Term};
+
+/// Where arguments are put: the address of the first word there, and the address of the first
+/// word of the activation or component that they belong to in the end.
+#[derive(Clone, Copy)]
+pub(crate) struct Destination {
+    pub(crate) to: usize,
+    pub(crate) home: usize,
+    ghost small: { (to < 2 ^ 35) × (home < 2 ^ 35) },
+}
+
+impl Private {
+    // The bounds are read once the value is known, so that they needn't be kept while it is
+    // evaluated.
+    fn pass_value(
+        &mut self,
+        shared: &mut [i32],
+        outside: &Outside,
+        at: usize,
+        low: &i32,
+        high: &i32,
+        term: &Term,
+    ) -> Result<(), Fault>
+        requires shared { length shared.old < 2 ^ 30 }
+        requires at { at < 2 ^ 36 }
+        ensures step { (own : ℕ) → let o = join self.old outside.now.input.now shared.old in
+            passing_of (join self.new outside.now.input.now shared.new) result ≡ plain.pass_result o
+            (value_of (view_of (outside_of outside.now own) o) (view.term term.now))
+            (λ n. plain.pass_value o at low.now high.now n) }
+        ensures output { self.new.output ≡ self.old.output }
+        ensures own { length self.new.memory.words.items ≡ length self.old.memory.words.items }
+        ensures number { self.new.number ≡ self.old.number }
+        ensures shared { length shared.new ≡ length shared.old }
+    {
+        let n = self.evaluate_here(shared, outside, term)?;
+        if !Bounds::new(*low, *high).contain(n) {
+            return Err(Fault::Range);
+        }
+        self.set_word(shared, at, n);
+        Ok(())
+    }
+
+    fn pass_copy(
+        &mut self,
+        shared: &mut [i32],
+        outside: &Outside,
+        at: usize,
+        size: u32,
+        from: &Spot,
+    ) -> Result<(), Fault>
+        requires shared { length shared.old < 2 ^ 30 }
+        requires at { at < 2 ^ 36 }
+        ensures step { (own : ℕ) → let o = join self.old outside.now.input.now shared.old in
+            passing_of (join self.new outside.now.input.now shared.new) result ≡ plain.pass_result o
+            (place_of (view_of (outside_of outside.now own) o) (view.spot from.now))
+            (λ a. plain.pass_copy o at size a) }
+        ensures output { self.new.output ≡ self.old.output }
+        ensures own { length self.new.memory.words.items ≡ length self.old.memory.words.items }
+        ensures number { self.new.number ≡ self.old.number }
+        ensures shared { length shared.new ≡ length shared.old }
+    {
+        let from = self.place(shared, outside, from)?;
+        self.move_words(shared, at, from, size as usize);
+        Ok(())
+    }
+
+    // Returns an address as a word, or 0 if it lies beyond all words.
+    fn reference_word(&self, shared: &[i32], at: usize) -> i32
+        requires { length shared.now < 2 ^ 30 }
+        ensures { (input : List ℕ) (place : ℕ) → cap_place place ≡ at
+            → result ≡ plain.reference_word (join self.now input shared.now) place }
+    {
+        if at <= self.memory.words.len() + shared.len() {
+            at as i32
+        } else {
+            0
+        }
+    }
+
+    fn pass_reference(
+        &mut self,
+        shared: &mut [i32],
+        outside: &Outside,
+        at: usize,
+        to: &Spot,
+    ) -> Result<(), Fault>
+        requires shared { length shared.old < 2 ^ 30 }
+        requires at { at < 2 ^ 36 }
+        ensures step { (own : ℕ) → let o = join self.old outside.now.input.now shared.old in
+            passing_of (join self.new outside.now.input.now shared.new) result ≡ plain.pass_result o
+            (place_of (view_of (outside_of outside.now own) o) (view.spot to.now))
+            (λ a. plain.pass_word o at (plain.reference_word o a)) }
+        ensures output { self.new.output ≡ self.old.output }
+        ensures own { length self.new.memory.words.items ≡ length self.old.memory.words.items }
+        ensures number { self.new.number ≡ self.old.number }
+        ensures shared { length shared.new ≡ length shared.old }
+    {
+        let place = self.place(shared, outside, to)?;
+        let word = self.reference_word(shared, place);
+        self.set_word(shared, at, word);
+        Ok(())
+    }
+
+    fn pass_right(&mut self, shared: &mut [i32], at: usize, home: usize, of: Target)
+        requires shared { length shared.old < 2 ^ 30 }
+        requires at { at < 2 ^ 36 }
+        ensures step { (input : List ℕ) → let o = join self.old input shared.old in
+            plain.pass_word o at (plain.right_word o home (view.target of))
+            ≡ record { own = join self.new input shared.new; fault = None } }
+        ensures output { self.new.output ≡ self.old.output }
+        ensures own { length self.new.memory.words.items ≡ length self.old.memory.words.items }
+        ensures number { self.new.number ≡ self.old.number }
+        ensures shared { length shared.new ≡ length shared.old }
+    {
+        let word = self.right_word(shared, home, of);
+        self.set_word(shared, at, word);
+    }
+
+    fn pass_one(
+        &mut self,
+        shared: &mut [i32],
+        outside: &Outside,
+        destination: Destination,
+        argument: &Argument,
+    ) -> Result<(), Fault>
+        requires { length shared.old < 2 ^ 30 }
+        ensures step { (own : ℕ)
+            → passing_of (join self.new outside.now.input.now shared.new) result
+            ≡ plain.pass_one (outside_of outside.now own) destination.to destination.home
+            (join self.old outside.now.input.now shared.old) (view.argument argument.now) }
+        ensures output { self.new.output ≡ self.old.output }
+        ensures own { length self.new.memory.words.items ≡ length self.old.memory.words.items }
+        ensures number { self.new.number ≡ self.old.number }
+        ensures shared { length shared.new ≡ length shared.old }
+    {
+        let Destination { to, home } = destination;
+        match argument {
+            Argument::Value {
+                at,
+                low,
+                high,
+                term,
+            } => self.pass_value(shared, outside, to + *at as usize, low, high, term),
+            Argument::Copy { at, size, from } => {
+                self.pass_copy(shared, outside, to + *at as usize, *size, from)
+            }
+            Argument::Reference { at, to: spot } => {
+                self.pass_reference(shared, outside, to + *at as usize, spot)
+            }
+            Argument::Right { at, of } => {
+                let far = *at as usize;
+                self.pass_right(shared, to + far, home + far, *of);
+                Ok(())
+            }
+        }
+    }
+
+    /// Passes arguments from the first one on. A fault ends the passing, and the words passed
+    /// before it stay.
+    pub(crate) fn pass_all(
+        &mut self,
+        shared: &mut [i32],
+        outside: &Outside,
+        destination: Destination,
+        arguments: &[Argument],
+    ) -> Result<(), Fault>
+        requires { length shared.old < 2 ^ 30 }
+        ensures step { (own : ℕ)
+            → passing_of (join self.new outside.now.input.now shared.new) result
+            ≡ plain.pass_all (outside_of outside.now own) destination.to destination.home
+            (map view.argument arguments.now)
+            (join self.old outside.now.input.now shared.old) }
+        ensures output { self.new.output ≡ self.old.output }
+        ensures own { length self.new.memory.words.items ≡ length self.old.memory.words.items }
+        ensures number { self.new.number ≡ self.old.number }
+        ensures shared { length shared.new ≡ length shared.old }
+    {
+        for argument in arguments {
+            self.pass_one(shared, outside, destination, argument)?;
+        }
+        Ok(())
+    }
+}

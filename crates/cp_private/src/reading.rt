@@ -1,0 +1,91 @@
+//! What evaluation reads of a private state, and the values and addresses that it finds.
+
+ghost use Rattle.std.specs.Prelude.{◌≡◌, ◌<◌, ◌^◌, ℕ, List, length};
+ghost use Rattle.cp_code.specs.Starts.{word};
+ghost use Rattle.cp_private.specs.States.{join, outside_of};
+ghost use Rattle.cp_steps.specs.PrivateStates as plain;
+ghost use Rattle.cp_steps.specs.Values.{place_of, value_of};
+ghost use Rattle.cp_program.specs.Reaches.{cap_place, capped_result, view_of};
+ghost use Rattle.cp_program.specs.View as view;
+
+use crate::outside::Outside;
+use crate::private::Private;
+use crate::words;
+use cp_model::state::Fault;
+use cp_program::reach::Reach;
+use cp_program::term::{Spot, Term};
+
+impl Private {
+    /// Returns what evaluation reads.
+    #[inline(always)]
+    pub(crate) fn reach<'a>(&'a self, shared: &'a [i32], outside: &Outside) -> Reach<'a>
+        requires { length shared.now < 2 ^ 30 }
+        ensures { (input : List ℕ) (own : ℕ) → view_of result ≡ plain.view_of
+            (outside_of outside.now own) (join self.now input shared.now) }
+    {
+        Reach {
+            memory: &self.memory,
+            shared,
+            clock: outside.clock,
+        }
+    }
+
+    /// Returns the word at an address, which may be capped to the largest `usize`.
+    #[inline(always)]
+    pub(crate) fn word(&self, shared: &[i32], at: usize) -> i32
+        requires { length shared.now < 2 ^ 30 }
+        ensures { (input : List ℕ) (place : ℕ) → cap_place place ≡ at → result ≡ word
+            (join self.now input shared.now).words place }
+    {
+        words::read(&self.memory.words, shared, at)
+    }
+
+    /// Returns the value of a term.
+    #[inline(always)]
+    pub(crate) fn evaluate(
+        &self,
+        shared: &[i32],
+        outside: &Outside,
+        term: &Term,
+    ) -> Result<i32, Fault>
+        requires { length shared.now < 2 ^ 30 }
+        ensures { (input : List ℕ) (own : ℕ) → result ≡ value_of
+            (plain.view_of (outside_of outside.now own) (join self.now input shared.now))
+            (view.term term.now) }
+    {
+        term.value(&self.reach(shared, outside))
+    }
+
+    /// Returns the same value as `evaluate`, without a call if the operands are numbers and words.
+    #[inline(always)]
+    pub(crate) fn evaluate_here(
+        &self,
+        shared: &[i32],
+        outside: &Outside,
+        term: &Term,
+    ) -> Result<i32, Fault>
+        requires { length shared.now < 2 ^ 30 }
+        ensures { (input : List ℕ) (own : ℕ) → result ≡ value_of
+            (plain.view_of (outside_of outside.now own) (join self.now input shared.now))
+            (view.term term.now) }
+    {
+        term.value_here(&self.reach(shared, outside))
+    }
+
+    /// Returns the address of a spot. An address beyond all words may be capped to the largest
+    /// `usize`.
+    #[inline(always)]
+    pub(crate) fn place(
+        &self,
+        shared: &[i32],
+        outside: &Outside,
+        spot: &Spot,
+    ) -> Result<usize, Fault>
+        requires { length shared.now < 2 ^ 30 }
+        ensures { (input : List ℕ) (own : ℕ) → result ≡ capped_result (place_of
+            (plain.view_of (outside_of outside.now own) (join self.now input shared.now))
+            (view.spot spot.now)) }
+    {
+        spot.place(&self.reach(shared, outside))
+    }
+}

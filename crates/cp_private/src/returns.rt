@@ -1,0 +1,94 @@
+//! Returns from routines and bodies, and `continue`, which returns.
+
+ghost use Rattle.std.specs.Prelude.{◌≡◌, ◌<◌, ◌^◌, ℕ, length};
+ghost use Rattle.cp_private.specs.States.{IsStep};
+ghost use Rattle.cp_steps.specs.Calling as calling;
+ghost use Rattle.cp_steps.specs.PrivateStates.{Leaves};
+ghost use Rattle.cp_steps.specs.Steps as plain;
+ghost use Rattle.cp_program.specs.View as view;
+
+use crate::effect::Effect;
+use crate::frames::leaves;
+use crate::outside::Outside;
+use crate::private::Private;
+use cp_model::state::Fault;
+use cp_program::term::Spot;
+
+impl Private {
+    /// Returns from the running routine. It is a fault if a function has set no result.
+    pub(crate) fn give_back(
+        &mut self,
+        shared: &[i32],
+        outside: &Outside,
+        function: bool,
+    ) -> Result<Effect, Fault>
+        requires { length shared.now < 2 ^ 30 }
+        ensures step { IsStep self.old shared.now outside.now self.new shared.now result
+            (λ w o. calling.with_frame o o.frames (λ f fs. calling.return_with o o f fs function
+            (calling.gate_effect f.gate Leaves))) }
+        ensures output { self.new.output ≡ self.old.output }
+        ensures own { length self.new.memory.words.items ≡ length self.old.memory.words.items }
+        ensures number { self.new.number ≡ self.old.number }
+    {
+        let Some(frame) = self.innermost() else {
+            return Ok(Effect::None);
+        };
+        let value = self.value_to_return(shared, function)?;
+        self.return_to(frame, value);
+        Ok(leaves(frame.gate))
+    }
+
+    /// Ends the body of a component.
+    pub(crate) fn end_body(&mut self, shared: &[i32], outside: &Outside) -> Result<Effect, Fault>
+        requires { length shared.now < 2 ^ 30 }
+        ensures step { IsStep self.old shared.now outside.now self.new shared.now result
+            (λ w o. calling.with_frame o o.frames (λ f fs. (
+              calling.leave o f fs,
+              calling.gate_effect f.gate Leaves,
+            ))) }
+        ensures output { self.new.output ≡ self.old.output }
+        ensures own { length self.new.memory.words.items ≡ length self.old.memory.words.items }
+        ensures number { self.new.number ≡ self.old.number }
+    {
+        let Some(frame) = self.innermost() else {
+            return Ok(Effect::None);
+        };
+        self.return_to(frame, None);
+        Ok(leaves(frame.gate))
+    }
+
+    /// Resumes the process that waits in a queue, if there is one, and returns from the running
+    /// routine. Does nothing if that routine has entered no monitor.
+    pub(crate) fn let_go(
+        &mut self,
+        shared: &mut [i32],
+        outside: &Outside,
+        queue: &Spot,
+        function: bool,
+    ) -> Result<Effect, Fault>
+        requires { length shared.old < 2 ^ 30 }
+        ensures step { IsStep self.old shared.old outside.now self.new shared.new result
+            (λ w o. plain.with_place w o (view.spot queue.now) (λ at. plain.continue o at
+            function)) }
+        ensures output { self.new.output ≡ self.old.output }
+        ensures own { length self.new.memory.words.items ≡ length self.old.memory.words.items }
+        ensures number { self.new.number ≡ self.old.number }
+        ensures shared { length shared.new ≡ length shared.old }
+    {
+        let at = self.place(shared, outside, queue)?;
+        let Some(frame) = self.innermost() else {
+            return Ok(Effect::None);
+        };
+        if frame.gate == 0 {
+            return Ok(Effect::None);
+        }
+        let value = self.value_to_return(shared, function)?;
+        let resumed = self.word(shared, at);
+        self.return_to(frame, value);
+        self.set_word(shared, at, 0);
+        Ok(Effect::Continues {
+            monitor: frame.gate,
+            resumed,
+        })
+    }
+}

@@ -1,0 +1,245 @@
+//! One step of a process.
+
+ghost use Rattle.std.specs.Prelude.{◌≡◌, ◌<◌, ◌^◌, false, true, ℕ, List, [], length};
+ghost use Rattle.cp_private.specs.Rooms.{HasRoomFor, KeepsRoom};
+ghost use Rattle.cp_private.specs.States.{IsAlone, IsReady, IsStep, activity, effect, join, outside_of, private_of};
+ghost use Rattle.cp_code.specs.Programs as code;
+ghost use Rattle.cp_steps.specs.PrivateStates.{is_running};
+ghost use Rattle.cp_steps.specs.Steps as plain;
+ghost use Rattle.cp_program.specs.View as view;
+
+use crate::assignments::Bounds;
+use crate::called::Back;
+use crate::effect::Effect;
+use crate::outside::Outside;
+use crate::private::{Activity, Private};
+use cp_model::state::Fault;
+use cp_program::operation::{Operation, Target};
+use cp_program::program::Program;
+use cp_program::term::{Spot, Term};
+
+impl Private {
+    // Makes the step of an operation. If it faults, nothing has changed except what was passed to a
+    // call.
+    #[inline(always)]
+    fn act(
+        &mut self,
+        operation: &Operation,
+        program: &Program,
+        shared: &mut [i32],
+        outside: &Outside,
+    ) -> Result<Effect, Fault>
+        requires shared { length shared.old < 2 ^ 30 }
+        requires room { HasRoomFor self.old 1 }
+        ensures step { IsStep self.old shared.old outside.now self.new shared.new result
+            (λ w o. plain.act (view.program program.now) w o (view.operation operation.now)) }
+        ensures room { KeepsRoom self.old self.new }
+        ensures own { length self.new.memory.words.items ≡ length self.old.memory.words.items }
+        ensures number { self.new.number ≡ self.old.number }
+        ensures shared { length shared.new ≡ length shared.old }
+    {
+        match operation {
+            Operation::Set {
+                to,
+                low,
+                high,
+                value,
+                next,
+            } => self.set(shared, outside, to, value, low, high, next),
+            Operation::SetResult {
+                low,
+                high,
+                value,
+                next,
+            } => self.set_result(shared, outside, value, low, high, next),
+            Operation::CopyWords {
+                to,
+                from,
+                size,
+                next,
+            } => self.copy_words(shared, outside, to, from, *size, *next),
+            Operation::Test { value, yes, no } => self.test(shared, outside, value, *yes, *no),
+            Operation::Case { value, table } => self.choose(shared, outside, value, table),
+            Operation::For {
+                counting,
+                first,
+                last,
+            } => self.count_from(shared, outside, counting, first, last),
+            Operation::ForNext(counting) => self.count_on(shared, outside, counting),
+            Operation::Cycle { body } => self.go_to(shared, outside, *body),
+            Operation::Procedure { call, next } => {
+                self.call(program, shared, outside, call, Back::new(*next, 0))
+            }
+            Operation::Function { call, into, next } => {
+                self.call(program, shared, outside, call, Back::new(*next, *into))
+            }
+            Operation::Return { function } => self.give_back(shared, outside, *function),
+            Operation::InitClass { call, next } => {
+                self.init_class(program, shared, outside, call, *next)
+            }
+            Operation::InitMonitor { call, next } => {
+                self.init_monitor(program, shared, outside, call, *next)
+            }
+            Operation::InitProcess {
+                process,
+                arguments,
+                words,
+                next,
+            } => self.init_process(program, shared, outside, *process, arguments, *words, *next),
+            Operation::EndBody => self.end_body(shared, outside),
+            Operation::End => self.end(shared, outside),
+            Operation::Display {
+                value,
+                as_byte,
+                next,
+            } => self.display(shared, outside, value, *as_byte, *next),
+            Operation::Accept {
+                to,
+                low,
+                high,
+                next,
+            } => self.accept(shared, outside, to, Bounds::new(*low, *high), *next),
+            Operation::Delay { queue, next } => self.delay(shared, outside, queue, *next),
+            Operation::Continue { queue, function } => {
+                self.let_go(shared, outside, queue, *function)
+            }
+            Operation::Wait { next } => self.wait(shared, outside, *next),
+        }
+    }
+
+    /// Makes the step of an operation. A fault ends the process.
+    #[inline(always)]
+    pub(crate) fn make(
+        &mut self,
+        operation: &Operation,
+        program: &Program,
+        shared: &mut [i32],
+        outside: &Outside,
+    ) -> Effect
+        requires shared { length shared.old < 2 ^ 30 }
+        requires room { HasRoomFor self.old 1 }
+        ensures step { let w = outside_of outside.now (length self.old.memory.words.items) in
+            (join self.new outside.now.input.now shared.new, effect result) ≡ plain.act
+            (view.program program.now) w (join self.old outside.now.input.now shared.old)
+            (view.operation operation.now) }
+        ensures room { KeepsRoom self.old self.new }
+        ensures own { length self.new.memory.words.items ≡ length self.old.memory.words.items }
+        ensures number { self.new.number ≡ self.old.number }
+        ensures shared { length shared.new ≡ length shared.old }
+    {
+        match self.act(operation, program, shared, outside) {
+            Ok(effect) => effect,
+            Err(fault) => {
+                self.activity = Activity::Faulted(fault);
+                Effect::None
+            }
+        }
+    }
+
+    // Makes a private step that assigns a value. This is the most common step, so it is tested for
+    // before all other operations. Returns whether the process is as ready as before: if not, a
+    // fault has ended it.
+    #[inline(always)]
+    fn assign(
+        &mut self,
+        outside: &Outside,
+        to: &Spot,
+        value: &Term,
+        low: &i32,
+        high: &i32,
+        next: &u32,
+    ) -> bool
+        ensures step { let input = outside.now.input.now in let o = join self.old input [] in
+            let w = outside_of outside.now (length self.old.memory.words.items) in
+            join self.new input []
+            ≡ (plain.with_place w o (view.spot to.now) (λ at. plain.with_value w o
+            (view.term value.now) (λ n. plain.set_within o low.now high.now at n next.now))).0 }
+        ensures output { self.new.output ≡ self.old.output }
+        ensures number { self.new.number ≡ self.old.number }
+        ensures ready { IsReady self.old → result ≡ true → IsReady self.new }
+        ensures faulted { result ≡ false → is_running (activity self.new.activity) ≡ false }
+    {
+        if let Err(fault) = self.set(&mut [], outside, to, value, low, high, next) {
+            self.activity = Activity::Faulted(fault);
+            return false;
+        }
+        true
+    }
+
+    /// Whether the process runs and holds no gate, so that its next step may be private.
+    #[inline(always)]
+    pub(crate) fn is_ready(&self) -> bool
+        ensures ready { result ≡ true → IsReady self.now }
+        ensures rest { result ≡ false → (program : code.Program) (clock : ℕ) (input : List ℕ)
+            → plain.private_step program clock (private_of self.now input)
+            ≡ private_of self.now input }
+    {
+        matches!(self.activity, Activity::Running) && self.gate == 0
+    }
+
+    /// Makes the next step of a process that is ready, if the step is private. Returns whether one
+    /// more step may be private.
+    #[inline(always)]
+    pub(crate) fn take_step(&mut self, program: &Program, outside: &Outside) -> bool
+        requires alone { IsAlone outside.now }
+        requires ready { IsReady self.old }
+        requires room { HasRoomFor self.old 1 }
+        ensures step { private_of self.new outside.now.input.now ≡ plain.private_step
+            (view.program program.now) outside.now.clock
+            (private_of self.old outside.now.input.now) }
+        ensures ready { result ≡ true → IsReady self.new }
+        ensures rest { result ≡ false → plain.private_step (view.program program.now)
+            outside.now.clock (private_of self.new outside.now.input.now)
+            ≡ private_of self.new outside.now.input.now }
+        ensures number { self.new.number ≡ self.old.number }
+        ensures room { KeepsRoom self.old self.new }
+    {
+        let Some(operation) = program.operation(self.place) else {
+            return false;
+        };
+        if let Operation::Set {
+            to,
+            low,
+            high,
+            value,
+            next,
+        } = operation
+        {
+            return self.assign(outside, to, value, low, high, next);
+        }
+        if needs_kernel(operation) {
+            return false;
+        }
+        self.make(operation, program, &mut [], outside);
+        self.is_ready()
+    }
+}
+
+fn is_monitor(target: Target) -> bool
+    ensures { result ≡ plain.is_monitor (view.target target) }
+{
+    matches!(target, Target::Monitor(_) | Target::MonitorRight(_))
+}
+
+/// Whether the step of an operation is always the kernel's.
+#[inline(always)]
+pub(crate) fn needs_kernel(operation: &Operation) -> bool
+    ensures { result ≡ plain.is_kernel_operation (view.operation operation.now) }
+{
+    // One test singles out most operations.
+    if !matches!(
+        operation,
+        Operation::Procedure { .. }
+            | Operation::Function { .. }
+            | Operation::InitMonitor { .. }
+            | Operation::InitProcess { .. }
+    ) {
+        return false;
+    }
+    match operation {
+        Operation::Procedure { call, .. } | Operation::Function { call, .. } => {
+            is_monitor(call.target)
+        }
+        _ => true,
+    }
+}

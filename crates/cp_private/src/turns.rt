@@ -1,0 +1,93 @@
+//! Private turns.
+
+ghost use Rattle.std.specs.Prelude.{◌≡◌, ◌≤◌, ◌+◌, ◌*◌, ◌<◌, ◌^◌, length, vec_capacity, vec_len};
+ghost use Rattle.cp_private.specs.Promises.{MakesStep, MakesTurn};
+ghost use Rattle.cp_private.specs.Rooms.{HasRoomFor, KeepsRoom};
+ghost use Rattle.cp_private.specs.States.{IsAlone, effect, join, outside_of, private_of};
+ghost use Rattle.cp_steps.specs.Steps as plain;
+ghost use Rattle.cp_program.specs.View as view;
+
+use crate::effect::Effect;
+use crate::outside::Outside;
+use crate::private::Private;
+use crate::turn::Turn;
+use cp_steps::law;
+use cp_program::program::Program;
+
+// Makes `count` steps, as long as the next one is private.
+fn take_steps(program: &Program, private: &mut Private, outside: &Outside, count: u32)
+    requires alone { IsAlone outside.now }
+    requires room { HasRoomFor private.old count }
+    ensures steps { private_of private.new outside.now.input.now ≡ plain.private_steps
+        (view.program program.now) outside.now.clock count
+        (private_of private.old outside.now.input.now) }
+    ensures number { private.new.number ≡ private.old.number }
+    ensures length { vec_len private.new.output ≤ vec_len private.old.output + 11 * count }
+    ensures capacity { vec_capacity private.old.output ≤ vec_capacity private.new.output }
+{
+    if !private.is_ready() {
+        return;
+    }
+    for _i in 0..count {
+        if !private.take_step(program, outside) {
+            return;
+        }
+    }
+}
+
+/// Makes one step if the next one is private, and otherwise does nothing. It takes no memory.
+pub fn private_step(program: &Program, private: &mut Private, input: &[u8], clock: u64)
+    requires room { HasRoomFor private.old 1 }
+    ensures step { private_of private.new input.now ≡ plain.private_step (view.program program.now)
+        clock (private_of private.old input.now) }
+    ensures meaning { MakesStep program.now private.old private.new input.now clock }
+    ensures number { private.new.number ≡ private.old.number }
+    ensures room { KeepsRoom private.old private.new }
+{
+    take_steps(program, private, &Outside::alone(input, clock), 1);
+    law::private_steps();
+}
+
+/// Makes as many steps as the turn has, as long as the next one is private. It takes no memory:
+/// `Private::reserve` reserves the room. A step writes at most 11 bytes.
+pub fn private_turn(program: &Program, private: &mut Private, input: &[u8], clock: u64, turn: Turn)
+    requires room { HasRoomFor private.old turn.steps }
+    ensures steps { private_of private.new input.now ≡ plain.private_steps
+        (view.program program.now) clock turn.steps (private_of private.old input.now) }
+    ensures meaning { MakesTurn program.now turn.steps private.old private.new input.now clock }
+    ensures number { private.new.number ≡ private.old.number }
+    ensures length { vec_len private.new.output ≤ vec_len private.old.output + 11 * turn.steps }
+    ensures capacity { vec_capacity private.old.output ≤ vec_capacity private.new.output }
+{
+    take_steps(
+        program,
+        private,
+        &Outside::alone(input, clock),
+        turn.steps(),
+    );
+    law::private_steps();
+}
+
+/// Makes one step of a running process, of any kind, and returns what it leaves to the kernel. It
+/// takes no memory.
+pub fn step(
+    program: &Program,
+    private: &mut Private,
+    shared: &mut [i32],
+    outside: &Outside,
+) -> Effect
+    requires shared { length shared.old < 2 ^ 30 }
+    requires room { HasRoomFor private.old 1 }
+    ensures step { let w = outside_of outside.now (length private.old.memory.words.items) in
+        (join private.new outside.now.input.now shared.new, effect result) ≡ plain.step_with
+        (view.program program.now) w (join private.old outside.now.input.now shared.old) }
+    ensures room { KeepsRoom private.old private.new }
+    ensures own { length private.new.memory.words.items ≡ length private.old.memory.words.items }
+    ensures number { private.new.number ≡ private.old.number }
+    ensures shared { length shared.new ≡ length shared.old }
+{
+    match program.operation(private.place) {
+        Some(operation) => private.make(operation, program, shared, outside),
+        None => Effect::None,
+    }
+}
