@@ -2,7 +2,7 @@
 use Rattle.std.proofs.Common.{◌≡◌, ◌+◌, ◌<◌, ◌≤◌, ℕ, suc, List, [], ◌∷◌, length, refl, ap, sym, ◌∙◌, subst, arith}
 use Rattle.cp_code.specs.Programs as code
 use Rattle.cp_code.specs.Programs.{Program}
-use Rattle.cp_gates.specs.KernelOf.{Bytes}
+use Rattle.cp_kernel.specs.KernelOf.{Bytes}
 use Rattle.cp_model.specs.Rounds as meaning
 use Rattle.cp_model.specs.Start.{start}
 use Rattle.cp_model.specs.States.{Setup, State, numbers_from, process_count}

@@ -3,8 +3,8 @@ use Rattle.std.specs.Prelude.{◌≡◌, ◌≢◌, ◌≤◌, refl, ℕ, zero, 
 use Rattle.std.proofs.Common.{sym, ◌∙◌, ap, subst, arith, ◌⊎◌, inl, inr, ⊎_elim}
 use Rattle.cp_code.specs.Programs.{Program}
 use Rattle.cp_model.specs.States.{numbers_from}
-use Rattle.cp_gates.specs.KernelOf.{Bytes, kernel_of, transcripts_of, turning}
-use Rattle.cp_gates.specs.declared.kernel.Kernel.{Kernel}
+use Rattle.cp_kernel.specs.KernelOf.{Bytes, kernel_of, transcripts_of, turning}
+use Rattle.cp_kernel.specs.declared.kernel.Kernel.{Kernel}
 use Rattle.cp_private.specs.States.{private_of}
 use Rattle.cp_private.specs.declared.private.Private.{Private}
 use Rattle.cp_steps.specs.KernelSteps as steps
@@ -12,7 +12,7 @@ use Rattle.cp_steps.specs.KernelSteps.{Turning, kernel_steps}
 use Rattle.cp_steps.specs.Machines.{Machine, after_kernel_turn, clock, end_round, kernel_turn, kernel_turns, phased_round, phased_rounds, transcript_of}
 use Rattle.cp_steps.specs.PrivateStates.{PrivateState}
 use Rattle.cp_program.specs.View as view
-use Rattle.cp_gates.specs.Turns.{IsTurned, parts_of}
+use Rattle.cp_kernel.specs.Turns.{IsTurned, parts_of}
 use Rattle.cp_machine.specs.Ends.{RoundEnds}
 use Rattle.cp_machine.specs.Made.{Stands, TurnsMade}
 use Rattle.cp_machine.specs.MachineOf.{input_at, input_of, machine_with}

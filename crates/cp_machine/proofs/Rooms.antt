@@ -1,9 +1,9 @@
 -- Room for fewer askers, and the numbers of private states that change one by one.
 use Rattle.std.specs.Prelude.{◌≡◌, ◌≢◌, ◌≤◌, ◌-◌, refl, ℕ, zero, suc, List, [], ◌∷◌, ◌++◌, Some, length, map, slice_get, slice_set}
 use Rattle.std.proofs.Common.{sym, ap, ◌∙◌, arith, ⊎_elim}
-use Rattle.cp_gates.specs.KernelOf.{Bytes, HasRoomForAskers, kernel_of, transcripts_of}
-use Rattle.cp_gates.specs.Turns.{Moves, parts_of}
-use Rattle.cp_gates.specs.declared.kernel.Kernel.{Kernel}
+use Rattle.cp_kernel.specs.KernelOf.{Bytes, HasRoomForAskers, kernel_of, transcripts_of}
+use Rattle.cp_kernel.specs.Turns.{Moves, parts_of}
+use Rattle.cp_kernel.specs.declared.kernel.Kernel.{Kernel}
 use Rattle.cp_private.specs.States as states
 use Rattle.cp_private.specs.States.{private_of}
 use Rattle.cp_private.specs.declared.private.Private.{Private}

@@ -3,8 +3,8 @@ use Rattle.std.specs.Prelude.{◌≡◌, ◌+◌, ◌-◌, refl, ℕ, zero, suc,
 use Rattle.std.proofs.Common.{sym, ◌∙◌, ap, arith}
 use Rattle.cp_code.specs.Programs as code
 use Rattle.cp_code.specs.Programs.{Program}
-use Rattle.cp_gates.specs.Turns.{parts_of}
-use Rattle.cp_gates.specs.declared.kernel.Kernel.{Kernel}
+use Rattle.cp_kernel.specs.Turns.{parts_of}
+use Rattle.cp_kernel.specs.declared.kernel.Kernel.{Kernel}
 use Rattle.cp_private.specs.States.{private_of}
 use Rattle.cp_private.specs.States as states
 use Rattle.cp_private.specs.declared.private.Private.{Private}

@@ -1,9 +1,9 @@
 -- A round that is made wave by wave.
 use Rattle.std.specs.Prelude.{◌≡◌, ◌≤◌, refl, ℕ, suc, ◌+◌, ◌-◌, ◌*◌, List, [], length, Some, slice_get, vec_len}
 use Rattle.std.proofs.Common.{sym, ◌∙◌, ap, subst, arith, inl, inr, ⊎_elim}
-use Rattle.cp_gates.specs.KernelOf.{HasRoomForAskers, HasRoomForBytes, kernel_of, transcripts_of}
-use Rattle.cp_gates.specs.declared.kernel.Kernel.{Kernel}
-use Rattle.cp_gates.proofs.Asking.{room_kept}
+use Rattle.cp_kernel.specs.KernelOf.{HasRoomForAskers, HasRoomForBytes, kernel_of, transcripts_of}
+use Rattle.cp_kernel.specs.declared.kernel.Kernel.{Kernel}
+use Rattle.cp_kernel.proofs.Asking.{room_kept}
 use Rattle.cp_private.specs.declared.private.Private.{Private}
 use Rattle.cp_private.specs.States.{private_of}
 use Rattle.cp_program.specs.View as view

@@ -1,8 +1,8 @@
 -- What the end of a round makes of the private states and the kernel.
 use Rattle.std.specs.Prelude.{◌≡◌, ℕ, List, length, map}
-use Rattle.cp_gates.specs.KernelOf.{kernel_of, transcripts_of}
-use Rattle.cp_gates.specs.Turns.{parts_of}
-use Rattle.cp_gates.specs.declared.kernel.Kernel.{Kernel}
+use Rattle.cp_kernel.specs.KernelOf.{kernel_of, transcripts_of}
+use Rattle.cp_kernel.specs.Turns.{parts_of}
+use Rattle.cp_kernel.specs.declared.kernel.Kernel.{Kernel}
 use Rattle.cp_private.specs.declared.private.Private.{Private}
 use Rattle.cp_steps.specs.Machines.{begin_one, next_stage}
 use Rattle.cp_program.specs.View as view

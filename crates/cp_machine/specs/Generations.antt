@@ -1,7 +1,7 @@
 -- Kernel turns of a wave, made alongside the private turns of the next one.
 use Rattle.std.specs.Prelude.{◌≡◌, ◌≤◌, ◌+◌, ◌-◌, ◌*◌, ℕ, suc, List, Some, length, slice_get, vec_len}
-use Rattle.cp_gates.specs.KernelOf.{HasRoomForAskers, HasRoomForBytes}
-use Rattle.cp_gates.specs.declared.kernel.Kernel.{Kernel}
+use Rattle.cp_kernel.specs.KernelOf.{HasRoomForAskers, HasRoomForBytes}
+use Rattle.cp_kernel.specs.declared.kernel.Kernel.{Kernel}
 use Rattle.cp_private.specs.Rooms.{HasRoomFor}
 use Rattle.cp_private.specs.declared.private.Private.{Private}
 use Rattle.cp_steps.specs.Machines.{Machine}

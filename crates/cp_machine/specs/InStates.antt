@@ -2,7 +2,7 @@
 use Rattle.std.specs.Prelude.{◌≡◌, ◌≤◌, ℕ, List, length}
 use Rattle.cp_code.specs.Programs.{Program}
 use Rattle.cp_code.specs.StandsFor.{StandsFor}
-use Rattle.cp_gates.specs.KernelOf.{Bytes}
+use Rattle.cp_kernel.specs.KernelOf.{Bytes}
 use Rattle.cp_model.specs.Rounds.{phased_round, run}
 use Rattle.cp_model.specs.Start.{start}
 use Rattle.cp_model.specs.States.{Setup, State}

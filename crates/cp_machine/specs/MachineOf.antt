@@ -1,8 +1,8 @@
 -- The code's machine as the plain data of the definitions.
 use Rattle.std.specs.Prelude.{ℕ, ◌-◌, List, [], Option, None, Some, slice_get}
-use Rattle.cp_gates.specs.KernelOf.{Bytes, kernel_of, transcripts_of}
-use Rattle.cp_gates.specs.Turns.{parts_of}
-use Rattle.cp_gates.specs.declared.kernel.Kernel.{Kernel}
+use Rattle.cp_kernel.specs.KernelOf.{Bytes, kernel_of, transcripts_of}
+use Rattle.cp_kernel.specs.Turns.{parts_of}
+use Rattle.cp_kernel.specs.declared.kernel.Kernel.{Kernel}
 use Rattle.cp_private.specs.declared.private.Private.{Private}
 use Rattle.cp_steps.specs.Machines as plain
 use Rattle.cp_program.specs.View as view

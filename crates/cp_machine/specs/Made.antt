@@ -1,7 +1,7 @@
 -- How many turns of a round are made.
 use Rattle.std.specs.Prelude.{◌≡◌, ◌≤◌, ◌+◌, ◌-◌, ℕ, suc, List, Some, length, slice_get, vec_len}
-use Rattle.cp_gates.specs.KernelOf.{Bytes, HasRoomForAskers, HasRoomForBytes, kernel_of, transcripts_of}
-use Rattle.cp_gates.specs.declared.kernel.Kernel.{Kernel}
+use Rattle.cp_kernel.specs.KernelOf.{Bytes, HasRoomForAskers, HasRoomForBytes, kernel_of, transcripts_of}
+use Rattle.cp_kernel.specs.declared.kernel.Kernel.{Kernel}
 use Rattle.cp_model.specs.States.{numbers_from}
 use Rattle.cp_private.specs.Rooms.{HasRoomFor}
 use Rattle.cp_private.specs.States.{private_of}

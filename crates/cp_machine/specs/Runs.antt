@@ -1,9 +1,9 @@
 -- The rounds of a run, as far as they change the private states and the kernel.
 use Rattle.std.specs.Prelude.{◌≡◌, ◌+◌, ℕ, List, Option, None, Some, length, slice_get}
 use Rattle.std.specs.Sync.OnceLock.{Named}
-use Rattle.cp_gates.specs.KernelOf.{kernel_of, transcripts_of}
-use Rattle.cp_gates.specs.Turns.{parts_of}
-use Rattle.cp_gates.specs.declared.kernel.Kernel.{Kernel}
+use Rattle.cp_kernel.specs.KernelOf.{kernel_of, transcripts_of}
+use Rattle.cp_kernel.specs.Turns.{parts_of}
+use Rattle.cp_kernel.specs.declared.kernel.Kernel.{Kernel}
 use Rattle.cp_model.specs.States.{numbers_from}
 use Rattle.cp_private.specs.States.{private_of}
 use Rattle.cp_private.specs.declared.private.Private.{Private}

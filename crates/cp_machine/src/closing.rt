@@ -3,8 +3,8 @@
 ghost use Rattle.cp_machine.specs.Ends.{RoundEnds};
 
 use crate::setting::Setting;
-use cp_gates::closing::end_round;
-use cp_gates::kernel::Kernel;
+use cp_kernel::closing::end_round;
+use cp_kernel::kernel::Kernel;
 use cp_private::private::Private;
 
 /// Ends a round: the processes that were started in it begin.

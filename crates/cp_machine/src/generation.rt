@@ -8,8 +8,8 @@ use crate::gate::TurnGate;
 use crate::moment::Moment;
 use crate::setting::Setting;
 use crate::team::Aside;
-use cp_gates::kernel::Kernel;
-use cp_gates::turns::kernel_turn;
+use cp_kernel::kernel::Kernel;
+use cp_kernel::turns::kernel_turn;
 use cp_private::private::Private;
 use cp_private::turn::Turn;
 

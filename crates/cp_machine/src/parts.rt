@@ -3,7 +3,7 @@
 ghost use Rattle.std.specs.Prelude.{◌≡◌, length};
 ghost use Rattle.cp_machine.specs.Numbers.{AreNumbered};
 
-use cp_gates::kernel::Kernel;
+use cp_kernel::kernel::Kernel;
 use cp_private::private::Private;
 use std::alloc::Global;
 

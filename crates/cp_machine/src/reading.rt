@@ -5,7 +5,7 @@
 
 ghost use Rattle.std.specs.Prelude.{◌≡◌, ◌-◌, length, option_map, slice_get};
 ghost use Rattle.cp_code.specs.Starts.{word};
-ghost use Rattle.cp_gates.specs.KernelOf.{kernel_of, transcripts_of};
+ghost use Rattle.cp_kernel.specs.KernelOf.{kernel_of, transcripts_of};
 ghost use Rattle.cp_private.specs.States.{private_of};
 ghost use Rattle.cp_steps.specs.Machines as plain;
 ghost use Rattle.cp_program.specs.View as view;
@@ -13,7 +13,7 @@ ghost use Rattle.cp_machine.specs.MachineOf.{input_of};
 ghost use Rattle.cp_machine.specs.Views.{machine_of, output_of, processes_of, words_of};
 
 use crate::machine::Machine;
-use cp_gates::kernel::Kernel;
+use cp_kernel::kernel::Kernel;
 use cp_private::private::Private;
 use cp_program::program::Program;
 

@@ -5,8 +5,8 @@
 //! happens in it, and no state is copied.
 
 ghost use Rattle.std.specs.Prelude.{◌≡◌, ◌≢◌, ◌≤◌, ◌<◌, ◌+◌, ◌-◌, ◌*◌, ◌^◌, ℕ, false, IfErr, IfOk, length, vec_len, vec_capacity};
-ghost use Rattle.cp_gates.specs.KernelOf.{HasRoomForBytes, kernel_of, transcripts_of};
-ghost use Rattle.cp_gates.specs.declared.kernel.Kernel.{Kernel};
+ghost use Rattle.cp_kernel.specs.KernelOf.{HasRoomForBytes, kernel_of, transcripts_of};
+ghost use Rattle.cp_kernel.specs.declared.kernel.Kernel.{Kernel};
 ghost use Rattle.cp_machine.specs.Made.{IsReady};
 ghost use Rattle.cp_machine.specs.Numbers.{AreNumbered};
 ghost use Rattle.cp_machine.specs.Runs.{AreSame, IsSame, PartsAfter, TurnsTaken};
@@ -21,8 +21,8 @@ use crate::parts::Parts;
 use crate::plan::Plan;
 use crate::setting::Setting;
 use crate::task::{Course, Start};
-use cp_gates::kernel::Kernel;
-use cp_gates::turns::kernel_turn;
+use cp_kernel::kernel::Kernel;
+use cp_kernel::turns::kernel_turn;
 use cp_private::private::{Activity, Private};
 use cp_private::turn::Turn;
 use std::alloc::AllocError;

@@ -6,7 +6,7 @@ ghost use Rattle.cp_machine.specs.Numbers.{AreNumbered};
 ghost use Rattle.cp_machine.specs.Starts.{AreFirst, IsStart};
 
 use crate::parts::Parts;
-use cp_gates::kernel::Kernel;
+use cp_kernel::kernel::Kernel;
 use cp_private::private::Private;
 use cp_program::program::Program;
 use std::alloc::{AllocError, Global};

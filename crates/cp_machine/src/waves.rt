@@ -4,7 +4,7 @@
 //! as it was.
 
 ghost use Rattle.std.specs.Prelude.{◌≡◌, ◌≤◌, ◌+◌, ◌*◌, ℕ, suc, Some, IfErr, IfOk, length, slice_get, vec_len};
-ghost use Rattle.cp_gates.specs.KernelOf.{HasRoomForAskers, HasRoomForBytes, kernel_of, transcripts_of};
+ghost use Rattle.cp_kernel.specs.KernelOf.{HasRoomForAskers, HasRoomForBytes, kernel_of, transcripts_of};
 ghost use Rattle.cp_private.specs.declared.private.Private as declared;
 ghost use Rattle.cp_machine.specs.Generations.{AreTurned, WavesMade};
 ghost use Rattle.cp_machine.specs.Numbers.{AreNumbered};
@@ -21,7 +21,7 @@ use crate::setting::Setting;
 use crate::team::Idle;
 use crate::turns::Turns;
 use crate::whole::{append, whole_wave};
-use cp_gates::kernel::Kernel;
+use cp_kernel::kernel::Kernel;
 use cp_private::private::Private;
 use cp_private::turn::Turn;
 use std::alloc::{AllocError, Global};

@@ -1,6 +1,6 @@
 use Rattle.std.proofs.Common.{rules, ◌≡◌, ◌++◌, ℕ, List, length, map, take, drop, sym, ap, ◌∙◌, subst}
 use Rattle.std.proofs.Math.Seq.{take-append_seam}
-use Rattle.cp_gates.specs.KernelOf.{Bytes}
+use Rattle.cp_kernel.specs.KernelOf.{Bytes}
 use Rattle.cp_private.specs.declared.private.Private.{Private}
 use Rattle.cp_machine.specs.Ends.{RoundEnds}
 use Rattle.cp_machine.proofs.Rooms.{ended_stages, numbers_kept}

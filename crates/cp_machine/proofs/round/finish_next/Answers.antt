@@ -1,6 +1,6 @@
 use Rattle.std.proofs.Common.{rules, ◌≡◌, ◌≤◌, ◌+◌, ◌-◌, ◌++◌, ◌∷◌, [], ℕ, suc, List, Some, slice_get, length, vec_len, sym, ap, ◌∙◌, subst, arith}
-use Rattle.cp_gates.specs.KernelOf.{HasRoomForAskers}
-use Rattle.cp_gates.specs.Turns.{IsTurned}
+use Rattle.cp_kernel.specs.KernelOf.{HasRoomForAskers}
+use Rattle.cp_kernel.specs.Turns.{IsTurned}
 use Rattle.cp_private.specs.States.{private_of}
 use Rattle.cp_private.specs.declared.private.Private.{Private}
 use Rattle.cp_program.specs.View as view

@@ -1,6 +1,6 @@
 use Rattle.std.proofs.Common.{◌≡◌, ◌≢◌, ◌+◌, ◌-◌, ◌*◌, ℕ, suc, false, Some, slice_get, length, vec_len, sym, ap, ◌∙◌, subst, arith, length-set, ⊎_elim}
-use Rattle.cp_gates.specs.KernelOf.{HasRoomForAskers, HasRoomForBytes}
-use Rattle.cp_gates.proofs.Asking.{room_kept}
+use Rattle.cp_kernel.specs.KernelOf.{HasRoomForAskers, HasRoomForBytes}
+use Rattle.cp_kernel.proofs.Asking.{room_kept}
 use Rattle.cp_private.specs.declared.private.Private.{Private}
 use Rattle.cp_machine.specs.Tasks.{HasRoomLeft}
 use Rattle.cp_machine.proofs.Lists.{got_below, got_or, got_set}

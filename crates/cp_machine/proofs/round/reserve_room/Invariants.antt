@@ -1,5 +1,5 @@
 use Rattle.std.proofs.Common.{◌≡◌, ◌<◌, ◌+◌, ◌*◌, ℕ, suc, false, Some, length, slice_get, vec_len}
-use Rattle.cp_gates.specs.KernelOf.{HasRoomForAskers, HasRoomForBytes}
+use Rattle.cp_kernel.specs.KernelOf.{HasRoomForAskers, HasRoomForBytes}
 use Rattle.cp_private.specs.declared.private.Private.{Private}
 use Rattle.cp_machine.specs.Runs.{AreSame}
 use Rattle.cp_machine.specs.Tasks.{HasRoomLeft}

@@ -1,7 +1,7 @@
 use Rattle.std.proofs.Common.{rules, ◌≡◌, ◌≤◌, ◌+◌, ◌*◌, ℕ, suc, List, [], Some, slice_get, length, vec_len, sym, ap, ◌∙◌, subst, arith}
 use denote.Param.Send.{sendable}
 use Rattle.std.proofs.Crossing.{crosses}
-use Rattle.cp_gates.specs.KernelOf.{HasRoomForBytes}
+use Rattle.cp_kernel.specs.KernelOf.{HasRoomForBytes}
 use Rattle.cp_private.proofs.private.Private.TheSendSync as private
 use Rattle.cp_private.proofs.turn.Turn.TheSendSync as turn
 use Rattle.cp_private.specs.declared.private.Private.{Private}

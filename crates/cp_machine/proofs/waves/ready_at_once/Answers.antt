@@ -1,6 +1,6 @@
 use Rattle.std.proofs.Common.{rules, ◌≡◌, ◌≤◌, ◌+◌, ◌*◌, ℕ, suc, List, Some, slice_get, length, map, vec_len, ap, ◌∙◌, subst}
-use Rattle.cp_gates.specs.KernelOf.{Bytes, HasRoomForAskers, HasRoomForBytes}
-use Rattle.cp_gates.proofs.Asking.{room_kept}
+use Rattle.cp_kernel.specs.KernelOf.{Bytes, HasRoomForAskers, HasRoomForBytes}
+use Rattle.cp_kernel.proofs.Asking.{room_kept}
 use Rattle.cp_private.specs.declared.private.Private.{Private}
 use Rattle.cp_machine.proofs.Waved.{all_turned}
 use Rattle.cp_machine.proofs.waves.ready_at_once.Goals as goal

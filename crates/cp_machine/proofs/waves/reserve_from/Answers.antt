@@ -1,7 +1,7 @@
 use Rattle.std.proofs.Common.{rules, ◌≡◌, ◌≢◌, ◌+◌, ◌*◌, [], ℕ, suc, Some, slice_get, length, vec_len, sym, ap, ◌∙◌, subst, arith}
 use mathlib.Core.Logic.{dite}
 use native.Mathlib.Decide.{ℕ_discrete}
-use Rattle.cp_gates.specs.KernelOf.{HasRoomForBytes}
+use Rattle.cp_kernel.specs.KernelOf.{HasRoomForBytes}
 use Rattle.cp_private.specs.declared.private.Private.{Private}
 use Rattle.cp_machine.proofs.Lists.{got_below, got_or, some_is}
 use Rattle.cp_machine.proofs.waves.reserve_from.Goals as goal

@@ -1,5 +1,5 @@
 use Rattle.std.proofs.Common.{◌≡◌, ◌≤◌, ◌<◌, ◌+◌, ◌*◌, ℕ, suc, Some, slice_get, vec_len}
-use Rattle.cp_gates.specs.KernelOf.{HasRoomForBytes, kernel_of, transcripts_of}
+use Rattle.cp_kernel.specs.KernelOf.{HasRoomForBytes, kernel_of, transcripts_of}
 use Rattle.cp_private.specs.declared.private.Private.{Private}
 use Rattle.cp_machine.proofs.waves.reserve_from.Given as goal
 

@@ -1,5 +1,5 @@
 use Rattle.std.proofs.Common.{length, sym, ap, subst, arith}
-use Rattle.cp_gates.specs.declared.kernel.Kernel.{Kernel}
+use Rattle.cp_kernel.specs.declared.kernel.Kernel.{Kernel}
 use Rattle.cp_machine.specs.Generations.{IsReadyFrom, MakesTurns}
 use Rattle.cp_machine.proofs.Waved.{turns_made}
 use Rattle.cp_machine.proofs.waves.turns_at_once.Goals as goal

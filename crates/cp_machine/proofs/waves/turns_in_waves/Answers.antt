@@ -1,5 +1,5 @@
 use Rattle.std.proofs.Common.{map, ap, ◌∙◌}
-use Rattle.cp_gates.specs.KernelOf.{Bytes}
+use Rattle.cp_kernel.specs.KernelOf.{Bytes}
 use Rattle.cp_machine.proofs.Made.{same_start}
 use Rattle.cp_machine.proofs.Rooms.{same_stages}
 use Rattle.cp_machine.proofs.waves.turns_in_waves.Goals as goal

@@ -1,12 +1,12 @@
 use Rattle.std.proofs.Common.{◌≡◌, ◌≢◌, ◌≤◌, ◌+◌, ◌-◌, ◌*◌, ℕ, suc, List, Some, slice_get, slice_set, length, vec_len, sym, ap, ◌∙◌, subst, arith, length-set, ⊎_elim}
 use Rattle.cp_code.specs.Programs.{Program}
-use Rattle.cp_gates.specs.KernelOf.{HasRoomForAskers, HasRoomForBytes}
+use Rattle.cp_kernel.specs.KernelOf.{HasRoomForAskers, HasRoomForBytes}
 use Rattle.cp_private.specs.Rooms.{HasRoomFor}
 use Rattle.cp_private.specs.declared.private.Private.{Private}
 use Rattle.cp_private.specs.declared.turn.Turn.{Turn}
 use Rattle.cp_steps.specs.Machines.{Machine, clock}
 use Rattle.cp_program.specs.View as view
-use Rattle.cp_gates.specs.Turns.{IsTurned}
+use Rattle.cp_kernel.specs.Turns.{IsTurned}
 use Rattle.cp_machine.specs.Made.{TurnsMade}
 use Rattle.cp_machine.specs.MachineOf.{input_at}
 use Rattle.cp_machine.specs.Turned.{moment_of}

@@ -1,5 +1,5 @@
 use Rattle.std.proofs.Common.{◌≡◌, ◌≤◌, ◌+◌, ◌-◌, ℕ, length}
-use Rattle.cp_gates.specs.KernelOf.{HasRoomForAskers}
+use Rattle.cp_kernel.specs.KernelOf.{HasRoomForAskers}
 use Rattle.cp_steps.specs.Machines.{Machine}
 use Rattle.cp_program.specs.View as view
 use Rattle.cp_machine.specs.Generations.{IsReadyFrom}

@@ -1,6 +1,6 @@
 use Rattle.std.proofs.Common.{rules, ◌≡◌, ◌++◌}
 use Rattle.std.proofs.lemmas.Result.{on_ok_weaker}
-use Rattle.cp_gates.specs.KernelOf.{kernel_of}
+use Rattle.cp_kernel.specs.KernelOf.{kernel_of}
 use Rattle.cp_model.specs.Declarations.{globals}
 use Rattle.cp_private.specs.States.{holder}
 use Rattle.cp_program.specs.View as view

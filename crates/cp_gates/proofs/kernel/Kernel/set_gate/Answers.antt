@@ -1,9 +1,0 @@
-use Rattle.std.proofs.Common.{refl}
-use Rattle.cp_gates.specs.KernelOf.{kernel_of}
-use Rattle.cp_gates.proofs.Places.{gates_set}
-use Rattle.cp_gates.proofs.kernel.Kernel.set_gate.Goals as goal
-
-pub returns-in-Some-clause-step : goal.returns-in-Some-clause-step
-returns-in-Some-clause-step c =
-    let k = c.args.self.now in
-    rw c.index.ensures (gates_set (kernel_of k) k.gates.items c.args.m _ _ _ refl c.clear.ensures.items)

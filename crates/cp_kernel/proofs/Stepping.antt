@@ -1,0 +1,58 @@
+-- Steps that are due, and turns of them.
+use Rattle.std.proofs.Common.{◌≡◌, ℕ, zero, suc, Bool, true, false, refl, ap, sym, ◌∙◌}
+use Rattle.std.specs.Prelude.{Option, None, Some, if◌then◌else◌, not}
+use Rattle.cp_code.specs.Programs.{Operation, Program}
+use Rattle.cp_steps.specs.KernelSteps.{Turning, is_begun, is_due, kernel_step, kernel_steps, needs_kernel, stage_of}
+use Rattle.cp_steps.specs.PrivateStates.{PrivateState, is_running}
+use Rattle.cp_steps.specs.Steps.{is_held, is_kernel_operation, is_private, operation_of}
+use Rattle.cp_private.specs.Kinds.{kind_of}
+use Rattle.cp_private.specs.declared.kind.Kind.{Kind}
+use Rattle.cp_private.specs.declared.kind.Kind.TheVariants as kind
+use Rattle.cp_kernel.specs.Due.{is_kernel}
+
+in_monitor : (b : Bool) → is_kernel (if b then kind.Kernel else kind.None) ≡ b
+in_monitor true = refl
+in_monitor false = refl
+
+outside_of_it : (held whole : Bool)
+    → is_kernel (if (if held then false else not whole) then kind.Private else (if (if held then true else whole) then kind.Kernel else kind.None))
+    ≡ (if held then true else whole)
+outside_of_it true whole = refl
+outside_of_it false true = refl
+outside_of_it false false = refl
+
+of_kind : (o : PrivateState) (x : Option Operation)
+    → is_kernel (if is_private o x then kind.Private else (if needs_kernel o x then kind.Kernel else kind.None)) ≡ needs_kernel o x
+of_kind o None = in_monitor (is_held o.gate)
+of_kind o (Some y) = outside_of_it (is_held o.gate) (is_kernel_operation y)
+
+due_by : (running : Bool) (k : Kind) (needs : Bool) → is_kernel k ≡ needs
+    → is_kernel (if running then k else kind.None) ≡ (if running then (if true then needs else false) else false)
+due_by true k needs is = is
+due_by false k needs is = refl
+
+pub due_begun : (program : Program) (x : Turning) → is_begun (stage_of x.kernel.stages x.own.number) ≡ true
+    → is_kernel (kind_of program x.own) ≡ is_due program x
+due_begun program x begun =
+    due_by (is_running x.own.activity) _ (needs_kernel x.own (operation_of program x.own)) (of_kind x.own (operation_of program x.own))
+    ∙ ap (λ b. if is_running x.own.activity then (if b then needs_kernel x.own (operation_of program x.own) else false) else false) (sym begun)
+
+never : (b : Bool) → (if b then false else false) ≡ false
+never true = refl
+never false = refl
+
+pub due_not_begun : (program : Program) (x : Turning) → is_begun (stage_of x.kernel.stages x.own.number) ≡ false → false ≡ is_due program x
+due_not_begun program x begun =
+    sym (never (is_running x.own.activity))
+    ∙ ap (λ b. if is_running x.own.activity then (if b then needs_kernel x.own (operation_of program x.own) else false) else false) (sym begun)
+
+pub step_rests : (program : Program) (clock : ℕ) (x : Turning) → is_due program x ≡ false → kernel_step program clock x ≡ x
+step_rests program clock x due = rw due refl
+
+pub steps_rest : (program : Program) (clock n : ℕ) (x : Turning) → is_due program x ≡ false → kernel_steps program clock n x ≡ x
+steps_rest program clock zero x due = refl
+steps_rest program clock (suc n) x due = ap (kernel_steps program clock n) (step_rests program clock x due) ∙ steps_rest program clock n x due
+
+pub steps_more : (program : Program) (clock m n : ℕ) (x : Turning) → m ≡ suc n
+    → kernel_steps program clock m x ≡ kernel_steps program clock n (kernel_step program clock x)
+steps_more program clock m n x h = ap (λ k. kernel_steps program clock k x) h

@@ -1,0 +1,18 @@
+use Rattle.std.proofs.Common.{rules, ◌≡◌, ◌<◌, ◌-◌, ◌++◌, ◌∷◌, [], length, slice_index_or, ap, sym, ◌∙◌}
+use Rattle.cp_model.specs.States as model
+use Rattle.cp_kernel.specs.KernelOf.{kernel_of}
+use Rattle.cp_kernel.proofs.Places.{gate_at, gates_set, held_first}
+use Rattle.cp_kernel.proofs.kernel.Kernel.ask.Goals as goal
+
+pub returns-in-Some-clause-step : goal.returns-in-Some-clause-step
+returns-in-Some-clause-step c =
+    let k = c.args.self.now in
+    let m = c.args.m in
+    let g = c.in-Some.gate.now in
+    let below : m - 1 < length k.gates.items = search rules in
+    let is : g ≡ slice_index_or k.gates.items (m - 1) g = search rules in
+    let there = gate_at k.gates.items m g (held_first (kernel_of k).gates m c.args.q c.requires.held) below is in
+    let held = ap (λ (x : model.Gate). x.holder) (sym there) ∙ c.requires.held in
+    let pushed : c.push-asked.new.self.items ≡ g.askers.items ++ c.args.p ∷ [] = search rules in
+    let asked = pushed ∙ ap (λ (x : model.Gate). x.askers ++ c.args.p ∷ []) (sym there) in
+    rw c.index.ensures (gates_set (kernel_of k) k.gates.items m _ _ _ held asked)

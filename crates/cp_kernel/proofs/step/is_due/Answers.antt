@@ -1,0 +1,32 @@
+use Rattle.std.proofs.Common.{[], ap, sym, ◌∙◌}
+use Rattle.cp_steps.specs.KernelSteps.{is_begun, stage_of}
+use Rattle.cp_program.specs.View as view
+use Rattle.cp_kernel.specs.Due.{is_kernel}
+use Rattle.cp_kernel.specs.KernelOf.{kernel_of, turning}
+use Rattle.cp_kernel.proofs.Stepping.{due_begun, due_not_begun}
+use Rattle.cp_kernel.proofs.step.is_due.Goals as goal
+
+pub returns-then-not-is_begun-clause-due : goal.returns-then-not-is_begun-clause-due
+returns-then-not-is_begun-clause-due c =
+    λ input.
+    let k = c.args.kernel.now in
+    let numbered = c.number.ensures.number input in
+    let begun = c.is_begun.ensures ∙ ap (λ p. is_begun (stage_of (kernel_of k).stages p)) numbered in
+    due_not_begun (view.program c.args.program.now) (turning k c.args.private.now input) (sym begun ∙ c.if-not-is_begun.true)
+
+pub returns-clause-due : goal.returns-clause-due
+returns-clause-due c =
+    λ input.
+    let k = c.args.kernel.now in
+    let numbered = c.number.ensures.number input in
+    let begun = c.is_begun.ensures ∙ ap (λ p. is_begun (stage_of (kernel_of k).stages p)) numbered in
+    c.is_kernel.ensures
+    ∙ (ap is_kernel (c.next_kind.ensures.kind input)
+    ∙ due_begun (view.program c.args.program.now) (turning k c.args.private.now input) (sym begun ∙ c.if-not-is_begun.false))
+
+pub returns-clause-begun : goal.returns-clause-begun
+returns-clause-begun c =
+    λ due.
+    let numbered = c.number.ensures.number [] in
+    let begun = c.is_begun.ensures ∙ ap (λ p. is_begun (stage_of (kernel_of c.args.kernel.now).stages p)) numbered in
+    sym begun ∙ c.if-not-is_begun.false

@@ -1,0 +1,72 @@
+//! The end of a round: the processes that were started in it begin.
+
+ghost use Rattle.std.specs.Prelude.{◌≡◌, ℕ, List, length, map};
+ghost use Rattle.cp_private.specs.declared.private.Private.{Private};
+ghost use Rattle.cp_private.specs.States.{private_of, stage as stage_view};
+ghost use Rattle.cp_steps.specs.Machines as plain;
+ghost use Rattle.cp_program.specs.View as view;
+ghost use Rattle.cp_kernel.specs.KernelOf.{kernel_of};
+ghost use Rattle.cp_kernel.specs.Turns.{parts_of};
+
+use crate::kernel::Kernel;
+use cp_private::outside::Stage;
+use cp_private::private::Private;
+use cp_program::program::Program;
+
+// Begins the process if it is fresh.
+fn begin(program: &Program, kernel: &Kernel, private: &mut Private)
+    ensures begun { (input : List ℕ) → private_of private.new input ≡ plain.begin_one
+        (view.program program.now) (kernel_of kernel.now) (private_of private.old input) }
+    ensures number { private.new.number ≡ private.old.number }
+{
+    match kernel.stage(private.number() as u32) {
+        Stage::Fresh => private.begin(program, &kernel.shared),
+        _ => {}
+    }
+}
+
+fn begin_all(program: &Program, kernel: &Kernel, privates: &mut [Private])
+    ensures begun { (inputs : ℕ → List ℕ) → parts_of inputs 1 privates.new ≡ map
+        (plain.begin_one (view.program program.now) (kernel_of kernel.now))
+        (parts_of inputs 1 privates.old) }
+    ensures numbers { map (λ (x : Private). x.number) privates.new
+        ≡ map (λ (x : Private). x.number) privates.old }
+{
+    for private in privates.iter_mut() {
+        begin(program, kernel, private);
+    }
+}
+
+fn next_stage(stage: Stage) -> Stage
+    ensures { stage_view result ≡ plain.next_stage (stage_view stage) }
+{
+    match stage {
+        Stage::Fresh => Stage::Begun,
+        stage => stage,
+    }
+}
+
+fn close_stages(stages: &mut [Stage])
+    ensures stages { map stage_view stages.new ≡ map plain.next_stage (map stage_view stages.old) }
+{
+    for stage in stages.iter_mut() {
+        *stage = next_stage(*stage);
+    }
+}
+
+/// Ends the round: each process that was started in it begins, with the parameters that wait for
+/// it. `privates` has the private states of all processes. It takes no memory.
+pub fn end_round(program: &Program, kernel: &mut Kernel, privates: &mut [Private])
+    ensures kernel { let k = kernel_of kernel.old in kernel_of kernel.new
+        ≡ record k { stages = map plain.next_stage k.stages } }
+    ensures gates { kernel.new.gates ≡ kernel.old.gates }
+    ensures transcripts { kernel.new.transcripts ≡ kernel.old.transcripts }
+    ensures parts { (inputs : ℕ → List ℕ) → parts_of inputs 1 privates.new ≡ map
+        (plain.begin_one (view.program program.now) (kernel_of kernel.old))
+        (parts_of inputs 1 privates.old) }
+    ensures numbers { map (λ (x : Private). x.number) privates.new
+        ≡ map (λ (x : Private). x.number) privates.old }
+{
+    begin_all(program, kernel, privates);
+    close_stages(&mut kernel.stages);
+}

@@ -1,0 +1,120 @@
+//! How the kernel starts.
+
+ghost use Rattle.std.specs.Prelude.{◌≡◌, ◌-◌, ◌<◌, ◌^◌, ◌∷◌, ℕ, List, [], IfOk, Some, map, pos, replicate, length, slice_get};
+ghost use Rattle.cp_code.specs.Programs as code;
+ghost use Rattle.cp_private.specs.States as states;
+ghost use Rattle.cp_steps.specs.Machines as plain;
+ghost use Rattle.cp_program.specs.View as view;
+ghost use Rattle.cp_kernel.specs.KernelOf.{Bytes, kernel_of, transcripts_of, unset_gate};
+
+use crate::kernel::Kernel;
+use cp_private::outside::{Gate, Holder, Stage};
+use cp_private::starting::start_words;
+use cp_program::program::Program;
+use std::alloc::{AllocError, Global};
+
+/// There are fewer shared words than this.
+const TOO_MANY: usize = 1 << 30;
+
+// Makes the words of the monitor with this number start as its plan says.
+fn start_monitor(program: &Program, number: usize, words: &mut [i32])
+    requires { length words.old < 2 ^ 30 }
+    ensures words { (rest : List code.Monitor) (m : code.Monitor)
+        → slice_get (view.program program.now).monitors
+        (number - 1) ≡ Some m
+        → plain.first_shared rest words.new ≡ plain.first_shared
+        (m ∷ rest) words.old }
+    ensures length { length words.new ≡ length words.old }
+{
+    if let Some(monitor) = program.monitor(number) {
+        let starts = program.starts(monitor.plan);
+        start_words(words, monitor.start as usize, starts);
+    }
+}
+
+// Makes the words of all monitors start as their plans say.
+fn start_monitors(program: &Program, words: &mut [i32])
+    requires { length words.old < 2 ^ 30 }
+    ensures words { words.new ≡ plain.first_shared (view.program program.now).monitors words.old }
+    ensures length { length words.new ≡ length words.old }
+{
+    for i in 0..program.monitors() {
+        start_monitor(program, i + 1, words);
+    }
+}
+
+fn first_shared_words(alloc: Global, program: &Program) -> Result<Vec<i32>, AllocError>
+    ensures words { IfOk result (λ ws. let p = view.program program.now in
+        ws.items ≡ plain.first_shared p.monitors (replicate p.shared (pos 0))) }
+    ensures few { IfOk result (λ ws. length ws.items < 2 ^ 30) }
+{
+    let count = program.shared_words() as usize;
+    if TOO_MANY <= count {
+        return Err(AllocError);
+    }
+    let mut words = Vec::from_elem(alloc, 0, count)?;
+    start_monitors(program, &mut words);
+    Ok(words)
+}
+
+// Returns `count` gates of monitors that aren't initialised.
+fn unset_gates(alloc: Global, count: usize) -> Result<Vec<Gate>, AllocError>
+    ensures { IfOk result (λ all. map states.gate all.items ≡ replicate count unset_gate) }
+{
+    let mut all = Vec::with_capacity(alloc, count)?;
+    for _i in 0..count {
+        all.push(Gate {
+            holder: Holder::Unset,
+            askers: Vec::new(alloc),
+        })?;
+    }
+    Ok(all)
+}
+
+// Returns the stages of `count` processes, of which only the first, the initial process, has begun.
+fn first_stages(alloc: Global, count: usize) -> Result<Vec<Stage>, AllocError>
+    ensures stages { IfOk result (λ all. (processes : List code.Process) → length processes ≡ count
+        → map states.stage all.items ≡ plain.first_stages processes) }
+    ensures count { IfOk result (λ all. length all.items ≡ count) }
+{
+    let mut all = Vec::from_elem(alloc, Stage::Unstarted, count)?;
+    let Some(first) = all.get_mut(0) else {
+        return Ok(all);
+    };
+    *first = Stage::Begun;
+    Ok(all)
+}
+
+fn empty_transcripts(alloc: Global, count: usize) -> Result<Vec<Vec<u8>>, AllocError>
+    ensures { IfOk result (λ all. map (λ (v : Bytes). v.items) all.items ≡ replicate count []) }
+{
+    let mut all = Vec::with_capacity(alloc, count)?;
+    for _i in 0..count {
+        all.push(Vec::new(alloc))?;
+    }
+    Ok(all)
+}
+
+impl Kernel {
+    /// Returns the kernel at the start: no monitor is initialised, and only the initial process has
+    /// begun.
+    ///
+    /// # Errors
+    ///
+    /// `AllocError` if memory runs out, or if there are 2^30 shared words or more.
+    pub fn new(alloc: Global, program: &Program) -> Result<Kernel, AllocError>
+        ensures start { IfOk result (λ k. (tick : ℕ) (inputs : ℕ → List ℕ)
+            → kernel_of k ≡ (plain.first_machine (view.program program.now) tick inputs).kernel) }
+        ensures transcripts { IfOk result (λ k. (tick : ℕ) (inputs : ℕ → List ℕ)
+            → transcripts_of k
+            ≡ (plain.first_machine (view.program program.now) tick inputs).transcripts) }
+    {
+        let processes = program.processes();
+        Ok(Kernel {
+            shared: first_shared_words(alloc, program)?,
+            gates: unset_gates(alloc, program.monitors())?,
+            stages: first_stages(alloc, processes)?,
+            transcripts: empty_transcripts(alloc, processes)?,
+        })
+    }
+}

@@ -1,0 +1,94 @@
+//! One step of the kernel: a step inside a monitor, or one that enters or initialises a monitor or
+//! starts a process.
+
+ghost use Rattle.std.specs.Prelude.{◌≡◌, ◌≢◌, ◌≤◌, ◌+◌, ◌-◌, ◌*◌, ◌++◌, true, ℕ, List, length};
+ghost use Rattle.cp_private.specs.Rooms.{HasRoomFor, KeepsRoom};
+ghost use Rattle.cp_private.specs.States.{private_of};
+ghost use Rattle.cp_private.specs.States.{effect, join};
+ghost use Rattle.cp_steps.specs.KernelSteps as plain;
+ghost use Rattle.cp_steps.specs.Steps.{step_with};
+ghost use Rattle.cp_program.specs.View as view;
+ghost use Rattle.cp_kernel.specs.Due;
+ghost use Rattle.cp_kernel.specs.KernelOf.{HasRoomForAskers, IsAmong, IsBegun, turning};
+
+use crate::kernel::Kernel;
+use cp_private::effect::Effect;
+use cp_private::kind::{Kind, next_kind};
+use cp_private::outside::Outside;
+use cp_private::private::Private;
+use cp_private::turns::step;
+use cp_program::program::Program;
+
+fn is_kernel(kind: Kind) -> bool
+    ensures { result ≡ Due.is_kernel kind }
+{
+    matches!(kind, Kind::Kernel)
+}
+
+// Whether the next step is the kernel's and may be made.
+pub(crate) fn is_due(program: &Program, kernel: &Kernel, private: &Private) -> bool
+    ensures due { (input : List ℕ) → result ≡ plain.is_due (view.program program.now)
+        (turning kernel.now private.now input) }
+    ensures begun { result ≡ true → IsBegun kernel.now private.now.number }
+{
+    if !kernel.is_begun(private.number() as u32) {
+        return false;
+    }
+    is_kernel(next_kind(program, private))
+}
+
+// Makes one step of the process, without its effect on the kernel.
+fn act(
+    program: &Program,
+    kernel: &mut Kernel,
+    private: &mut Private,
+    input: &[u8],
+    clock: u64,
+) -> Effect
+    requires { HasRoomFor private.old 1 }
+    ensures step { let x = turning kernel.old private.old input.now in
+        (join private.new input.now kernel.new.shared.items, effect result) ≡ step_with
+        (view.program program.now) (plain.outside clock x) (plain.join_words x) }
+    ensures own { length private.new.memory.words.items ≡ length private.old.memory.words.items }
+    ensures number { private.new.number ≡ private.old.number }
+    ensures output { KeepsRoom private.old private.new }
+    ensures gates { kernel.new.gates ≡ kernel.old.gates }
+    ensures stages { kernel.new.stages ≡ kernel.old.stages }
+    ensures transcripts { kernel.new.transcripts ≡ kernel.old.transcripts }
+{
+    let outside = Outside {
+        clock,
+        input,
+        gates: &kernel.gates,
+        stages: &kernel.stages,
+    };
+    step(program, private, &mut kernel.shared, &outside)
+}
+
+// Makes one step that is due.
+pub(crate) fn kernel_step(
+    program: &Program,
+    kernel: &mut Kernel,
+    private: &mut Private,
+    input: &[u8],
+    clock: u64,
+)
+    requires due { plain.is_due (view.program program.now)
+        (turning kernel.old private.old input.now) ≡ true }
+    requires among { IsAmong kernel.old private.old.number }
+    requires asking { HasRoomForAskers kernel.old 1 }
+    requires output { HasRoomFor private.old 1 }
+    ensures step { turning kernel.new private.new input.now ≡ plain.kernel_step
+        (view.program program.now) clock (turning kernel.old private.old input.now) }
+    ensures asking { (n : ℕ) → HasRoomForAskers kernel.old (n + 1) → HasRoomForAskers kernel.new n }
+    ensures kept { (n : ℕ) → IsBegun kernel.new private.old.number
+        → HasRoomForAskers kernel.old n → HasRoomForAskers kernel.new n }
+    ensures number { private.new.number ≡ private.old.number }
+    ensures output { KeepsRoom private.old private.new }
+    ensures transcripts { kernel.new.transcripts ≡ kernel.old.transcripts }
+{
+    let own = private.words();
+    let p = private.number() as u32;
+    let effect = act(program, kernel, private, input, clock);
+    kernel.apply(own, p, effect);
+}

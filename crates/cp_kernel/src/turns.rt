@@ -1,0 +1,103 @@
+//! Kernel turns: the kernel's steps of a process, and the move of its output to its transcript.
+
+ghost use Rattle.std.specs.Prelude.{◌≡◌, ◌≤◌, ◌+◌, ◌*◌, ℕ, List, [], length, vec_capacity, vec_len};
+ghost use Rattle.cp_private.specs.Rooms.{HasRoomFor};
+ghost use Rattle.cp_private.specs.States.{private_of};
+ghost use Rattle.cp_steps.specs.KernelSteps as plain;
+ghost use Rattle.cp_program.specs.View as view;
+ghost use Rattle.cp_kernel.specs.KernelOf.{HasRoomForAskers, HasRoomForBytes, IsAmong, kernel_of, turning};
+ghost use Rattle.cp_kernel.specs.Turns.{IsTurned, Moves};
+
+use crate::kernel::Kernel;
+use crate::step::{is_due, kernel_step};
+use cp_private::private::Private;
+use cp_private::turn::Turn;
+use cp_program::program::Program;
+
+// Makes at most `count` steps, as long as the next one is due.
+fn take_steps(
+    program: &Program,
+    kernel: &mut Kernel,
+    private: &mut Private,
+    input: &[u8],
+    clock: u64,
+    count: u32,
+)
+    requires among { IsAmong kernel.old private.old.number }
+    requires asking { HasRoomForAskers kernel.old 1 }
+    requires output { HasRoomFor private.old count }
+    ensures steps { turning kernel.new private.new input.now ≡ plain.kernel_steps
+        (view.program program.now) clock count (turning kernel.old private.old input.now) }
+    ensures asking { (n : ℕ) → HasRoomForAskers kernel.old (n + 1) → HasRoomForAskers kernel.new n }
+    ensures transcripts { kernel.new.transcripts ≡ kernel.old.transcripts }
+    ensures number { private.new.number ≡ private.old.number }
+    ensures length { vec_len private.new.output ≤ vec_len private.old.output + 11 * count }
+    ensures capacity { vec_capacity private.old.output ≤ vec_capacity private.new.output }
+{
+    for _i in 0..count {
+        if !is_due(program, kernel, private) {
+            return;
+        }
+        kernel_step(program, kernel, private, input, clock);
+    }
+}
+
+impl Kernel {
+    // Appends bytes to the transcript of process p.
+    fn append(&mut self, p: usize, bytes: &[u8])
+        requires room { HasRoomForBytes self.old p (length bytes.now) }
+        ensures kernel { kernel_of self.new ≡ kernel_of self.old }
+        ensures gates { self.new.gates ≡ self.old.gates }
+        ensures moves { Moves self.old self.new p bytes.now }
+    {
+        let Some(transcript) = self.transcripts.get_mut(p.saturating_sub(1)) else {
+            return;
+        };
+        let added = transcript.extend_from_slice(bytes);
+        prove!(added.is_ok());
+    }
+}
+
+// Moves what the process wrote to its transcript.
+fn move_output(kernel: &mut Kernel, private: &mut Private)
+    requires room { HasRoomForBytes kernel.old private.old.number (vec_len private.old.output) }
+    ensures kernel { kernel_of kernel.new ≡ kernel_of kernel.old }
+    ensures gates { kernel.new.gates ≡ kernel.old.gates }
+    ensures private { (input : List ℕ) → private_of private.new input
+        ≡ record (private_of private.old input) { output = [] } }
+    ensures moves { Moves kernel.old kernel.new private.old.number private.old.output.items }
+    ensures number { private.new.number ≡ private.old.number }
+    ensures empty { vec_len private.new.output ≡ 0 }
+    ensures capacity { vec_capacity private.old.output ≤ vec_capacity private.new.output }
+{
+    kernel.append(private.number(), private.output());
+    private.clear_output();
+}
+
+/// Makes the kernel turn of a process: at most as many steps as the turn has, as long as the next
+/// one is the kernel's. Then the output of the process, including that of its private turn, moves
+/// to its transcript. It takes no memory: `reserve_askers` and `reserve_bytes` reserve the room. A
+/// step writes at most 11 bytes, and the turn asks for at most one gate.
+pub fn kernel_turn(
+    program: &Program,
+    kernel: &mut Kernel,
+    private: &mut Private,
+    input: &[u8],
+    clock: u64,
+    turn: Turn,
+)
+    requires among { IsAmong kernel.old private.old.number }
+    requires asking { HasRoomForAskers kernel.old 1 }
+    requires output { HasRoomFor private.old turn.steps }
+    requires transcript { HasRoomForBytes kernel.old private.old.number
+        (vec_len private.old.output + 11 * turn.steps) }
+    ensures turn { IsTurned (view.program program.now) clock turn.steps kernel.old kernel.new
+        private.old private.new input.now }
+    ensures asking { (n : ℕ) → HasRoomForAskers kernel.old (n + 1) → HasRoomForAskers kernel.new n }
+    ensures number { private.new.number ≡ private.old.number }
+    ensures empty { vec_len private.new.output ≡ 0 }
+    ensures capacity { vec_capacity private.old.output ≤ vec_capacity private.new.output }
+{
+    take_steps(program, kernel, private, input, clock, turn.steps());
+    move_output(kernel, private);
+}
