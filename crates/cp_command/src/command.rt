@@ -1,7 +1,7 @@
 //! The command line: which command is given, and with which numbers.
 
 ghost use Rattle.std.specs.Prelude.{◌≡◌, ◌≤◌, IfOk, IsOk, length};
-ghost use Rattle.cp_machine.specs.Plans.{AreInRange};
+ghost use Rattle.cp_rounds.specs.Plans.{AreInRange};
 ghost use Rattle.cp_command.specs.Commands.{ComesFrom, Has, HasRounds, IsWithoutWords};
 ghost use Rattle.cp_command.specs.declared.command.CommandError.TheVariants as error;
 
@@ -11,8 +11,8 @@ use clap::{Arg, ArgAction, ArgMatches};
 use cp_execute::running::Run;
 use cp_explain::graph::Form;
 use cp_explain::rules::rule_page;
-use cp_machine::plan::Plan;
-use cp_machine::tick::Tick;
+use cp_rounds::plan::Plan;
+use cp_rounds::tick::Tick;
 use std::alloc::{AllocError, Global};
 use std::convert::AsStr;
 use thiserror::Error;

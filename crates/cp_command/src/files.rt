@@ -9,7 +9,7 @@ use cp_execute::refusal::{Refusal, exit_of};
 use cp_execute::running::Run;
 use cp_explain::explain::explain_text;
 use cp_explain::graph::Form;
-use cp_machine::gate::Open;
+use cp_rounds::gate::Open;
 use std::alloc::Global;
 use std::fs::{self, Files};
 use std::io::{self, ErrorKind, Read, Write};

@@ -3,7 +3,7 @@ use Rattle.std.proofs.Common.{◌≡◌, ℕ, suc, ◌+◌, List, [], ◌∷◌,
 use Rattle.std.specs.Prelude.{if◌then◌else◌, nat_eq}
 use Rattle.std.proofs.lemmas.List.{length-append}
 use Rattle.cp_model.specs.Input.{cut}
-use Rattle.cp_machine.proofs.Lists.{got_snoc}
+use Rattle.cp_rounds.proofs.Lists.{got_snoc}
 use Rattle.cp_execute.specs.Cutting.{AreParts, Bytes, after_separator, front_part}
 
 pub cut_first : (xs : List ℕ) → cut xs 1 ≡ front_part xs

@@ -11,12 +11,12 @@ use Rattle.cp_model.specs.States.{Setup, numbers_from, process_count}
 use Rattle.cp_steps.specs.Machines.{first_machine, phased_rounds}
 use Rattle.cp_steps.specs.Reports.{machine_report}
 use Rattle.cp_steps.specs.RoundLaws.{RunIsReported}
-use Rattle.cp_machine.specs.InStates.{HaveInputs, IsStarted}
-use Rattle.cp_machine.specs.MachineOf.{bytes_or_none, input_of}
-use Rattle.cp_machine.specs.Views.{machine_of, processes_of}
-use Rattle.cp_machine.specs.declared.machine.Machine.{Machine}
-use Rattle.cp_machine.proofs.InStates.{process_count_is, same_start}
-use Rattle.cp_machine.proofs.Lists.{got_at}
+use Rattle.cp_rounds.specs.InStates.{HaveInputs, IsStarted}
+use Rattle.cp_rounds.specs.MachineOf.{bytes_or_none, input_of}
+use Rattle.cp_rounds.specs.Views.{machine_of, processes_of}
+use Rattle.cp_rounds.specs.declared.machine.Machine.{Machine}
+use Rattle.cp_rounds.proofs.InStates.{process_count_is, same_start}
+use Rattle.cp_rounds.proofs.Lists.{got_at}
 use Rattle.cp_execute.specs.Cutting.{AreParts, Bytes}
 
 -- ---- The inputs that were cut

@@ -15,7 +15,7 @@ use crate::reading::{ReadError, read_text};
 use crate::refusal::Refusal;
 use crate::running::{Run, report_of};
 use crate::writing::write_all;
-use cp_machine::gate::TurnGate;
+use cp_rounds::gate::TurnGate;
 use cp_model::tree::Tree;
 use std::alloc::Global;
 use std::io::{Read, Write};

@@ -9,10 +9,10 @@ ghost use Rattle.cp_execute.specs.declared.refusal.Refusal.TheVariants as refusa
 use crate::cutting::cut_input;
 use crate::refusal::Refusal;
 use cp_check::checking::program;
-use cp_machine::gate::TurnGate;
-use cp_machine::machine::Machine;
-use cp_machine::plan::Plan;
-use cp_machine::tick::Tick;
+use cp_rounds::gate::TurnGate;
+use cp_rounds::machine::Machine;
+use cp_rounds::plan::Plan;
+use cp_rounds::tick::Tick;
 use cp_model::tree::Tree;
 use cp_report::report::report;
 use cp_scope::Tables;

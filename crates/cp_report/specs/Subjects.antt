@@ -15,7 +15,7 @@ use Rattle.cp_steps.specs.PrivateStates.{Activity}
 use Rattle.cp_steps.specs.Reports.{head_of, machine_report, monitor_lines, monitors_lines, process_lines, processes_lines, stage_text}
 use Rattle.cp_private.specs.States.{private_of}
 use Rattle.cp_private.specs.declared.private.Private.{Private}
-use Rattle.cp_machine.specs.Views.{machine_of}
+use Rattle.cp_rounds.specs.Views.{machine_of}
 use Rattle.cp_scope.specs.Standing.{ScopeStands, Stands, entry}
 use Rattle.cp_scope.specs.Texts.{TablesStand}
 use Rattle.cp_report.specs.Lines.{front_lines}

@@ -1,7 +1,7 @@
 //! The whole report of a machine.
 
 ghost use Rattle.std.specs.Prelude.{OnOk, IfOk, map};
-ghost use Rattle.cp_machine.specs.Views.{machine_of};
+ghost use Rattle.cp_rounds.specs.Views.{machine_of};
 ghost use Rattle.cp_scope.specs.Standing.{entry};
 ghost use Rattle.cp_report.specs.Subjects.{TellsAll};
 ghost use Rattle.cp_report.specs.WholeReports.{IsReport};
@@ -10,7 +10,7 @@ use crate::lines::push_rounds;
 use crate::listing::components;
 use crate::subject::Subject;
 use crate::walk::Walk;
-use cp_machine::machine::Machine;
+use cp_rounds::machine::Machine;
 use cp_model::tree::Sort;
 use cp_scope::{Field, Tables};
 use std::alloc::{AllocError, Global};

@@ -2,7 +2,7 @@
 
 ghost use Rattle.std.specs.Prelude.{◌≡◌, IfOk};
 
-use cp_machine::machine::Machine;
+use cp_rounds::machine::Machine;
 use cp_scope::{Field, Tables};
 use std::alloc::AllocError;
 

@@ -6,7 +6,7 @@ use super::streams::{Narrow, Slow};
 use super::texts::{AFTER_THREE_ROUNDS, COUNTERS};
 use cp_execute::execute::{Job, execute};
 use cp_execute::refusal::Refusal;
-use cp_machine::gate::Open;
+use cp_rounds::gate::Open;
 use std::alloc::Global;
 use std::sync::Wait;
 use std::test::Fail;

@@ -3,9 +3,9 @@
 use cp_execute::execute::{Job, execute};
 use cp_execute::refusal::Refusal;
 use cp_execute::running::Run;
-use cp_machine::gate::Open;
-use cp_machine::plan::Plan;
-use cp_machine::tick::Tick;
+use cp_rounds::gate::Open;
+use cp_rounds::plan::Plan;
+use cp_rounds::tick::Tick;
 use std::alloc::{AllocError, Global};
 use std::sync::Wait;
 use std::thread::Threads;

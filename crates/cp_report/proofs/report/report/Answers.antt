@@ -1,5 +1,5 @@
 use Rattle.std.proofs.Common.{rules, ◌≡◌, ◌++◌, [], map, ap, subst, ◌∙◌}
-use Rattle.cp_machine.specs.Views.{machine_of}
+use Rattle.cp_rounds.specs.Views.{machine_of}
 use Rattle.cp_model.specs.Abstract.{Monitor, Process}
 use Rattle.cp_model.specs.Report.{components_of}
 use Rattle.cp_steps.specs.Reports.{machine_report}

@@ -1,9 +1,0 @@
-use Rattle.std.proofs.Common.{◌≡◌, length}
-use Rattle.cp_machine.specs.Runs.{PartsAfter}
-use Rattle.cp_machine.proofs.run.make_rounds.Given as goal
-
-abbrev pub invariant-loop-round : goal.invariant-loop-round
-invariant-loop-round g l = record {
-  count : length l.parts.privates.items ≡ length l.fn.parts.privates.items;
-  made : PartsAfter l.setting l.plan.turn.steps l.done l.round l.fn.parts l.parts;
-}

@@ -1,0 +1,194 @@
+//! The machine: a program, the private states of its processes, the kernel, and the number of
+//! rounds made.
+
+ghost use Rattle.std.specs.Prelude.{◌≡◌, ◌<◌, ◌≤◌, ◌+◌, ◌-◌, ◌^◌, length, IfErr, IfOk};
+ghost use Rattle.cp_model.specs.States.{numbers_from};
+ghost use Rattle.cp_steps.specs.Machines as plain;
+ghost use Rattle.cp_program.specs.View as view;
+ghost use Rattle.cp_rounds.specs.InStates.{IsStarted, MakesRound, MakesRounds};
+ghost use Rattle.cp_rounds.specs.MachineOf.{input_of};
+ghost use Rattle.cp_rounds.specs.Views.{IsAfter, machine_of, processes_of};
+
+use crate::closing::close_round;
+use crate::gate::TurnGate;
+use crate::parts::Parts;
+use crate::plan::Plan;
+use crate::run::make_rounds_of;
+use crate::setting::Setting;
+use crate::starting::first_parts;
+use crate::tick::Tick;
+use crate::waves::make_turns;
+use cp_steps::law;
+use cp_program::program::Program;
+use std::alloc::{AllocError, Global};
+use std::mem;
+use std::sync::Wait;
+use std::thread::Threads;
+
+// How many rounds share their threads. Each of these rounds takes a cell.
+const ROUNDS_AT_ONCE: u32 = 4_096;
+
+/// A machine. The module `reading` has the calls that read it.
+#[derive(Drop)]
+pub struct Machine {
+    /// The allocator from which rounds take their memory.
+    pub(crate) alloc: Global,
+    pub(crate) setting: Setting,
+    pub(crate) parts: Parts,
+    /// The number of rounds made so far.
+    pub(crate) rounds: u64,
+}
+
+/// The round of a run, counted from 1, in which memory ran out or a thread could not be started.
+/// The rounds before it were made, and nothing of this one.
+#[derive(Clone, Copy, Debug, PartialEq, Eq)]
+pub struct MemoryAt(pub u32);
+
+impl Machine {
+    /// Returns the machine at its start, with an input for each process by number.
+    ///
+    /// # Errors
+    ///
+    /// `AllocError` if memory runs out, or if a process or the monitors have 2^30 words or more.
+    pub fn new(
+        alloc: Global,
+        program: Program,
+        inputs: Vec<Vec<u8>>,
+        tick: Tick,
+    ) -> Result<Machine, AllocError>
+        requires inputs { length inputs.items ≡ length (view.program program).processes }
+        ensures start { IfOk result (λ machine. machine_of machine ≡ plain.first_machine
+            (view.program program) tick.rounds (input_of inputs.items)) }
+        ensures state { IfOk result
+            (IsStarted (view.program program) tick.rounds inputs.items) }
+    {
+        law::rounds();
+        let parts = first_parts(alloc, &program)?;
+        Ok(Machine {
+            alloc,
+            setting: Setting {
+                program,
+                inputs,
+                tick,
+            },
+            parts,
+            rounds: 0,
+        })
+    }
+
+    /// Makes one round. Workers make the private turns, wave by wave. The calling thread is one of
+    /// them, but it first makes the kernel turns of the previous wave, in order of process number,
+    /// while the others work. At the end, the processes that were started in the round begin. The
+    /// gate is called before each turn.
+    ///
+    /// # Errors
+    ///
+    /// `AllocError` if memory runs out or a thread could not be started. The machine is then as it
+    /// was.
+    pub fn round<R: Threads + Wait + Sync, G: TurnGate>(
+        &mut self,
+        rt: &R,
+        plan: &Plan,
+        gate: &G,
+    ) -> Result<(), AllocError>
+        requires count { self.old.rounds < 2 ^ 64 - 1 }
+        ensures made { IfOk result (λ _. machine_of self.new ≡ plain.phased_round
+            plan.now.turn.steps (numbers_from 1 (processes_of self.old)) (machine_of self.old)) }
+        ensures state { IfOk result (λ _. MakesRound plan.now.turn.steps self.old self.new) }
+        ensures kept { IfErr result (λ _. machine_of self.new ≡ machine_of self.old) }
+        ensures processes { processes_of self.new ≡ processes_of self.old }
+    {
+        law::rounds();
+        let moment = self.setting.moment(self.rounds);
+        make_turns(
+            rt,
+            self.alloc,
+            &self.setting,
+            moment,
+            plan,
+            gate,
+            &mut self.parts,
+        )?;
+        close_round(
+            &self.setting,
+            &mut self.parts.privates,
+            &mut self.parts.kernel,
+        );
+        self.rounds += 1;
+        Ok(())
+    }
+
+    // Makes `rounds` rounds, by threads that are started once. `Err` has the number of rounds made.
+    fn make_rounds<R: Threads + Wait + Sync, G: TurnGate>(
+        &mut self,
+        rt: &R,
+        rounds: usize,
+        plan: &Plan,
+        gate: &G,
+    ) -> Result<(), usize>
+        requires some { 0 < rounds }
+        requires count { self.old.rounds + rounds < 2 ^ 64 }
+        ensures made { IfOk result (λ _. IsAfter plan.now.turn.steps rounds self.old self.new) }
+        ensures partly { IfErr result
+            (λ n. (n < rounds) × IsAfter plan.now.turn.steps n self.old self.new) }
+    {
+        let none = Parts::none(self.alloc);
+        let parts = mem::replace(&mut self.parts, none);
+        let (parts, made) = make_rounds_of(
+            rt,
+            self.alloc,
+            rounds,
+            &self.setting,
+            self.rounds,
+            plan,
+            gate,
+            parts,
+        );
+        self.parts = parts;
+        match made {
+            Ok(()) => {
+                self.rounds += rounds as u64;
+                Ok(())
+            }
+            Err(n) => {
+                self.rounds += n as u64;
+                Err(n)
+            }
+        }
+    }
+
+    /// Makes `rounds` rounds.
+    ///
+    /// # Errors
+    ///
+    /// `MemoryAt` with the first round for which memory ran out or a thread could not be started.
+    pub fn run<R: Threads + Wait + Sync, G: TurnGate>(
+        &mut self,
+        rt: &R,
+        rounds: u32,
+        plan: &Plan,
+        gate: &G,
+    ) -> Result<(), MemoryAt>
+        requires count { self.old.rounds + rounds < 2 ^ 64 }
+        ensures done { IfOk result (λ _. machine_of self.new ≡ plain.phased_rounds
+            plan.now.turn.steps (numbers_from 1 (processes_of self.old)) rounds
+            (machine_of self.old)) }
+        ensures state { IfOk result
+            (λ _. MakesRounds plan.now.turn.steps rounds self.old self.new) }
+        ensures partly { IfErr result (λ e. (1 ≤ e.0) × (e.0 ≤ rounds)
+            × (machine_of self.new ≡ plain.phased_rounds plan.now.turn.steps
+            (numbers_from 1 (processes_of self.old)) (e.0 - 1) (machine_of self.old))) }
+        ensures processes { processes_of self.new ≡ processes_of self.old }
+    {
+        law::rounds();
+        let mut done = 0;
+        'part: while done < rounds {
+            let count = (rounds - done).min(ROUNDS_AT_ONCE);
+            match self.make_rounds(rt, count as usize, plan, gate) {
+                Ok(()) => done += count,
+                Err(made) => return Err(MemoryAt(done + made as u32 + 1)),
+            }
+        }
+        Ok(())
+    }
+}

@@ -1,0 +1,27 @@
+//! What rounds change.
+
+ghost use Rattle.std.specs.Prelude.{◌≡◌, length};
+ghost use Rattle.cp_rounds.specs.Numbers.{AreNumbered};
+
+use cp_kernel::kernel::Kernel;
+use cp_private::private::Private;
+use std::alloc::Global;
+
+/// The private states by process, and the kernel.
+#[derive(Drop)]
+pub struct Parts {
+    pub(crate) privates: Vec<Private>,
+    pub(crate) kernel: Kernel,
+    ghost numbers: { AreNumbered privates.items },
+    ghost count: { length kernel.stages.items ≡ length privates.items },
+}
+
+impl Parts {
+    /// Returns the parts of a machine without processes. It takes no memory.
+    pub(crate) fn none(alloc: Global) -> Parts {
+        Parts {
+            privates: Vec::new(alloc),
+            kernel: Kernel::empty(alloc),
+        }
+    }
+}

@@ -1,0 +1,97 @@
+//! Plans: how long a turn is, and how a round is divided among workers.
+
+ghost use Rattle.std.specs.Prelude.{◌≡◌, ◌<◌, ◌≤◌, ◌-◌, ◌↔◌, IfErr, IfOk, IsOk, IsTrue};
+ghost use Rattle.cp_rounds.specs.Plans.{AreInRange, IsFirstOut};
+
+use crate::wave::Wave;
+use cp_private::turn::Turn;
+
+/// How a round is made: a turn has at most `turn` steps, and `workers` workers draw chunks of
+/// consecutive processes, wave by wave.
+#[derive(Clone, Copy, Debug, PartialEq, Eq)]
+pub struct Plan {
+    pub turn: Turn,
+    /// From 1 to 64.
+    pub workers: u32,
+    /// The processes of a chunk, from 1 to 255.
+    pub chunk: u32,
+    /// The processes of a wave, from 1 to 255.
+    pub wave: u32,
+    ghost workers_in_range: { (1 ≤ workers) × (workers ≤ 64) },
+    ghost chunk_in_range: { (1 ≤ chunk) × (chunk ≤ 255) },
+    ghost wave_in_range: { (1 ≤ wave) × (wave ≤ 255) },
+}
+
+/// The first field of a plan that is out of range.
+#[derive(Clone, Copy, Debug, PartialEq, Eq)]
+pub enum OutOfRange {
+    Turn,
+    Workers,
+    Chunk,
+    Wave,
+}
+
+fn is_within(number: u32, most: u32) -> bool
+    ensures { IsTrue result ↔ ((1 ≤ number) × (number ≤ most)) }
+{
+    1 <= number && number <= most
+}
+
+impl Plan {
+    /// Returns the plan with these numbers.
+    ///
+    /// # Errors
+    ///
+    /// The first field that is out of range, in the order turn, workers, chunk, wave.
+    pub fn new(turn: u32, workers: u32, chunk: u32, wave: u32) -> Result<Plan, OutOfRange>
+        ensures range { IsOk result ↔ AreInRange turn workers chunk wave }
+        ensures turn { IfOk result (λ plan. plan.turn.steps ≡ turn) }
+        ensures workers { IfOk result (λ plan. plan.workers ≡ workers) }
+        ensures chunk { IfOk result (λ plan. plan.chunk ≡ chunk) }
+        ensures wave { IfOk result (λ plan. plan.wave ≡ wave) }
+        ensures first { IfErr result (IsFirstOut turn workers chunk wave) }
+    {
+        let turn = match Turn::new(turn) {
+            Ok(turn) => turn,
+            Err(_) => return Err(OutOfRange::Turn),
+        };
+        if !is_within(workers, 64) {
+            return Err(OutOfRange::Workers);
+        }
+        if !is_within(chunk, 255) {
+            return Err(OutOfRange::Chunk);
+        }
+        if !is_within(wave, 255) {
+            return Err(OutOfRange::Wave);
+        }
+        Ok(Plan {
+            turn,
+            workers,
+            chunk,
+            wave,
+        })
+    }
+
+    /// Returns the wave of `processes` processes that begins at index `first`.
+    pub fn wave_from(&self, first: usize, processes: usize) -> Wave
+        requires first { first < processes }
+        ensures first { result.first ≡ first }
+        ensures end { (first < result.end) × (result.end ≤ processes) }
+        ensures whole { processes - first ≤ self.now.wave → result.end ≡ processes }
+    {
+        Wave::next(first, processes, self.wave as usize, self.chunk as usize)
+    }
+
+    /// Returns how many threads make the rounds of `processes` processes: at most one for each
+    /// chunk of a wave, and one more if there are several waves, because the calling thread makes
+    /// the kernel turns of a wave alongside the next one.
+    pub fn threads(&self, processes: usize) -> usize
+        ensures { result ≤ self.now.workers }
+    {
+        let wave = (self.wave as usize).min(processes);
+        let chunk = self.chunk as usize;
+        let chunks = (wave + chunk - 1) / chunk;
+        let beside = if wave < processes { 1 } else { 0 };
+        (self.workers as usize).min(chunks + beside)
+    }
+}

@@ -1,0 +1,77 @@
+//! Machines of texts, and what can be read of them.
+
+ghost use Rattle.std.specs.Prelude.{◌≡◌, IfOk, length};
+ghost use Rattle.cp_program.specs.View as view;
+
+use crate::texts::program;
+use cp_rounds::machine::Machine;
+use cp_rounds::tick::Tick;
+use cp_private::private::Activity;
+use cp_program::program::Program;
+use std::alloc::Global;
+use std::test::Fail;
+
+// Returns the inputs of all processes, of which the first ones are given.
+pub(crate) fn inputs_for(
+    alloc: Global,
+    program: &Program,
+    inputs: &[&[u8]],
+) -> Result<Vec<Vec<u8>>, Fail>
+    ensures { IfOk result
+        (λ all. length all.items ≡ length (view.program program.now).processes) }
+{
+    let mut all = Vec::new(alloc);
+    for i in 0..program.processes() {
+        match inputs.get(i) {
+            Some(input) => all.push(input.to_vec(alloc)?)?,
+            None => all.push(Vec::new(alloc))?,
+        }
+    }
+    if all.len() != program.processes() {
+        return Err("there is an input for each process".into());
+    }
+    Ok(all)
+}
+
+// Returns the machine of a text, with the inputs of its first processes.
+pub(crate) fn machine_with(
+    alloc: Global,
+    text: &str,
+    tick: u32,
+    inputs: &[&[u8]],
+) -> Result<Machine, Fail> {
+    let program = program(alloc, text)?;
+    let inputs = inputs_for(alloc, &program, inputs)?;
+    Ok(Machine::new(alloc, program, inputs, Tick::new(tick)?)?)
+}
+
+// Returns the machine of a text, with a tick of one round and without input.
+pub(crate) fn machine_of(alloc: Global, text: &str) -> Result<Machine, Fail> {
+    machine_with(alloc, text, 1, &[])
+}
+
+pub(crate) fn activity(machine: &Machine, p: usize) -> Result<Activity, Fail> {
+    let private = machine.private(p).ok_or("there is no such process")?;
+    Ok(private.activity())
+}
+
+// Whether `text` is the transcript of process p, with all of it moved to the kernel.
+pub(crate) fn has_written(machine: &Machine, p: usize, text: &[u8]) -> bool {
+    let (moved, held) = machine.transcript(p);
+    moved == text && held.is_empty()
+}
+
+// Describes everything that can be read of a machine.
+pub(crate) fn describe(alloc: Global, machine: &Machine) -> Result<String, Fail> {
+    let mut text = format!(in alloc; "{} {:?}", machine.rounds(), machine.kernel())?;
+    for p in 1..=machine.processes() {
+        let private = machine.private(p).ok_or("there is no such process")?;
+        let told = format!(in alloc; "; {p} {:?} {:?}", private.activity(), private.output())?;
+        text.push_str(&told)?;
+        for at in 0..private.words() {
+            let word = format!(in alloc; " {}", private.value(at))?;
+            text.push_str(&word)?;
+        }
+    }
+    Ok(text)
+}

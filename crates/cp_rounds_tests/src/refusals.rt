@@ -1,0 +1,176 @@
+//! The state of a machine after memory or a thread was refused.
+//!
+//! A program that is too large is always refused. Allocations and thread starts succeed in a plain
+//! run. If one is made to fail, for example by a library that is loaded before the C library, the
+//! last three tests report it and look at the machine.
+
+use crate::machines::{activity, describe, has_written, inputs_for, machine_of};
+use crate::texts;
+use crate::ways::{Way, is_young};
+use cp_rounds::gate::Open;
+use cp_rounds::machine::{Machine, MemoryAt};
+use cp_rounds::plan::Plan;
+use cp_rounds::tick::Tick;
+use cp_private::outside::{Holder, Stage};
+use cp_private::private::Activity;
+use cp_program::operation::Operation;
+use cp_program::program;
+use cp_program::program::{CodeUnit, Process, Program};
+use std::alloc::Global;
+use std::sync::Wait;
+use std::test::Fail;
+use std::thread::Threads;
+
+// Returns a program that ends at once, with `words` words for its process and `shared` shared
+// words.
+fn ending_program(alloc: Global, words: u32, shared: u32) -> Result<Program, Fail> {
+    let mut operations = Vec::new(alloc);
+    operations.push(Operation::End)?;
+    let mut units = Vec::new(alloc);
+    units.push(CodeUnit {
+        start: 0,
+        starts: Vec::new(alloc),
+        words: 0,
+        temps: 0,
+        frames: 0,
+    })?;
+    let mut processes = Vec::new(alloc);
+    processes.push(Process {
+        body: 0,
+        words,
+        parameters: 0,
+        waiting: 0,
+        plan: 0,
+    })?;
+    let mut plans = Vec::new(alloc);
+    plans.push(program::Plan {
+        starts: Vec::new(alloc),
+    })?;
+    let monitors = Vec::new(alloc);
+    Ok(Program::new(operations, units, monitors, processes, plans, shared))
+}
+
+// Returns the activity of the process of such a program after a round, unless the machine is
+// refused.
+fn activity_after_round<R: Threads + Wait + Sync>(
+    rt: &R,
+    alloc: Global,
+    words: u32,
+    shared: u32,
+) -> Result<Option<Activity>, Fail> {
+    let program = ending_program(alloc, words, shared)?;
+    let inputs = inputs_for(alloc, &program, &[])?;
+    let Ok(mut machine) = Machine::new(alloc, program, inputs, Tick::new(1)?) else {
+        return Ok(None);
+    };
+    Way::new(true, 1, 1, 1).make(rt, &mut machine, 1, 1, &Open)?;
+    Ok(Some(activity(&machine, 1)?))
+}
+
+#[test]
+fn a_machine_has_fewer_than_2_to_the_30_words(rt: HostRuntime) -> Result<(), Fail> {
+    assert_eq!(rt;
+        activity_after_round(&rt, rt.alloc(), 1, 1)?,
+        Some(Activity::Ended)
+    );
+    for many in [1 << 30, u32::MAX] {
+        assert_eq!(rt; activity_after_round(&rt, rt.alloc(), many, 1)?, None);
+        assert_eq!(rt; activity_after_round(&rt, rt.alloc(), 1, many)?, None);
+    }
+    Ok(())
+}
+
+// Process 2 is delayed in round 3. From round 2 on, processes 3 and 4 count the rounds.
+const COUNTERS: &str =
+    "type m = monitor; var q: queue; procedure entry w; begin delay(q) end; begin end;
+    pm = process(a: m); begin a.w end;
+    pc = process; var x: integer; begin cycle x := x + 1; display(x) end end;
+    var g: m; b: pm; c, d: pc; begin init c, d, g, b(g) end.";
+
+const ROUNDS: u32 = 9;
+
+const COUNTED: &[u8] = b"12345678";
+
+// Whether the counters are as the rules say after nine rounds with three steps a turn.
+fn have_counted(machine: &Machine) -> Result<bool, Fail> {
+    let kernel = machine.kernel();
+    let delayed = Stage::Delayed {
+        monitor: 1,
+        queue: 1,
+    };
+    Ok(
+        machine.rounds() == u64::from(ROUNDS)
+            && activity(machine, 1)? == Activity::Ended
+            && kernel.holder(1) == Holder::Free
+            && kernel.stage(2) == delayed
+            && kernel.word(1) == 2
+            && has_written(machine, 3, COUNTED)
+            && has_written(machine, 4, COUNTED)
+            && machine.value(4, 1) == 8,
+    )
+}
+
+const WAYS: [(u32, u32); 3] = [(1, 255), (4, 255), (4, 1)];
+
+fn plan_of(workers: u32, wave: u32) -> Result<Plan, Fail> {
+    Ok(Plan::new(3, workers, 1, wave)?)
+}
+
+#[test]
+fn a_refused_machine_is_made_again(rt: HostRuntime) -> Result<(), Fail> {
+    let alloc = rt.alloc();
+    let program = texts::program(alloc, COUNTERS)?;
+    let inputs = inputs_for(alloc, &program, &[])?;
+    let mut machine = match Machine::new(alloc, program, inputs, Tick::new(1)?) {
+        Ok(machine) => machine,
+        Err(_) => {
+            println!(rt; "a machine is refused")?;
+            machine_of(alloc, COUNTERS)?
+        }
+    };
+    assert_eq!(rt; machine.rounds(), 0);
+    Way::new(true, 1, 1, 255).make(&rt, &mut machine, ROUNDS, 3, &Open)?;
+    assert!(rt; have_counted(&machine)?);
+    Ok(())
+}
+
+#[test]
+fn a_refused_round_leaves_the_machine_as_it_was(rt: HostRuntime) -> Result<(), Fail> {
+    for (workers, wave) in WAYS {
+        let plan = plan_of(workers, wave)?;
+        let mut machine = machine_of(rt.alloc(), COUNTERS)?;
+        for round in 0..ROUNDS {
+            let before = describe(rt.alloc(), &machine)?;
+            is_young(&machine)?;
+            if machine.round(&rt, &plan, &Open).is_err() {
+                println!(rt; "round {round} is refused")?;
+                assert!(rt; describe(rt.alloc(), &machine)? == before);
+                is_young(&machine)?;
+                machine.round(&rt, &plan, &Open)?;
+            }
+        }
+        assert!(rt; have_counted(&machine)?, "{workers} workers, wave {wave}");
+    }
+    Ok(())
+}
+
+#[test]
+fn a_refused_run_has_made_the_rounds_before(rt: HostRuntime) -> Result<(), Fail> {
+    for (workers, wave) in WAYS {
+        let plan = plan_of(workers, wave)?;
+        let mut machine = machine_of(rt.alloc(), COUNTERS)?;
+        is_young(&machine)?;
+        if let Err(MemoryAt(round)) = machine.run(&rt, ROUNDS, &plan, &Open) {
+            println!(rt; "round {round} of a run is refused")?;
+            let made = round - 1;
+            assert_eq!(rt; machine.rounds(), u64::from(made));
+            let mut other = machine_of(rt.alloc(), COUNTERS)?;
+            Way::new(true, 1, 1, 255).make(&rt, &mut other, made, 3, &Open)?;
+            assert!(rt; describe(rt.alloc(), &machine)? == describe(rt.alloc(), &other)?);
+            is_young(&machine)?;
+            machine.run(&rt, ROUNDS - made, &plan, &Open)?;
+        }
+        assert!(rt; have_counted(&machine)?, "{workers} workers, wave {wave}");
+    }
+    Ok(())
+}
