@@ -4,7 +4,7 @@ use Rattle.cp_model.specs.Syntax as s
 use Rattle.cp_model.specs.Erase as erase
 use Rattle.cp_model.specs.States.{Setup}
 use Rattle.cp_model.specs.Rules.{Accepted, first_violation}
-use Rattle.cp_code.specs.StandsFor.{StandsFor}
+use Rattle.cp_program_model.specs.StandsFor.{StandsFor}
 use Rattle.cp_program.specs.declared.program.Program.{Program}
 use Rattle.cp_program.specs.View as view
 use Rattle.cp_check.specs.declared.checking.CheckError.{CheckError}

@@ -5,7 +5,7 @@ ghost use Rattle.cp_model.specs.Rules.{Accepted};
 ghost use Rattle.cp_model.specs.View as view;
 ghost use Rattle.cp_check.specs.Checked.{Checks, IsProgramOf};
 
-use cp_code::law::accepted_tree_has_program;
+use cp_program_model::law::accepted_tree_has_program;
 use cp_compile::compile;
 use cp_model::rules::Violation;
 use cp_model::tree::Tree;

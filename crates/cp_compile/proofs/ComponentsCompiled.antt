@@ -15,11 +15,11 @@ use Rattle.cp_model.specs.declared.tree.Parameters.{Parameters}
 use Rattle.cp_model.specs.declared.tree.Routine as tree_routine
 use Rattle.cp_model.specs.declared.tree.System as tree_system
 use Rattle.cp_typing.specs.Words.{words_of_members}
-use Rattle.cp_code.specs.Compile as code
-use Rattle.cp_code.specs.Compile.{of_sort, owner_before, owners_of, waiting_words}
-use Rattle.cp_code.specs.Layout.{component_words}
-use Rattle.cp_code.specs.Plans.{plan_of_component}
-use Rattle.cp_code.specs.Scopes.{declared_type, or_zero}
+use Rattle.cp_program_model.specs.Compile as code
+use Rattle.cp_program_model.specs.Compile.{of_sort, owner_before, owners_of, waiting_words}
+use Rattle.cp_program_model.specs.Layout.{component_words}
+use Rattle.cp_program_model.specs.Plans.{plan_of_component}
+use Rattle.cp_program_model.specs.Scopes.{declared_type, or_zero}
 use Rattle.cp_scope.specs.declared.systems.SystemTable.{SystemTable}
 use Rattle.cp_scope.specs.declared.types.Types.{Types}
 use Rattle.cp_scope.specs.Numbering.{system_of}

@@ -12,7 +12,7 @@ use Rattle.cp_model.specs.View as tree
 use Rattle.cp_model.specs.declared.tree.Tree as text
 use Rattle.cp_typing.specs.WellTyped.{TypedInOrder}
 use Rattle.cp_typing.proofs.Texts.{accepted_texts_are_well_typed}
-use Rattle.cp_code.specs.Programs as program
+use Rattle.cp_program_model.specs.Programs as program
 use Rattle.cp_emit.specs.declared.plan.Planner.{Planner}
 use Rattle.cp_emit.specs.ComponentPlans.{ArePlans}
 use Rattle.cp_emit.specs.Planning.{Knows, types_of}

@@ -9,12 +9,12 @@ use Rattle.cp_model.specs.Types.{GlobalScope}
 use Rattle.cp_model.specs.View as tree
 use Rattle.cp_model.specs.declared.tree.Identifier.{Identifier}
 use Rattle.cp_model.specs.declared.tree.Routine as tree_routine
-use Rattle.cp_code.specs.Compile.{Compiled, with_body, with_routine, with_routines, with_unit}
-use Rattle.cp_code.specs.Plans.{plan_of_routine}
-use Rattle.cp_code.specs.Programs.{Operation, Return, Start}
-use Rattle.cp_code.specs.Scopes as code
-use Rattle.cp_code.specs.StandsFor.{end_of}
-use Rattle.cp_code.specs.StatementsFor.{is_function}
+use Rattle.cp_program_model.specs.Compile.{Compiled, with_body, with_routine, with_routines, with_unit}
+use Rattle.cp_program_model.specs.Plans.{plan_of_routine}
+use Rattle.cp_program_model.specs.Programs.{Operation, Return, Start}
+use Rattle.cp_program_model.specs.Scopes as code
+use Rattle.cp_program_model.specs.StandsFor.{end_of}
+use Rattle.cp_program_model.specs.StatementsFor.{is_function}
 use Rattle.cp_scope.specs.declared.routines.RoutineTable.{RoutineTable}
 use Rattle.cp_scope.specs.declared.scope.Scope.{Scope}
 use Rattle.cp_scope.specs.Routines.{RoutineStands}

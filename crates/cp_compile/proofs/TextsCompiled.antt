@@ -14,8 +14,8 @@ use Rattle.cp_model.specs.declared.tree.Fields.{Fields}
 use Rattle.cp_model.specs.declared.tree.System.{System}
 use Rattle.cp_model.specs.declared.tree.TypeExpression.{TypeExpression}
 use Rattle.cp_model.specs.declared.tree.TypeExpression.TheVariants as written
-use Rattle.cp_code.specs.Compile.{CompiledTypes, first_of_type, with_definition, with_definitions, with_system}
-use Rattle.cp_code.specs.Scopes.{or_zero}
+use Rattle.cp_program_model.specs.Compile.{CompiledTypes, first_of_type, with_definition, with_definitions, with_system}
+use Rattle.cp_program_model.specs.Scopes.{or_zero}
 use Rattle.cp_emit.specs.declared.emitter.Emitter.{Emitter}
 use Rattle.cp_scope.specs.declared.types.Types.{Types}
 use Rattle.cp_scope.specs.Numbering.{system_of}

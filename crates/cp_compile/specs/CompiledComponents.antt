@@ -11,10 +11,10 @@ use Rattle.cp_model.specs.declared.tree.Fields.{Fields}
 use Rattle.cp_model.specs.declared.tree.Parameters.{Parameters}
 use Rattle.cp_model.specs.declared.tree.Routine as tree_routine
 use Rattle.cp_model.specs.declared.tree.System as tree_system
-use Rattle.cp_code.specs.Compile as code
-use Rattle.cp_code.specs.Compile.{owner_before, waiting_words}
-use Rattle.cp_code.specs.Layout.{component_words}
-use Rattle.cp_code.specs.Plans.{plan_of_component}
+use Rattle.cp_program_model.specs.Compile as code
+use Rattle.cp_program_model.specs.Compile.{owner_before, waiting_words}
+use Rattle.cp_program_model.specs.Layout.{component_words}
+use Rattle.cp_program_model.specs.Plans.{plan_of_component}
 use Rattle.cp_scope.specs.declared.systems.SystemTable.{SystemTable}
 use Rattle.cp_scope.specs.declared.tables.Tables.{Tables}
 use Rattle.cp_scope.specs.declared.types.Types.{Types}

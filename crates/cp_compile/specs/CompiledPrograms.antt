@@ -8,10 +8,10 @@ use Rattle.cp_model.specs.Names.{lookup}
 use Rattle.cp_model.specs.Types.{GlobalScope}
 use Rattle.cp_model.specs.View as tree
 use Rattle.cp_model.specs.declared.tree.Tree as text
-use Rattle.cp_code.specs.Compile as code
-use Rattle.cp_code.specs.Compile.{CompiledTypes, monitors_at, nothing_compiled, of_sort, owners_of, processes_at, sum_words, waiting_words, with_definitions, with_system}
-use Rattle.cp_code.specs.Layout.{component_words}
-use Rattle.cp_code.specs.Plans.{plan_of_component}
+use Rattle.cp_program_model.specs.Compile as code
+use Rattle.cp_program_model.specs.Compile.{CompiledTypes, monitors_at, nothing_compiled, of_sort, owners_of, processes_at, sum_words, waiting_words, with_definitions, with_system}
+use Rattle.cp_program_model.specs.Layout.{component_words}
+use Rattle.cp_program_model.specs.Plans.{plan_of_component}
 use Rattle.cp_emit.specs.declared.plan.Planner.{Planner}
 use Rattle.cp_emit.specs.Planning.{Knows}
 use Rattle.cp_scope.specs.declared.tables.Tables.{Tables}

@@ -7,7 +7,7 @@ use Rattle.cp_model.specs.Erase as erase
 use Rattle.cp_model.specs.Names.{lookup}
 use Rattle.cp_model.specs.Types.{ComponentOf, GlobalScope, Members}
 use Rattle.cp_model.specs.View as tree
-use Rattle.cp_code.specs.Compile.{CompiledTypes}
+use Rattle.cp_program_model.specs.Compile.{CompiledTypes}
 use Rattle.cp_emit.specs.declared.emitter.Emitter.{Emitter}
 use Rattle.cp_emit.specs.Planning.{Knows}
 use Rattle.cp_scope.specs.Layouts.{AreLaid}

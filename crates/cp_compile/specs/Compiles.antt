@@ -4,7 +4,7 @@ use Rattle.cp_model.specs.Abstract as a
 use Rattle.cp_model.specs.Erase as erase
 use Rattle.cp_model.specs.View as tree
 use Rattle.cp_model.specs.declared.tree.Statement.{Statement}
-use Rattle.cp_code.specs.Compile.{Compiled}
+use Rattle.cp_program_model.specs.Compile.{Compiled}
 use Rattle.cp_emit.specs.declared.emitter.Emitter.{Emitter}
 use Rattle.cp_emit.specs.Emission.{operations_of, units_of}
 

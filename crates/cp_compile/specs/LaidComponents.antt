@@ -1,9 +1,9 @@
 -- When components lie where the definition has them.
 use Rattle.std.specs.Prelude.{◌≡◌, ◌+◌, ℕ, List, map}
 use Rattle.cp_model.specs.Types.{GlobalScope}
-use Rattle.cp_code.specs.Compile as code
-use Rattle.cp_code.specs.Compile.{monitors_at, processes_at, sum_words, waiting_words}
-use Rattle.cp_code.specs.Layout.{component_words}
+use Rattle.cp_program_model.specs.Compile as code
+use Rattle.cp_program_model.specs.Compile.{monitors_at, processes_at, sum_words, waiting_words}
+use Rattle.cp_program_model.specs.Layout.{component_words}
 use Rattle.cp_program.specs.View as view
 use Rattle.cp_program.specs.declared.program.Plan.{Plan}
 use Rattle.cp_compile.specs.declared.layout.MonitorLayout.{MonitorLayout}

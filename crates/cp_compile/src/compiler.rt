@@ -6,7 +6,7 @@ ghost use Rattle.cp_model.specs.Rules.{Accepted};
 ghost use Rattle.cp_model.specs.Types.{GlobalScope};
 ghost use Rattle.cp_model.specs.View as syntax;
 ghost use Rattle.cp_model.specs.declared.tree.Tree as text;
-ghost use Rattle.cp_code.specs.Compile as code;
+ghost use Rattle.cp_program_model.specs.Compile as code;
 ghost use Rattle.cp_scope.specs.Texts.{TablesStand};
 ghost use Rattle.cp_program.specs.View as view;
 ghost use Rattle.cp_compile.specs.CompiledPrograms.{ArePlansOf, ComponentsLie, IsCode, IsPlanner, text_of};
@@ -136,7 +136,7 @@ fn lay_components<'t>(
 }
 
 /// Compiles a text to a program. For an accepted text, it is the program that the definition
-/// `compile` of `cp_code` makes, which stands for the text.
+/// `compile` of `cp_program_model` makes, which stands for the text.
 ///
 /// # Errors
 ///

@@ -7,7 +7,7 @@ ghost use Rattle.cp_model.specs.Erase as erase;
 ghost use Rattle.cp_model.specs.Types.{ComponentOf, GlobalScope, Members};
 ghost use Rattle.cp_model.specs.Names.{lookup};
 ghost use Rattle.cp_model.specs.View as tree;
-ghost use Rattle.cp_code.specs.Compile.{CompiledTypes, first_of_type, with_definition, with_definitions, with_system};
+ghost use Rattle.cp_program_model.specs.Compile.{CompiledTypes, first_of_type, with_definition, with_definitions, with_system};
 ghost use Rattle.cp_compile.specs.CompiledTexts.{AreNamed, IsDefined, IsNamed, IsSystemText, IsText, TypesAre, system_number};
 ghost use Rattle.cp_compile.specs.Compiles.{IsCompiled};
 

@@ -1,8 +1,8 @@
 //! Compiles a unit: the code of a routine or of the body of a system type.
 
 ghost use Rattle.std.specs.Prelude.{OnOk, map};
-ghost use Rattle.cp_code.specs.Compile.{Compiled, with_unit};
-ghost use Rattle.cp_code.specs.Scopes as code;
+ghost use Rattle.cp_program_model.specs.Compile.{Compiled, with_unit};
+ghost use Rattle.cp_program_model.specs.Scopes as code;
 ghost use Rattle.cp_scope.specs.Scopes.{IsScope};
 ghost use Rattle.cp_program.specs.View as view;
 ghost use Rattle.cp_compile.specs.Compiles.{IsCompiled, body_of};

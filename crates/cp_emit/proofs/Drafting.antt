@@ -5,8 +5,8 @@ use Rattle.std.proofs.lemmas.List.{length-map, length-reverse, reverse-append}
 use Rattle.std.proofs.lemmas.Bool.{eq-eqb}
 use Rattle.std.proofs.Math.Facts.{no_eqb}
 use Rattle.std.specs.Option.{option_to_list}
-use Rattle.cp_code.specs.Programs as code
-use Rattle.cp_code.specs.Plans.{fill_before}
+use Rattle.cp_program_model.specs.Programs as code
+use Rattle.cp_program_model.specs.Plans.{fill_before}
 use Rattle.cp_program.specs.declared.program.Start.{Start}
 use Rattle.cp_program.specs.View as view
 use Rattle.cp_emit.specs.Drafts.{Joins, drop_repeat, starts_of}

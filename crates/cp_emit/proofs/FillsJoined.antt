@@ -3,8 +3,8 @@ use Rattle.std.proofs.Common.{◌≡◌, ◌∙◌, ◌+◌, ℕ, zero, suc, ℤ
 use Rattle.std.specs.Prelude.{nat_eq, ◌&&◌}
 use Rattle.std.proofs.lemmas.Bool.{eq-eqb}
 use Rattle.cp_model.specs.Integers.{same_integer}
-use Rattle.cp_code.specs.Programs.{Fill, Repeat, Start}
-use Rattle.cp_code.specs.Plans.{fill_before, fill_unless}
+use Rattle.cp_program_model.specs.Programs.{Fill, Repeat, Start}
+use Rattle.cp_program_model.specs.Plans.{fill_before, fill_unless}
 
 same_as_itself : (n : ℤ) → same_integer n n ≡ true
 same_as_itself (pos k) = eq-eqb k k refl

@@ -1,9 +1,9 @@
 -- Loops: the operation that closes a loop is emitted first, with its calls, and completed once the
 -- body is emitted.
 use Rattle.std.proofs.Common.{◌≡◌, ◌+◌, suc, List, ◌∷◌, ◌++◌, length, ap, ◌∙◌, append_assoc, arith, length-append}
-use Rattle.cp_code.specs.CodedTerms.{CodedCall}
-use Rattle.cp_code.specs.CodedStatements.{calls_at, with_calls}
-use Rattle.cp_code.specs.Programs.{Operation}
+use Rattle.cp_program_model.specs.CodedTerms.{CodedCall}
+use Rattle.cp_program_model.specs.CodedStatements.{calls_at, with_calls}
+use Rattle.cp_program_model.specs.Programs.{Operation}
 use Rattle.cp_emit.specs.Emission.{changed_at}
 use Rattle.cp_emit.proofs.Changing.{changed_between}
 

@@ -4,7 +4,7 @@ use Rattle.std.specs.List.{HoldsAt}
 use Rattle.std.proofs.lemmas.Option.{slice_get-get_or}
 use Rattle.cp_model.specs.Types.{Members, MoreMembers, NoMembers, ResolvedType}
 use Rattle.cp_typing.specs.Words.{words, words_of_members}
-use Rattle.cp_code.specs.Plans.{fill_unless, plan_of_members}
+use Rattle.cp_program_model.specs.Plans.{fill_unless, plan_of_members}
 use Rattle.cp_scope.specs.declared.types.Field.{Field}
 use Rattle.cp_scope.specs.declared.types.Types.{Types}
 use Rattle.cp_scope.specs.Standing.{AreMembers, Stands, entry}

@@ -5,10 +5,10 @@ use Rattle.cp_model.specs.Abstract.{Name, Routine}
 use Rattle.cp_model.specs.Declarations.{Variable, declarations, is_component, members_from}
 use Rattle.cp_model.specs.Types.{ArrayOf, ComponentOf, GlobalScope, Members, NoMembers, NoType, Queue, RecordOf, ResolvedType, Simple}
 use Rattle.cp_typing.specs.Words.{words}
-use Rattle.cp_code.specs.Plans.{fill_before, plan, plan_of_members, plan_of_result, plan_of_routine, plan_of_variables}
-use Rattle.cp_code.specs.Layout.{local_words, locals_words}
-use Rattle.cp_code.specs.Programs.{Start}
-use Rattle.cp_code.specs.Starts.{unset}
+use Rattle.cp_program_model.specs.Plans.{fill_before, plan, plan_of_members, plan_of_result, plan_of_routine, plan_of_variables}
+use Rattle.cp_program_model.specs.Layout.{local_words, locals_words}
+use Rattle.cp_program_model.specs.Programs.{Start}
+use Rattle.cp_program_model.specs.Starts.{unset}
 use Rattle.cp_typing.specs.Needs.{result_words}
 use Rattle.cp_scope.specs.declared.types.Types.{Types}
 use Rattle.cp_scope.specs.declared.types.Field.{Field}

@@ -1,8 +1,8 @@
 -- The needs of operations, as an operation is emitted or completed.
 use Rattle.std.proofs.Common.{◌≡◌, ℕ, zero, suc, List, [], ◌∷◌, ◌++◌, drop, max, refl, ap, ◌∙◌, arith}
-use Rattle.cp_code.specs.CodeNeeds.{Need, greater_need, need_of, need_of_all}
-use Rattle.cp_code.specs.Programs as op
-use Rattle.cp_code.specs.Programs.{CodeUnit, Operation}
+use Rattle.cp_program_model.specs.CodeNeeds.{Need, greater_need, need_of, need_of_all}
+use Rattle.cp_program_model.specs.Programs as op
+use Rattle.cp_program_model.specs.Programs.{CodeUnit, Operation}
 use Rattle.cp_emit.specs.Emission.{changed_at, with_body, with_repeated}
 
 swap_max : (a b c : ℕ) → max a (max b c) ≡ max b (max a c)

@@ -6,10 +6,10 @@ use Rattle.std.proofs.Math.ListN.{set}
 use Rattle.std.proofs.lemmas.Int.{ints}
 use Rattle.cp_model.specs.Integers.{same_integer}
 use Rattle.cp_program.proofs.SameIntegers.{alike, differ}
-use Rattle.cp_code.specs.Programs.{Arm}
-use Rattle.cp_code.specs.Layout.{distance}
-use Rattle.cp_code.specs.Tables.{arm_at}
-use Rattle.cp_code.specs.CodedStatements.{places_from}
+use Rattle.cp_program_model.specs.Programs.{Arm}
+use Rattle.cp_program_model.specs.Layout.{distance}
+use Rattle.cp_program_model.specs.Tables.{arm_at}
+use Rattle.cp_program_model.specs.CodedStatements.{places_from}
 
 -- ---- Places
 

@@ -5,8 +5,8 @@ use Rattle.cp_model.specs.Abstract.{Name}
 use Rattle.cp_model.specs.Integers.{count_between}
 use Rattle.cp_model.specs.Types.{ArrayOf, ComponentOf, GlobalScope, Members, MoreMembers, NoMembers, NoType, Queue, RecordOf, ResolvedType, Simple}
 use Rattle.cp_typing.specs.Words.{words}
-use Rattle.cp_code.specs.Programs.{Repeat, Start}
-use Rattle.cp_code.specs.Plans.{fill_unless, plan, plan_of_array, plan_of_members, repeat_before, start_of}
+use Rattle.cp_program_model.specs.Programs.{Repeat, Start}
+use Rattle.cp_program_model.specs.Plans.{fill_unless, plan, plan_of_array, plan_of_members, repeat_before, start_of}
 use Rattle.cp_scope.specs.declared.types.Types.{Types}
 use Rattle.cp_scope.specs.declared.types.TypeRow.{TypeRow}
 use Rattle.cp_scope.specs.declared.types.TypeRow.TheVariants as row

@@ -6,9 +6,9 @@ use Rattle.cp_model.specs.Abstract.{Class, Monitor, Process, Sort}
 use Rattle.cp_model.specs.Integers.{count_between, same_integer}
 use Rattle.cp_model.specs.Types.{ArrayOf, ComponentOf, GlobalScope, Members, MoreMembers, NoMembers, NoType, Queue, RecordOf, ResolvedType, Simple}
 use Rattle.cp_typing.specs.Words.{words}
-use Rattle.cp_code.specs.Layout.{head_words}
-use Rattle.cp_code.specs.Programs.{Fill, Repeat, Start}
-use Rattle.cp_code.specs.Plans.{fill_before, fill_unless, plan, plan_of_array, plan_of_class, plan_of_members, repeat_before, start_of}
+use Rattle.cp_program_model.specs.Layout.{head_words}
+use Rattle.cp_program_model.specs.Programs.{Fill, Repeat, Start}
+use Rattle.cp_program_model.specs.Plans.{fill_before, fill_unless, plan, plan_of_array, plan_of_class, plan_of_members, repeat_before, start_of}
 use Rattle.cp_emit.specs.Drafts.{drop_repeat}
 use Rattle.cp_emit.proofs.Drafting.{differs}
 

@@ -5,9 +5,9 @@ use Rattle.cp_model.specs.Abstract.{Class, Monitor, Name, Process, Sort}
 use Rattle.cp_model.specs.Integers.{count_between}
 use Rattle.cp_model.specs.Types.{ArrayOf, ComponentOf, NoType, Queue, RecordOf, ResolvedType, Simple}
 use Rattle.cp_typing.specs.Words.{words}
-use Rattle.cp_code.specs.Layout.{head_words}
-use Rattle.cp_code.specs.Plans.{fill_unless, plan, plan_of_array, plan_of_class, plan_of_members, repeat_before, start_of}
-use Rattle.cp_code.specs.Programs.{Start}
+use Rattle.cp_program_model.specs.Layout.{head_words}
+use Rattle.cp_program_model.specs.Plans.{fill_unless, plan, plan_of_array, plan_of_class, plan_of_members, repeat_before, start_of}
+use Rattle.cp_program_model.specs.Programs.{Start}
 use Rattle.cp_scope.specs.declared.types.TypeRow.{TypeRow}
 use Rattle.cp_scope.specs.declared.types.TypeRow.TheVariants as row
 use Rattle.cp_scope.specs.declared.types.Types.{Types}

@@ -1,7 +1,7 @@
 -- The labels of a `case`.
 use Rattle.std.specs.Prelude.{ℤ, List, [], ◌∷◌, Option, None, Some}
-use Rattle.cp_code.specs.Programs.{Arm}
-use Rattle.cp_code.specs.CodedStatements.{highest, lowest}
+use Rattle.cp_program_model.specs.Programs.{Arm}
+use Rattle.cp_program_model.specs.CodedStatements.{highest, lowest}
 
 -- The lowest and the highest label, if there are labels.
 abbrev pub bounds_of : List Arm → Option (ℤ × ℤ)

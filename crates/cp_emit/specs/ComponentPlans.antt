@@ -5,7 +5,7 @@ use Rattle.cp_model.specs.Erase as erase
 use Rattle.cp_model.specs.Types.{GlobalScope}
 use Rattle.cp_model.specs.View as tree_view
 use Rattle.cp_model.specs.declared.tree.System.{System}
-use Rattle.cp_code.specs.Plans.{plan_of_component}
+use Rattle.cp_program_model.specs.Plans.{plan_of_component}
 use Rattle.cp_scope.specs.declared.types.Types.{Types}
 use Rattle.cp_scope.specs.Standing.{system_at}
 use Rattle.cp_program.specs.declared.program.Plan.{Plan}

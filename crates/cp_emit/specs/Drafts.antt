@@ -1,7 +1,7 @@
 -- Plans in progress, as the plain data of the definitions.
 use Rattle.std.specs.Prelude.{◌≡◌, Bool, true, false, ℕ, ℤ, nat_eq, List, [], ◌∷◌, ◌++◌, Option, None, Some, drop, if◌then◌else◌, length, map, reverse}
-use Rattle.cp_code.specs.Plans.{fill_before}
-use Rattle.cp_code.specs.Programs as code
+use Rattle.cp_program_model.specs.Plans.{fill_before}
+use Rattle.cp_program_model.specs.Programs as code
 use Rattle.cp_program.specs.declared.program.Start.{Start}
 use Rattle.cp_program.specs.View as view
 use Rattle.cp_emit.specs.declared.draft.Draft.{Draft}

@@ -1,10 +1,10 @@
 -- The state of the emitter as the plain data of the definitions, and what each call adds to it.
 use Rattle.std.specs.Prelude.{◌≡◌, ℕ, zero, suc, List, [], ◌∷◌, ◌++◌, drop, length, map}
-use Rattle.cp_code.specs.Programs as op
-use Rattle.cp_code.specs.CodedTerms as coded
-use Rattle.cp_code.specs.CodeNeeds.{need_of_all}
-use Rattle.cp_code.specs.CodedStatements.{Emitted, calls_at, with_calls}
-use Rattle.cp_code.specs.Compile.{code_unit}
+use Rattle.cp_program_model.specs.Programs as op
+use Rattle.cp_program_model.specs.CodedTerms as coded
+use Rattle.cp_program_model.specs.CodeNeeds.{need_of_all}
+use Rattle.cp_program_model.specs.CodedStatements.{Emitted, calls_at, with_calls}
+use Rattle.cp_program_model.specs.Compile.{code_unit}
 use Rattle.cp_program.specs.declared.operation.Operation.{Operation}
 use Rattle.cp_program.specs.declared.program.Start.{Start}
 use Rattle.cp_program.specs.View as view

@@ -1,8 +1,8 @@
 -- What is left to plan, and what each step does to it.
 use Rattle.std.specs.Prelude.{◌≡◌, Bool, List, [], ◌∷◌}
 use Rattle.cp_model.specs.Types.{GlobalScope, ResolvedType}
-use Rattle.cp_code.specs.Plans.{plan}
-use Rattle.cp_code.specs.Programs.{Start}
+use Rattle.cp_program_model.specs.Plans.{plan}
+use Rattle.cp_program_model.specs.Programs.{Start}
 use Rattle.cp_scope.specs.declared.types.Types.{Types}
 use Rattle.cp_scope.specs.Layouts.{AreLaid}
 use Rattle.cp_scope.specs.Standing.{ScopeStands, Stands}

@@ -3,8 +3,8 @@ use Rattle.std.specs.Prelude.{◌≡◌, Bool, true, ℕ, ℤ, List, Option, Non
 use Rattle.cp_model.specs.Abstract.{Name}
 use Rattle.cp_model.specs.Types.{GlobalScope, Members, Queue, ResolvedType, Simple}
 use Rattle.cp_typing.specs.Words.{words, words_of_members}
-use Rattle.cp_code.specs.Plans.{fill_unless, plan, plan_of_members, start_of}
-use Rattle.cp_code.specs.Programs.{Start}
+use Rattle.cp_program_model.specs.Plans.{fill_unless, plan, plan_of_members, start_of}
+use Rattle.cp_program_model.specs.Programs.{Start}
 use Rattle.cp_scope.specs.declared.types.TypeRow.{TypeRow}
 use Rattle.cp_scope.specs.declared.types.Types.{Types}
 use Rattle.cp_scope.specs.Standing.{AreMembers, Stands, row_at}

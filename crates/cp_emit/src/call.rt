@@ -1,7 +1,7 @@
 //! The calls of a statement's terms, in the order in which they are made.
 
 ghost use Rattle.std.specs.Prelude.{◌≡◌, [], ◌∷◌, ◌++◌, IfOk, OnOk, map, suc};
-ghost use Rattle.cp_code.specs.Terms as plain;
+ghost use Rattle.cp_program_model.specs.Terms as plain;
 ghost use Rattle.cp_emit.specs.Emission.{coded_call};
 ghost use Rattle.cp_program.specs.View as view;
 

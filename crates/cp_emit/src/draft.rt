@@ -1,8 +1,8 @@
 //! Plans in progress, which are made from the end.
 
 ghost use Rattle.std.specs.Prelude.{◌≡◌, [], ◌∷◌, IfOk, OnOk, length, map};
-ghost use Rattle.cp_code.specs.Plans.{fill_before, fill_unless};
-ghost use Rattle.cp_code.specs.Programs as code;
+ghost use Rattle.cp_program_model.specs.Plans.{fill_before, fill_unless};
+ghost use Rattle.cp_program_model.specs.Programs as code;
 ghost use Rattle.cp_emit.specs.Drafts.{Joins, drop_repeat, plan_of, with_end};
 ghost use Rattle.cp_program.specs.View as view;
 

@@ -1,7 +1,7 @@
 //! The emitter: the operations so far, and the unit in progress.
 
 ghost use Rattle.std.specs.Prelude.{◌≡◌, ◌≤◌, drop, length, map};
-ghost use Rattle.cp_code.specs.CodeNeeds.{need_of_all};
+ghost use Rattle.cp_program_model.specs.CodeNeeds.{need_of_all};
 ghost use Rattle.cp_emit.specs.PlainNeeds.{plain_need};
 ghost use Rattle.cp_program.specs.View as view;
 

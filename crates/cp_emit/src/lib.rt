@@ -12,7 +12,7 @@
 //!   to plan.
 //! - `members`, `start_values`: what plans are made from.
 //!
-//! Each function equals one of `cp_code`'s definitions, on the plain data that `cp_program` makes
+//! Each function equals one of `cp_program_model`'s definitions, on the plain data that `cp_program` makes
 //! of operations.
 #![tactic(auto)]
 

@@ -1,7 +1,7 @@
 //! The words, temps and frames that a unit needs, including all that it calls.
 
 ghost use Rattle.std.specs.Prelude.{◌≡◌, ◌+◌, max, suc, IfOk, map, length};
-ghost use Rattle.cp_code.specs.CodeNeeds as needs;
+ghost use Rattle.cp_program_model.specs.CodeNeeds as needs;
 ghost use Rattle.cp_emit.specs.PlainNeeds.{plain_need};
 ghost use Rattle.cp_program.specs.View as view;
 

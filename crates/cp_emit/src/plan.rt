@@ -1,13 +1,13 @@
 //! Plans: the start values of the words of activations and components.
 //!
 //! A plan is made from its end, with a stack of what is left to plan instead of recursion, because
-//! types refer to one another to any depth. Each plan equals that of `cp_code`'s
+//! types refer to one another to any depth. Each plan equals that of `cp_program_model`'s
 //! `specs/Plans.antt`.
 
 ghost use Rattle.std.specs.Prelude.{◌≡◌, ◌∷◌, ◌++◌, ◌+◌, [], Bool, List, None, ℕ, suc, IfOk, OnOk, map, slice_get};
-ghost use Rattle.cp_code.specs.Layout.{local_words};
-ghost use Rattle.cp_code.specs.Plans.{plan, plan_of_members, start_of};
-ghost use Rattle.cp_code.specs.Programs as code;
+ghost use Rattle.cp_program_model.specs.Layout.{local_words};
+ghost use Rattle.cp_program_model.specs.Plans.{plan, plan_of_members, start_of};
+ghost use Rattle.cp_program_model.specs.Programs as code;
 ghost use Rattle.cp_emit.specs.Drafts.{plan_of};
 ghost use Rattle.cp_emit.specs.Planning.{AllDone, Done, Knows, Leaves, types_of};
 ghost use Rattle.cp_emit.specs.StartValues.{HasParts};

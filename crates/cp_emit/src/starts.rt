@@ -1,9 +1,9 @@
 //! The plans of activations and components.
 
 ghost use Rattle.std.specs.Prelude.{◌≡◌, ◌≤◌, ◌+◌, ◌-◌, List, [], suc, IfOk, OnOk, if◌then◌else◌, is_some, length, map, option_map, slice_get};
-ghost use Rattle.cp_code.specs.Layout.{locals_words};
-ghost use Rattle.cp_code.specs.Plans.{fill_before, plan_of_component, plan_of_members, plan_of_routine};
-ghost use Rattle.cp_code.specs.Starts.{unset};
+ghost use Rattle.cp_program_model.specs.Layout.{locals_words};
+ghost use Rattle.cp_program_model.specs.Plans.{fill_before, plan_of_component, plan_of_members, plan_of_routine};
+ghost use Rattle.cp_program_model.specs.Starts.{unset};
 ghost use Rattle.cp_emit.specs.ComponentPlans.{ArePlans};
 ghost use Rattle.cp_emit.specs.Drafts.{plan_of};
 ghost use Rattle.cp_emit.specs.Planning.{Knows, types_of};

@@ -2,8 +2,8 @@
 //! number, and otherwise it has the labels.
 
 ghost use Rattle.std.specs.Prelude.{◌≡◌, ℕ, ◌*◌, None, Some, IfErr, IfOk, [], if◌then◌else◌, int_le, length, map, replicate, slice_set};
-ghost use Rattle.cp_code.specs.CodedStatements as coded;
-ghost use Rattle.cp_code.specs.Layout.{distance};
+ghost use Rattle.cp_program_model.specs.CodedStatements as coded;
+ghost use Rattle.cp_program_model.specs.Layout.{distance};
 ghost use Rattle.cp_scope.specs.declared.error.CompileError.TheVariants as error;
 ghost use Rattle.cp_emit.specs.Arms.{bounds_of};
 ghost use Rattle.cp_program.specs.Labels.{arm};

@@ -1,8 +1,8 @@
 -- The machine at the start, with the inputs that were cut, and its report after a run.
 use Rattle.std.proofs.Common.{◌≡◌, ◌+◌, ◌-◌, ◌≤◌, ℕ, zero, suc, List, Some, length, ap, sym, ◌∙◌, refl, arith}
 use Rattle.std.specs.Prelude.{slice_get}
-use Rattle.cp_code.specs.Programs.{Program}
-use Rattle.cp_code.specs.StandsFor.{StandsFor}
+use Rattle.cp_program_model.specs.Programs.{Program}
+use Rattle.cp_program_model.specs.StandsFor.{StandsFor}
 use Rattle.cp_model.specs.Input.{cut}
 use Rattle.cp_model.specs.Report.{report}
 use Rattle.cp_model.specs.Rounds as meaning

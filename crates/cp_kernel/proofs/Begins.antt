@@ -1,8 +1,8 @@
 -- What begins keeps its number.
 use Rattle.std.proofs.Common.{◌≡◌, ◌-◌, Option, None, Some, slice_get, suc, refl}
-use Rattle.cp_code.specs.Programs as code
-use Rattle.cp_code.specs.Programs.{Program}
-use Rattle.cp_code.specs.Starts.{block, paste}
+use Rattle.cp_program_model.specs.Programs as code
+use Rattle.cp_program_model.specs.Programs.{Program}
+use Rattle.cp_program_model.specs.Starts.{block, paste}
 use Rattle.cp_steps.specs.KernelSteps.{Kernel}
 use Rattle.cp_steps.specs.Machines.{begin_from, begin_if}
 use Rattle.cp_private.specs.States as states

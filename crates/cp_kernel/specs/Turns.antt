@@ -1,6 +1,6 @@
 -- What a kernel turn and the end of a round make of the kernel and the private states.
 use Rattle.std.specs.Prelude.{◌≡◌, ◌≢◌, ◌-◌, ◌++◌, ℕ, suc, List, [], ◌∷◌, slice_set}
-use Rattle.cp_code.specs.Programs.{Program}
+use Rattle.cp_program_model.specs.Programs.{Program}
 use Rattle.cp_steps.specs.KernelSteps as plain
 use Rattle.cp_steps.specs.Machines.{transcript_of}
 use Rattle.cp_steps.specs.PrivateStates.{PrivateState}

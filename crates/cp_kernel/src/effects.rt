@@ -4,7 +4,7 @@
 //! None of these changes takes memory.
 
 ghost use Rattle.std.specs.Prelude.{◌≡◌, ◌+◌, ◌-◌, ◌∷◌, ◌++◌, [], ℕ, List, MatchOption};
-ghost use Rattle.cp_code.specs.Layout as layout;
+ghost use Rattle.cp_program_model.specs.Layout as layout;
 ghost use Rattle.cp_model.specs.States as model;
 ghost use Rattle.cp_private.specs.States.{effect as effect_view, holder as holder_view, stage as stage_view};
 ghost use Rattle.cp_steps.specs.KernelSteps as plain;

@@ -1,7 +1,7 @@
 //! What can be read of the kernel.
 
 ghost use Rattle.std.specs.Prelude.{◌≡◌};
-ghost use Rattle.cp_code.specs.Starts.{word};
+ghost use Rattle.cp_program_model.specs.Starts.{word};
 ghost use Rattle.cp_private.specs.States.{holder as holder_view, stage as stage_view};
 ghost use Rattle.cp_steps.specs.KernelSteps as plain;
 ghost use Rattle.cp_kernel.specs.KernelOf.{kernel_of, transcripts_of};

@@ -1,7 +1,7 @@
 //! How the kernel starts.
 
 ghost use Rattle.std.specs.Prelude.{◌≡◌, ◌-◌, ◌<◌, ◌^◌, ◌∷◌, ℕ, List, [], IfOk, Some, map, pos, replicate, length, slice_get};
-ghost use Rattle.cp_code.specs.Programs as code;
+ghost use Rattle.cp_program_model.specs.Programs as code;
 ghost use Rattle.cp_private.specs.States as states;
 ghost use Rattle.cp_steps.specs.Machines as plain;
 ghost use Rattle.cp_program.specs.View as view;

@@ -13,8 +13,8 @@ use Rattle.cp_model.specs.Parts.{is_own, private_status}
 use Rattle.cp_model.specs.Reach.{in_reach}
 use Rattle.cp_model.specs.States.{Setup, State}
 use Rattle.cp_model.specs.Turns as meaning
-use Rattle.cp_code.specs.Programs.{Program}
-use Rattle.cp_code.specs.StandsFor.{StandsFor}
+use Rattle.cp_program_model.specs.Programs.{Program}
+use Rattle.cp_program_model.specs.StandsFor.{StandsFor}
 use Rattle.cp_steps.specs.Addresses.{Ground}
 use Rattle.cp_steps.specs.KernelSteps.{needs_kernel}
 use Rattle.cp_steps.specs.Laws.{ground_of}

@@ -2,7 +2,7 @@
 use Rattle.std.proofs.Common.{◌≡◌, ℕ, zero, suc, List, [], true, false, Some, length, refl, ap, sym, ◌∙◌}
 use Rattle.std.specs.Prelude.{Option, if◌then◌else◌}
 use Rattle.std.proofs.lemmas.List.{append-nil}
-use Rattle.cp_code.specs.Programs.{Operation, Program}
+use Rattle.cp_program_model.specs.Programs.{Operation, Program}
 use Rattle.cp_steps.specs.PrivateStates.{PrivateState, is_running}
 use Rattle.cp_steps.specs.KernelSteps as kernel
 use Rattle.cp_steps.specs.Steps.{act, act_on, alone, is_private, operation_of, private_step}

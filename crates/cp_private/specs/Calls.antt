@@ -3,7 +3,7 @@ use Rattle.std.specs.Prelude.{◌≤◌, ◌<◌, ℕ, Bool, true, false, ◌+�
 use Rattle.cp_model.specs.Integers.{same_integer}
 use Rattle.cp_model.specs.declared.state.Fault.{Fault}
 use Rattle.cp_model.specs.declared.state.Fault.TheVariants as fault
-use Rattle.cp_code.specs.Starts.{unset, word}
+use Rattle.cp_program_model.specs.Starts.{unset, word}
 use Rattle.cp_steps.specs.PrivateStates as states
 use Rattle.cp_steps.specs.PrivateStates.{PrivateState, set_temp}
 use Rattle.cp_steps.specs.Calling as calling

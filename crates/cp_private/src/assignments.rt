@@ -1,7 +1,7 @@
 //! Assignments, and the operations that choose which operation comes next.
 
 ghost use Rattle.std.specs.Prelude.{◌≡◌, ◌<◌, ◌^◌, ℕ, pos, List, if◌then◌else◌, length};
-ghost use Rattle.cp_code.specs.Tables.{place_in};
+ghost use Rattle.cp_program_model.specs.Tables.{place_in};
 ghost use Rattle.cp_model.specs.Integers.{same_integer};
 ghost use Rattle.cp_model.specs.Places.{within};
 ghost use Rattle.cp_steps.specs.Steps as plain;

@@ -1,7 +1,7 @@
 //! Calls of routines.
 
 ghost use Rattle.std.specs.Prelude.{◌≡◌, ◌+◌, ◌<◌, ◌≤◌, ◌^◌, true, ℕ, List, IfSome, MatchOption, length, nat_le};
-ghost use Rattle.cp_code.specs.Programs.{CodeUnit as PlainUnit};
+ghost use Rattle.cp_program_model.specs.Programs.{CodeUnit as PlainUnit};
 ghost use Rattle.cp_private.specs.Calls.{HasRoom, back};
 ghost use Rattle.cp_private.specs.States.{IsStep, join};
 ghost use Rattle.cp_steps.specs.Calling as plain;

@@ -3,7 +3,7 @@
 ghost use Rattle.std.specs.Prelude.{◌≡◌, ◌+◌, ◌<◌, ◌^◌, MatchOption, length, FitsSigned};
 ghost use Rattle.std.specs.Int.{w32};
 ghost use Rattle.cp_model.specs.StatementSteps as statements;
-ghost use Rattle.cp_code.specs.Starts.{word};
+ghost use Rattle.cp_program_model.specs.Starts.{word};
 ghost use Rattle.cp_private.specs.States.{IsStep};
 ghost use Rattle.cp_steps.specs.Steps as plain;
 ghost use Rattle.cp_program.specs.View as view;

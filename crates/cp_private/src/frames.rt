@@ -1,7 +1,7 @@
 //! Frames: what is kept for callers, and the registers of the running activation.
 
 ghost use Rattle.std.specs.Prelude.{◌≡◌, ◌+◌, ◌-◌, ◌<◌, ◌^◌, ℕ, ℤ, suc, [], ◌∷◌, List, MatchOption, length};
-ghost use Rattle.cp_code.specs.Starts as starts;
+ghost use Rattle.cp_program_model.specs.Starts as starts;
 ghost use Rattle.cp_model.specs.declared.state.Fault.TheVariants as fault;
 ghost use Rattle.cp_private.specs.States.{effect, frame as view_frame, frames_in, join};
 ghost use Rattle.cp_private.specs.Calls.{back, called_of, returning, value_to_return};

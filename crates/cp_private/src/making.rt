@@ -1,8 +1,8 @@
 //! How private states are made, copied and read, and how the kernel and rounds change them.
 
 ghost use Rattle.std.specs.Prelude.{◌≡◌, ◌<◌, ◌≤◌, ◌-◌, ◌*◌, ◌^◌, ℕ, List, [], IfOk, OnOk, Some, pos, replicate, length, slice_get, vec_capacity, vec_len};
-ghost use Rattle.cp_code.specs.Programs as code;
-ghost use Rattle.cp_code.specs.Starts.{carry_out, word};
+ghost use Rattle.cp_program_model.specs.Programs as code;
+ghost use Rattle.cp_program_model.specs.Starts.{carry_out, word};
 ghost use Rattle.cp_private.specs.Rooms.{HasRoomFor};
 ghost use Rattle.cp_private.specs.States.{activity, private_of};
 ghost use Rattle.cp_steps.specs.KernelSteps.{Kernel};

@@ -1,7 +1,7 @@
 //! What evaluation reads of a private state, and the values and addresses that it finds.
 
 ghost use Rattle.std.specs.Prelude.{◌≡◌, ◌<◌, ◌^◌, ℕ, List, length};
-ghost use Rattle.cp_code.specs.Starts.{word};
+ghost use Rattle.cp_program_model.specs.Starts.{word};
 ghost use Rattle.cp_private.specs.States.{join, outside_of};
 ghost use Rattle.cp_steps.specs.PrivateStates as plain;
 ghost use Rattle.cp_steps.specs.Values.{place_of, value_of};

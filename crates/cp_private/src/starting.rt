@@ -1,7 +1,7 @@
 //! How the words of components start.
 
 ghost use Rattle.std.specs.Prelude.{◌≡◌, ◌<◌, ◌^◌, length, map};
-ghost use Rattle.cp_code.specs.Starts.{carry_out};
+ghost use Rattle.cp_program_model.specs.Starts.{carry_out};
 ghost use Rattle.cp_program.specs.View as view;
 
 use crate::words;

@@ -1,7 +1,7 @@
 //! The components that calls and rights refer to.
 
 ghost use Rattle.std.specs.Prelude.{◌≡◌, ◌+◌, ◌<◌, ◌^◌, ◌+ℤ◌, ℕ, pos, List, length};
-ghost use Rattle.cp_code.specs.Layout as layout;
+ghost use Rattle.cp_program_model.specs.Layout as layout;
 ghost use Rattle.cp_model.specs.Places.{within};
 ghost use Rattle.cp_private.specs.Calls.{called_of};
 ghost use Rattle.cp_private.specs.States.{holder_of, join, outside_of, stage_of};

@@ -4,10 +4,10 @@ use Rattle.std.proofs.Common.{arith, Bool, true, false, zero, suc, length, â—Œâ‰
 use Rattle.cp_model.specs.declared.state.Fault.{Fault}
 use Rattle.cp_model.specs.declared.state.Fault.TheVariants as fault
 use Rattle.cp_model.specs.Places.{within}
-use Rattle.cp_code.specs.Functions.{unless}
-use Rattle.cp_code.specs.Layout.{distance}
-use Rattle.cp_code.specs.Terms as plain
-use Rattle.cp_code.specs.TermsFor.{move_spot}
+use Rattle.cp_program_model.specs.Functions.{unless}
+use Rattle.cp_program_model.specs.Layout.{distance}
+use Rattle.cp_program_model.specs.Terms as plain
+use Rattle.cp_program_model.specs.TermsFor.{move_spot}
 use Rattle.cp_steps.specs.Values.{View, apply, bind, place_of, value_of}
 use Rattle.cp_program.specs.declared.term.Operand.{Operand}
 use Rattle.cp_program.specs.declared.term.Root.{Root}

@@ -9,7 +9,7 @@ use Rattle.cp_model.specs.declared.state.Fault.{Fault}
 use Rattle.cp_model.specs.declared.state.Fault.TheVariants as fault
 use Rattle.cp_model.specs.Integers.{same_integer}
 use Rattle.cp_model.proofs.StateMaps.{differ}
-use Rattle.cp_code.specs.Functions.{in_range}
+use Rattle.cp_program_model.specs.Functions.{in_range}
 use Rattle.cp_steps.specs.Values.{unless_zero}
 
 abbrev pub wide : ℤ → ℤ

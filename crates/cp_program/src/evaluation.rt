@@ -4,10 +4,10 @@
 //! arithmetic lie within -32768..32767.
 
 ghost use Rattle.std.specs.Prelude.{◌≡◌, ℕ, ◌+◌, ◌*◌, ◌<◌, ◌^◌, ◌++◌, length, map};
-ghost use Rattle.cp_code.specs.Functions as functions;
-ghost use Rattle.cp_code.specs.Layout as layout;
-ghost use Rattle.cp_code.specs.Starts as starts;
-ghost use Rattle.cp_code.specs.Terms as terms;
+ghost use Rattle.cp_program_model.specs.Functions as functions;
+ghost use Rattle.cp_program_model.specs.Layout as layout;
+ghost use Rattle.cp_program_model.specs.Starts as starts;
+ghost use Rattle.cp_program_model.specs.Terms as terms;
 ghost use Rattle.cp_model.specs.Abstract as abstract;
 ghost use Rattle.cp_model.specs.Erase.{operator_of};
 ghost use Rattle.cp_model.specs.Places.{within};

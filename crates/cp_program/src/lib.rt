@@ -8,7 +8,7 @@
 //!   type share is kept once.
 //! - `evaluation`: the values of terms and the places of spots, over the words that `reach` has.
 //!
-//! `specs/View.antt` defines these forms as plain data of `cp_code`, which the definitions of steps
+//! `specs/View.antt` defines these forms as plain data of `cp_program_model`, which the definitions of steps
 //! are about.
 #![tactic(auto)]
 

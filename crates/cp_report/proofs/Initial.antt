@@ -9,7 +9,7 @@ use Rattle.cp_model.specs.States.{Setup, initial_variables}
 use Rattle.cp_model.specs.Types.{GlobalScope, NoMembers}
 use Rattle.cp_model.specs.View as view
 use Rattle.cp_model.specs.declared.tree.Tree as tree
-use Rattle.cp_code.specs.Layout.{head_words}
+use Rattle.cp_program_model.specs.Layout.{head_words}
 use Rattle.cp_steps.specs.Machines.{Machine}
 use Rattle.cp_steps.specs.Reports.{monitors_lines, processes_lines}
 use Rattle.cp_scope.specs.Standing.{AreMembers}

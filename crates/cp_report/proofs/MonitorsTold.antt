@@ -6,7 +6,7 @@ use Rattle.cp_model.specs.Declarations.{globals}
 use Rattle.cp_model.specs.Report.{Text}
 use Rattle.cp_model.specs.States.{Holder, Setup}
 use Rattle.cp_model.specs.Types.{ResolvedType}
-use Rattle.cp_code.specs.Programs.{Program}
+use Rattle.cp_program_model.specs.Programs.{Program}
 use Rattle.cp_steps.specs.KernelSteps.{Kernel, gate_of}
 use Rattle.cp_steps.specs.Machines.{Machine}
 use Rattle.cp_steps.specs.Passing.{monitor_start}

@@ -5,7 +5,7 @@ use Rattle.cp_model.specs.Declarations.{Variable, globals}
 use Rattle.cp_model.specs.Report.{Text, components_of, name_at}
 use Rattle.cp_model.specs.States.{Setup}
 use Rattle.cp_model.specs.Types.{GlobalScope}
-use Rattle.cp_code.specs.Programs.{Program}
+use Rattle.cp_program_model.specs.Programs.{Program}
 use Rattle.cp_steps.specs.KernelSteps.{Stage}
 use Rattle.cp_steps.specs.PrivateStates.{Activity}
 use Rattle.cp_steps.specs.Reports.{queues_text, stage_text}

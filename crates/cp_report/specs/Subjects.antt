@@ -8,7 +8,7 @@ use Rattle.cp_model.specs.States.{Setup}
 use Rattle.cp_model.specs.Types.{ResolvedType}
 use Rattle.cp_model.specs.View as view
 use Rattle.cp_model.specs.declared.tree.Tree as tree
-use Rattle.cp_code.specs.Layout.{head_words}
+use Rattle.cp_program_model.specs.Layout.{head_words}
 use Rattle.cp_steps.specs.KernelSteps.{stage_of}
 use Rattle.cp_steps.specs.Machines as plain
 use Rattle.cp_steps.specs.PrivateStates.{Activity}

@@ -1,7 +1,7 @@
 //! What is reported of a simple part or a queue that is visited.
 
 ghost use Rattle.std.specs.Prelude.{◌≡◌, ◌++◌, [], OnOk, if◌then◌else◌};
-ghost use Rattle.cp_code.specs.Starts.{word};
+ghost use Rattle.cp_program_model.specs.Starts.{word};
 ghost use Rattle.cp_model.specs.Locations.{Path};
 ghost use Rattle.cp_model.specs.Report.{path_text};
 ghost use Rattle.cp_report.specs.Tellings.{queue_line_of, tell_leaf, value_line_of, visit_of, words_in};

@@ -1,7 +1,7 @@
 -- A machine is in the states that the laws of rounds lead to.
 use Rattle.std.proofs.Common.{◌≡◌, ◌+◌, ◌<◌, ◌≤◌, ℕ, suc, List, [], ◌∷◌, length, refl, ap, sym, ◌∙◌, subst, arith}
-use Rattle.cp_code.specs.Programs as code
-use Rattle.cp_code.specs.Programs.{Program}
+use Rattle.cp_program_model.specs.Programs as code
+use Rattle.cp_program_model.specs.Programs.{Program}
 use Rattle.cp_kernel.specs.KernelOf.{Bytes}
 use Rattle.cp_model.specs.Rounds as meaning
 use Rattle.cp_model.specs.Start.{start}

@@ -1,7 +1,7 @@
 -- The turns of a round, as the code makes them, are those of the machine as plain data.
 use Rattle.std.specs.Prelude.{◌≡◌, ◌≢◌, ◌≤◌, refl, ℕ, zero, suc, ◌+◌, ◌-◌, ◌/◌, ◌++◌, List, [], ◌∷◌, length, map, Some, None, slice_get, slice_set}
 use Rattle.std.proofs.Common.{sym, ◌∙◌, ap, subst, arith, ◌⊎◌, inl, inr, ⊎_elim}
-use Rattle.cp_code.specs.Programs.{Program}
+use Rattle.cp_program_model.specs.Programs.{Program}
 use Rattle.cp_model.specs.States.{numbers_from}
 use Rattle.cp_kernel.specs.KernelOf.{Bytes, kernel_of, transcripts_of, turning}
 use Rattle.cp_kernel.specs.declared.kernel.Kernel.{Kernel}

@@ -1,7 +1,7 @@
 -- The private states and the kernel at the start.
 use Rattle.std.specs.Prelude.{◌≡◌, ℕ, suc, List, Some, length, slice_get}
-use Rattle.cp_code.specs.Programs as code
-use Rattle.cp_code.specs.Programs.{Program}
+use Rattle.cp_program_model.specs.Programs as code
+use Rattle.cp_program_model.specs.Programs.{Program}
 use Rattle.cp_kernel.specs.KernelOf.{kernel_of, transcripts_of}
 use Rattle.cp_kernel.specs.declared.kernel.Kernel.{Kernel}
 use Rattle.cp_private.specs.States.{private_of}

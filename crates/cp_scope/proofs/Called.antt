@@ -21,10 +21,10 @@ use Rattle.cp_model.specs.declared.tree.Selector.TheVariants as tree
 use Rattle.cp_model.specs.Names.{lookup}
 use Rattle.cp_model.specs.Syntax as s
 use Rattle.cp_model.specs.Types.{GlobalScope}
-use Rattle.cp_code.specs.Layout.{local, local_at, local_words, locals}
+use Rattle.cp_program_model.specs.Layout.{local, local_at, local_words, locals}
 use Rattle.cp_typing.specs.Needs.{result_words, some_environment}
-use Rattle.cp_code.specs.Scopes as code
-use Rattle.cp_code.specs.Scopes.{environment, local_in, routine_index}
+use Rattle.cp_program_model.specs.Scopes as code
+use Rattle.cp_program_model.specs.Scopes.{environment, local_in, routine_index}
 use Rattle.cp_scope.specs.declared.locals.Local.{Local}
 use Rattle.cp_scope.specs.declared.scope.Callee.{Callee}
 use Rattle.cp_scope.specs.declared.scope.Scope.{Scope}

@@ -9,8 +9,8 @@ use Rattle.cp_model.specs.View as view
 use Rattle.cp_model.specs.Integers.{count_between}
 use Rattle.std.proofs.lemmas.Option.{same_Some}
 use Rattle.cp_typing.specs.Words.{words, words_of_members}
-use Rattle.cp_code.specs.Layout as code
-use Rattle.cp_code.specs.Layout.{farther, member_part}
+use Rattle.cp_program_model.specs.Layout as code
+use Rattle.cp_program_model.specs.Layout.{farther, member_part}
 use Rattle.cp_scope.specs.declared.layout.Layout.{Layout}
 use Rattle.cp_scope.specs.declared.layout.Part.{Part}
 use Rattle.cp_scope.specs.declared.types.Types.{Types}

@@ -5,7 +5,7 @@ use Rattle.cp_model.specs.Abstract.{Name}
 use Rattle.cp_model.specs.Declarations.{Variable}
 use Rattle.cp_model.specs.Names.{lookup}
 use Rattle.cp_model.specs.Types.{GlobalScope}
-use Rattle.cp_code.specs.Layout.{local_at, local_words, locals_words}
+use Rattle.cp_program_model.specs.Layout.{local_at, local_words, locals_words}
 use Rattle.cp_scope.specs.declared.locals.Local.{Local}
 use Rattle.cp_scope.specs.declared.locals.Locals.{Locals}
 use Rattle.cp_scope.specs.declared.types.Types.{Types}

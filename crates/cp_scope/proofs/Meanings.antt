@@ -9,8 +9,8 @@ use Rattle.cp_model.specs.Locations.{Owner, Path}
 use Rattle.cp_model.specs.Names.{lookup}
 use Rattle.cp_model.specs.Types.{GlobalScope}
 use Rattle.cp_typing.specs.Needs.{result_words, some_environment}
-use Rattle.cp_code.specs.Layout.{local, local_at, local_words, locals}
-use Rattle.cp_code.specs.Scopes as code
+use Rattle.cp_program_model.specs.Layout.{local, local_at, local_words, locals}
+use Rattle.cp_program_model.specs.Scopes as code
 use Rattle.cp_scope.specs.declared.locals.Local.{Local}
 use Rattle.cp_scope.specs.declared.numbering.Numbered.{Numbered}
 use Rattle.cp_scope.specs.declared.scope.Meaning.TheVariants as means

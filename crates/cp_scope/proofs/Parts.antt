@@ -15,10 +15,10 @@ use Rattle.cp_model.specs.Places.{field_type, member_type}
 use Rattle.cp_model.specs.Types.{ArrayOf, ComponentOf, GlobalScope, Members, MoreMembers, NoMembers, NoType, Queue, RecordOf, ResolvedType, Simple}
 use Rattle.cp_typing.specs.StaticTypes.{element_type, place_type}
 use Rattle.cp_typing.specs.Words.{words}
-use Rattle.cp_code.specs.Layout as code
-use Rattle.cp_code.specs.Scopes as code_scope
-use Rattle.cp_code.specs.Scopes.{environment}
-use Rattle.cp_code.specs.Layout.{member_part, part}
+use Rattle.cp_program_model.specs.Layout as code
+use Rattle.cp_program_model.specs.Scopes as code_scope
+use Rattle.cp_program_model.specs.Scopes.{environment}
+use Rattle.cp_program_model.specs.Layout.{member_part, part}
 use Rattle.cp_scope.specs.declared.layout.Part.{Part}
 use Rattle.cp_scope.specs.declared.places.Elements.{Elements}
 use Rattle.cp_scope.specs.declared.scope.Scope.{Scope}

@@ -5,7 +5,7 @@ use Rattle.std.specs.Str.{bytes_eq}
 use Rattle.cp_model.specs.Abstract.{Name}
 use Rattle.cp_model.specs.Declarations.{Variable, is_component}
 use Rattle.cp_model.specs.Names.{lookup}
-use Rattle.cp_code.specs.Layout.{right_at}
+use Rattle.cp_program_model.specs.Layout.{right_at}
 use Rattle.cp_scope.specs.declared.components.Right.{Right}
 use Rattle.cp_scope.specs.declared.types.Types.{Types}
 use Rattle.cp_scope.specs.Components.{Picks, RightIs}

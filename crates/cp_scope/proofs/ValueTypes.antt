@@ -17,8 +17,8 @@ use Rattle.cp_model.specs.declared.tree.Operation.{Operation}
 use Rattle.cp_model.specs.declared.tree.Selector.{Selector}
 use Rattle.cp_model.proofs.Views.{view_call, view_designator, view_operation}
 use Rattle.cp_typing.specs.StaticTypes.{answer_type, called_type, operator_type, own_value_type, place_type}
-use Rattle.cp_code.specs.Scopes as code
-use Rattle.cp_code.specs.Scopes.{environment}
+use Rattle.cp_program_model.specs.Scopes as code
+use Rattle.cp_program_model.specs.Scopes.{environment}
 use Rattle.cp_scope.specs.declared.scope.Callee.{Callee}
 use Rattle.cp_scope.specs.declared.scope.Scope.{Scope}
 use Rattle.cp_scope.specs.declared.types.Simple as plain

@@ -6,7 +6,7 @@ use Rattle.cp_model.specs.Names.{lookup}
 use Rattle.cp_model.specs.Types.{GlobalScope, Members, NoMembers}
 use Rattle.cp_model.specs.declared.tree.Fields.{Fields}
 use Rattle.cp_model.specs.declared.tree.Parameters.{Parameters}
-use Rattle.cp_code.specs.Layout.{right_at}
+use Rattle.cp_program_model.specs.Layout.{right_at}
 use Rattle.cp_scope.specs.declared.components.Right.{Right}
 use Rattle.cp_scope.specs.declared.layout.Layout.{Layout}
 use Rattle.cp_scope.specs.declared.names.Names.{Names}

@@ -5,8 +5,8 @@ use Rattle.cp_model.specs.Erase as erase
 use Rattle.cp_model.specs.Syntax as syntax
 use Rattle.cp_model.specs.Types.{ResolvedType, Simple}
 use Rattle.cp_typing.specs.StaticTypes.{expression_type}
-use Rattle.cp_code.specs.Scopes as code
-use Rattle.cp_code.specs.Scopes.{environment}
+use Rattle.cp_program_model.specs.Scopes as code
+use Rattle.cp_program_model.specs.Scopes.{environment}
 use Rattle.cp_scope.specs.declared.types.Simple as plain
 use Rattle.cp_scope.specs.Standing.{simple_of}
 

@@ -9,8 +9,8 @@ use Rattle.cp_model.specs.Names.{lookup}
 use Rattle.cp_model.specs.Types.{ComponentOf, GlobalScope, Members, ResolvedType}
 use Rattle.cp_model.specs.declared.tree.Parameters.{Parameters}
 use Rattle.cp_typing.specs.Words.{words, words_of_members}
-use Rattle.cp_code.specs.Layout as code
-use Rattle.cp_code.specs.Layout.{member_part}
+use Rattle.cp_program_model.specs.Layout as code
+use Rattle.cp_program_model.specs.Layout.{member_part}
 use Rattle.cp_scope.specs.declared.layout.Layout.{Layout}
 use Rattle.cp_scope.specs.declared.layout.Part.{Part}
 use Rattle.cp_model.specs.declared.tree.System.{System}

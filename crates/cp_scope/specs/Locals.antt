@@ -4,7 +4,7 @@ use Rattle.cp_model.specs.Abstract.{Name}
 use Rattle.cp_model.specs.Declarations.{Variable}
 use Rattle.cp_model.specs.Names.{lookup}
 use Rattle.cp_model.specs.Types.{GlobalScope}
-use Rattle.cp_code.specs.Layout.{local_at, locals_words}
+use Rattle.cp_program_model.specs.Layout.{local_at, locals_words}
 use Rattle.cp_scope.specs.declared.layout.Layout.{Layout}
 use Rattle.cp_scope.specs.declared.locals.Local.{Local}
 use Rattle.cp_scope.specs.declared.locals.Locals.{Locals}

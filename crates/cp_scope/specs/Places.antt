@@ -3,8 +3,8 @@ use Rattle.std.specs.Prelude.{◌≡◌, Bool, true, false, ℕ, Option, None, S
 use Rattle.cp_model.specs.Abstract as a
 use Rattle.cp_model.specs.Types.{NoType, RecordOf, ResolvedType}
 use Rattle.cp_typing.specs.StaticTypes.{place_type}
-use Rattle.cp_code.specs.Scopes as code
-use Rattle.cp_code.specs.Scopes.{environment}
+use Rattle.cp_program_model.specs.Scopes as code
+use Rattle.cp_program_model.specs.Scopes.{environment}
 use Rattle.cp_scope.specs.declared.places.Elements.{Elements}
 use Rattle.cp_scope.specs.declared.scope.Scope.{Scope}
 use Rattle.cp_scope.specs.declared.types.TypeRow.{TypeRow}

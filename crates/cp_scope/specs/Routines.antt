@@ -8,7 +8,7 @@ use Rattle.cp_model.specs.Types.{GlobalScope, named_type}
 use Rattle.cp_model.specs.declared.tree.Identifier.{Identifier}
 use Rattle.cp_model.specs.declared.tree.Routine as tree
 use Rattle.cp_typing.specs.Needs.{result_words}
-use Rattle.cp_code.specs.Layout as code
+use Rattle.cp_program_model.specs.Layout as code
 use Rattle.cp_scope.specs.declared.layout.Layout.{Layout}
 use Rattle.cp_scope.specs.declared.names.Names.{Names}
 use Rattle.cp_scope.specs.declared.routines.RoutineTable.{RoutineTable}

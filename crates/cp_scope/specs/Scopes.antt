@@ -15,10 +15,10 @@ use Rattle.cp_model.specs.Types.{GlobalScope}
 use Rattle.cp_model.specs.declared.tree.Fields.{Fields}
 use Rattle.cp_model.specs.declared.tree.Parameters.{Parameters}
 use Rattle.cp_model.specs.declared.tree.Routine as tree
-use Rattle.cp_code.specs.Layout.{activation_words}
-use Rattle.cp_code.specs.Scopes as code
-use Rattle.cp_code.specs.Scopes.{environment, routine_index}
-use Rattle.cp_code.specs.Sites.{system_of_callee}
+use Rattle.cp_program_model.specs.Layout.{activation_words}
+use Rattle.cp_program_model.specs.Scopes as code
+use Rattle.cp_program_model.specs.Scopes.{environment, routine_index}
+use Rattle.cp_program_model.specs.Sites.{system_of_callee}
 use Rattle.cp_scope.specs.declared.routines.RoutineTable.{RoutineTable}
 use Rattle.cp_scope.specs.declared.scope.Callee.{Callee}
 use Rattle.cp_scope.specs.declared.systems.Component.{Component}

@@ -15,8 +15,8 @@ use Rattle.cp_model.specs.declared.tree.Fields.{Fields}
 use Rattle.cp_model.specs.declared.tree.Parameters.{Parameters}
 use Rattle.cp_model.specs.declared.tree.Routine as tree
 use Rattle.cp_model.specs.declared.tree.System.{System}
-use Rattle.cp_code.specs.Layout.{right_at}
-use Rattle.cp_code.specs.Scopes.{routine_index}
+use Rattle.cp_program_model.specs.Layout.{right_at}
+use Rattle.cp_program_model.specs.Scopes.{routine_index}
 use Rattle.cp_scope.specs.declared.layout.Layout.{Layout}
 use Rattle.cp_scope.specs.declared.names.Names.{Names}
 use Rattle.cp_scope.specs.declared.routines.RoutineTable.{RoutineTable}

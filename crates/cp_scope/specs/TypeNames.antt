@@ -3,7 +3,7 @@ use Rattle.std.specs.Prelude.{◌≡◌, List, [], Option, None, Some, if◌then
 use Rattle.std.specs.Borrow.{Bor}
 use Rattle.cp_model.specs.Abstract.{Group, Name}
 use Rattle.cp_model.specs.Names.{lookup}
-use Rattle.cp_code.specs.Scopes.{declared_type, is_among}
+use Rattle.cp_program_model.specs.Scopes.{declared_type, is_among}
 
 -- The name that is found, or else `other`.
 abbrev pub name_or : Option (Bor Name) → Name → Name

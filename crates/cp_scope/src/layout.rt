@@ -4,7 +4,7 @@ ghost use Rattle.std.specs.Prelude.{◌≡◌, ◌∷◌, ◌≤◌, ◌+◌, �
 ghost use Rattle.cp_model.specs.Declarations.{is_component};
 ghost use Rattle.cp_model.specs.Types.{GlobalScope, ResolvedType};
 ghost use Rattle.cp_typing.specs.Words.{words};
-ghost use Rattle.cp_code.specs.Layout as code;
+ghost use Rattle.cp_program_model.specs.Layout as code;
 ghost use Rattle.cp_model.specs.Locations.{ByName};
 ghost use Rattle.cp_scope.specs.Layouts.{AreLaid, Counts, LaysComponent, LaysOut, LaysRow, PartIs, rights_among, rights_of};
 ghost use Rattle.cp_scope.specs.Standing.{ScopeStands, Stands, entry, name_type};

@@ -3,7 +3,7 @@
 ghost use Rattle.std.specs.Prelude.{◌≡◌, ◌+◌, [], ℕ, IfOk, map};
 ghost use Rattle.cp_model.specs.Declarations.{Variable};
 ghost use Rattle.cp_model.specs.Types.{GlobalScope};
-ghost use Rattle.cp_code.specs.Layout as code;
+ghost use Rattle.cp_program_model.specs.Layout as code;
 ghost use Rattle.cp_scope.specs.Layouts.{AreLaid, Counts};
 ghost use Rattle.cp_scope.specs.Locals.{LaysLocals};
 ghost use Rattle.cp_scope.specs.Standing.{Stands};

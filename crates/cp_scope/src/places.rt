@@ -6,7 +6,7 @@ ghost use Rattle.cp_model.specs.Places as places;
 ghost use Rattle.cp_model.specs.Types.{ResolvedType};
 ghost use Rattle.cp_model.specs.View as view;
 ghost use Rattle.cp_typing.specs.StaticTypes as static;
-ghost use Rattle.cp_code.specs.Scopes as code;
+ghost use Rattle.cp_program_model.specs.Scopes as code;
 ghost use Rattle.cp_model.specs.Abstract as a;
 ghost use Rattle.cp_scope.specs.Places.{PlaceIs, TypeIs, elements_of, is_record};
 ghost use Rattle.cp_scope.specs.Scopes.{IsScope};

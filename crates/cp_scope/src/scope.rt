@@ -6,8 +6,8 @@ ghost use Rattle.cp_model.specs.Environments.{constant_or_unknown, meaning, perm
 ghost use Rattle.cp_model.specs.Erase as erase;
 ghost use Rattle.cp_model.specs.Names.{lookup};
 ghost use Rattle.cp_model.specs.View as view;
-ghost use Rattle.cp_code.specs.Scopes as code;
-ghost use Rattle.cp_code.specs.Layout as layout;
+ghost use Rattle.cp_program_model.specs.Scopes as code;
+ghost use Rattle.cp_program_model.specs.Layout as layout;
 ghost use Rattle.cp_model.specs.Abstract as a;
 ghost use Rattle.cp_scope.specs.Components.{RightIs};
 ghost use Rattle.cp_scope.specs.Layouts.{PartIs};

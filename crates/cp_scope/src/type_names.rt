@@ -3,7 +3,7 @@
 ghost use Rattle.std.specs.Prelude.{◌≡◌, IfOk, OnOk, map};
 ghost use Rattle.cp_model.specs.Erase as erase;
 ghost use Rattle.cp_model.specs.View as view;
-ghost use Rattle.cp_code.specs.Scopes.{type_name};
+ghost use Rattle.cp_program_model.specs.Scopes.{type_name};
 ghost use Rattle.cp_scope.specs.TypeNames.{AreTypeNames, NamesMore, typed_among};
 
 use crate::error::CompileError;

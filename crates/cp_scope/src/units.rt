@@ -5,7 +5,7 @@
 ghost use Rattle.std.specs.Prelude.{◌≡◌, ◌+◌, IfOk};
 ghost use Rattle.cp_model.specs.Calls as calls;
 ghost use Rattle.cp_model.specs.Components as components;
-ghost use Rattle.cp_code.specs.Scopes as code;
+ghost use Rattle.cp_program_model.specs.Scopes as code;
 ghost use Rattle.cp_scope.specs.Scopes.{IsCallee, IsScope, Names};
 
 use crate::counts::small_number;

@@ -9,8 +9,8 @@ use Rattle.cp_model.specs.Operators.{realtime}
 use Rattle.cp_model.specs.States.{Setup, State, configuration, context}
 use Rattle.cp_model.specs.Step.{take_action}
 use Rattle.cp_model.specs.Turns.{Kernel, Private, after_step, if_private, kind, kind_of, private_step}
-use Rattle.cp_code.specs.Programs.{Operation}
-use Rattle.cp_code.specs.Sites.{operation_at}
+use Rattle.cp_program_model.specs.Programs.{Operation}
+use Rattle.cp_program_model.specs.Sites.{operation_at}
 use Rattle.cp_steps.specs.PrivateStates as machine
 use Rattle.cp_steps.specs.PrivateStates.{Outside, PrivateState}
 use Rattle.cp_steps.specs.Steps as steps

@@ -9,12 +9,12 @@ use Rattle.cp_model.specs.CallSteps.{with_answer}
 use Rattle.cp_model.specs.Continuations.{Do, EndBody, EndCall, EndProcess, ForNext, RepeatTest, Task, WhileTest}
 use Rattle.cp_model.specs.Environments.{Environment}
 use Rattle.cp_model.specs.Types.{base_of_type, named_type}
-use Rattle.cp_code.specs.Programs as op
-use Rattle.cp_code.specs.Programs.{Call, Operation}
-use Rattle.cp_code.specs.Sites.{RoutineOf, UnitText, operation_at}
-use Rattle.cp_code.specs.Starts.{word}
-use Rattle.cp_code.specs.TermsFor.{Knowns, TermFor, nothing_known}
-use Rattle.cp_code.specs.StatementsFor.{CodeFor}
+use Rattle.cp_program_model.specs.Programs as op
+use Rattle.cp_program_model.specs.Programs.{Call, Operation}
+use Rattle.cp_program_model.specs.Sites.{RoutineOf, UnitText, operation_at}
+use Rattle.cp_program_model.specs.Starts.{word}
+use Rattle.cp_program_model.specs.TermsFor.{Knowns, TermFor, nothing_known}
+use Rattle.cp_program_model.specs.StatementsFor.{CodeFor}
 use Rattle.cp_steps.specs.PrivateStates as machine
 use Rattle.cp_steps.specs.Addresses.{Ground}
 use Rattle.cp_steps.specs.Left.{IsTask, Left, RepeatLeft, Running, WhileLeft, held_below, kept_below, site}

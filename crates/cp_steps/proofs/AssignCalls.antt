@@ -3,12 +3,12 @@ use Rattle.std.proofs.Common.{◌≡◌, ℕ, None, refl, ap, sym, subst, ◌∙
 use Rattle.cp_model.specs.Abstract as a
 use Rattle.cp_model.specs.Calls.{call_in_designator, call_in_statement, callee, first_call, in_context, or_else, user_call}
 use Rattle.cp_model.specs.Types.{ResolvedType, Simple}
-use Rattle.cp_code.specs.Terms.{Spot}
-use Rattle.cp_code.specs.Programs as op
-use Rattle.cp_code.specs.Programs.{Operation}
-use Rattle.cp_code.specs.Sites.{Site}
-use Rattle.cp_code.specs.TermsFor.{Knowns, SpotFor}
-use Rattle.cp_code.specs.StatementsFor.{AssignsBy, CodeFor, stands_at}
+use Rattle.cp_program_model.specs.Terms.{Spot}
+use Rattle.cp_program_model.specs.Programs as op
+use Rattle.cp_program_model.specs.Programs.{Operation}
+use Rattle.cp_program_model.specs.Sites.{Site}
+use Rattle.cp_program_model.specs.TermsFor.{Knowns, SpotFor}
+use Rattle.cp_program_model.specs.StatementsFor.{AssignsBy, CodeFor, stands_at}
 use Rattle.cp_steps.specs.Left.{IsTask}
 use Rattle.cp_steps.proofs.Finding.{user_call_none}
 use Rattle.cp_steps.proofs.CallsKept.{spot_kept, term_kept}

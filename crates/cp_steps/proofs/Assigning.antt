@@ -17,11 +17,11 @@ use Rattle.cp_model.specs.Turns.{after_step}
 use Rattle.cp_model.specs.Types.{Simple}
 use Rattle.cp_model.specs.declared.state.Fault as machine
 use Rattle.cp_model.specs.declared.state.Fault.TheVariants as fault
-use Rattle.cp_code.specs.Terms.{Spot, Term}
-use Rattle.cp_code.specs.Programs as op
-use Rattle.cp_code.specs.Sites.{operation_at}
-use Rattle.cp_code.specs.TermsFor.{Agrees}
-use Rattle.cp_code.specs.StatementsFor.{AssignsBy}
+use Rattle.cp_program_model.specs.Terms.{Spot, Term}
+use Rattle.cp_program_model.specs.Programs as op
+use Rattle.cp_program_model.specs.Sites.{operation_at}
+use Rattle.cp_program_model.specs.TermsFor.{Agrees}
+use Rattle.cp_program_model.specs.StatementsFor.{AssignsBy}
 use Rattle.cp_steps.specs.PrivateStates.{Outside, PrivateState, go_to, private_outcome, guard, set_word, with_result}
 use Rattle.cp_steps.specs.Means.{PlaceAgrees}
 use Rattle.cp_steps.specs.Addresses.{Ground, activations, in_sight, lies, lies_in_sight}

@@ -13,8 +13,8 @@ use Rattle.cp_model.specs.States.{Setup, State, process_count, running_clock}
 use Rattle.cp_model.specs.Turns as meaning
 use Rattle.cp_model.proofs.RoundCount.{kernel_turn_count}
 use Rattle.cp_model.proofs.StateInvariant.{kernel_step_keeps}
-use Rattle.cp_code.specs.Programs.{Program}
-use Rattle.cp_code.specs.StandsFor.{StandsFor}
+use Rattle.cp_program_model.specs.Programs.{Program}
+use Rattle.cp_program_model.specs.StandsFor.{StandsFor}
 use Rattle.cp_steps.specs.PrivateStates as machine
 use Rattle.cp_steps.specs.PrivateStates.{Acting, PrivateState}
 use Rattle.cp_steps.specs.Addresses.{Ground, OwnWords, in_sight, sees}

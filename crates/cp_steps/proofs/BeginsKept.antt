@@ -3,9 +3,9 @@
 use Rattle.std.proofs.Common.{◌≡◌, ℕ, zero, suc, ◌+◌, ◌-◌, ◌≤◌, ◌<◌, ℤ, List, [], ◌∷◌, map, Some, None, refl, ap, sym, subst, ◌∙◌, arith}
 use Rattle.std.specs.Prelude.{drop, slice_get}
 use Rattle.cp_model.specs.States.{State}
-use Rattle.cp_code.specs.Sites.{UnitText}
-use Rattle.cp_code.specs.StandsFor.{ProcessStands}
-use Rattle.cp_code.specs.Starts.{block, paste, word}
+use Rattle.cp_program_model.specs.Sites.{UnitText}
+use Rattle.cp_program_model.specs.StandsFor.{ProcessStands}
+use Rattle.cp_program_model.specs.Starts.{block, paste, word}
 use Rattle.cp_steps.specs.Addresses.{AllHaveRights, Ground}
 use Rattle.cp_steps.specs.Beginning.{Begins}
 use Rattle.cp_steps.specs.KernelSteps.{Kernel}

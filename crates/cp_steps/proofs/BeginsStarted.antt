@@ -17,10 +17,10 @@ use Rattle.cp_model.specs.Stores.{Writes, put_all}
 use Rattle.cp_model.specs.Turns.{after_step}
 use Rattle.cp_model.proofs.StateMaps.{with_at_here}
 use Rattle.cp_typing.specs.Declared.{Distinct}
-use Rattle.cp_code.specs.Layout.{component_words}
-use Rattle.cp_code.specs.Programs as code
-use Rattle.cp_code.specs.StandsFor.{ProcessStands}
-use Rattle.cp_code.specs.Starts.{block, paste, word}
+use Rattle.cp_program_model.specs.Layout.{component_words}
+use Rattle.cp_program_model.specs.Programs as code
+use Rattle.cp_program_model.specs.StandsFor.{ProcessStands}
+use Rattle.cp_program_model.specs.Starts.{block, paste, word}
 use Rattle.cp_steps.specs.Addresses.{Ground, in_sight, scope}
 use Rattle.cp_steps.specs.Beginning.{Begins}
 use Rattle.cp_steps.specs.KernelSteps.{Kernel}

@@ -6,9 +6,9 @@ use Rattle.cp_model.specs.Continuations.{Task}
 use Rattle.cp_model.specs.Locations.{ByIndex, ByName, Location, OfActivation, OfMonitor, OfProcess, Owner, Path, under}
 use Rattle.cp_model.specs.Stores.{Store}
 use Rattle.cp_model.specs.Types.{ResolvedType}
-use Rattle.cp_code.specs.Layout.{Part, activation_words, component_words}
-use Rattle.cp_code.specs.StandsFor.{Apart, system_of_monitor, system_of_process}
-use Rattle.cp_code.specs.Starts.{word}
+use Rattle.cp_program_model.specs.Layout.{Part, activation_words, component_words}
+use Rattle.cp_program_model.specs.StandsFor.{Apart, system_of_monitor, system_of_process}
+use Rattle.cp_program_model.specs.Starts.{word}
 use Rattle.cp_steps.specs.PrivateStates.{PrivateState}
 use Rattle.cp_steps.specs.Addresses.{Activation, ClassLies, ComponentLies, Ground, MonitorLies, ProcessLies, activation_at, activations, component_type, lies, part_at, scope}
 use Rattle.cp_steps.specs.Left.{held_below, site}

@@ -7,10 +7,10 @@ use Rattle.cp_model.specs.Continuations.{EndProcess, Task, push}
 use Rattle.cp_model.specs.Environments.{Environment}
 use Rattle.cp_model.specs.Locations.{Location, OfProcess, root}
 use Rattle.cp_model.specs.Stores.{Store}
-use Rattle.cp_code.specs.Programs as code
-use Rattle.cp_code.specs.Programs.{CodeUnit}
-use Rattle.cp_code.specs.Sites.{BodyOf}
-use Rattle.cp_code.specs.StandsFor.{ProcessStands, StandsFor, UnitStands, body_environment, end_of}
+use Rattle.cp_program_model.specs.Programs as code
+use Rattle.cp_program_model.specs.Programs.{CodeUnit}
+use Rattle.cp_program_model.specs.Sites.{BodyOf}
+use Rattle.cp_program_model.specs.StandsFor.{ProcessStands, StandsFor, UnitStands, body_environment, end_of}
 use Rattle.cp_steps.specs.Addresses.{Ground, ProcessLies, in_sight, scope, whole}
 use Rattle.cp_steps.specs.Beginning.{AtStart}
 use Rattle.cp_steps.specs.Left.{Running, innermost_gate}

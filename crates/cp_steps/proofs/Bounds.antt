@@ -10,7 +10,7 @@ use Rattle.cp_model.specs.Places.{within}
 use Rattle.cp_model.specs.Types.{ArrayOf, ComponentOf, GlobalScope, Members, MoreMembers, NoMembers, NoType, Queue, RecordOf, ResolvedType, Simple}
 use Rattle.cp_typing.specs.Words as class_words
 use Rattle.cp_typing.specs.Words.{rights_in, words, words_of_members}
-use Rattle.cp_code.specs.Layout.{Part, distance, farther, head_words, member_part, of_class, part}
+use Rattle.cp_program_model.specs.Layout.{Part, distance, farther, head_words, member_part, of_class, part}
 use Rattle.cp_steps.proofs.Finding.{some_is_not_none}
 use Rattle.cp_steps.proofs.Layouts.{farther_some, same_some}
 

@@ -25,17 +25,17 @@ use Rattle.cp_model.specs.Stores.{Store, forget, put_all}
 use Rattle.cp_model.specs.Types.{GlobalScope}
 use Rattle.cp_typing.specs.Declared.{Distinct}
 use Rattle.cp_typing.specs.Needs.{result_words}
-use Rattle.cp_code.specs.Terms as terms
-use Rattle.cp_code.specs.Terms.{Argument, Copy, Reference, Value}
-use Rattle.cp_code.specs.Programs as op
-use Rattle.cp_code.specs.Programs.{Call, CodeUnit}
-use Rattle.cp_code.specs.Layout.{local_at, local_words, natural}
-use Rattle.cp_code.specs.Sites as sites
-use Rattle.cp_code.specs.Sites.{RoutineOf, Site, UnitText, TargetFor, TargetOf, first_parameter, operation_at, parameters, system_of_callee}
-use Rattle.cp_code.specs.StandsFor.{UnitStands}
-use Rattle.cp_code.specs.Starts.{carry_out, word}
-use Rattle.cp_code.specs.StatementsFor.{PerformsBy}
-use Rattle.cp_code.specs.TermsFor.{ArgumentsFor, Knowns, nothing_known}
+use Rattle.cp_program_model.specs.Terms as terms
+use Rattle.cp_program_model.specs.Terms.{Argument, Copy, Reference, Value}
+use Rattle.cp_program_model.specs.Programs as op
+use Rattle.cp_program_model.specs.Programs.{Call, CodeUnit}
+use Rattle.cp_program_model.specs.Layout.{local_at, local_words, natural}
+use Rattle.cp_program_model.specs.Sites as sites
+use Rattle.cp_program_model.specs.Sites.{RoutineOf, Site, UnitText, TargetFor, TargetOf, first_parameter, operation_at, parameters, system_of_callee}
+use Rattle.cp_program_model.specs.StandsFor.{UnitStands}
+use Rattle.cp_program_model.specs.Starts.{carry_out, word}
+use Rattle.cp_program_model.specs.StatementsFor.{PerformsBy}
+use Rattle.cp_program_model.specs.TermsFor.{ArgumentsFor, Knowns, nothing_known}
 use Rattle.cp_steps.specs.PrivateStates.{Outside, PrivateState}
 use Rattle.cp_steps.specs.Passing.{component_called}
 use Rattle.cp_steps.specs.Calling.{Back, frame_of}
@@ -44,7 +44,7 @@ use Rattle.cp_steps.specs.Steps.{act, is_monitor}
 use Rattle.cp_steps.specs.Addresses.{Ground, activations, in_sight, lies, scope, lies_in_sight}
 use Rattle.cp_steps.specs.Left.{CallerAt, Left, held_below, kept_below, site}
 use Rattle.cp_steps.proofs.Declared.{distinct_first}
-use Rattle.cp_code.proofs.CallsStand.{callee_of}
+use Rattle.cp_program_model.proofs.CallsStand.{callee_of}
 use Rattle.cp_steps.proofs.Declares.{Declares}
 use Rattle.cp_steps.proofs.Doing.{Ready, known}
 use Rattle.cp_steps.proofs.Entering.{Opened, Waits, owner_of_call}

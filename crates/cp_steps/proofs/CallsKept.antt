@@ -4,10 +4,10 @@ use Rattle.cp_model.specs.Abstract as a
 use Rattle.cp_model.specs.Abstract.{BaseType, Name}
 use Rattle.cp_model.specs.Declarations as declared
 use Rattle.cp_model.specs.Types.{ArrayOf, Queue, RecordOf, ResolvedType, Simple}
-use Rattle.cp_code.specs.Terms.{Argument, Binary, Copy, Element, Empty, Item, Made, Negative, Not, Number, Realtime, Reference, Rooted, Spot, Standard, Term, Value}
-use Rattle.cp_code.specs.Layout.{local_words}
-use Rattle.cp_code.specs.Sites.{Site, first_parameter, parameters}
-use Rattle.cp_code.specs.TermsFor.{ArgumentsFor, Knowns, SpotFor, TermFor}
+use Rattle.cp_program_model.specs.Terms.{Argument, Binary, Copy, Element, Empty, Item, Made, Negative, Not, Number, Realtime, Reference, Rooted, Spot, Standard, Term, Value}
+use Rattle.cp_program_model.specs.Layout.{local_words}
+use Rattle.cp_program_model.specs.Sites.{Site, first_parameter, parameters}
+use Rattle.cp_program_model.specs.TermsFor.{ArgumentsFor, Knowns, SpotFor, TermFor}
 
 -- What is known of the temps in a range is kept.
 abbrev pub Keeps : Knowns → Knowns → ℕ → ℕ → Type 0

@@ -13,11 +13,11 @@ use Rattle.cp_model.specs.States.{State, configuration}
 use Rattle.cp_model.specs.Turns.{after_step}
 use Rattle.cp_model.specs.declared.state.Fault as machine
 use Rattle.cp_model.specs.declared.state.Fault.TheVariants as fault
-use Rattle.cp_code.specs.Programs as op
-use Rattle.cp_code.specs.Sites.{Site, operation_at}
-use Rattle.cp_code.specs.Tables.{place_in}
-use Rattle.cp_code.specs.TermsFor.{Agrees, nothing_known}
-use Rattle.cp_code.specs.StatementsFor.{ArmFor, CodeFor, either}
+use Rattle.cp_program_model.specs.Programs as op
+use Rattle.cp_program_model.specs.Sites.{Site, operation_at}
+use Rattle.cp_program_model.specs.Tables.{place_in}
+use Rattle.cp_program_model.specs.TermsFor.{Agrees, nothing_known}
+use Rattle.cp_program_model.specs.StatementsFor.{ArmFor, CodeFor, either}
 use Rattle.cp_steps.specs.PrivateStates.{Outside, PrivateState, go_to, with_result}
 use Rattle.cp_steps.specs.Steps.{go_to_arm}
 use Rattle.cp_steps.specs.Addresses.{Ground}

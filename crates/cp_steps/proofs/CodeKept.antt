@@ -5,12 +5,12 @@ use Rattle.cp_model.specs.Abstract.{Char, Name, System}
 use Rattle.cp_model.specs.Components.{Component}
 use Rattle.cp_model.specs.Declarations as declared
 use Rattle.cp_model.specs.Types.{Queue, Simple}
-use Rattle.cp_code.specs.Terms.{Argument, Right, Value}
-use Rattle.cp_code.specs.Programs as op
-use Rattle.cp_code.specs.Programs.{Operation}
-use Rattle.cp_code.specs.Sites.{Site, first_parameter, parameters}
-use Rattle.cp_code.specs.TermsFor.{Knowns, nothing_known}
-use Rattle.cp_code.specs.StatementsFor.{AssignsBy, CodeFor, InitArgumentsFor, InitsBy, PerformsBy}
+use Rattle.cp_program_model.specs.Terms.{Argument, Right, Value}
+use Rattle.cp_program_model.specs.Programs as op
+use Rattle.cp_program_model.specs.Programs.{Operation}
+use Rattle.cp_program_model.specs.Sites.{Site, first_parameter, parameters}
+use Rattle.cp_program_model.specs.TermsFor.{Knowns, nothing_known}
+use Rattle.cp_program_model.specs.StatementsFor.{AssignsBy, CodeFor, InitArgumentsFor, InitsBy, PerformsBy}
 use Rattle.cp_steps.proofs.CallsKept.{Keeps, arguments_kept, narrowed, spot_kept, term_kept}
 
 -- If nothing is known, nothing needs to be kept.

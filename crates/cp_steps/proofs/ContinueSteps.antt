@@ -23,12 +23,12 @@ use Rattle.cp_model.specs.Types.{Queue}
 use Rattle.cp_model.specs.declared.state.Fault as machine
 use Rattle.cp_model.specs.declared.state.Fault.TheVariants as fault
 use Rattle.cp_model.proofs.StateMaps.{with_at_here}
-use Rattle.cp_code.specs.Terms.{Spot}
-use Rattle.cp_code.specs.Programs as op
-use Rattle.cp_code.specs.Layout.{local}
-use Rattle.cp_code.specs.Starts.{unset, word}
-use Rattle.cp_code.specs.TermsFor.{nothing_known}
-use Rattle.cp_code.specs.StatementsFor.{is_function}
+use Rattle.cp_program_model.specs.Terms.{Spot}
+use Rattle.cp_program_model.specs.Programs as op
+use Rattle.cp_program_model.specs.Layout.{local}
+use Rattle.cp_program_model.specs.Starts.{unset, word}
+use Rattle.cp_program_model.specs.TermsFor.{nothing_known}
+use Rattle.cp_program_model.specs.StatementsFor.{is_function}
 use Rattle.cp_steps.specs.PrivateStates as private
 use Rattle.cp_steps.specs.PrivateStates.{Continues, Outside, PrivateState, fault_in, go_to, private_outcome, set_temp, set_word, with_result}
 use Rattle.cp_steps.specs.Calling.{leave, return_with}

@@ -6,7 +6,7 @@ use Rattle.cp_model.specs.Environments.{Environment, Frame}
 use Rattle.cp_model.specs.Gates.{resume}
 use Rattle.cp_model.specs.States.{State}
 use Rattle.cp_model.specs.Stores.{Store}
-use Rattle.cp_code.specs.TermsFor.{Knowns, nothing_known}
+use Rattle.cp_program_model.specs.TermsFor.{Knowns, nothing_known}
 use Rattle.cp_steps.specs.PrivateStates as machine
 use Rattle.cp_steps.specs.PrivateStates.{PrivateState}
 use Rattle.cp_steps.specs.Addresses.{Ground, activations, in_sight}

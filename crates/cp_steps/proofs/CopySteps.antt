@@ -19,12 +19,12 @@ use Rattle.cp_model.specs.declared.state.Fault as machine
 use Rattle.cp_typing.specs.Judgement.{has_queues}
 use Rattle.cp_typing.specs.SoundTypes.{SoundType}
 use Rattle.cp_typing.specs.Words.{words}
-use Rattle.cp_code.specs.Terms.{Spot}
-use Rattle.cp_code.specs.Programs as op
-use Rattle.cp_code.specs.Layout.{part}
-use Rattle.cp_code.specs.Sites.{operation_at}
-use Rattle.cp_code.specs.Starts.{block, paste, word}
-use Rattle.cp_code.specs.StatementsFor.{AssignsBy}
+use Rattle.cp_program_model.specs.Terms.{Spot}
+use Rattle.cp_program_model.specs.Programs as op
+use Rattle.cp_program_model.specs.Layout.{part}
+use Rattle.cp_program_model.specs.Sites.{operation_at}
+use Rattle.cp_program_model.specs.Starts.{block, paste, word}
+use Rattle.cp_program_model.specs.StatementsFor.{AssignsBy}
 use Rattle.cp_steps.specs.PrivateStates.{Outside, PrivateState, with_result}
 use Rattle.cp_steps.specs.Steps.{copy_words}
 use Rattle.cp_steps.specs.Values.{place_of}

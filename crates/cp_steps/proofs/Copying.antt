@@ -16,9 +16,9 @@ use Rattle.cp_typing.specs.StartValues.{IsIn}
 use Rattle.cp_typing.specs.Words.{words}
 use Rattle.cp_typing.proofs.Leaves.{in_mapped, of_mapped}
 use Rattle.cp_typing.proofs.StartWrites.{written}
-use Rattle.cp_code.specs.Layout.{Part, part}
-use Rattle.cp_code.specs.Starts.{block, paste, word}
-use Rattle.cp_code.proofs.Pasting.{paste_inside, paste_length, paste_outside}
+use Rattle.cp_program_model.specs.Layout.{Part, part}
+use Rattle.cp_program_model.specs.Starts.{block, paste, word}
+use Rattle.cp_program_model.proofs.Pasting.{paste_inside, paste_length, paste_outside}
 use Rattle.std.proofs.lemmas.Bool.{true≢false}
 use Rattle.cp_steps.specs.Means.{CellMeans}
 use Rattle.cp_steps.specs.Addresses.{Activation, ClassLies, Ground, activation_at, component_type, in_sight, lies, scope}

@@ -19,12 +19,12 @@ use Rattle.cp_model.specs.Stores.{Ordinal, Store, put}
 use Rattle.cp_model.specs.Turns.{after_step}
 use Rattle.cp_model.specs.Types.{Simple}
 use Rattle.cp_model.specs.declared.state.Fault as machine
-use Rattle.cp_code.specs.Terms.{Rooted}
-use Rattle.cp_code.specs.Programs as op
-use Rattle.cp_code.specs.Sites.{operation_at}
-use Rattle.cp_code.specs.Starts.{word}
-use Rattle.cp_code.specs.TermsFor.{Agrees, nothing_known}
-use Rattle.cp_code.specs.StatementsFor.{CodeFor, Counts}
+use Rattle.cp_program_model.specs.Terms.{Rooted}
+use Rattle.cp_program_model.specs.Programs as op
+use Rattle.cp_program_model.specs.Sites.{operation_at}
+use Rattle.cp_program_model.specs.Starts.{word}
+use Rattle.cp_program_model.specs.TermsFor.{Agrees, nothing_known}
+use Rattle.cp_program_model.specs.StatementsFor.{CodeFor, Counts}
 use Rattle.cp_steps.specs.PrivateStates.{Outside, PrivateState, go_to, private_outcome, set_temp, set_word, with_result}
 use Rattle.cp_steps.specs.Steps.{act, count_to, first_count}
 use Rattle.cp_steps.specs.Values.{root_place}

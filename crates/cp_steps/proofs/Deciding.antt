@@ -16,13 +16,13 @@ use Rattle.cp_model.specs.Reach.{in_reach}
 use Rattle.cp_model.specs.States.{State}
 use Rattle.cp_model.specs.Turns.{after_step}
 use Rattle.cp_model.proofs.StoreInvariants.{references_in_reach}
-use Rattle.cp_code.specs.Programs as op
-use Rattle.cp_code.specs.Programs.{Operation}
-use Rattle.cp_code.specs.Layout.{local}
-use Rattle.cp_code.specs.Sites.{operation_at}
-use Rattle.cp_code.specs.StandsFor.{StandsFor, UnitStands}
-use Rattle.cp_code.specs.TermsFor.{Knowns}
-use Rattle.cp_code.specs.StatementsFor.{AssignsBy, InitsBy, PerformsBy}
+use Rattle.cp_program_model.specs.Programs as op
+use Rattle.cp_program_model.specs.Programs.{Operation}
+use Rattle.cp_program_model.specs.Layout.{local}
+use Rattle.cp_program_model.specs.Sites.{operation_at}
+use Rattle.cp_program_model.specs.StandsFor.{StandsFor, UnitStands}
+use Rattle.cp_program_model.specs.TermsFor.{Knowns}
+use Rattle.cp_program_model.specs.StatementsFor.{AssignsBy, InitsBy, PerformsBy}
 use Rattle.cp_steps.specs.PrivateStates as machine
 use Rattle.cp_steps.specs.PrivateStates.{Outside, PrivateState}
 use Rattle.cp_steps.specs.Steps.{act, is_kernel_operation}
@@ -56,7 +56,7 @@ use Rattle.cp_steps.proofs.Standards.{By, accept_steps, delay_steps, display_ste
 use Rattle.cp_steps.proofs.StatementCalls.{own_place, statement_next}
 use Rattle.cp_steps.proofs.Stepping.{Around, AroundAll, IfPlaced, Now, Stepped, kernel_step}
 use Rattle.cp_steps.proofs.Testing.{cycle_steps, if_steps, repeat_steps, while_steps}
-use Rattle.cp_code.specs.Terms.{Spot}
+use Rattle.cp_program_model.specs.Terms.{Spot}
 use Rattle.cp_steps.proofs.Effects.{EffectAgrees}
 use Rattle.cp_steps.proofs.InitProcesses.{InitOfProcess}
 use Rattle.cp_steps.proofs.Queues.{activations_none, queues_shared}

@@ -9,7 +9,7 @@ use Rattle.cp_model.specs.Types.{GlobalScope, named_type}
 use Rattle.cp_typing.proofs.Names.{bytes_eq-refl, bytes_same}
 use Rattle.cp_typing.specs.Declared.{Distinct}
 use Rattle.cp_typing.specs.Needs.{result_words}
-use Rattle.cp_code.specs.Layout.{local, local_at, local_words, locals}
+use Rattle.cp_program_model.specs.Layout.{local, local_at, local_words, locals}
 use Rattle.cp_steps.proofs.Finding.{some_is_not_none}
 
 -- A name that is in a list is found there.

@@ -20,9 +20,9 @@ use Rattle.cp_model.specs.Types.{Queue}
 use Rattle.cp_model.specs.declared.state.Fault as machine
 use Rattle.cp_model.specs.declared.state.Fault.TheVariants as fault
 use Rattle.cp_model.proofs.StateMaps.{with_at_here}
-use Rattle.cp_code.specs.Terms.{Spot}
-use Rattle.cp_code.specs.Programs as op
-use Rattle.cp_code.specs.Starts.{word}
+use Rattle.cp_program_model.specs.Terms.{Spot}
+use Rattle.cp_program_model.specs.Programs as op
+use Rattle.cp_program_model.specs.Starts.{word}
 use Rattle.cp_steps.specs.PrivateStates as private
 use Rattle.cp_steps.specs.PrivateStates.{Outside, PrivateState, go_to, private_outcome, guard, set_word, with_result}
 use Rattle.cp_steps.specs.Steps as steps

@@ -12,10 +12,10 @@ use Rattle.cp_model.specs.States.{State, configuration, context}
 use Rattle.cp_model.specs.StatementSteps.{execute}
 use Rattle.cp_model.specs.Turns.{after_step}
 use Rattle.cp_model.specs.Types.{ResolvedType}
-use Rattle.cp_code.specs.Terms.{Spot, Term}
-use Rattle.cp_code.specs.Programs.{Operation}
-use Rattle.cp_code.specs.Sites.{operation_at}
-use Rattle.cp_code.specs.TermsFor.{Agrees, Knowns, SpotFor, TermFor}
+use Rattle.cp_program_model.specs.Terms.{Spot, Term}
+use Rattle.cp_program_model.specs.Programs.{Operation}
+use Rattle.cp_program_model.specs.Sites.{operation_at}
+use Rattle.cp_program_model.specs.TermsFor.{Agrees, Knowns, SpotFor, TermFor}
 use Rattle.cp_steps.specs.PrivateStates.{Outside, PrivateState, go_to, view_of}
 use Rattle.cp_steps.specs.Steps as steps
 use Rattle.cp_steps.specs.Steps.{act, alone}

@@ -21,9 +21,9 @@ use Rattle.cp_model.specs.declared.state.Fault.TheVariants as faults
 use Rattle.cp_model.proofs.ExpressionReach.{IfGives}
 use Rattle.cp_model.proofs.QuietSteps.{Quietly}
 use Rattle.cp_model.proofs.StateMaps.{with_at_here}
-use Rattle.cp_code.specs.StandsFor.{system_of_monitor}
-use Rattle.cp_code.specs.Starts.{unset, word}
-use Rattle.cp_code.specs.Terms.{Argument, Copy, Reference, Right, Value}
+use Rattle.cp_program_model.specs.StandsFor.{system_of_monitor}
+use Rattle.cp_program_model.specs.Starts.{unset, word}
+use Rattle.cp_program_model.specs.Terms.{Argument, Copy, Reference, Right, Value}
 use Rattle.cp_steps.specs.Addresses.{Ground}
 use Rattle.cp_steps.specs.Calling.{gate_effect, leave, return_with}
 use Rattle.cp_steps.specs.Passing.{Passing, pass_all, pass_copy, pass_one, pass_result, pass_value, pass_word, reference_word, when_passed}

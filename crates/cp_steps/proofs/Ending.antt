@@ -8,7 +8,7 @@ use Rattle.cp_model.specs.Continuations.{EndBody, EndProcess, Task}
 use Rattle.cp_model.specs.Parts.{private_status}
 use Rattle.cp_model.specs.States.{State}
 use Rattle.cp_model.proofs.StateMaps.{with_at_here}
-use Rattle.cp_code.specs.Programs as op
+use Rattle.cp_program_model.specs.Programs as op
 use Rattle.cp_steps.specs.PrivateStates as private
 use Rattle.cp_steps.specs.PrivateStates.{Outside, PrivateState}
 use Rattle.cp_steps.specs.Calling.{leave}

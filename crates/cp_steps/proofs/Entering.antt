@@ -9,12 +9,12 @@ use Rattle.cp_model.specs.Environments.{Environment, Frame}
 use Rattle.cp_model.specs.Locations.{ByIndex, ByName, Location, OfActivation, OfMonitor, OfProcess, Owner, Path}
 use Rattle.cp_model.specs.Stores.{Store, Value}
 use Rattle.cp_model.specs.Types.{ResolvedType}
-use Rattle.cp_code.specs.Programs.{Call}
-use Rattle.cp_code.specs.Layout.{Part}
-use Rattle.cp_code.specs.Sites as sites
-use Rattle.cp_code.specs.Sites.{RoutineOf}
-use Rattle.cp_code.specs.StandsFor.{UnitStands, routine_environment}
-use Rattle.cp_code.specs.Starts.{word}
+use Rattle.cp_program_model.specs.Programs.{Call}
+use Rattle.cp_program_model.specs.Layout.{Part}
+use Rattle.cp_program_model.specs.Sites as sites
+use Rattle.cp_program_model.specs.Sites.{RoutineOf}
+use Rattle.cp_program_model.specs.StandsFor.{UnitStands, routine_environment}
+use Rattle.cp_program_model.specs.Starts.{word}
 use Rattle.cp_steps.specs.PrivateStates.{PrivateState}
 use Rattle.cp_steps.specs.PrivateStates as machine
 use Rattle.cp_steps.specs.Passing.{Called}

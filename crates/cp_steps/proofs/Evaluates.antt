@@ -15,15 +15,15 @@ use Rattle.cp_model.specs.Stores.{Ordinal, QueueHolds, Store}
 use Rattle.cp_model.specs.Types.{ArrayOf, Members, Queue, RecordOf, ResolvedType, Simple, base_of_type}
 use Rattle.cp_model.specs.declared.state.Fault as machine
 use Rattle.cp_model.specs.declared.state.Fault.TheVariants as fault
-use Rattle.cp_code.specs.Terms as root
-use Rattle.cp_code.specs.Terms.{Binary, Element, Empty, Item, Made, Negative, Not, Number, Realtime, Root, Rooted, Spot, Standard, Term}
-use Rattle.cp_code.specs.Functions.{in_range, standard, unless}
-use Rattle.cp_code.specs.Starts.{word}
+use Rattle.cp_program_model.specs.Terms as root
+use Rattle.cp_program_model.specs.Terms.{Binary, Element, Empty, Item, Made, Negative, Not, Number, Realtime, Root, Rooted, Spot, Standard, Term}
+use Rattle.cp_program_model.specs.Functions.{in_range, standard, unless}
+use Rattle.cp_program_model.specs.Starts.{word}
 use Rattle.cp_typing.specs.Words as typed
 use Rattle.cp_steps.specs.Values.{View, apply, bind, place_of, root_place, truth, unless_zero, value_of}
-use Rattle.cp_code.specs.Layout.{Part, distance, farther, natural, part}
-use Rattle.cp_code.specs.Sites.{IsNoClock, NamesVariable, Site, local_location}
-use Rattle.cp_code.specs.TermsFor.{Agrees, Knowns, SpotFor, TermFor, move_spot, result_base}
+use Rattle.cp_program_model.specs.Layout.{Part, distance, farther, natural, part}
+use Rattle.cp_program_model.specs.Sites.{IsNoClock, NamesVariable, Site, local_location}
+use Rattle.cp_program_model.specs.TermsFor.{Agrees, Knowns, SpotFor, TermFor, move_spot, result_base}
 use Rattle.cp_model.specs.Integers.{same_integer}
 use Rattle.cp_steps.specs.Means.{Here, PlaceAgrees, process_of_word}
 use Rattle.cp_steps.proofs.Finding.{called_is_found, in_context_none, member_has_type, or_else_none, part_whole, under_nothing}

@@ -9,7 +9,7 @@ use Rattle.cp_model.specs.Locations.{Location, Path, under}
 use Rattle.std.specs.Str.{bytes_eq}
 use Rattle.cp_model.specs.Places.{member_type}
 use Rattle.cp_model.specs.Types.{ArrayOf, ComponentOf, GlobalScope, Members, MoreMembers, NoMembers, NoType, Queue, RecordOf, ResolvedType, Simple}
-use Rattle.cp_code.specs.Layout.{Part, farther, member_part, part}
+use Rattle.cp_program_model.specs.Layout.{Part, farther, member_part, part}
 use Rattle.cp_typing.specs.Words.{words}
 
 pub some_is_not_none : {A : Type 0} (x : A) → Some x ≡ None → ⊥

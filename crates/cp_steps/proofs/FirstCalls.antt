@@ -6,10 +6,10 @@ use Rattle.cp_model.specs.Abstract.{BaseType, Name}
 use Rattle.cp_model.specs.Calls.{Found, call_in_arguments, call_in_designator, first_call, in_context, or_else, user_call}
 use Rattle.cp_model.specs.Declarations as declared
 use Rattle.cp_model.specs.Types.{ArrayOf, Queue, RecordOf, ResolvedType, Simple}
-use Rattle.cp_code.specs.Terms.{Argument, Binary, Copy, Element, Empty, Item, Made, Negative, Not, Number, Realtime, Reference, Rooted, Spot, Standard, Term, Value}
-use Rattle.cp_code.specs.Layout.{local_words}
-use Rattle.cp_code.specs.Sites.{Site, first_parameter, operation_at, parameters}
-use Rattle.cp_code.specs.TermsFor.{ArgumentsFor, Knowns, SpotFor, TermFor}
+use Rattle.cp_program_model.specs.Terms.{Argument, Binary, Copy, Element, Empty, Item, Made, Negative, Not, Number, Realtime, Reference, Rooted, Spot, Standard, Term, Value}
+use Rattle.cp_program_model.specs.Layout.{local_words}
+use Rattle.cp_program_model.specs.Sites.{Site, first_parameter, operation_at, parameters}
+use Rattle.cp_program_model.specs.TermsFor.{ArgumentsFor, Knowns, SpotFor, TermFor}
 use Rattle.cp_steps.proofs.Finding.{user_call_found, user_call_none}
 use Rattle.cp_steps.proofs.CallsKept.{Keeps, arguments_kept, spot_kept, term_kept}
 use Rattle.cp_steps.proofs.NextCalls.{Advance, AllMade, Calling, Learns, call_follows, follows_on, next_in, next_left, next_right}

@@ -2,7 +2,7 @@
 use Rattle.std.proofs.Common.{◌≡◌, ℕ, zero, suc, ◌≤◌, ℤ, List, [], ◌∷◌, true, Some, None, refl, ap, sym, subst, ◌∙◌, arith}
 use Rattle.cp_model.specs.Continuations.{Do, EndBody, EndCall, EndProcess, ForNext, RepeatTest, Task, WhileTest, marked_monitors}
 use Rattle.cp_model.specs.Stores.{Store}
-use Rattle.cp_code.specs.TermsFor.{Knowns, nothing_known}
+use Rattle.cp_program_model.specs.TermsFor.{Knowns, nothing_known}
 use Rattle.cp_steps.specs.PrivateStates as machine
 use Rattle.cp_steps.specs.PrivateStates.{PrivateState}
 use Rattle.cp_steps.specs.Steps as steps

@@ -5,7 +5,7 @@ use Rattle.cp_model.specs.Declarations.{Variable}
 use Rattle.cp_model.specs.Locations.{ByIndex, ByName, Location, OfActivation, OfMonitor, OfProcess, Owner, Path, under}
 use Rattle.cp_model.specs.Stores.{Store}
 use Rattle.cp_model.specs.Types.{ComponentOf, ResolvedType}
-use Rattle.cp_code.specs.Layout.{Part, member, right}
+use Rattle.cp_program_model.specs.Layout.{Part, member, right}
 use Rattle.cp_steps.specs.Addresses.{Activation, AllHaveRights, AllWords, ClassHasRights, Ground, HasRights, IsGiven, OwnWords, Sight, component_type, in_sight, lies, part_at, scope, sees, words_seen}
 use Rattle.cp_steps.proofs.Apart.{InHead, IsClass}
 use Rattle.cp_steps.proofs.Heres.{lies_any}

@@ -12,11 +12,11 @@ use Rattle.cp_model.specs.Operators.{Clock, realtime}
 use Rattle.cp_model.specs.Stores.{Reference, Store}
 use Rattle.cp_model.specs.Types.{ComponentOf, ResolvedType}
 use Rattle.cp_model.proofs.StateMaps.{differ}
-use Rattle.cp_code.specs.Layout.{Part, farther, head_words, local, member_part, of_class, part}
-use Rattle.cp_code.specs.TermsFor.{Knowns, nothing_known}
+use Rattle.cp_program_model.specs.Layout.{Part, farther, head_words, local, member_part, of_class, part}
+use Rattle.cp_program_model.specs.TermsFor.{Knowns, nothing_known}
 use Rattle.cp_steps.specs.Means.{Here}
-use Rattle.cp_code.specs.Sites.{local_location}
-use Rattle.cp_code.specs.StandsFor.{system_of_process}
+use Rattle.cp_program_model.specs.Sites.{local_location}
+use Rattle.cp_program_model.specs.StandsFor.{system_of_process}
 use Rattle.cp_steps.specs.Passing.{monitor_start}
 use Rattle.cp_steps.specs.PrivateStates as machine
 use Rattle.cp_steps.specs.Addresses.{Activation, ClassLies, ComponentLies, Ground, MonitorLies, ProcessLies, activation_at, activation_of, activations, lies, part_at, part_of_activation, part_of_component, part_of_local, part_of_owner, scope, lies_in_sight}

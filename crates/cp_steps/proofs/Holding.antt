@@ -9,12 +9,12 @@ use Rattle.cp_model.specs.Declarations.{reported_members}
 use Rattle.cp_model.specs.Locations.{ByIndex, ByName, Location, OfActivation, OfMonitor, OfProcess, Owner, Path, same_location, under}
 use Rattle.cp_model.specs.Stores.{Store, Value, put}
 use Rattle.cp_model.specs.Types.{ComponentOf, ResolvedType}
-use Rattle.cp_code.specs.Layout.{Part, activation_words, component_words, farther, local, part}
-use Rattle.cp_code.specs.Starts.{word}
+use Rattle.cp_program_model.specs.Layout.{Part, activation_words, component_words, farther, local, part}
+use Rattle.cp_program_model.specs.Starts.{word}
 use Rattle.cp_steps.specs.Means.{CellMeans}
 use Rattle.cp_steps.specs.Addresses.{Activation, ClassLies, ComponentLies, Ground, HasRights, MonitorLies, ProcessLies, activation_at, component_type, in_sight, lies, part_at, part_of_activation, part_of_local, scope}
 use Rattle.cp_steps.specs.PartOf.{DataMeans}
-use Rattle.cp_code.specs.StandsFor.{system_of_process}
+use Rattle.cp_program_model.specs.StandsFor.{system_of_process}
 use Rattle.cp_steps.proofs.Apart.{InHead, IsCell, cell_head}
 use Rattle.cp_steps.proofs.Finding.{some_is_not_none}
 use Rattle.cp_steps.proofs.Given.{KeepsGiven, rights_kept}

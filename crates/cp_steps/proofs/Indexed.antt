@@ -4,7 +4,7 @@ use Rattle.cp_model.specs.Abstract as a
 use Rattle.cp_model.specs.Abstract.{BaseType, Name}
 use Rattle.cp_model.specs.Calls.{Callee, callee, call_in_designator}
 use Rattle.cp_model.specs.Environments.{Environment}
-use Rattle.cp_code.specs.Sites.{IsNoClock}
+use Rattle.cp_program_model.specs.Sites.{IsNoClock}
 use Rattle.cp_steps.proofs.Finding.{some_is_not_none}
 
 -- Whether a designator has an index.

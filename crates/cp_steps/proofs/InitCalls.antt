@@ -5,12 +5,12 @@ use Rattle.cp_model.specs.Abstract.{Name, System}
 use Rattle.cp_model.specs.Calls.{call_in_arguments, first_call, in_context, or_else, user_call}
 use Rattle.cp_model.specs.Components.{Component, component_named}
 use Rattle.cp_model.specs.Declarations as declared
-use Rattle.cp_code.specs.Terms.{Argument, Right, Value}
-use Rattle.cp_code.specs.Programs as op
-use Rattle.cp_code.specs.Programs.{Operation}
-use Rattle.cp_code.specs.Sites.{Site}
-use Rattle.cp_code.specs.TermsFor.{Knowns}
-use Rattle.cp_code.specs.StatementsFor.{CodeFor, InitArgumentsFor, InitsBy, PassesBy, stands_at}
+use Rattle.cp_program_model.specs.Terms.{Argument, Right, Value}
+use Rattle.cp_program_model.specs.Programs as op
+use Rattle.cp_program_model.specs.Programs.{Operation}
+use Rattle.cp_program_model.specs.Sites.{Site}
+use Rattle.cp_program_model.specs.TermsFor.{Knowns}
+use Rattle.cp_program_model.specs.StatementsFor.{CodeFor, InitArgumentsFor, InitsBy, PassesBy, stands_at}
 use Rattle.cp_steps.proofs.Finding.{user_call_none}
 use Rattle.cp_steps.proofs.CallsKept.{term_kept}
 use Rattle.cp_steps.proofs.CodeKept.{init_kept}

@@ -19,20 +19,20 @@ use Rattle.cp_model.specs.States.{HeldBy, State, configuration, context, is_set}
 use Rattle.cp_model.specs.Stores.{Store, Writes, put_all}
 use Rattle.cp_model.specs.Turns.{after_step}
 use Rattle.cp_model.specs.declared.state.Fault.TheVariants as fault
-use Rattle.cp_code.specs.Terms as target
-use Rattle.cp_code.specs.Terms.{Argument}
-use Rattle.cp_code.specs.Programs as op
-use Rattle.cp_code.specs.Programs.{Call, CodeUnit}
+use Rattle.cp_program_model.specs.Terms as target
+use Rattle.cp_program_model.specs.Terms.{Argument}
+use Rattle.cp_program_model.specs.Programs as op
+use Rattle.cp_program_model.specs.Programs.{Call, CodeUnit}
 use Rattle.cp_typing.specs.Declared.{Distinct}
 use Rattle.cp_typing.specs.StartValues.{IsIn}
 use Rattle.cp_typing.specs.Words.{words}
-use Rattle.cp_code.specs.Layout.{Part}
-use Rattle.cp_code.specs.Sites as sites
-use Rattle.cp_code.specs.Sites.{BodyOf, Site, TargetOf, operation_at}
-use Rattle.cp_code.specs.StandsFor.{UnitStands, end_of, system_of_monitor}
-use Rattle.cp_code.specs.Starts.{block, paste}
-use Rattle.cp_code.specs.StatementsFor.{InitArgumentsFor, InitsBy}
-use Rattle.cp_code.specs.TermsFor.{Knowns, nothing_known}
+use Rattle.cp_program_model.specs.Layout.{Part}
+use Rattle.cp_program_model.specs.Sites as sites
+use Rattle.cp_program_model.specs.Sites.{BodyOf, Site, TargetOf, operation_at}
+use Rattle.cp_program_model.specs.StandsFor.{UnitStands, end_of, system_of_monitor}
+use Rattle.cp_program_model.specs.Starts.{block, paste}
+use Rattle.cp_program_model.specs.StatementsFor.{InitArgumentsFor, InitsBy}
+use Rattle.cp_program_model.specs.TermsFor.{Knowns, nothing_known}
 use Rattle.cp_steps.specs.PrivateStates as machine
 use Rattle.cp_steps.specs.PrivateStates.{Acting, Outside, PrivateState, fault_in, private_outcome, guard, set_word}
 use Rattle.cp_steps.specs.Passing.{Called, Passing, component_called, monitor_called, monitor_start, pass_all, when_passed}

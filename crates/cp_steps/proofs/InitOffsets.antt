@@ -13,7 +13,7 @@ use Rattle.cp_typing.specs.StartValues.{IsIn}
 use Rattle.cp_typing.specs.Words.{rights_in, words}
 use Rattle.cp_typing.proofs.Names.{bytes_eq-refl, bytes_same}
 use Rattle.cp_typing.proofs.StartWrites.{found_in}
-use Rattle.cp_code.specs.Layout.{Part, farther, head_words, member, member_part, part, right, right_at, rights}
+use Rattle.cp_program_model.specs.Layout.{Part, farther, head_words, member, member_part, part, right, right_at, rights}
 use Rattle.cp_steps.proofs.Apart.{IsCell, cell_head, member_above, member_apart}
 use Rattle.cp_steps.proofs.Declared.{absent_later, distinct_first}
 use Rattle.cp_steps.proofs.Finding.{part_whole, some_is_not_none}

@@ -25,12 +25,12 @@ use Rattle.cp_typing.specs.Declared.{Distinct}
 use Rattle.cp_typing.specs.StartValues.{IsIn}
 use Rattle.cp_typing.specs.Words.{words}
 use Rattle.cp_typing.proofs.StartWrites.{found_in}
-use Rattle.cp_code.specs.Terms.{Argument, Right, Target, Value}
-use Rattle.cp_code.specs.Layout.{Part, member, right}
-use Rattle.cp_code.specs.Sites.{Site, TargetFor}
-use Rattle.cp_code.specs.Starts.{word}
-use Rattle.cp_code.specs.StatementsFor.{InitArgumentsFor}
-use Rattle.cp_code.specs.TermsFor.{Agrees, Knowns}
+use Rattle.cp_program_model.specs.Terms.{Argument, Right, Target, Value}
+use Rattle.cp_program_model.specs.Layout.{Part, member, right}
+use Rattle.cp_program_model.specs.Sites.{Site, TargetFor}
+use Rattle.cp_program_model.specs.Starts.{word}
+use Rattle.cp_program_model.specs.StatementsFor.{InitArgumentsFor}
+use Rattle.cp_program_model.specs.TermsFor.{Agrees, Knowns}
 use Rattle.cp_steps.specs.PrivateStates.{Outside, PrivateState, view_of}
 use Rattle.cp_steps.specs.Passing.{Passing, pass_all, pass_result, pass_word, right_word, unless_fault}
 use Rattle.cp_steps.specs.Values.{value_of}

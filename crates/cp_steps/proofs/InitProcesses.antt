@@ -25,13 +25,13 @@ use Rattle.cp_model.specs.declared.state.Fault.TheVariants as fault
 use Rattle.cp_typing.specs.Declared.{Distinct}
 use Rattle.cp_typing.specs.StartValues.{IsIn}
 use Rattle.cp_typing.specs.Words.{words}
-use Rattle.cp_code.specs.Terms.{Argument}
-use Rattle.cp_code.specs.Programs as op
-use Rattle.cp_code.specs.Layout.{Part}
-use Rattle.cp_code.specs.StandsFor.{IsInText, ProcessStands, StandsFor, body_environment, system_of_process}
-use Rattle.cp_code.specs.Starts.{block, paste}
-use Rattle.cp_code.specs.StatementsFor.{InitArgumentsFor, InitsBy}
-use Rattle.cp_code.specs.TermsFor.{Knowns}
+use Rattle.cp_program_model.specs.Terms.{Argument}
+use Rattle.cp_program_model.specs.Programs as op
+use Rattle.cp_program_model.specs.Layout.{Part}
+use Rattle.cp_program_model.specs.StandsFor.{IsInText, ProcessStands, StandsFor, body_environment, system_of_process}
+use Rattle.cp_program_model.specs.Starts.{block, paste}
+use Rattle.cp_program_model.specs.StatementsFor.{InitArgumentsFor, InitsBy}
+use Rattle.cp_program_model.specs.TermsFor.{Knowns}
 use Rattle.cp_steps.specs.PrivateStates as machine
 use Rattle.cp_steps.specs.PrivateStates.{Acting, Outside, PrivateState, fault_in, go_to, guard}
 use Rattle.cp_steps.specs.Passing.{Passing, pass_all, when_passed}

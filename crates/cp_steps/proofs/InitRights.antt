@@ -13,15 +13,15 @@ use Rattle.cp_model.specs.Locations.{Location}
 use Rattle.cp_model.specs.States.{State}
 use Rattle.cp_model.specs.Stores.{Absent, ClassRight, MonitorRight, Value}
 use Rattle.cp_model.specs.Types.{ComponentOf, Members}
-use Rattle.cp_code.specs.Terms as t
-use Rattle.cp_code.specs.Layout.{member, natural, right}
-use Rattle.cp_code.specs.Sites.{RightTo, TargetFor, TargetOf}
-use Rattle.cp_code.specs.Starts.{word}
+use Rattle.cp_program_model.specs.Terms as t
+use Rattle.cp_program_model.specs.Layout.{member, natural, right}
+use Rattle.cp_program_model.specs.Sites.{RightTo, TargetFor, TargetOf}
+use Rattle.cp_program_model.specs.Starts.{word}
 use Rattle.cp_steps.specs.PrivateStates.{Outside, PrivateState}
 use Rattle.cp_steps.specs.Passing.{class_right, distance_word, monitor_word, right_word}
 use Rattle.cp_steps.specs.Addresses.{ClassLies, ComponentLies, Ground, IsGiven, IsGivenTo, IsMonitor, MonitorLies, ProcessLies, RightMeans, RightOf, component_type, in_sight, lies, scope}
 use Rattle.cp_steps.specs.Left.{site}
-use Rattle.cp_code.specs.StandsFor.{system_of_monitor}
+use Rattle.cp_program_model.specs.StandsFor.{system_of_monitor}
 use Rattle.cp_steps.proofs.Declares.{Declares}
 use Rattle.cp_steps.proofs.Heres.{Sees}
 use Rattle.cp_steps.proofs.ProcessRights.{NoClassRights}

@@ -10,12 +10,12 @@ use Rattle.cp_model.specs.Types.{GlobalScope, ResolvedType}
 use Rattle.cp_typing.specs.Declared.{Distinct}
 use Rattle.cp_typing.specs.StartValues.{IsIn}
 use Rattle.cp_typing.specs.Words.{words}
-use Rattle.cp_code.specs.Terms.{Argument, Right, Value}
-use Rattle.cp_code.specs.Layout.{member, right, rights}
-use Rattle.cp_code.specs.Sites.{Site}
-use Rattle.cp_code.specs.Starts.{block, paste, word}
-use Rattle.cp_code.specs.StatementsFor.{InitArgumentsFor}
-use Rattle.cp_code.specs.TermsFor.{Knowns}
+use Rattle.cp_program_model.specs.Terms.{Argument, Right, Value}
+use Rattle.cp_program_model.specs.Layout.{member, right, rights}
+use Rattle.cp_program_model.specs.Sites.{Site}
+use Rattle.cp_program_model.specs.Starts.{block, paste, word}
+use Rattle.cp_program_model.specs.StatementsFor.{InitArgumentsFor}
+use Rattle.cp_program_model.specs.TermsFor.{Knowns}
 use Rattle.cp_steps.specs.Means.{CellMeans}
 use Rattle.cp_steps.specs.Addresses.{Activation, Ground, RightMeans, scope, whole}
 use Rattle.cp_steps.proofs.Apart.{IsCell, cell_head}

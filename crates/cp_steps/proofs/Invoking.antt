@@ -26,13 +26,13 @@ use Rattle.cp_model.specs.declared.state.Fault.TheVariants as fault
 use Rattle.cp_model.proofs.ExpressionReach.{IfGives}
 use Rattle.cp_model.proofs.WriteReach.{WritesIn, bind_in, starting_writes_in, writes_in}
 use Rattle.cp_typing.specs.Declared.{Distinct}
-use Rattle.cp_code.specs.Programs.{Call, CodeUnit}
-use Rattle.cp_code.specs.Layout.{activation_words, locals_words, part}
-use Rattle.cp_code.specs.Sites as sites
-use Rattle.cp_code.specs.Sites.{RoutineOf, first_parameter, parameters, system_of_callee}
-use Rattle.cp_code.specs.StandsFor.{UnitStands}
-use Rattle.cp_code.specs.Starts.{carry_out}
-use Rattle.cp_code.specs.TermsFor.{ArgumentsFor}
+use Rattle.cp_program_model.specs.Programs.{Call, CodeUnit}
+use Rattle.cp_program_model.specs.Layout.{activation_words, locals_words, part}
+use Rattle.cp_program_model.specs.Sites as sites
+use Rattle.cp_program_model.specs.Sites.{RoutineOf, first_parameter, parameters, system_of_callee}
+use Rattle.cp_program_model.specs.StandsFor.{UnitStands}
+use Rattle.cp_program_model.specs.Starts.{carry_out}
+use Rattle.cp_program_model.specs.TermsFor.{ArgumentsFor}
 use Rattle.cp_steps.specs.PrivateStates.{Acting, Effect, Enters, Outside, PrivateState, fault_in, private_outcome, guard}
 use Rattle.cp_steps.specs.Passing.{Called, Passing, component_called, pass_all, when_passed}
 use Rattle.cp_steps.specs.Calling.{Back, call_step, enter, frame_of, gate_effect, has_room, start_words}

@@ -10,8 +10,8 @@ use Rattle.cp_model.specs.Declarations.{Variable, reported_members}
 use Rattle.cp_model.specs.Locations.{ByIndex, ByName, Location, OfActivation, OfMonitor, OfProcess, Owner, Path, under}
 use Rattle.cp_model.specs.Stores.{Absent, ClassRight, MonitorRight, Store, Value}
 use Rattle.cp_model.specs.Types.{ArrayOf, ComponentOf, NoType, Queue, RecordOf, ResolvedType, Simple}
-use Rattle.cp_code.specs.Layout.{Part, activation_words, component_words, farther, head_words, member, natural, right}
-use Rattle.cp_code.specs.Starts.{word}
+use Rattle.cp_program_model.specs.Layout.{Part, activation_words, component_words, farther, head_words, member, natural, right}
+use Rattle.cp_program_model.specs.Starts.{word}
 use Rattle.cp_steps.specs.PrivateStates.{PrivateState}
 use Rattle.cp_steps.specs.Addresses.{Activation, AllWords, ClassLies, ComponentLies, Ground, HasRights, MonitorLies, MonitorsLie, OwnWords, ProcessLies, RightMeans, RightOf, activation_at, activations, component_type, in_sight, lies, part_at, scope, sees, whole, words_seen}
 use Rattle.cp_steps.specs.KernelOf.{is_shared, kernel_ground}
@@ -29,7 +29,7 @@ use Rattle.cp_steps.proofs.Separate.{cell_inside, own_right_inside}
 use Rattle.cp_steps.proofs.Sights.{component_back, left_there, mean_there, right_means, rights_there, runs_there, same_lies, with_sight}
 use Rattle.cp_steps.proofs.Stacks.{Stacked, found_inside}
 use Rattle.cp_steps.proofs.Writing.{is_cell}
-use Rattle.cp_code.specs.StandsFor.{system_of_process}
+use Rattle.cp_program_model.specs.StandsFor.{system_of_process}
 use Rattle.cp_model.specs.CallSteps.{is_initialised}
 use Rattle.std.proofs.lemmas.List.{get_or_append_left, get_or-append-add, length-append}
 

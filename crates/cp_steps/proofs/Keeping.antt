@@ -13,15 +13,15 @@ use Rattle.cp_model.specs.Locations.{ByName, Location, OfActivation, Owner, unde
 use Rattle.std.specs.Str.{bytes_eq}
 use Rattle.cp_model.specs.Stores.{Store}
 use Rattle.cp_model.specs.Types.{ComponentOf, ResolvedType}
-use Rattle.cp_code.specs.Layout.{farther, head_words, local, member, member_part, natural, of_class, right, right_at, rights}
-use Rattle.cp_code.specs.Starts.{word}
-use Rattle.cp_code.specs.TermsFor.{Knowns, nothing_known}
+use Rattle.cp_program_model.specs.Layout.{farther, head_words, local, member, member_part, natural, of_class, right, right_at, rights}
+use Rattle.cp_program_model.specs.Starts.{word}
+use Rattle.cp_program_model.specs.TermsFor.{Knowns, nothing_known}
 use Rattle.cp_steps.specs.Means.{CellMeans}
 use Rattle.cp_steps.specs.PrivateStates as machine
 use Rattle.cp_steps.specs.Addresses.{Activation, ClassLies, ComponentLies, Ground, MonitorLies, ProcessLies, RightMeans, activation_at, activation_of, activations, component_type, in_sight, lies, part_of_component, scope}
 use Rattle.cp_steps.specs.Left.{Left, Running, kept_below}
 use Rattle.cp_steps.specs.PartOf.{ActivationMeans, ActivationsMean, DataMeans, IfFrame, ResultMeans}
-use Rattle.cp_code.specs.StandsFor.{system_of_process}
+use Rattle.cp_program_model.specs.StandsFor.{system_of_process}
 use Rattle.cp_steps.proofs.Apart.{InHead, IsCell, IsClass}
 use Rattle.cp_steps.proofs.Finding.{some_is_not_none}
 use Rattle.cp_steps.proofs.Given.{KeepsGiven, rights_kept}

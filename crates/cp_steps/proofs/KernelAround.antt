@@ -6,8 +6,8 @@ use Rattle.cp_model.specs.Configurations as status
 use Rattle.cp_model.specs.Configurations.{Status}
 use Rattle.cp_model.specs.States as states
 use Rattle.cp_model.specs.States.{Free, Gate, HeldBy, Holder, State, Unset}
-use Rattle.cp_code.specs.Programs as code
-use Rattle.cp_code.specs.StandsFor.{StandsFor}
+use Rattle.cp_program_model.specs.Programs as code
+use Rattle.cp_program_model.specs.StandsFor.{StandsFor}
 use Rattle.cp_steps.specs.Addresses.{AllWords, Ground}
 use Rattle.cp_steps.specs.KernelOf.{KernelOf, StageMeans, kernel_ground}
 use Rattle.cp_steps.specs.KernelSteps.{Asking, Begun, Delayed, Fresh, Kernel, Stage, Unstarted, gate_of, is_set, is_started, stage_of}

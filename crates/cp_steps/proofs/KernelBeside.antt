@@ -13,8 +13,8 @@ use Rattle.cp_model.specs.States.{Gate, Setup, State}
 use Rattle.cp_model.specs.Turns.{private_step}
 use Rattle.cp_model.proofs.PartsKept.{private_step_kernel_part}
 use Rattle.cp_model.proofs.PrivateStepsKept.{wake_kernel_part}
-use Rattle.cp_code.specs.Programs.{Program}
-use Rattle.cp_code.specs.Sites.{UnitText}
+use Rattle.cp_program_model.specs.Programs.{Program}
+use Rattle.cp_program_model.specs.Sites.{UnitText}
 use Rattle.cp_steps.specs.Addresses.{Ground}
 use Rattle.cp_steps.specs.KernelOf.{AreProcesses, KernelOf, StageMeans, is_shared, kernel_ground}
 use Rattle.cp_steps.specs.KernelSteps.{Asking, Begun, Delayed, Fresh, Kernel, Stage, Unstarted, stage_of}

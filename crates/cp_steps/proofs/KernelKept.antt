@@ -12,7 +12,7 @@ use Rattle.cp_model.specs.Gates.{made_ready}
 use Rattle.cp_model.specs.Outcomes.{Fault, Gives}
 use Rattle.cp_model.specs.States.{Free, Gate, HeldBy, Holder, State, Unset, set_status, with_configuration}
 use Rattle.cp_model.specs.Turns.{after_step}
-use Rattle.cp_code.specs.Layout.{natural}
+use Rattle.cp_program_model.specs.Layout.{natural}
 use Rattle.cp_steps.specs.Addresses.{Ground}
 use Rattle.cp_steps.specs.EffectOf.{EffectMeans, IsEffectOf, IsNumber}
 use Rattle.cp_steps.specs.KernelOf.{AreProcesses, GatesStand, StageMeans}

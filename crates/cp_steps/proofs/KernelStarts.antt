@@ -15,11 +15,11 @@ use Rattle.cp_model.specs.Stores.{Absent, Initialised, Ordinal, QueueHolds}
 use Rattle.cp_model.specs.Types.{ArrayOf, ComponentOf, GlobalScope, NoType, Queue, RecordOf, ResolvedType, Simple}
 use Rattle.cp_model.proofs.StateMaps.{differ, with_at_there}
 use Rattle.cp_typing.specs.WellTyped.{WellTyped}
-use Rattle.cp_code.specs.Layout.{farther, head_words, member, member_part, right, rights}
-use Rattle.cp_code.specs.Programs as code
-use Rattle.cp_code.specs.Programs.{Program}
-use Rattle.cp_code.specs.StandsFor.{MonitorStands, StandsFor, system_of_monitor}
-use Rattle.cp_code.specs.Starts.{word}
+use Rattle.cp_program_model.specs.Layout.{farther, head_words, member, member_part, right, rights}
+use Rattle.cp_program_model.specs.Programs as code
+use Rattle.cp_program_model.specs.Programs.{Program}
+use Rattle.cp_program_model.specs.StandsFor.{MonitorStands, StandsFor, system_of_monitor}
+use Rattle.cp_program_model.specs.Starts.{word}
 use Rattle.cp_steps.specs.Addresses.{ClassLies, ComponentLies, Ground, MonitorLies, ProcessLies, RightMeans, component_type, lies, part_at, part_of_component}
 use Rattle.cp_steps.specs.KernelOf.{StageMeans, is_shared, kernel_ground}
 use Rattle.cp_steps.specs.KernelSteps.{Unstarted, gate_of, stage_of}

@@ -23,9 +23,9 @@ use Rattle.cp_model.specs.Turns as meaning
 use Rattle.cp_model.specs.Turns.{after_step, if_kernel, kind, kind_of, step}
 use Rattle.cp_model.proofs.StateInvariant.{kernel_step_keeps}
 use Rattle.cp_model.proofs.StateMaps.{with_at_here}
-use Rattle.cp_code.specs.Programs.{Operation, Program}
-use Rattle.cp_code.specs.StandsFor.{StandsFor}
-use Rattle.cp_code.specs.TermsFor.{Knowns}
+use Rattle.cp_program_model.specs.Programs.{Operation, Program}
+use Rattle.cp_program_model.specs.StandsFor.{StandsFor}
+use Rattle.cp_program_model.specs.TermsFor.{Knowns}
 use Rattle.cp_steps.specs.PrivateStates as machine
 use Rattle.cp_steps.specs.PrivateStates.{Acting, Activity, Outside, PrivateState}
 use Rattle.cp_steps.specs.Steps as steps

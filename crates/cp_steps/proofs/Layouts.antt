@@ -7,11 +7,11 @@ use Rattle.std.specs.Str.{bytes_eq}
 use Rattle.cp_model.specs.Places.{within}
 use Rattle.cp_model.specs.Types.{ArrayOf, ComponentOf, GlobalScope, Members, MoreMembers, NoMembers, NoType, Queue, RecordOf, ResolvedType, Simple}
 use Rattle.cp_typing.specs.Words.{words}
-use Rattle.cp_code.specs.Layout.{Part, distance, farther, head_words, local, member_part, of_class, part}
+use Rattle.cp_program_model.specs.Layout.{Part, distance, farther, head_words, local, member_part, of_class, part}
 use Rattle.cp_steps.specs.Addresses.{Activation, Ground, activation_at, lies, part_at, part_of_activation, part_of_component, part_of_local, part_of_owner, scope}
 use Rattle.cp_model.specs.Abstract.{System}
 use Rattle.cp_model.specs.Declarations as declared
-use Rattle.cp_code.specs.StandsFor.{system_of_monitor, system_of_process}
+use Rattle.cp_program_model.specs.StandsFor.{system_of_monitor, system_of_process}
 use Rattle.cp_steps.specs.Passing.{monitor_start}
 use Rattle.cp_steps.proofs.Finding.{some_is_not_none}
 

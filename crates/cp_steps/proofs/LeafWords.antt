@@ -17,7 +17,7 @@ use Rattle.cp_typing.specs.StartValues.{IsIn}
 use Rattle.cp_typing.specs.Words.{words, words_of_members}
 use Rattle.cp_typing.proofs.Leaves.{in_either, member_named, of_below, of_flat}
 use Rattle.cp_typing.proofs.Names.{bytes_eq-refl, bytes_same}
-use Rattle.cp_code.specs.Layout.{distance, farther, member_part, part}
+use Rattle.cp_program_model.specs.Layout.{distance, farther, member_part, part}
 use Rattle.cp_steps.proofs.StartLeaves.{IsSimple}
 
 -- ---- indices

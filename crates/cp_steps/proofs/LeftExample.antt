@@ -1,7 +1,7 @@
 -- What process 2 of the example has left to do, at its start and when its calls are nested three
 -- deep.
 --
--- The example is the text of cp_code. Inside `get`, which `go` calls in an expression, `go` waits
+-- The example is the text of cp_program_model. Inside `get`, which `go` calls in an expression, `go` waits
 -- for the value with its whole assignment left to do, `run` continues after its call of `go`, and
 -- the process after its call of `run`.
 use Rattle.std.proofs.Common.{ℤ, ℕ, ◌+◌, pos, negsuc, List, [], ◌∷◌, true, false, None, Some, refl}
@@ -13,16 +13,16 @@ use Rattle.cp_model.specs.Environments.{Environment, Frame}
 use Rattle.cp_model.specs.Locations.{ByName, Location, OfActivation, under}
 use Rattle.cp_model.specs.Components.{process_location}
 use Rattle.cp_model.specs.Continuations.{Do, EndCall, EndProcess, Task, push}
-use Rattle.cp_code.specs.Terms as target
-use Rattle.cp_code.specs.Terms.{Binary, Item, Local, Made, Member, Number, Reference, Right, Rooted, Through, Value}
-use Rattle.cp_code.specs.Programs as op
-use Rattle.cp_code.specs.Sites.{BodyOf, NamesLocal, NamesMember, RoutineOf}
-use Rattle.cp_code.specs.TermsFor.{nothing_known}
-use Rattle.cp_code.specs.StatementsFor.{CodeFor}
-use Rattle.cp_code.specs.StandsFor.{body_environment, routine_environment}
-use Rattle.cp_code.specs.Compile.{unit_texts}
-use Rattle.cp_code.specs.Example.{b, c, d, m, p, get, go, run, add, program, setup, tree}
-use Rattle.cp_code.proofs.Example.{g, int, le, lent, one, type_of}
+use Rattle.cp_program_model.specs.Terms as target
+use Rattle.cp_program_model.specs.Terms.{Binary, Item, Local, Made, Member, Number, Reference, Right, Rooted, Through, Value}
+use Rattle.cp_program_model.specs.Programs as op
+use Rattle.cp_program_model.specs.Sites.{BodyOf, NamesLocal, NamesMember, RoutineOf}
+use Rattle.cp_program_model.specs.TermsFor.{nothing_known}
+use Rattle.cp_program_model.specs.StatementsFor.{CodeFor}
+use Rattle.cp_program_model.specs.StandsFor.{body_environment, routine_environment}
+use Rattle.cp_program_model.specs.Compile.{unit_texts}
+use Rattle.cp_program_model.specs.Example.{b, c, d, m, p, get, go, run, add, program, setup, tree}
+use Rattle.cp_program_model.proofs.Example.{g, int, le, lent, one, type_of}
 use Rattle.cp_steps.specs.PrivateStates as machine
 use Rattle.cp_steps.specs.Machines.{unit_at}
 use Rattle.cp_steps.specs.Addresses.{ClassLies, Ground, OwnWords, ProcessLies}

@@ -1,8 +1,8 @@
 -- What is left to do stays the same if the temps below its own are the same, or if more is known.
 use Rattle.std.proofs.Common.{◌≡◌, ℕ, ◌+◌, ◌≤◌, ◌<◌, ℤ, List, [], ◌∷◌, length, subst, ◌∙◌, arith}
 use Rattle.cp_model.specs.Continuations.{Do, EndBody, EndCall, EndProcess, ForNext, RepeatTest, Task, WhileTest}
-use Rattle.cp_code.specs.Starts.{word}
-use Rattle.cp_code.specs.TermsFor.{Knowns, nothing_known}
+use Rattle.cp_program_model.specs.Starts.{word}
+use Rattle.cp_program_model.specs.TermsFor.{Knowns, nothing_known}
 use Rattle.cp_steps.specs.PrivateStates as machine
 use Rattle.cp_steps.specs.Addresses.{Ground}
 use Rattle.cp_steps.specs.Left.{Left, Running, Runs, held_below, kept_below, site}

@@ -14,8 +14,8 @@ use Rattle.cp_model.proofs.OutsideReach.{close_round_keeps}
 use Rattle.cp_model.proofs.PhasedRounds.{own_parts_keep}
 use Rattle.cp_model.proofs.PrivateStepsKept.{own_parts_kernel_part, wake_kernel_part}
 use Rattle.cp_model.proofs.StateInvariant.{wake_keeps}
-use Rattle.cp_code.specs.Programs.{Program}
-use Rattle.cp_code.specs.StandsFor.{StandsFor}
+use Rattle.cp_program_model.specs.Programs.{Program}
+use Rattle.cp_program_model.specs.StandsFor.{StandsFor}
 use Rattle.cp_steps.specs.Addresses.{Ground}
 use Rattle.cp_steps.specs.Beginning.{Begins}
 use Rattle.cp_steps.specs.KernelOf.{StageMeans, kernel_ground}

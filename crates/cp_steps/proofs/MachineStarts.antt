@@ -13,9 +13,9 @@ use Rattle.cp_model.specs.Start.{start}
 use Rattle.cp_model.specs.States.{Setup, State, process_count, processes}
 use Rattle.cp_model.proofs.RoundLaws.{phased_is_sequential}
 use Rattle.cp_model.proofs.StartInvariant.{start_invariant}
-use Rattle.cp_code.specs.Programs as code
-use Rattle.cp_code.specs.Programs.{Program}
-use Rattle.cp_code.specs.StandsFor.{StandsFor}
+use Rattle.cp_program_model.specs.Programs as code
+use Rattle.cp_program_model.specs.Programs.{Program}
+use Rattle.cp_program_model.specs.StandsFor.{StandsFor}
 use Rattle.cp_steps.specs.InState as public
 use Rattle.cp_steps.specs.InState.{NoneFresh}
 use Rattle.cp_steps.specs.Machines as machine

@@ -16,8 +16,8 @@ use Rattle.cp_model.proofs.PartsKept.{kernel_turn_other_parts}
 use Rattle.cp_model.proofs.StateMaps.{with_at_here}
 use Rattle.cp_model.proofs.RoundCount.{kernel_turn_count}
 use Rattle.cp_model.proofs.StateInvariant.{kernel_turn_keeps}
-use Rattle.cp_code.specs.Programs.{Program}
-use Rattle.cp_code.specs.StandsFor.{StandsFor}
+use Rattle.cp_program_model.specs.Programs.{Program}
+use Rattle.cp_program_model.specs.StandsFor.{StandsFor}
 use Rattle.cp_steps.specs.Steps.{step_with}
 use Rattle.cp_steps.specs.PrivateStates as machine
 use Rattle.cp_steps.specs.PrivateStates.{PrivateState}

@@ -7,9 +7,9 @@ use Rattle.cp_model.specs.Components.{is_component_of}
 use Rattle.cp_model.specs.Declarations.{Variable}
 use Rattle.cp_model.specs.Report.{components_of}
 use Rattle.cp_model.specs.States.{Setup, count_components, initial_variables, monitor_count, process_count}
-use Rattle.cp_code.specs.Layout.{component_words}
-use Rattle.cp_code.specs.Programs.{Program}
-use Rattle.cp_code.specs.StandsFor.{Apart, MonitorStands, StandsFor, component_at, system_of_monitor, system_of_process}
+use Rattle.cp_program_model.specs.Layout.{component_words}
+use Rattle.cp_program_model.specs.Programs.{Program}
+use Rattle.cp_program_model.specs.StandsFor.{Apart, MonitorStands, StandsFor, component_at, system_of_monitor, system_of_process}
 use Rattle.cp_steps.specs.Addresses.{MonitorsLie, scope}
 use Rattle.cp_steps.specs.KernelOf.{kernel_ground}
 use Rattle.cp_steps.specs.Passing.{monitor_start}

@@ -5,10 +5,10 @@ use Rattle.std.proofs.Common.{◌≡◌, ℕ, ◌≤◌, ◌<◌, ℤ, ◌⊎◌
 use Rattle.cp_model.specs.Abstract as a
 use Rattle.cp_model.specs.Abstract.{BaseType, Name}
 use Rattle.cp_model.specs.Calls.{Found, UserCall, call_in_arguments, in_context, or_else}
-use Rattle.cp_code.specs.Programs as op
-use Rattle.cp_code.specs.Programs.{Call}
-use Rattle.cp_code.specs.Sites.{Answers, Calls, Site, first_parameter, operation_at, parameters}
-use Rattle.cp_code.specs.TermsFor.{ArgumentsFor, Knowns}
+use Rattle.cp_program_model.specs.Programs as op
+use Rattle.cp_program_model.specs.Programs.{Call}
+use Rattle.cp_program_model.specs.Sites.{Answers, Calls, Site, first_parameter, operation_at, parameters}
+use Rattle.cp_program_model.specs.TermsFor.{ArgumentsFor, Knowns}
 
 -- ---- the first call
 

@@ -19,11 +19,11 @@ use Rattle.cp_typing.specs.SoundTypes.{SoundMembers, SoundType}
 use Rattle.cp_typing.specs.StartValues.{IsIn}
 use Rattle.cp_typing.specs.Words.{words}
 use Rattle.cp_typing.proofs.Names.{bytes_same}
-use Rattle.cp_code.specs.Programs.{CodeUnit}
-use Rattle.cp_code.specs.Layout.{activation_words, distance, farther, local, local_at, local_words, member_part, natural, part}
-use Rattle.cp_code.specs.Sites.{RoutineOf}
-use Rattle.cp_code.specs.StandsFor.{UnitStands}
-use Rattle.cp_code.specs.Starts.{carry_out, word}
+use Rattle.cp_program_model.specs.Programs.{CodeUnit}
+use Rattle.cp_program_model.specs.Layout.{activation_words, distance, farther, local, local_at, local_words, member_part, natural, part}
+use Rattle.cp_program_model.specs.Sites.{RoutineOf}
+use Rattle.cp_program_model.specs.StandsFor.{UnitStands}
+use Rattle.cp_program_model.specs.Starts.{carry_out, word}
 use Rattle.cp_steps.specs.Means.{CellMeans, ReferenceMeans}
 use Rattle.cp_steps.specs.Addresses.{Activation, Ground, activation_at, lies, part_at, part_of_activation, part_of_local, scope}
 use Rattle.cp_steps.specs.PartOf.{ResultMeans}

@@ -11,7 +11,7 @@ use Rattle.cp_model.specs.Locations.{ByIndex, ByName, Location, OfActivation, Of
 use Rattle.cp_model.specs.Parts.{is_own}
 use Rattle.cp_model.specs.Stores.{Absent, MonitorRight, Store, Value}
 use Rattle.cp_model.specs.Types.{ArrayOf, ComponentOf, Members, NoType, Queue, RecordOf, ResolvedType, Simple}
-use Rattle.cp_code.specs.Layout.{Part, head_words}
+use Rattle.cp_program_model.specs.Layout.{Part, head_words}
 use Rattle.cp_steps.specs.Addresses.{Activation, AllHaveRights, Ground, IsGiven, OwnWords, RightMeans, RightOf, activations, component_type, in_sight, lies, part_at, scope}
 use Rattle.cp_steps.specs.Left.{held_below}
 use Rattle.cp_steps.specs.Means.{CellMeans}
@@ -20,7 +20,7 @@ use Rattle.cp_steps.specs.PrivateStates.{PrivateState}
 use Rattle.cp_steps.proofs.Apart.{member_above}
 use Rattle.cp_steps.proofs.Finding.{some_is_not_none}
 use Rattle.cp_steps.proofs.Keeping.{activation_kept, activations_kept, local_named}
-use Rattle.cp_code.specs.Starts.{word}
+use Rattle.cp_program_model.specs.Starts.{word}
 use Rattle.cp_steps.proofs.Owned.{component_part, found_monitor}
 
 -- The ground of the process `q`, which has `own` words of its own.

@@ -23,8 +23,8 @@ use Rattle.cp_model.specs.Stores.{Absent, ClassRight, Store, Value}
 use Rattle.cp_model.specs.Turns.{Kernel, Kind, NoStep, Private, after_step, if_kernel, kernel_step, kind, private_step, step}
 use Rattle.cp_model.specs.Types.{ArrayOf, ComponentOf, NoType, Queue, RecordOf, ResolvedType, Simple}
 use Rattle.cp_model.proofs.PartsKept.{kernel_turn_other_parts, private_step_kernel_part, private_step_other_parts}
-use Rattle.cp_code.specs.Layout.{Part, farther}
-use Rattle.cp_code.specs.Starts.{word}
+use Rattle.cp_program_model.specs.Layout.{Part, farther}
+use Rattle.cp_program_model.specs.Starts.{word}
 use Rattle.cp_steps.specs.PrivateStates.{PrivateState}
 use Rattle.cp_steps.specs.Addresses.{ClassLies, Ground, HasRights, IsGiven, IsGivenTo, OwnWords, RightMeans, RightOf, component_type, lies, part_at}
 use Rattle.cp_steps.specs.KernelOf.{is_shared, kernel_ground}

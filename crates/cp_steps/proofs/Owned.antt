@@ -10,8 +10,8 @@ use Rattle.std.specs.Str.{bytes_eq}
 use Rattle.cp_model.specs.Types.{GlobalScope, ResolvedType}
 use Rattle.cp_typing.specs.Needs.{result_words}
 use Rattle.cp_typing.specs.Words.{words}
-use Rattle.cp_code.specs.Layout.{activation_words, component_words, farther, head_words, local, local_at, local_words, locals, locals_words, member_part, part}
-use Rattle.cp_code.specs.StandsFor.{system_of_monitor, system_of_process}
+use Rattle.cp_program_model.specs.Layout.{activation_words, component_words, farther, head_words, local, local_at, local_words, locals, locals_words, member_part, part}
+use Rattle.cp_program_model.specs.StandsFor.{system_of_monitor, system_of_process}
 use Rattle.cp_steps.specs.Addresses.{Activation, Ground, activation_at, in_sight, part_of_activation, part_of_component, part_of_local, part_of_owner, scope}
 use Rattle.cp_steps.proofs.Apart.{InHead, head_inside, member_above, part_apart}
 use Rattle.cp_steps.proofs.Bounds.{member_fits, part_fits}

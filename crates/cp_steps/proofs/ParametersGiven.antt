@@ -9,9 +9,9 @@ use Rattle.cp_model.specs.Stores.{Store, Writes, put_all}
 use Rattle.cp_typing.specs.Declared.{Distinct}
 use Rattle.cp_typing.specs.StartValues.{IsIn}
 use Rattle.cp_typing.specs.Words.{words}
-use Rattle.cp_code.specs.Layout.{component_words, head_words, rights}
-use Rattle.cp_code.specs.StandsFor.{system_of_process}
-use Rattle.cp_code.specs.Starts.{block, paste, word}
+use Rattle.cp_program_model.specs.Layout.{component_words, head_words, rights}
+use Rattle.cp_program_model.specs.StandsFor.{system_of_process}
+use Rattle.cp_program_model.specs.Starts.{block, paste, word}
 use Rattle.cp_steps.specs.Addresses.{Activation, ClassLies, ComponentLies, Ground, MonitorLies, ProcessLies, RightMeans, component_type, in_sight, lies, scope}
 use Rattle.cp_steps.specs.Means.{CellMeans}
 use Rattle.cp_steps.specs.PartOf.{DataMeans}

@@ -16,7 +16,7 @@ use Rattle.cp_typing.specs.StartValues.{IsIn}
 use Rattle.cp_typing.specs.Words.{words}
 use Rattle.cp_typing.proofs.Leaves.{in_either, in_first, in_flat, in_mapped, in_second, member_named, of_below, of_flat}
 use Rattle.cp_typing.proofs.Names.{bytes_eq-refl, bytes_same}
-use Rattle.cp_code.specs.Layout.{Part, distance, farther, head_words, member_part, of_class, part}
+use Rattle.cp_program_model.specs.Layout.{Part, distance, farther, head_words, member_part, of_class, part}
 use Rattle.cp_steps.proofs.Apart.{IsCell, IsClass}
 use Rattle.cp_steps.proofs.Finding.{some_is_not_none}
 use Rattle.cp_steps.proofs.LeafWords.{counted_within}

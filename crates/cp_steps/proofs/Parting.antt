@@ -10,9 +10,9 @@ use Rattle.cp_model.specs.Invariant.{StoreInvariant}
 use Rattle.cp_model.specs.Locations.{ByName, Location, OfActivation, OfMonitor, OfProcess, Owner, under}
 use Rattle.cp_model.specs.Stores.{Absent, ClassRight, MonitorRight, Store, Value}
 use Rattle.cp_model.specs.Types.{ArrayOf, ComponentOf, NoType, Queue, RecordOf, ResolvedType, Simple}
-use Rattle.cp_code.specs.Layout.{activation_words, component_words, natural, right, rights}
-use Rattle.cp_code.specs.StandsFor.{system_of_process}
-use Rattle.cp_code.specs.Starts.{word}
+use Rattle.cp_program_model.specs.Layout.{activation_words, component_words, natural, right, rights}
+use Rattle.cp_program_model.specs.StandsFor.{system_of_process}
+use Rattle.cp_program_model.specs.Starts.{word}
 use Rattle.cp_steps.specs.PrivateStates.{PrivateState}
 use Rattle.cp_steps.specs.Addresses.{Activation, AllWords, ClassLies, ComponentLies, Ground, MonitorLies, MonitorsLie, OwnWords, ProcessLies, RightMeans, RightOf, activation_at, activations, component_type, in_sight, lies, scope, sees, whole, words_seen}
 use Rattle.cp_steps.specs.KernelOf.{is_shared, kernel_ground}

@@ -8,7 +8,7 @@ use Rattle.cp_model.specs.Locations.{ByName, Location, OfActivation, Owner, unde
 use Rattle.cp_model.specs.Parts.{HasBegun, SamePrivateState, is_own, private_status}
 use Rattle.cp_model.specs.States.{State}
 use Rattle.cp_model.specs.Stores.{Store}
-use Rattle.cp_code.specs.Starts.{word}
+use Rattle.cp_program_model.specs.Starts.{word}
 use Rattle.cp_steps.specs.PrivateStates as machine
 use Rattle.cp_steps.specs.PrivateStates.{Activity, PrivateState}
 use Rattle.cp_steps.specs.Addresses.{Activation, Ground, OwnWords, RightMeans, activations, in_sight, sees}

@@ -12,12 +12,12 @@ use Rattle.cp_model.specs.declared.state.Fault.TheVariants as fault
 use Rattle.cp_typing.specs.Declared.{Distinct}
 use Rattle.cp_typing.specs.StartValues.{IsIn}
 use Rattle.cp_typing.specs.Words.{words}
-use Rattle.cp_code.specs.Layout.{local_words, locals_words, member, right}
-use Rattle.cp_code.specs.Sites.{Site}
-use Rattle.cp_code.specs.Starts.{block, paste}
-use Rattle.cp_code.specs.StatementsFor.{InitArgumentsFor}
-use Rattle.cp_code.specs.Terms.{Argument, Copy, Reference, Right, Value}
-use Rattle.cp_code.specs.TermsFor.{ArgumentsFor, Knowns}
+use Rattle.cp_program_model.specs.Layout.{local_words, locals_words, member, right}
+use Rattle.cp_program_model.specs.Sites.{Site}
+use Rattle.cp_program_model.specs.Starts.{block, paste}
+use Rattle.cp_program_model.specs.StatementsFor.{InitArgumentsFor}
+use Rattle.cp_program_model.specs.Terms.{Argument, Copy, Reference, Right, Value}
+use Rattle.cp_program_model.specs.TermsFor.{ArgumentsFor, Knowns}
 use Rattle.cp_steps.specs.PrivateStates.{Outside, PrivateState, view_of}
 use Rattle.cp_steps.specs.Passing.{Passing, pass_all, pass_one, pass_result, pass_value, pass_word, unless_fault}
 use Rattle.cp_steps.specs.Values.{place_of, value_of}

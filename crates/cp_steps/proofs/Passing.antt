@@ -27,14 +27,14 @@ use Rattle.cp_model.specs.Stores.{Ordinal, Reference as Refers, Store, Value as 
 use Rattle.cp_model.specs.Types.{GlobalScope, ResolvedType, Simple}
 use Rattle.cp_model.specs.declared.state.Fault as machine
 use Rattle.cp_model.specs.declared.state.Fault.TheVariants as fault
-use Rattle.cp_code.specs.Terms.{Argument, Copy, Reference as Refer, Value}
-use Rattle.cp_code.specs.Starts.{block, paste, word}
+use Rattle.cp_program_model.specs.Terms.{Argument, Copy, Reference as Refer, Value}
+use Rattle.cp_program_model.specs.Starts.{block, paste, word}
 use Rattle.cp_steps.specs.Values.{place_of, value_of}
-use Rattle.cp_code.specs.Layout.{Part, local_at, local_words, locals_words, natural, part}
-use Rattle.cp_code.specs.Sites.{Site}
-use Rattle.cp_code.specs.TermsFor.{Agrees, ArgumentsFor, IsPlainStructure, Knowns}
+use Rattle.cp_program_model.specs.Layout.{Part, local_at, local_words, locals_words, natural, part}
+use Rattle.cp_program_model.specs.Sites.{Site}
+use Rattle.cp_program_model.specs.TermsFor.{Agrees, ArgumentsFor, IsPlainStructure, Knowns}
 use Rattle.cp_steps.specs.Means.{Here, PlaceAgrees}
-use Rattle.cp_code.specs.StatementsFor.{either}
+use Rattle.cp_program_model.specs.StatementsFor.{either}
 use Rattle.cp_steps.specs.PrivateStates.{Outside, PrivateState, view_of}
 use Rattle.cp_steps.specs.Passing.{Passing, pass_all, pass_copy, pass_result, pass_word, reference_word, unless_fault}
 use Rattle.cp_steps.proofs.Apart.{cell_has_word}

@@ -4,12 +4,12 @@ use Rattle.cp_model.specs.Abstract as a
 use Rattle.cp_model.specs.Abstract.{Char, Name}
 use Rattle.cp_model.specs.Calls.{first_call, in_context, or_else}
 use Rattle.cp_model.specs.Types.{Queue, ResolvedType, Simple}
-use Rattle.cp_code.specs.Terms.{Spot}
-use Rattle.cp_code.specs.Programs as op
-use Rattle.cp_code.specs.Programs.{Operation}
-use Rattle.cp_code.specs.Sites.{Site, first_parameter, parameters}
-use Rattle.cp_code.specs.TermsFor.{Knowns, SpotFor}
-use Rattle.cp_code.specs.StatementsFor.{CodeFor, PerformsBy, stands_at}
+use Rattle.cp_program_model.specs.Terms.{Spot}
+use Rattle.cp_program_model.specs.Programs as op
+use Rattle.cp_program_model.specs.Programs.{Operation}
+use Rattle.cp_program_model.specs.Sites.{Site, first_parameter, parameters}
+use Rattle.cp_program_model.specs.TermsFor.{Knowns, SpotFor}
+use Rattle.cp_program_model.specs.StatementsFor.{CodeFor, PerformsBy, stands_at}
 use Rattle.cp_steps.proofs.Indexed.{IsIndexed, indexed_is_no_call}
 use Rattle.cp_steps.proofs.NextCalls.{Advance, AllMade, Calling, next_in, next_left}
 use Rattle.cp_steps.proofs.FirstCalls.{arguments_next, term_next}

@@ -6,8 +6,8 @@ use Rattle.cp_model.specs.Abstract.{Class, Name, System}
 use Rattle.cp_model.specs.Declarations.{Variable}
 use Rattle.cp_model.specs.Locations.{Location, OfActivation, OfMonitor, OfProcess, Owner, root}
 use Rattle.cp_model.specs.Types.{ResolvedType}
-use Rattle.cp_code.specs.Layout.{Part, component_words, head_words, right, rights}
-use Rattle.cp_code.specs.StandsFor.{Apart, system_of_monitor, system_of_process}
+use Rattle.cp_program_model.specs.Layout.{Part, component_words, head_words, right, rights}
+use Rattle.cp_program_model.specs.StandsFor.{Apart, system_of_monitor, system_of_process}
 use Rattle.cp_steps.specs.Addresses.{Activation, ClassLies, ComponentLies, Ground, MonitorLies, ProcessLies, component_type, in_sight, lies, scope, whole}
 use Rattle.cp_steps.specs.Passing.{monitor_start}
 use Rattle.cp_steps.proofs.Apart.{InHead, IsClass}

@@ -12,8 +12,8 @@ use Rattle.cp_model.specs.Parts as parts
 use Rattle.cp_model.specs.Parts.{PrivateStatus, is_own, private_status}
 use Rattle.cp_model.specs.States.{State}
 use Rattle.cp_model.specs.Turns.{Kernel, NoStep, Private, if_private, kind_of, private_step, step}
-use Rattle.cp_code.specs.Programs.{Operation}
-use Rattle.cp_code.specs.Sites.{operation_at}
+use Rattle.cp_program_model.specs.Programs.{Operation}
+use Rattle.cp_program_model.specs.Sites.{operation_at}
 use Rattle.cp_steps.specs.PrivateStates as machine
 use Rattle.cp_steps.specs.PrivateStates.{Activity, Outside, PrivateState}
 use Rattle.cp_steps.specs.Steps as steps
@@ -28,7 +28,7 @@ use Rattle.cp_steps.proofs.Alone.{StepsAlone, steps_alone}
 use Rattle.cp_steps.proofs.Stepping.{clock_of}
 use Rattle.cp_model.specs.Locations.{OfActivation, OfMonitor, OfProcess, Owner}
 use Rattle.cp_model.specs.Reach.{in_reach}
-use Rattle.cp_code.specs.StandsFor.{StandsFor}
+use Rattle.cp_program_model.specs.StandsFor.{StandsFor}
 
 module _ (G : Ground) (s : State) (before : List ℕ) (o : PrivateState) (part : PartOf G s before o) where
   -- Neither side makes a step.

@@ -19,12 +19,12 @@ use Rattle.cp_model.specs.Step.{take_action}
 use Rattle.cp_model.specs.Stores.{Writes, put_all}
 use Rattle.cp_model.specs.Turns as turns
 use Rattle.cp_model.specs.Turns.{after_step, kind, kind_of}
-use Rattle.cp_code.specs.Layout.{component_words, natural}
-use Rattle.cp_code.specs.Programs as op
-use Rattle.cp_code.specs.Programs.{Operation}
-use Rattle.cp_code.specs.Sites.{operation_at}
-use Rattle.cp_code.specs.StandsFor.{Apart, ProcessStands, StandsFor}
-use Rattle.cp_code.specs.Starts.{word}
+use Rattle.cp_program_model.specs.Layout.{component_words, natural}
+use Rattle.cp_program_model.specs.Programs as op
+use Rattle.cp_program_model.specs.Programs.{Operation}
+use Rattle.cp_program_model.specs.Sites.{operation_at}
+use Rattle.cp_program_model.specs.StandsFor.{Apart, ProcessStands, StandsFor}
+use Rattle.cp_program_model.specs.Starts.{word}
 use Rattle.cp_steps.specs.Addresses.{Ground, scope}
 use Rattle.cp_steps.specs.Beginning.{Begins}
 use Rattle.cp_steps.specs.KernelSteps.{Delayed, Kernel, Stage, Turning, Unstarted, apply_effect, enter_gate, gate_of, join_words, part_words, pass_to, resume, set_stage, stage_of, start_process}

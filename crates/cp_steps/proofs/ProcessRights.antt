@@ -13,8 +13,8 @@ use Rattle.cp_typing.specs.StartValues.{IsIn}
 use Rattle.cp_typing.specs.SoundTypes.{SoundType}
 use Rattle.cp_typing.specs.WellTyped.{WellTyped, text_systems}
 use Rattle.cp_typing.proofs.StartValues.{each_in}
-use Rattle.cp_code.specs.Layout.{right, rights}
-use Rattle.cp_code.specs.StandsFor.{component_at, component_in, system_of_monitor, system_of_process}
+use Rattle.cp_program_model.specs.Layout.{right, rights}
+use Rattle.cp_program_model.specs.StandsFor.{component_at, component_in, system_of_monitor, system_of_process}
 use Rattle.cp_steps.specs.Addresses.{Ground, scope}
 use Rattle.cp_steps.proofs.Finding.{some_is_not_none}
 use Rattle.cp_steps.proofs.InitOffsets.{of_filter, right_is}

@@ -17,8 +17,8 @@ use Rattle.cp_model.specs.StatementSteps.{execute}
 use Rattle.cp_model.specs.Stores.{Writes, put_all}
 use Rattle.cp_model.specs.Turns.{after_step}
 use Rattle.cp_model.proofs.StateMaps.{differ, with_at_there}
-use Rattle.cp_code.specs.Programs as op
-use Rattle.cp_code.specs.Starts.{word}
+use Rattle.cp_program_model.specs.Programs as op
+use Rattle.cp_program_model.specs.Starts.{word}
 use Rattle.cp_steps.specs.PrivateStates.{Acting, Outside, PrivateState, go_to}
 use Rattle.cp_steps.specs.Steps.{act}
 use Rattle.cp_steps.specs.Addresses.{Ground, activations, in_sight, scope}

@@ -4,8 +4,8 @@ use Rattle.cp_model.specs.Abstract as a
 use Rattle.cp_model.specs.Continuations.{RepeatTest, Task, marked_monitors, push}
 use Rattle.cp_model.specs.Environments.{Environment}
 use Rattle.cp_model.specs.Stores.{Store}
-use Rattle.cp_code.specs.TermsFor.{nothing_known}
-use Rattle.cp_code.specs.StatementsFor.{CodeFor}
+use Rattle.cp_program_model.specs.TermsFor.{nothing_known}
+use Rattle.cp_program_model.specs.StatementsFor.{CodeFor}
 use Rattle.cp_steps.specs.PrivateStates as machine
 use Rattle.cp_steps.specs.Addresses.{Ground, activations}
 use Rattle.cp_steps.specs.Left.{Left, Running, site}

@@ -19,8 +19,8 @@ use Rattle.cp_typing.specs.Words.{words}
 use Rattle.cp_typing.specs.WellTyped.{TypedSystem, WellTyped, text_systems}
 use Rattle.cp_typing.proofs.Facts.{taken}
 use Rattle.cp_typing.proofs.StartValues.{each_in}
-use Rattle.cp_code.specs.Layout.{distance, farther, head_words, member_part, of_class, part}
-use Rattle.cp_code.specs.StandsFor.{component_in, system_of_process}
+use Rattle.cp_program_model.specs.Layout.{distance, farther, head_words, member_part, of_class, part}
+use Rattle.cp_program_model.specs.StandsFor.{component_in, system_of_process}
 use Rattle.cp_steps.proofs.Finding.{some_is_not_none}
 use Rattle.cp_steps.proofs.InitOffsets.{of_filter}
 use Rattle.cp_steps.proofs.Layouts.{farther_some, same_some}

@@ -11,9 +11,9 @@ use Rattle.cp_model.specs.Types.{GlobalScope, Queue}
 use Rattle.cp_typing.specs.Declared.{Each, RoutineParameter, RoutineVariable}
 use Rattle.cp_typing.specs.Needs.{result_words}
 use Rattle.cp_typing.specs.WellTyped.{WellTyped}
-use Rattle.cp_code.specs.Layout.{local_at, local_words, locals}
-use Rattle.cp_code.specs.StandsFor.{UnitStands}
-use Rattle.cp_code.specs.TermsFor.{Knowns, nothing_known}
+use Rattle.cp_program_model.specs.Layout.{local_at, local_words, locals}
+use Rattle.cp_program_model.specs.StandsFor.{UnitStands}
+use Rattle.cp_program_model.specs.TermsFor.{Knowns, nothing_known}
 use Rattle.cp_steps.specs.PrivateStates as machine
 use Rattle.cp_steps.specs.Addresses.{Activation, Ground, activation_at, activation_of, activations, lies, part_at, scope}
 use Rattle.cp_steps.specs.KernelOf.{is_shared}

@@ -17,10 +17,10 @@ use Rattle.cp_model.specs.Stores.{Writes}
 use Rattle.cp_model.specs.declared.state.Fault as fault
 use Rattle.cp_model.specs.declared.state.Fault.TheVariants as faults
 use Rattle.cp_model.proofs.QuietSteps.{Quietly}
-use Rattle.cp_code.specs.Programs as op
-use Rattle.cp_code.specs.Programs.{Call, CodeUnit, Counting, Operation, Program}
-use Rattle.cp_code.specs.Starts.{word}
-use Rattle.cp_code.specs.Tables.{place_in}
+use Rattle.cp_program_model.specs.Programs as op
+use Rattle.cp_program_model.specs.Programs.{Call, CodeUnit, Counting, Operation, Program}
+use Rattle.cp_program_model.specs.Starts.{word}
+use Rattle.cp_program_model.specs.Tables.{place_in}
 use Rattle.cp_steps.specs.Calling.{class_at, enter, has_room, init_class, settle, with_unit}
 use Rattle.cp_steps.specs.Passing.{Passing, component_called, pass_all, when_passed}
 use Rattle.cp_steps.specs.PrivateStates.{Acting, NoEffect, Outside, PrivateState, fault_in, private_outcome, guard, set_word, view_of, with_result}

@@ -16,8 +16,8 @@ use Rattle.cp_typing.specs.SoundTypes.{has_member}
 use Rattle.cp_typing.specs.StartValues.{IsIn}
 use Rattle.cp_typing.specs.Words.{words}
 use Rattle.cp_typing.proofs.Names.{bytes_eq-refl, bytes_same}
-use Rattle.cp_code.specs.Layout.{Part, distance, farther, head_words, member_part, natural, of_class, part}
-use Rattle.cp_code.specs.Starts.{word}
+use Rattle.cp_program_model.specs.Layout.{Part, distance, farther, head_words, member_part, natural, of_class, part}
+use Rattle.cp_program_model.specs.Starts.{word}
 use Rattle.cp_steps.specs.Means.{CellMeans, MarkMeans, process_of_word}
 use Rattle.cp_steps.specs.Reports.{lines_visit, of_class_text, visit_elements, visit_members, visit_type}
 use Rattle.cp_steps.proofs.Finding.{some_is_not_none}

@@ -15,10 +15,10 @@ use Rattle.cp_typing.specs.Judgement.{has_queues}
 use Rattle.cp_typing.specs.StartValues.{IsIn}
 use Rattle.cp_typing.specs.WellTyped.{WellTyped, text_systems}
 use Rattle.cp_typing.proofs.StartValues.{each_in}
-use Rattle.cp_code.specs.Layout.{farther, head_words, member_part}
-use Rattle.cp_code.specs.Programs.{Program}
-use Rattle.cp_code.specs.StandsFor.{StandsFor, component_at, component_in, system_of_monitor, system_of_process}
-use Rattle.cp_code.specs.Starts.{word}
+use Rattle.cp_program_model.specs.Layout.{farther, head_words, member_part}
+use Rattle.cp_program_model.specs.Programs.{Program}
+use Rattle.cp_program_model.specs.StandsFor.{StandsFor, component_at, component_in, system_of_monitor, system_of_process}
+use Rattle.cp_program_model.specs.Starts.{word}
 use Rattle.cp_steps.specs.Addresses.{Activation, Ground, OwnWords, in_sight, part_of_component, sees}
 use Rattle.cp_steps.specs.KernelOf.{is_shared, kernel_ground}
 use Rattle.cp_steps.specs.Means.{CellMeans}

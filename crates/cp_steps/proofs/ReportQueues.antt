@@ -13,7 +13,7 @@ use Rattle.cp_model.specs.Report.{Text, path_text}
 use Rattle.cp_model.specs.Types.{ArrayOf, ComponentOf, GlobalScope, Members, MoreMembers, NoMembers, NoType, Queue, RecordOf, ResolvedType, Simple}
 use Rattle.cp_typing.specs.Words.{component_words, rights_in, words, words_of_members}
 use Rattle.cp_typing.proofs.Names.{bytes_same}
-use Rattle.cp_code.specs.Layout.{Part, distance, farther, head_words, member_part, of_class, part}
+use Rattle.cp_program_model.specs.Layout.{Part, distance, farther, head_words, member_part, of_class, part}
 use Rattle.cp_steps.specs.Reports.{Visit, of_class_text, queue_visit, visit_elements, visit_members, visit_type}
 use Rattle.cp_steps.proofs.Apart.{member_above}
 use Rattle.cp_steps.proofs.Bounds.{part_fits, index_below}

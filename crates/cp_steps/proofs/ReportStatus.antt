@@ -14,9 +14,9 @@ use Rattle.cp_model.specs.States.{Setup}
 use Rattle.cp_model.specs.StateViews.{fault_number}
 use Rattle.cp_model.specs.Types.{GlobalScope, Queue}
 use Rattle.cp_typing.specs.Words.{words_of_members}
-use Rattle.cp_code.specs.Layout.{Part, component_words, head_words}
-use Rattle.cp_code.specs.Programs.{Program}
-use Rattle.cp_code.specs.StandsFor.{Apart, StandsFor, component_at, component_in, system_of_monitor, system_of_process}
+use Rattle.cp_program_model.specs.Layout.{Part, component_words, head_words}
+use Rattle.cp_program_model.specs.Programs.{Program}
+use Rattle.cp_program_model.specs.StandsFor.{Apart, StandsFor, component_at, component_in, system_of_monitor, system_of_process}
 use Rattle.cp_steps.specs.Addresses.{Ground, lies, part_at}
 use Rattle.cp_steps.specs.KernelOf.{StageMeans, kernel_ground}
 use Rattle.cp_steps.specs.KernelSteps.{Asking, Begun, Delayed, Fresh, Stage, Unstarted}

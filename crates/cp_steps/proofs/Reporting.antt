@@ -10,8 +10,8 @@ use Rattle.cp_model.specs.Parts.{HasBegun, HasNotBegun, private_status}
 use Rattle.cp_model.specs.Report.{Text, component_members, components_of, line, monitor_text, monitors_text, process_text, processes_text, report}
 use Rattle.cp_model.specs.States.{Setup, State, initial_variables, process_count}
 use Rattle.cp_model.specs.Types.{ComponentOf, GlobalScope}
-use Rattle.cp_code.specs.Layout.{head_words}
-use Rattle.cp_code.specs.StandsFor.{component_in, system_of_monitor, system_of_process}
+use Rattle.cp_program_model.specs.Layout.{head_words}
+use Rattle.cp_program_model.specs.StandsFor.{component_in, system_of_monitor, system_of_process}
 use Rattle.cp_steps.specs.Addresses.{Activation, Ground, activations, in_sight}
 use Rattle.cp_steps.specs.InState.{IsIn, NoneFresh, PartStands}
 use Rattle.cp_steps.specs.KernelSteps.{stage_of}

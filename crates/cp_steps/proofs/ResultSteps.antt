@@ -20,13 +20,13 @@ use Rattle.cp_model.specs.Turns.{after_step}
 use Rattle.cp_model.specs.Types.{Simple, named_type}
 use Rattle.cp_model.specs.declared.state.Fault as machine
 use Rattle.cp_model.specs.declared.state.Fault.TheVariants as fault
-use Rattle.cp_code.specs.Terms.{Term}
-use Rattle.cp_code.specs.Programs as op
-use Rattle.cp_code.specs.Layout.{local}
-use Rattle.cp_code.specs.Sites.{local_location, operation_at}
-use Rattle.cp_code.specs.StandsFor.{StandsFor}
-use Rattle.cp_code.specs.StatementsFor.{AssignsBy, NamesResult}
-use Rattle.cp_code.specs.TermsFor.{Agrees}
+use Rattle.cp_program_model.specs.Terms.{Term}
+use Rattle.cp_program_model.specs.Programs as op
+use Rattle.cp_program_model.specs.Layout.{local}
+use Rattle.cp_program_model.specs.Sites.{local_location, operation_at}
+use Rattle.cp_program_model.specs.StandsFor.{StandsFor}
+use Rattle.cp_program_model.specs.StatementsFor.{AssignsBy, NamesResult}
+use Rattle.cp_program_model.specs.TermsFor.{Agrees}
 use Rattle.cp_steps.specs.PrivateStates.{Outside, PrivateState, go_to, private_outcome, guard, set_word, with_result}
 use Rattle.cp_steps.specs.Steps.{act}
 use Rattle.cp_steps.specs.Addresses.{Ground}

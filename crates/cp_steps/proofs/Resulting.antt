@@ -12,8 +12,8 @@ use Rattle.cp_model.specs.Locations.{ByName, Location, OfActivation, Path, same_
 use Rattle.cp_model.specs.Stores.{Ordinal, Store, put}
 use Rattle.cp_model.specs.Types.{ComponentOf}
 use Rattle.cp_typing.specs.Needs.{result_words}
-use Rattle.cp_code.specs.Layout.{local, natural}
-use Rattle.cp_code.specs.Starts.{unset, word}
+use Rattle.cp_program_model.specs.Layout.{local, natural}
+use Rattle.cp_program_model.specs.Starts.{unset, word}
 use Rattle.cp_steps.specs.PrivateStates.{PrivateState, set_word}
 use Rattle.cp_steps.specs.Means.{CellMeans}
 use Rattle.cp_steps.specs.Addresses.{Activation, ClassLies, ComponentLies, Ground, MonitorLies, ProcessLies, activation_at, activations, in_sight, lies, scope}

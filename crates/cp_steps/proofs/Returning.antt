@@ -19,11 +19,11 @@ use Rattle.cp_model.specs.Stores.{Absent, Ordinal, Store, Value, forget}
 use Rattle.cp_model.specs.Turns.{after_step}
 use Rattle.cp_model.specs.Types.{base_of_type, named_type}
 use Rattle.cp_model.specs.declared.state.Fault.TheVariants as fault
-use Rattle.cp_code.specs.Programs as op
-use Rattle.cp_code.specs.Layout.{local}
-use Rattle.cp_code.specs.Sites.{BodyOf, RoutineOf, UnitText}
-use Rattle.cp_code.specs.Starts.{unset, word}
-use Rattle.cp_code.specs.StatementsFor.{is_function}
+use Rattle.cp_program_model.specs.Programs as op
+use Rattle.cp_program_model.specs.Layout.{local}
+use Rattle.cp_program_model.specs.Sites.{BodyOf, RoutineOf, UnitText}
+use Rattle.cp_program_model.specs.Starts.{unset, word}
+use Rattle.cp_program_model.specs.StatementsFor.{is_function}
 use Rattle.cp_steps.specs.PrivateStates as machine
 use Rattle.cp_steps.specs.PrivateStates.{NoEffect, Outside, PrivateState, fault_in, set_temp}
 use Rattle.cp_steps.specs.Calling.{gate_effect, leave, return_with}

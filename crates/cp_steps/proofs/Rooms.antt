@@ -2,7 +2,7 @@
 use Rattle.std.proofs.Common.{◌≡◌, ℕ, ◌+◌, ◌≤◌, ◌<◌, pos, length, true, ap}
 use Rattle.std.specs.Prelude.{◌&&◌, ◌-ℤ◌, if◌then◌else◌}
 use Rattle.std.proofs.lemmas.Bool.{le-leb, lt-ltb}
-use Rattle.cp_code.specs.Programs.{Call, CodeUnit}
+use Rattle.cp_program_model.specs.Programs.{Call, CodeUnit}
 use Rattle.cp_steps.specs.PrivateStates.{Outside, PrivateState}
 use Rattle.cp_steps.specs.Passing.{distance_word, reference_word}
 use Rattle.cp_steps.specs.Calling.{has_room}

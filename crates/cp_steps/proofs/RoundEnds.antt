@@ -9,7 +9,7 @@ use Rattle.cp_model.specs.Parts.{Failed, Finished, HasBegun, NotBegun, PrivateSt
 use Rattle.cp_model.specs.Rounds.{after_closing, wake_status, close_round}
 use Rattle.cp_model.specs.States.{State}
 use Rattle.cp_model.specs.Stores.{Store}
-use Rattle.cp_code.specs.Programs as code
+use Rattle.cp_program_model.specs.Programs as code
 use Rattle.cp_steps.specs.PrivateStates as machine
 use Rattle.cp_steps.specs.PrivateStates.{Activity, PrivateState}
 use Rattle.cp_steps.specs.Addresses.{Ground}
@@ -18,7 +18,7 @@ use Rattle.cp_steps.specs.KernelOf.{StageMeans, kernel_ground}
 use Rattle.cp_steps.specs.KernelSteps.{Asking, Begun, Delayed, Fresh, Kernel, Stage, Unstarted, stage_of}
 use Rattle.cp_steps.specs.Machines.{awake, begin_from, begin_if, begin_one, wake_one}
 use Rattle.cp_steps.specs.PartOf.{GoesOn, PartOf, RunsOn, status_of}
-use Rattle.cp_code.specs.Starts.{block, paste}
+use Rattle.cp_program_model.specs.Starts.{block, paste}
 
 -- ---- waking
 

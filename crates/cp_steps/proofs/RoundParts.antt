@@ -10,8 +10,8 @@ use Rattle.cp_model.specs.Rounds.{wake_status, own_parts, wake}
 use Rattle.cp_model.specs.States.{Setup, State, is_in, processes, running_clock}
 use Rattle.cp_model.specs.Turns as meaning
 use Rattle.cp_model.proofs.PrivateStepsKept.{own_part_is_turned, own_parts_kernel_part}
-use Rattle.cp_code.specs.Programs.{Program}
-use Rattle.cp_code.specs.StandsFor.{StandsFor}
+use Rattle.cp_program_model.specs.Programs.{Program}
+use Rattle.cp_program_model.specs.StandsFor.{StandsFor}
 use Rattle.cp_steps.specs.PrivateStates.{PrivateState}
 use Rattle.cp_steps.specs.Steps.{private_steps}
 use Rattle.cp_steps.specs.KernelOf.{KernelOf}

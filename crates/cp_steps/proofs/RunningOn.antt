@@ -12,8 +12,8 @@ use Rattle.cp_model.specs.Locations.{Location}
 use Rattle.cp_model.specs.Operators.{Clock, realtime}
 use Rattle.cp_model.specs.Stores.{Ordinal, Store, Value, put}
 use Rattle.cp_model.specs.Types.{ResolvedType, Simple}
-use Rattle.cp_code.specs.TermsFor.{nothing_known}
-use Rattle.cp_code.specs.StatementsFor.{CodeFor}
+use Rattle.cp_program_model.specs.TermsFor.{nothing_known}
+use Rattle.cp_program_model.specs.StatementsFor.{CodeFor}
 use Rattle.cp_steps.specs.PrivateStates.{Outside, PrivateState, go_to, set_word, view_of}
 use Rattle.cp_steps.specs.PrivateStates as machine
 use Rattle.cp_steps.specs.Values.{View}

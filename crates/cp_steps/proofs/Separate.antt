@@ -8,8 +8,8 @@ use Rattle.cp_model.specs.Locations.{ByIndex, ByName, Location, OfActivation, Of
 use Rattle.cp_model.specs.Types.{ResolvedType}
 use Rattle.cp_typing.specs.Needs.{result_words}
 use Rattle.cp_typing.specs.Words.{words}
-use Rattle.cp_code.specs.Layout.{activation_words, component_words, head_words, local, local_words, locals, member_part}
-use Rattle.cp_code.specs.StandsFor.{Apart, system_of_monitor, system_of_process}
+use Rattle.cp_program_model.specs.Layout.{activation_words, component_words, head_words, local, local_words, locals, member_part}
+use Rattle.cp_program_model.specs.StandsFor.{Apart, system_of_monitor, system_of_process}
 use Rattle.cp_steps.specs.Addresses.{Activation, Ground, activation_at, in_sight, lies, part_at, part_of_owner, scope, whole}
 use Rattle.cp_steps.proofs.Apart.{InHead, head_inside, member_above, member_apart}
 use Rattle.cp_steps.proofs.Bounds.{member_fits, part_fits}

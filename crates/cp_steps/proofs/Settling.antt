@@ -11,9 +11,9 @@ use Rattle.cp_typing.specs.Declared.{Distinct}
 use Rattle.cp_typing.specs.StartValues.{IsIn}
 use Rattle.cp_typing.specs.Words.{words}
 use Rattle.cp_typing.proofs.Leaves.{step_same}
-use Rattle.cp_code.specs.StandsFor.{system_of_process}
-use Rattle.cp_code.specs.Layout.{Part, activation_words, component_words, member, right, rights}
-use Rattle.cp_code.specs.Starts.{word}
+use Rattle.cp_program_model.specs.StandsFor.{system_of_process}
+use Rattle.cp_program_model.specs.Layout.{Part, activation_words, component_words, member, right, rights}
+use Rattle.cp_program_model.specs.Starts.{word}
 use Rattle.cp_steps.specs.PrivateStates.{PrivateState}
 use Rattle.cp_steps.specs.Means.{CellMeans}
 use Rattle.cp_steps.specs.Addresses.{Activation, ClassLies, ComponentLies, Ground, HasRights, IsGiven, RightMeans, activation_at, activations, component_type, in_sight, lies, scope}

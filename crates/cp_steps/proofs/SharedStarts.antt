@@ -7,11 +7,11 @@ use Rattle.cp_model.specs.Declarations.{globals, reported_members}
 use Rattle.cp_model.specs.Locations.{Path}
 use Rattle.cp_model.specs.States.{Setup, monitor_count}
 use Rattle.cp_model.specs.Types.{ComponentOf, GlobalScope, Members, Queue, Simple}
-use Rattle.cp_code.specs.Layout.{component_words, head_words, member_part}
-use Rattle.cp_code.specs.Programs as code
-use Rattle.cp_code.specs.Programs.{Program, Start}
-use Rattle.cp_code.specs.StandsFor.{Apart, MonitorStands, StandsFor}
-use Rattle.cp_code.specs.Starts.{AreZero, StartsComponent, carry_out, word}
+use Rattle.cp_program_model.specs.Layout.{component_words, head_words, member_part}
+use Rattle.cp_program_model.specs.Programs as code
+use Rattle.cp_program_model.specs.Programs.{Program, Start}
+use Rattle.cp_program_model.specs.StandsFor.{Apart, MonitorStands, StandsFor}
+use Rattle.cp_program_model.specs.Starts.{AreZero, StartsComponent, carry_out, word}
 use Rattle.cp_steps.specs.Machines.{first_shared}
 use Rattle.cp_steps.proofs.Apart.{IsClass, head_inside}
 use Rattle.cp_steps.proofs.Bounds.{member_fits}

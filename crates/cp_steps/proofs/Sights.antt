@@ -6,7 +6,7 @@ use Rattle.cp_model.specs.Environments.{Frame}
 use Rattle.cp_model.specs.Locations.{ByIndex, ByName, Location, OfActivation, OfMonitor, OfProcess, Owner, Path}
 use Rattle.cp_model.specs.Stores.{Absent, ClassRight, MonitorRight, Store, Value}
 use Rattle.cp_model.specs.Types.{ArrayOf, ComponentOf, NoType, Queue, RecordOf, ResolvedType, Simple}
-use Rattle.cp_code.specs.TermsFor.{Knowns, nothing_known}
+use Rattle.cp_program_model.specs.TermsFor.{Knowns, nothing_known}
 use Rattle.cp_steps.specs.PrivateStates as machine
 use Rattle.cp_steps.specs.Addresses.{Activation, AllHaveRights, ClassLies, ComponentLies, Ground, MonitorLies, ProcessLies, RightMeans, RightOf, Sight, WhereMonitorsLie, activations, lies, part_at}
 use Rattle.cp_steps.specs.Left.{CallerAt, Keeps, Left, Running, Runs, kept_below}

@@ -10,9 +10,9 @@ use Rattle.cp_model.specs.Types.{ResolvedType}
 use Rattle.cp_model.specs.declared.state.Fault as faults
 use Rattle.cp_typing.specs.Needs.{result_words}
 use Rattle.cp_typing.specs.Words.{words}
-use Rattle.cp_code.specs.Layout.{component_words, head_words, locals}
-use Rattle.cp_code.specs.StandsFor.{system_of_monitor, system_of_process}
-use Rattle.cp_code.specs.Starts.{block, paste, word}
+use Rattle.cp_program_model.specs.Layout.{component_words, head_words, locals}
+use Rattle.cp_program_model.specs.StandsFor.{system_of_monitor, system_of_process}
+use Rattle.cp_program_model.specs.Starts.{block, paste, word}
 use Rattle.cp_steps.specs.PrivateStates.{Acting, PrivateState, fault_in, guard, with_result}
 use Rattle.cp_steps.specs.Passing.{Passing, monitor_start, when_passed}
 use Rattle.cp_steps.specs.Means.{PlaceAgrees}

@@ -8,8 +8,8 @@ use Rattle.std.proofs.Common.{◌≡◌, ℕ, ◌+◌, ℤ, List, [], ◌∷◌,
 use Rattle.std.specs.Prelude.{if◌then◌else◌}
 use Rattle.cp_model.specs.Integers.{same_integer}
 use Rattle.cp_model.specs.StatementSteps.{next_counter}
-use Rattle.cp_code.specs.Starts.{unset, word}
-use Rattle.cp_code.specs.Tables.{place_in}
+use Rattle.cp_program_model.specs.Starts.{unset, word}
+use Rattle.cp_program_model.specs.Tables.{place_in}
 use Rattle.cp_model.specs.Abstract as a
 use Rattle.cp_model.specs.Abstract.{Name}
 use Rattle.cp_model.specs.Actions.{Acts, action}
@@ -22,15 +22,15 @@ use Rattle.cp_model.specs.Invariant.{EnvironmentIn, Invariant, TaskIn, TasksInRe
 use Rattle.cp_model.specs.Reach.{in_reach}
 use Rattle.cp_model.specs.declared.state.Fault.TheVariants as fault
 use Rattle.cp_model.specs.States.{State}
-use Rattle.cp_code.specs.Programs as op
-use Rattle.cp_code.specs.Programs.{Call, Operation}
-use Rattle.cp_code.specs.Layout.{activation_words, locals_words}
-use Rattle.cp_code.specs.Sites.{RoutineOf, first_parameter, operation_at, parameters, system_of_callee}
+use Rattle.cp_program_model.specs.Programs as op
+use Rattle.cp_program_model.specs.Programs.{Call, Operation}
+use Rattle.cp_program_model.specs.Layout.{activation_words, locals_words}
+use Rattle.cp_program_model.specs.Sites.{RoutineOf, first_parameter, operation_at, parameters, system_of_callee}
 use Rattle.cp_model.specs.Declarations.{declarations}
-use Rattle.cp_code.specs.Sites as sites
-use Rattle.cp_code.specs.StandsFor.{StandsFor, UnitStands}
-use Rattle.cp_code.specs.StatementsFor.{AssignsBy, InitsBy, PerformsBy, is_function}
-use Rattle.cp_code.specs.TermsFor.{ArgumentsFor, Knowns}
+use Rattle.cp_program_model.specs.Sites as sites
+use Rattle.cp_program_model.specs.StandsFor.{StandsFor, UnitStands}
+use Rattle.cp_program_model.specs.StatementsFor.{AssignsBy, InitsBy, PerformsBy, is_function}
+use Rattle.cp_program_model.specs.TermsFor.{ArgumentsFor, Knowns}
 use Rattle.cp_steps.specs.PrivateStates as machine
 use Rattle.cp_steps.specs.PrivateStates.{Outside, PrivateState, fault_in, go_to, set_temp, private_outcome, view_of}
 use Rattle.cp_steps.specs.Values.{value_of}

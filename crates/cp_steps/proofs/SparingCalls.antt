@@ -10,12 +10,12 @@ use Rattle.cp_model.specs.declared.state.Fault.TheVariants as fault
 use Rattle.cp_typing.specs.Declared.{Distinct}
 use Rattle.cp_typing.specs.StartValues.{IsIn}
 use Rattle.cp_typing.specs.Words.{words}
-use Rattle.cp_code.specs.Layout.{activation_words, component_words, head_words, rights}
-use Rattle.cp_code.specs.Programs.{Call, CodeUnit}
-use Rattle.cp_code.specs.Sites.{RoutineOf}
-use Rattle.cp_code.specs.StandsFor.{UnitStands}
-use Rattle.cp_code.specs.Starts.{block, paste, carry_out, word}
-use Rattle.cp_code.specs.Terms.{Argument}
+use Rattle.cp_program_model.specs.Layout.{activation_words, component_words, head_words, rights}
+use Rattle.cp_program_model.specs.Programs.{Call, CodeUnit}
+use Rattle.cp_program_model.specs.Sites.{RoutineOf}
+use Rattle.cp_program_model.specs.StandsFor.{UnitStands}
+use Rattle.cp_program_model.specs.Starts.{block, paste, carry_out, word}
+use Rattle.cp_program_model.specs.Terms.{Argument}
 use Rattle.cp_steps.specs.PrivateStates.{Acting, Enters, Opens, Outside, PrivateState, private_outcome, guard, set_word}
 use Rattle.cp_steps.specs.Passing.{Called, component_called, monitor_start, pass_all, when_passed}
 use Rattle.cp_steps.specs.Calling.{Back, call_step, class_at, enter, gate_effect, has_room, init_class, init_monitor, settle, start_words}

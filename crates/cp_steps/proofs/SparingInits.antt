@@ -13,13 +13,13 @@ use Rattle.cp_model.specs.States.{State}
 use Rattle.cp_typing.specs.Declared.{Distinct}
 use Rattle.cp_typing.specs.StartValues.{IsIn}
 use Rattle.cp_typing.specs.Words.{words}
-use Rattle.cp_code.specs.Programs as op
-use Rattle.cp_code.specs.Programs.{Call}
-use Rattle.cp_code.specs.Sites.{BodyOf, TargetOf}
-use Rattle.cp_code.specs.StandsFor.{UnitStands, system_of_monitor}
-use Rattle.cp_code.specs.StatementsFor.{InitArgumentsFor, InitCalls, InitsBy}
-use Rattle.cp_code.specs.TermsFor.{Knowns}
-use Rattle.cp_code.specs.Terms as target
+use Rattle.cp_program_model.specs.Programs as op
+use Rattle.cp_program_model.specs.Programs.{Call}
+use Rattle.cp_program_model.specs.Sites.{BodyOf, TargetOf}
+use Rattle.cp_program_model.specs.StandsFor.{UnitStands, system_of_monitor}
+use Rattle.cp_program_model.specs.StatementsFor.{InitArgumentsFor, InitCalls, InitsBy}
+use Rattle.cp_program_model.specs.TermsFor.{Knowns}
+use Rattle.cp_program_model.specs.Terms as target
 use Rattle.cp_steps.specs.PrivateStates.{Outside, PrivateState}
 use Rattle.cp_steps.specs.Calling.{init_class, init_monitor}
 use Rattle.cp_steps.specs.Passing.{component_called, monitor_start}

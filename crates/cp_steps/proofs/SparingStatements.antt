@@ -16,11 +16,11 @@ use Rattle.cp_model.specs.StatementSteps.{is_past}
 use Rattle.cp_model.specs.Types.{Queue, ResolvedType, Simple}
 use Rattle.cp_model.specs.declared.state.Fault.TheVariants as fault
 use Rattle.cp_typing.specs.Words.{words}
-use Rattle.cp_code.specs.Programs as op
-use Rattle.cp_code.specs.Programs.{Operation}
-use Rattle.cp_code.specs.Starts.{block, paste, unset, word}
-use Rattle.cp_code.specs.StatementsFor.{AssignsBy, Counts}
-use Rattle.cp_code.specs.Terms.{Rooted, Spot, Term}
+use Rattle.cp_program_model.specs.Programs as op
+use Rattle.cp_program_model.specs.Programs.{Operation}
+use Rattle.cp_program_model.specs.Starts.{block, paste, unset, word}
+use Rattle.cp_program_model.specs.StatementsFor.{AssignsBy, Counts}
+use Rattle.cp_program_model.specs.Terms.{Rooted, Spot, Term}
 use Rattle.cp_steps.specs.PrivateStates as machine
 use Rattle.cp_steps.specs.PrivateStates.{Acting, Outside, PrivateState, fault_in, go_to, private_outcome, guard, set_temp, set_word, view_of}
 use Rattle.cp_steps.specs.Calling.{leave, return_with, with_frame}
@@ -40,7 +40,7 @@ use Rattle.cp_steps.proofs.Stacks.{Stacked, frame_words}
 use Rattle.cp_steps.proofs.Owned.{result_inside}
 use Rattle.cp_steps.proofs.Writing.{changed_other}
 use Rattle.cp_steps.specs.PartOf.{RunsOn}
-use Rattle.cp_code.specs.StandsFor.{own_words}
+use Rattle.cp_program_model.specs.StandsFor.{own_words}
 use Rattle.cp_steps.proofs.Standards.{By, argument_none, one, used_none}
 use Rattle.cp_steps.proofs.Stepping.{Now, clock_of}
 

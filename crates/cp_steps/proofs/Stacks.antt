@@ -6,10 +6,10 @@ use Rattle.cp_model.specs.Abstract.{System}
 use Rattle.cp_model.specs.Continuations.{Do, EndBody, EndCall, EndProcess, ForNext, RepeatTest, Task, WhileTest}
 use Rattle.cp_model.specs.Environments.{Environment, Frame}
 use Rattle.cp_model.specs.Types.{GlobalScope}
-use Rattle.cp_code.specs.Layout.{activation_words, component_words}
-use Rattle.cp_code.specs.TermsFor.{Knowns, nothing_known}
-use Rattle.cp_code.specs.Sites.{BodyOf, RoutineOf, UnitText}
-use Rattle.cp_code.specs.StandsFor.{own_words, system_of_process}
+use Rattle.cp_program_model.specs.Layout.{activation_words, component_words}
+use Rattle.cp_program_model.specs.TermsFor.{Knowns, nothing_known}
+use Rattle.cp_program_model.specs.Sites.{BodyOf, RoutineOf, UnitText}
+use Rattle.cp_program_model.specs.StandsFor.{own_words, system_of_process}
 use Rattle.cp_steps.specs.PrivateStates as machine
 use Rattle.cp_steps.specs.Addresses.{Activation, AllWords, Ground, MonitorsLie, OwnWords, Sight, WhereMonitorsLie, activation_at, activation_of, activations, in_sight, scope, sees, whole, words_seen}
 use Rattle.cp_steps.specs.Left.{FrameFor, Left, Running, kept_below, site}

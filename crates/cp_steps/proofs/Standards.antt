@@ -27,11 +27,11 @@ use Rattle.cp_model.specs.Types.{Queue, Simple}
 use Rattle.cp_model.specs.declared.state.Fault as machine
 use Rattle.cp_model.specs.declared.state.Fault.TheVariants as faults
 use Rattle.cp_model.proofs.StateMaps.{with_at_here}
-use Rattle.cp_code.specs.Terms.{Spot, Term}
-use Rattle.cp_code.specs.Programs as op
-use Rattle.cp_code.specs.Sites.{operation_at}
-use Rattle.cp_code.specs.TermsFor.{Agrees}
-use Rattle.cp_code.specs.StatementsFor.{IsByte, PerformsBy}
+use Rattle.cp_program_model.specs.Terms.{Spot, Term}
+use Rattle.cp_program_model.specs.Programs as op
+use Rattle.cp_program_model.specs.Sites.{operation_at}
+use Rattle.cp_program_model.specs.TermsFor.{Agrees}
+use Rattle.cp_program_model.specs.StatementsFor.{IsByte, PerformsBy}
 use Rattle.cp_steps.specs.PrivateStates as private
 use Rattle.cp_steps.specs.PrivateStates.{Activity, Outside, PrivateState, go_to, private_outcome, guard, set_word, view_of, with_result}
 use Rattle.cp_steps.specs.Steps as steps
@@ -49,7 +49,7 @@ use Rattle.cp_steps.proofs.Effects.{quiet_agrees}
 use Rattle.cp_steps.proofs.QuietOperations.{operation_quiet, then_quiet, with_result_quiet}
 use Rattle.cp_model.proofs.QuietSteps.{Quietly}
 use Rattle.cp_steps.specs.Values.{place_of}
-use Rattle.cp_code.specs.Starts.{word}
+use Rattle.cp_program_model.specs.Starts.{word}
 
 -- The process runs on, whatever it displayed, took from the input or waited for.
 abbrev runs_beside : (G : Ground) (store : Store) (o : PrivateState) (k : List Task) (x : Activity) (output : List ℕ) (consumed : ℕ)

@@ -20,7 +20,7 @@ use Rattle.cp_typing.specs.Words.{words}
 use Rattle.cp_typing.proofs.Leaves.{in_first, in_flat, in_mapped, in_second, of_flat, of_mapped, sound_functional}
 use Rattle.cp_typing.proofs.Names.{bytes_same}
 use Rattle.cp_typing.proofs.StartWrites.{found_in, written}
-use Rattle.cp_code.specs.Layout.{Part, distance, farther, member_part, part}
+use Rattle.cp_program_model.specs.Layout.{Part, distance, farther, member_part, part}
 use Rattle.cp_steps.proofs.Finding.{some_is_not_none}
 use Rattle.cp_steps.proofs.Layouts.{same_some}
 use Rattle.cp_steps.proofs.Writing.{location_is}

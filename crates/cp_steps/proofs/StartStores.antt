@@ -21,7 +21,7 @@ use Rattle.cp_typing.proofs.Leaves.{in_either, in_first, in_mapped, in_second, o
 use Rattle.cp_typing.proofs.Names.{bytes_eq-refl}
 use Rattle.cp_typing.proofs.StartValues.{IsOwnedBy, OtherWrite, each_in, distinct, members_in, not_first, other_from, other_writes, own_write, own_writes, process_in, same_variable, variables_start}
 use Rattle.cp_typing.proofs.StartWrites.{found_in, numbers_apart}
-use Rattle.cp_code.specs.StandsFor.{component_at, component_in}
+use Rattle.cp_program_model.specs.StandsFor.{component_at, component_in}
 use Rattle.cp_steps.proofs.Finding.{some_is_not_none}
 use Rattle.cp_steps.proofs.InitOffsets.{other_name}
 use Rattle.cp_steps.proofs.Layouts.{same_some}

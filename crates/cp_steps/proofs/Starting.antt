@@ -18,10 +18,10 @@ use Rattle.cp_model.specs.Stores.{Absent, Initialised, Ordinal, QueueHolds}
 use Rattle.cp_model.specs.Types.{ArrayOf, ComponentOf, GlobalScope, NoType, Queue, RecordOf, ResolvedType, Simple}
 use Rattle.cp_model.proofs.StateMaps.{differ, with_at_there}
 use Rattle.cp_typing.specs.WellTyped.{WellTyped}
-use Rattle.cp_code.specs.Programs.{CodeUnit, Program}
-use Rattle.cp_code.specs.Layout.{Part, component_words, head_words, member, member_part}
-use Rattle.cp_code.specs.StandsFor.{ProcessStands, StandsFor, system_of_process}
-use Rattle.cp_code.specs.Starts.{AreZero, word}
+use Rattle.cp_program_model.specs.Programs.{CodeUnit, Program}
+use Rattle.cp_program_model.specs.Layout.{Part, component_words, head_words, member, member_part}
+use Rattle.cp_program_model.specs.StandsFor.{ProcessStands, StandsFor, system_of_process}
+use Rattle.cp_program_model.specs.Starts.{AreZero, word}
 use Rattle.cp_steps.specs.Addresses.{ClassLies, ComponentLies, Ground, MonitorLies, ProcessLies, RightMeans, RightOf, activations, component_type, lies, part_at, part_of_component}
 use Rattle.cp_steps.specs.Beginning.{AtStart, Begins}
 use Rattle.cp_steps.specs.KernelSteps.{Kernel}

@@ -3,11 +3,11 @@
 use Rattle.std.proofs.Common.{ℕ, Option, Some, refl, ap, subst, ◌∙◌, arith}
 use Rattle.cp_model.specs.Abstract as a
 use Rattle.cp_model.specs.Calls.{first_call, in_context, or_else}
-use Rattle.cp_code.specs.Programs as op
-use Rattle.cp_code.specs.Programs.{Operation}
-use Rattle.cp_code.specs.Sites.{Site, operation_at}
-use Rattle.cp_code.specs.TermsFor.{Knowns}
-use Rattle.cp_code.specs.StatementsFor.{AssignsBy, CodeFor, InitsBy, PerformsBy}
+use Rattle.cp_program_model.specs.Programs as op
+use Rattle.cp_program_model.specs.Programs.{Operation}
+use Rattle.cp_program_model.specs.Sites.{Site, operation_at}
+use Rattle.cp_program_model.specs.TermsFor.{Knowns}
+use Rattle.cp_program_model.specs.StatementsFor.{AssignsBy, CodeFor, InitsBy, PerformsBy}
 use Rattle.cp_steps.specs.Left.{IsTask}
 use Rattle.cp_steps.proofs.CallsKept.{term_kept}
 use Rattle.cp_steps.proofs.NextCalls.{AllMade, Calling, follows_on, next_in, next_left, next_right}

@@ -13,9 +13,9 @@ use Rattle.cp_model.specs.Stores.{Store}
 use Rattle.cp_model.specs.Turns.{after_step}
 use Rattle.cp_model.specs.declared.state.Fault as fault
 use Rattle.cp_model.proofs.StateMaps.{with_at_here}
-use Rattle.cp_code.specs.Programs.{Operation}
-use Rattle.cp_code.specs.Sites.{operation_at}
-use Rattle.cp_code.specs.StandsFor.{system_of_monitor, system_of_process}
+use Rattle.cp_program_model.specs.Programs.{Operation}
+use Rattle.cp_program_model.specs.Sites.{operation_at}
+use Rattle.cp_program_model.specs.StandsFor.{system_of_monitor, system_of_process}
 use Rattle.cp_steps.specs.Passing.{monitor_start}
 use Rattle.cp_model.specs.Abstract.{System}
 use Rattle.cp_steps.specs.PrivateStates as machine

@@ -8,11 +8,11 @@ use Rattle.cp_model.specs.StandardCalls.{next_input}
 use Rattle.cp_model.specs.StatementSteps.{is_past, next_counter}
 use Rattle.cp_model.specs.declared.state.Fault as fault
 use Rattle.cp_model.specs.declared.state.Fault.TheVariants as faults
-use Rattle.cp_code.specs.Programs as op
-use Rattle.cp_code.specs.Programs.{Call, CodeUnit, Counting, Operation, Program}
-use Rattle.cp_code.specs.Starts.{unset, word}
-use Rattle.cp_code.specs.Tables.{place_in}
-use Rattle.cp_code.specs.Terms.{Argument}
+use Rattle.cp_program_model.specs.Programs as op
+use Rattle.cp_program_model.specs.Programs.{Call, CodeUnit, Counting, Operation, Program}
+use Rattle.cp_program_model.specs.Starts.{unset, word}
+use Rattle.cp_program_model.specs.Tables.{place_in}
+use Rattle.cp_program_model.specs.Terms.{Argument}
 use Rattle.cp_steps.specs.Calling.{Back, call_step, class_at, enter, gate_effect, has_room, init_class, init_monitor, init_process, leave, parameters_start, return_with, settle, start_words, with_frame, with_unit}
 use Rattle.cp_steps.specs.Passing.{Called, Passing, component_called, monitor_called, pass_all, when_passed}
 use Rattle.cp_steps.specs.PrivateStates as machine

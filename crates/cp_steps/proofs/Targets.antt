@@ -17,11 +17,11 @@ use Rattle.cp_model.specs.Locations.{ByIndex, ByName, Location, OfActivation, Of
 use Rattle.cp_model.specs.States.{State, context, is_set}
 use Rattle.cp_model.specs.Stores.{Absent, ClassRight, MonitorRight, Store, Value}
 use Rattle.cp_model.specs.Types.{ComponentOf, ResolvedType}
-use Rattle.cp_code.specs.Terms as t
-use Rattle.cp_code.specs.Layout.{Part, member, natural, right}
-use Rattle.cp_code.specs.Sites.{RightTo, TargetFor, TargetOf, system_of_callee}
-use Rattle.cp_code.specs.StandsFor.{system_of_monitor}
-use Rattle.cp_code.specs.Starts.{word}
+use Rattle.cp_program_model.specs.Terms as t
+use Rattle.cp_program_model.specs.Layout.{Part, member, natural, right}
+use Rattle.cp_program_model.specs.Sites.{RightTo, TargetFor, TargetOf, system_of_callee}
+use Rattle.cp_program_model.specs.StandsFor.{system_of_monitor}
+use Rattle.cp_program_model.specs.Starts.{word}
 use Rattle.cp_steps.specs.PrivateStates.{Outside, PrivateState}
 use Rattle.cp_steps.specs.Passing.{Called, class_called, class_right, component_called, monitor_called, monitor_start, monitor_word}
 use Rattle.cp_steps.specs.Steps.{is_monitor}

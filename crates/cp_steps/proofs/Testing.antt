@@ -15,9 +15,9 @@ use Rattle.cp_model.specs.StatementSteps.{is_true}
 use Rattle.cp_model.specs.States.{State, configuration}
 use Rattle.cp_model.specs.Turns.{after_step}
 use Rattle.cp_model.specs.declared.state.Fault as fault
-use Rattle.cp_code.specs.Programs as op
-use Rattle.cp_code.specs.Sites.{operation_at}
-use Rattle.cp_code.specs.TermsFor.{Agrees, nothing_known}
+use Rattle.cp_program_model.specs.Programs as op
+use Rattle.cp_program_model.specs.Sites.{operation_at}
+use Rattle.cp_program_model.specs.TermsFor.{Agrees, nothing_known}
 use Rattle.cp_steps.specs.PrivateStates.{Outside, PrivateState, go_to, private_outcome, with_result}
 use Rattle.cp_steps.specs.Addresses.{Ground}
 use Rattle.cp_steps.specs.Left.{Left}

@@ -9,11 +9,11 @@ use Rattle.cp_model.specs.Names.{lookup}
 use Rattle.cp_typing.specs.Declared.{Distinct, SystemParameter, sort_of}
 use Rattle.cp_typing.specs.SoundTypes.{SoundType}
 use Rattle.cp_typing.specs.WellTyped.{WellTyped, text_systems}
-use Rattle.cp_code.specs.Layout.{component_words}
-use Rattle.cp_code.specs.Sites.{BodyOf}
-use Rattle.cp_code.specs.StandsFor.{Apart, IsInText, MonitorStands, ProcessStands, StandsFor, system_of_monitor, system_of_process}
-use Rattle.cp_code.proofs.CallsStand.{IsNamed, is_named}
-use Rattle.cp_code.proofs.KnownStand.{each_found}
+use Rattle.cp_program_model.specs.Layout.{component_words}
+use Rattle.cp_program_model.specs.Sites.{BodyOf}
+use Rattle.cp_program_model.specs.StandsFor.{Apart, IsInText, MonitorStands, ProcessStands, StandsFor, system_of_monitor, system_of_process}
+use Rattle.cp_program_model.proofs.CallsStand.{IsNamed, is_named}
+use Rattle.cp_program_model.proofs.KnownStand.{each_found}
 use Rattle.std.specs.Prelude.{take}
 use Rattle.std.proofs.lemmas.Bool.{true≢false}
 use Rattle.cp_steps.specs.Addresses.{Ground, scope}

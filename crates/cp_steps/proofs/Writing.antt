@@ -7,8 +7,8 @@ use Rattle.cp_model.specs.Abstract.{Class, Sort}
 use Rattle.cp_model.specs.Locations.{ByIndex, ByName, Location, OfActivation, OfMonitor, OfProcess, Owner, Path, PathStep, same_location, same_owner, same_path, same_path_step}
 use Rattle.cp_model.specs.Stores.{Store, Value, put}
 use Rattle.cp_model.specs.Types.{ArrayOf, ComponentOf, NoType, Queue, RecordOf, ResolvedType, Simple}
-use Rattle.cp_code.specs.Layout.{Part}
-use Rattle.cp_code.specs.Starts.{word}
+use Rattle.cp_program_model.specs.Layout.{Part}
+use Rattle.cp_program_model.specs.Starts.{word}
 use Rattle.cp_typing.proofs.Names.{bytes_eq-refl, bytes_same}
 use Rattle.cp_model.specs.Integers.{same_integer}
 use Rattle.cp_steps.specs.Means.{CellMeans, MarkMeans}

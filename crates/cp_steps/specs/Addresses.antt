@@ -10,10 +10,10 @@ use Rattle.cp_model.specs.Stores.{Absent, ClassRight, MonitorRight, Store, Value
 use Rattle.cp_model.specs.Continuations.{EndBody, EndCall, Task}
 use Rattle.cp_model.specs.Parts.{is_own}
 use Rattle.cp_model.specs.States.{Setup}
-use Rattle.cp_code.specs.Programs.{Program}
-use Rattle.cp_code.specs.Layout.{Part, component_words, farther, head_words, local, member, member_part, natural, part, right}
-use Rattle.cp_code.specs.Sites.{UnitText}
-use Rattle.cp_code.specs.StandsFor.{Apart, system_of_monitor, system_of_process}
+use Rattle.cp_program_model.specs.Programs.{Program}
+use Rattle.cp_program_model.specs.Layout.{Part, component_words, farther, head_words, local, member, member_part, natural, part, right}
+use Rattle.cp_program_model.specs.Sites.{UnitText}
+use Rattle.cp_program_model.specs.StandsFor.{Apart, system_of_monitor, system_of_process}
 use Rattle.cp_steps.specs.PrivateStates as machine
 use Rattle.cp_steps.specs.Passing.{monitor_start, monitor_word}
 

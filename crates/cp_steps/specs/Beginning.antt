@@ -7,8 +7,8 @@
 use Rattle.std.specs.Prelude.{◌≡◌, ◌≤◌, ◌+◌, ◌-◌, [], length, slice_get, Some}
 use Rattle.cp_model.specs.Configurations as stage
 use Rattle.cp_model.specs.States.{State}
-use Rattle.cp_code.specs.Programs as code
-use Rattle.cp_code.specs.Programs.{CodeUnit}
+use Rattle.cp_program_model.specs.Programs as code
+use Rattle.cp_program_model.specs.Programs.{CodeUnit}
 use Rattle.cp_steps.specs.PrivateStates.{NotBegun, PrivateState}
 use Rattle.cp_steps.specs.KernelSteps.{Kernel}
 use Rattle.cp_steps.specs.Machines.{begin_from}

@@ -2,9 +2,9 @@
 use Rattle.std.specs.Prelude.{Bool, true, false, not, ◌&&◌, ℕ, zero, suc, ◌+◌, ◌-◌, pos, List, [], ◌∷◌, None, Some, if◌then◌else◌, length, nat_le, nat_lt, slice_get}
 use Rattle.cp_model.specs.Integers.{same_integer}
 use Rattle.cp_model.specs.declared.state.Fault.TheVariants as fault
-use Rattle.cp_code.specs.Terms.{Argument}
-use Rattle.cp_code.specs.Programs.{Call, CodeUnit, Program}
-use Rattle.cp_code.specs.Starts.{block, paste, carry_out, unset, word}
+use Rattle.cp_program_model.specs.Terms.{Argument}
+use Rattle.cp_program_model.specs.Programs.{Call, CodeUnit, Program}
+use Rattle.cp_program_model.specs.Starts.{block, paste, carry_out, unset, word}
 use Rattle.cp_steps.specs.PrivateStates.{Acting, Effect, Enters, Frame, NoEffect, Opens, Outside, PrivateState, Starts, fault_in, go_to, private_outcome, guard, set_temp, set_word}
 use Rattle.cp_steps.specs.Passing.{Called, component_called, monitor_called, pass_all, when_passed}
 

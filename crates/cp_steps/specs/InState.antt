@@ -4,7 +4,7 @@ use Rattle.cp_model.specs.Configurations.{Fresh}
 use Rattle.cp_model.specs.Invariant.{Invariant}
 use Rattle.cp_model.specs.Parts.{HasNotBegun}
 use Rattle.cp_model.specs.States.{Setup, State, process_count}
-use Rattle.cp_code.specs.StandsFor.{StandsFor}
+use Rattle.cp_program_model.specs.StandsFor.{StandsFor}
 use Rattle.cp_steps.specs.Beginning.{Begins}
 use Rattle.cp_steps.specs.KernelOf.{KernelOf}
 use Rattle.cp_steps.specs.Laws.{ground_of}

@@ -5,8 +5,8 @@ use Rattle.cp_model.specs.Configurations.{Status}
 use Rattle.cp_model.specs.Locations.{OfMonitor, Owner}
 use Rattle.cp_model.specs.States.{Setup, State, monitor_count, process_count}
 use Rattle.cp_model.specs.Types.{Queue}
-use Rattle.cp_code.specs.Programs.{Program}
-use Rattle.cp_code.specs.Sites.{UnitText}
+use Rattle.cp_program_model.specs.Programs.{Program}
+use Rattle.cp_program_model.specs.Sites.{UnitText}
 use Rattle.cp_steps.specs.Addresses.{Ground, OwnWords, lies}
 use Rattle.cp_steps.specs.KernelSteps.{Asking, Begun, Delayed, Fresh, Kernel, Stage, Unstarted, gate_of, stage_of}
 use Rattle.cp_steps.specs.PartOf.{DataMeans}

@@ -1,8 +1,8 @@
 -- Kernel steps as plain data: gates, stages and shared words, and the steps that need them.
 use Rattle.std.specs.Prelude.{◌-◌, ℕ, zero, suc, ℤ, Bool, true, false, if◌then◌else◌, List, [], ◌∷◌, ◌++◌, Option, Some, None, length, slice_get, slice_set, take, drop}
 use Rattle.cp_model.specs.States.{Free, Gate, HeldBy, Holder, Unset}
-use Rattle.cp_code.specs.Layout.{natural}
-use Rattle.cp_code.specs.Programs.{Operation, Program}
+use Rattle.cp_program_model.specs.Layout.{natural}
+use Rattle.cp_program_model.specs.Programs.{Operation, Program}
 use Rattle.cp_steps.specs.PrivateStates.{Acting, Continues, Delays, Effect, Enters, Leaves, NoEffect, Opens, Outside, PrivateState, Starts, is_running}
 use Rattle.cp_steps.specs.Steps.{is_held, is_kernel_operation, operation_of, step_with}
 

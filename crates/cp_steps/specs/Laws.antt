@@ -5,9 +5,9 @@ use Rattle.cp_model.specs.Operators.{realtime}
 use Rattle.cp_model.specs.Start.{start}
 use Rattle.cp_model.specs.States.{Setup, State, process_count, running_clock}
 use Rattle.cp_model.specs.Turns as meaning
-use Rattle.cp_code.specs.Programs as code
-use Rattle.cp_code.specs.Programs.{Program}
-use Rattle.cp_code.specs.StandsFor.{StandsFor}
+use Rattle.cp_program_model.specs.Programs as code
+use Rattle.cp_program_model.specs.Programs.{Program}
+use Rattle.cp_program_model.specs.StandsFor.{StandsFor}
 use Rattle.cp_steps.specs.PrivateStates.{PrivateState}
 use Rattle.cp_steps.specs.Steps.{private_step, private_steps}
 use Rattle.cp_steps.specs.Addresses.{Ground, OwnWords}

@@ -11,15 +11,15 @@ use Rattle.cp_model.specs.Abstract.{BaseType, Name, System}
 use Rattle.cp_model.specs.Environments.{Environment, Frame}
 use Rattle.cp_model.specs.Locations.{OfActivation}
 use Rattle.cp_model.specs.Continuations.{Do, EndBody, EndCall, EndProcess, ForNext, RepeatTest, Task, WhileTest, depth, marked_monitors}
-use Rattle.cp_code.specs.Terms.{Term}
-use Rattle.cp_code.specs.Programs as op
-use Rattle.cp_code.specs.Programs.{Call, CodeUnit, Counting}
-use Rattle.cp_code.specs.Layout.{component_words}
-use Rattle.cp_code.specs.Sites.{BodyOf, RoutineOf, Site, UnitText, operation_at}
-use Rattle.cp_code.specs.Starts.{word}
-use Rattle.cp_code.specs.TermsFor.{Knowns, TermFor, nothing_known}
-use Rattle.cp_code.specs.StatementsFor.{CodeFor, Counts, is_function, stands_at}
-use Rattle.cp_code.specs.StandsFor.{site_of, system_of_monitor, system_of_process, system_of_unit}
+use Rattle.cp_program_model.specs.Terms.{Term}
+use Rattle.cp_program_model.specs.Programs as op
+use Rattle.cp_program_model.specs.Programs.{Call, CodeUnit, Counting}
+use Rattle.cp_program_model.specs.Layout.{component_words}
+use Rattle.cp_program_model.specs.Sites.{BodyOf, RoutineOf, Site, UnitText, operation_at}
+use Rattle.cp_program_model.specs.Starts.{word}
+use Rattle.cp_program_model.specs.TermsFor.{Knowns, TermFor, nothing_known}
+use Rattle.cp_program_model.specs.StatementsFor.{CodeFor, Counts, is_function, stands_at}
+use Rattle.cp_program_model.specs.StandsFor.{site_of, system_of_monitor, system_of_process, system_of_unit}
 use Rattle.cp_steps.specs.PrivateStates as machine
 use Rattle.cp_steps.specs.Addresses.{ComponentLies, Ground, scope}
 

@@ -1,9 +1,9 @@
 -- Whole rounds of the machine as plain data: its start, its turns, waking, and the end of a round.
 use Rattle.std.specs.Prelude.{ℕ, zero, suc, ◌+◌, ◌-◌, ◌/◌, ◌%◌, ℤ, pos, List, [], ◌∷◌, ◌++◌, None, Some, if◌then◌else◌, nat_eq, map, replicate, slice_get, slice_set}
 use Rattle.cp_model.specs.States.{Unset}
-use Rattle.cp_code.specs.Programs as code
-use Rattle.cp_code.specs.Programs.{CodeUnit, Program}
-use Rattle.cp_code.specs.Starts.{block, paste, carry_out}
+use Rattle.cp_program_model.specs.Programs as code
+use Rattle.cp_program_model.specs.Programs.{CodeUnit, Program}
+use Rattle.cp_program_model.specs.Starts.{block, paste, carry_out}
 use Rattle.cp_steps.specs.PrivateStates.{Activity, NotBegun, PrivateState, Running, Waiting}
 use Rattle.cp_steps.specs.Steps.{private_steps}
 use Rattle.cp_steps.specs.KernelSteps.{Begun, Fresh, Kernel, Stage, Turning, Unstarted, kernel_steps, stage_of}

@@ -12,10 +12,10 @@ use Rattle.cp_model.specs.Places.{Place}
 use Rattle.cp_model.specs.Stores.{Initialised, Ordinal, QueueHolds, Reference, Store, Value}
 use Rattle.cp_model.specs.StateViews.{fault_number}
 use Rattle.cp_model.specs.declared.state.Fault as machine
-use Rattle.cp_code.specs.Layout.{Part, local, member, natural, part}
-use Rattle.cp_code.specs.Sites.{local_location}
-use Rattle.cp_code.specs.Starts.{word}
-use Rattle.cp_code.specs.TermsFor.{Knowns}
+use Rattle.cp_program_model.specs.Layout.{Part, local, member, natural, part}
+use Rattle.cp_program_model.specs.Sites.{local_location}
+use Rattle.cp_program_model.specs.Starts.{word}
+use Rattle.cp_program_model.specs.TermsFor.{Knowns}
 use Rattle.cp_steps.specs.Values.{View}
 
 -- ---- Cells

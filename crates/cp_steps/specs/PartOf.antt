@@ -11,10 +11,10 @@ use Rattle.cp_model.specs.CallSteps.{is_initialised, result_location}
 use Rattle.cp_model.specs.Parts.{Failed, Finished, HasBegun, NotBegun, PrivateStatus, Running, Sleeping, private_status}
 use Rattle.cp_model.specs.States.{State}
 use Rattle.cp_model.specs.StateViews.{fault_number}
-use Rattle.cp_code.specs.Layout.{local, member, right}
-use Rattle.cp_code.specs.Programs.{Call, Function}
-use Rattle.cp_code.specs.Sites.{local_location, operation_at}
-use Rattle.cp_code.specs.Starts.{unset, word}
+use Rattle.cp_program_model.specs.Layout.{local, member, right}
+use Rattle.cp_program_model.specs.Programs.{Call, Function}
+use Rattle.cp_program_model.specs.Sites.{local_location, operation_at}
+use Rattle.cp_program_model.specs.Starts.{unset, word}
 use Rattle.cp_steps.specs.PrivateStates as machine
 use Rattle.cp_steps.specs.PrivateStates.{Activity, PrivateState}
 use Rattle.cp_steps.specs.Means.{CellMeans, ReferenceMeans}

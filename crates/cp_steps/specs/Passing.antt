@@ -4,11 +4,11 @@ use Rattle.cp_model.specs.Integers.{same_integer}
 use Rattle.cp_model.specs.Places.{within}
 use Rattle.cp_model.specs.declared.state.Fault.{Fault}
 use Rattle.cp_model.specs.declared.state.Fault.TheVariants as fault
-use Rattle.cp_code.specs.Terms as target
-use Rattle.cp_code.specs.Terms.{Argument, Copy, Reference, Right, Target, Value}
-use Rattle.cp_code.specs.Programs.{Program}
-use Rattle.cp_code.specs.Layout.{natural}
-use Rattle.cp_code.specs.Starts.{block, paste, word}
+use Rattle.cp_program_model.specs.Terms as target
+use Rattle.cp_program_model.specs.Terms.{Argument, Copy, Reference, Right, Target, Value}
+use Rattle.cp_program_model.specs.Programs.{Program}
+use Rattle.cp_program_model.specs.Layout.{natural}
+use Rattle.cp_program_model.specs.Starts.{block, paste, word}
 use Rattle.cp_steps.specs.Values.{place_of, value_of}
 use Rattle.cp_steps.specs.PrivateStates.{Acting, Outside, PrivateState, fault_in, set_word, view_of}
 

@@ -15,9 +15,9 @@ use Rattle.cp_model.specs.StateViews.{fault_number}
 use Rattle.cp_model.specs.Stores.{Ordinal, QueueHolds}
 use Rattle.cp_model.specs.Types.{ArrayOf, ComponentOf, GlobalScope, Members, MoreMembers, NoMembers, NoType, Queue, RecordOf, ResolvedType, Simple}
 use Rattle.cp_typing.specs.Words.{words}
-use Rattle.cp_code.specs.Layout.{head_words}
-use Rattle.cp_code.specs.Programs.{Program}
-use Rattle.cp_code.specs.Starts.{word}
+use Rattle.cp_program_model.specs.Layout.{head_words}
+use Rattle.cp_program_model.specs.Programs.{Program}
+use Rattle.cp_program_model.specs.Starts.{word}
 use Rattle.cp_steps.specs.KernelSteps.{Asking, Begun, Delayed, Fresh, Stage, Unstarted, gate_of, stage_of}
 use Rattle.cp_steps.specs.Machines.{Machine, transcript_of}
 use Rattle.cp_steps.specs.Means.{process_of_word}

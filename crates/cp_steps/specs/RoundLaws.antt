@@ -4,8 +4,8 @@ use Rattle.cp_model.specs.Report.{report}
 use Rattle.cp_model.specs.Rounds as meaning
 use Rattle.cp_model.specs.Start.{start}
 use Rattle.cp_model.specs.States.{Setup, State, processes}
-use Rattle.cp_code.specs.Programs.{Program}
-use Rattle.cp_code.specs.StandsFor.{StandsFor}
+use Rattle.cp_program_model.specs.Programs.{Program}
+use Rattle.cp_program_model.specs.StandsFor.{StandsFor}
 use Rattle.cp_steps.specs.InState.{IsIn, NoneFresh}
 use Rattle.cp_steps.specs.Machines.{Machine, first_machine, phased_round, phased_rounds}
 use Rattle.cp_steps.specs.Reports.{machine_report}

@@ -10,12 +10,12 @@ use Rattle.cp_model.specs.Places.{within}
 use Rattle.cp_model.specs.StandardCalls.{byte, next_input, next_place}
 use Rattle.cp_model.specs.StatementSteps.{is_past, next_counter}
 use Rattle.cp_model.specs.declared.state.Fault.TheVariants as fault
-use Rattle.cp_code.specs.Terms as target
-use Rattle.cp_code.specs.Terms.{Spot, Target, Term}
-use Rattle.cp_code.specs.Programs as op
-use Rattle.cp_code.specs.Programs.{Counting, Operation, Program}
-use Rattle.cp_code.specs.Starts.{block, paste, word}
-use Rattle.cp_code.specs.Tables.{place_in}
+use Rattle.cp_program_model.specs.Terms as target
+use Rattle.cp_program_model.specs.Terms.{Spot, Target, Term}
+use Rattle.cp_program_model.specs.Programs as op
+use Rattle.cp_program_model.specs.Programs.{Counting, Operation, Program}
+use Rattle.cp_program_model.specs.Starts.{block, paste, word}
+use Rattle.cp_program_model.specs.Tables.{place_in}
 use Rattle.cp_steps.specs.Values.{place_of, root_place, value_of}
 use Rattle.cp_steps.specs.PrivateStates.{Acting, Continues, Delays, Ended, Leaves, Outside, PrivateState, Waiting, fault_in, go_to, is_running, private_outcome, guard, set_temp, set_word, view_of, with_result}
 use Rattle.cp_steps.specs.Passing.{component_called}

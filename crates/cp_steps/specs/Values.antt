@@ -6,10 +6,10 @@ use Rattle.cp_model.specs.Integers.{same_integer}
 use Rattle.cp_model.specs.Places.{within}
 use Rattle.cp_model.specs.declared.state.Fault.{Fault}
 use Rattle.cp_model.specs.declared.state.Fault.TheVariants as fault
-use Rattle.cp_code.specs.Terms.{Binary, Element, Empty, Item, Local, Made, Member, Negative, Not, Number, Realtime, Root, Rooted, Spot, Standard, Term, Through}
-use Rattle.cp_code.specs.Functions.{in_range, standard, unless}
-use Rattle.cp_code.specs.Layout.{distance, natural}
-use Rattle.cp_code.specs.Starts.{word}
+use Rattle.cp_program_model.specs.Terms.{Binary, Element, Empty, Item, Local, Made, Member, Negative, Not, Number, Realtime, Root, Rooted, Spot, Standard, Term, Through}
+use Rattle.cp_program_model.specs.Functions.{in_range, standard, unless}
+use Rattle.cp_program_model.specs.Layout.{distance, natural}
+use Rattle.cp_program_model.specs.Starts.{word}
 
 -- What evaluation reads: the words and temps, where those of the running activation and component
 -- begin, and the clock.

@@ -13,8 +13,8 @@ use Rattle.cp_model.specs.Report.{component_members, components_of}
 use Rattle.cp_model.specs.States.{Setup, State}
 use Rattle.cp_model.specs.StateViews.{fault_number}
 use Rattle.cp_model.specs.Stores.{Absent, Ordinal, QueueHolds, Value}
-use Rattle.cp_code.specs.Layout.{Part}
-use Rattle.cp_code.specs.Starts.{word}
+use Rattle.cp_program_model.specs.Layout.{Part}
+use Rattle.cp_program_model.specs.Starts.{word}
 use Rattle.cp_steps.specs.PrivateStates.{Activity, Ended, Faulted, NotBegun, PrivateState, Running, Waiting}
 use Rattle.cp_steps.specs.KernelSteps.{Asking, Begun, Delayed, Fresh, Stage, Unstarted, gate_of, stage_of}
 use Rattle.cp_steps.specs.Machines.{Machine, transcript_of}

@@ -8,10 +8,10 @@ use Rattle.cp_model.specs.Abstract.{Name}
 use Rattle.cp_model.specs.Declarations.{Variable}
 use Rattle.cp_model.specs.Types.{ArrayOf, ComponentOf, GlobalScope, NoType, Queue, RecordOf, ResolvedType, Simple}
 use Rattle.cp_typing.specs.Words.{words}
-use Rattle.cp_code.specs.CodedTerms as coded
-use Rattle.cp_code.specs.CodedTerms.{by_value, with_argument}
-use Rattle.cp_code.specs.Programs as code
-use Rattle.cp_code.specs.Terms as plain
+use Rattle.cp_program_model.specs.CodedTerms as coded
+use Rattle.cp_program_model.specs.CodedTerms.{by_value, with_argument}
+use Rattle.cp_program_model.specs.Programs as code
+use Rattle.cp_program_model.specs.Terms as plain
 use Rattle.cp_emit.specs.Emission.{coded_call}
 use Rattle.cp_emit.specs.declared.call.MadeTerm.{MadeTerm}
 use Rattle.cp_emit.specs.declared.emitter.CodedCall.{CodedCall}

@@ -1,9 +1,9 @@
 -- Where variables begin.
 use Rattle.std.proofs.Common.{◌≡◌, ℕ, Option, None, Some, ap}
 use Rattle.cp_model.specs.Declarations.{Variable}
-use Rattle.cp_code.specs.Layout as layout
-use Rattle.cp_code.specs.Scopes.{root_of_local, root_or_member}
-use Rattle.cp_code.specs.Terms as plain
+use Rattle.cp_program_model.specs.Layout as layout
+use Rattle.cp_program_model.specs.Scopes.{root_of_local, root_or_member}
+use Rattle.cp_program_model.specs.Terms as plain
 use Rattle.cp_scope.specs.declared.layout.Part.{Part}
 use Rattle.cp_scope.specs.declared.locals.Local.{Local}
 use Rattle.cp_scope.specs.declared.types.Types.{Types}

@@ -11,12 +11,12 @@ use Rattle.cp_model.specs.Erase as erase
 use Rattle.cp_model.specs.Expressions.{name_of}
 use Rattle.cp_model.specs.Types.{GlobalScope, ResolvedType, base_of_type}
 use Rattle.cp_typing.specs.StaticTypes.{expression_type}
-use Rattle.cp_code.specs.CodedTerms as coded
-use Rattle.cp_code.specs.CodedTerms.{argument_of, by_value, called_term, coded_arguments, coded_spot, coded_standard, coded_term, coded_variable, function_call, function_named, parameters_of, standard_term, used_term}
-use Rattle.cp_code.specs.Scopes as code
-use Rattle.cp_code.specs.Scopes.{environment}
-use Rattle.cp_code.specs.Sites.{first_parameter}
-use Rattle.cp_code.specs.Terms as plain
+use Rattle.cp_program_model.specs.CodedTerms as coded
+use Rattle.cp_program_model.specs.CodedTerms.{argument_of, by_value, called_term, coded_arguments, coded_spot, coded_standard, coded_term, coded_variable, function_call, function_named, parameters_of, standard_term, used_term}
+use Rattle.cp_program_model.specs.Scopes as code
+use Rattle.cp_program_model.specs.Scopes.{environment}
+use Rattle.cp_program_model.specs.Sites.{first_parameter}
+use Rattle.cp_program_model.specs.Terms as plain
 use Rattle.cp_emit.specs.Emission.{coded_call}
 use Rattle.cp_emit.specs.declared.emitter.CodedCall.{CodedCall}
 use Rattle.cp_scope.specs.declared.scope.Callee.{Callee}

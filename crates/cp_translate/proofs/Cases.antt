@@ -1,8 +1,8 @@
 -- The statements of a `case`, from the last to the first.
 use Rattle.std.proofs.Common.{◌≡◌, ◌∙◌, ◌+◌, ℕ, List, length, map, subst}
 use Rattle.cp_model.specs.Abstract as a
-use Rattle.cp_code.specs.CodedStatements.{arms_at, emitted, emitted_arms}
-use Rattle.cp_code.specs.Scopes.{Scope}
+use Rattle.cp_program_model.specs.CodedStatements.{arms_at, emitted, emitted_arms}
+use Rattle.cp_program_model.specs.Scopes.{Scope}
 use Rattle.cp_emit.specs.Emission.{place_of}
 use Rattle.cp_emit.specs.declared.emitter.Emitter.{Emitter}
 use Rattle.cp_program.specs.Labels.{arm}

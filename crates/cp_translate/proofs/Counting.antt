@@ -2,10 +2,10 @@
 use Rattle.std.proofs.Common.{◌≡◌, ◌∷◌, ◌++◌, ◌+◌, ℕ, suc, Bool, arith, length, subst}
 use Rattle.cp_model.specs.Abstract as a
 use Rattle.cp_model.specs.Abstract.{Name}
-use Rattle.cp_code.specs.CodedStatements.{counting, emitted, with_calls}
-use Rattle.cp_code.specs.CodedTerms.{coded_term}
-use Rattle.cp_code.specs.Programs as op
-use Rattle.cp_code.specs.Scopes.{Scope}
+use Rattle.cp_program_model.specs.CodedStatements.{counting, emitted, with_calls}
+use Rattle.cp_program_model.specs.CodedTerms.{coded_term}
+use Rattle.cp_program_model.specs.Programs as op
+use Rattle.cp_program_model.specs.Scopes.{Scope}
 use Rattle.cp_emit.specs.Emission.{Emits, place_of, with_body}
 use Rattle.cp_emit.specs.declared.emitter.Emitter.{Emitter}
 use Rattle.cp_translate.specs.Statements.{Enters}

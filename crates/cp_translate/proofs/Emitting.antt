@@ -1,8 +1,8 @@
 -- Operations that are emitted after the calls of their terms.
 use Rattle.std.proofs.Common.{◌≡◌, ℕ, List, map, subst}
-use Rattle.cp_code.specs.CodedStatements.{with_calls}
-use Rattle.cp_code.specs.CodedTerms as coded
-use Rattle.cp_code.specs.Programs as op
+use Rattle.cp_program_model.specs.CodedStatements.{with_calls}
+use Rattle.cp_program_model.specs.CodedTerms as coded
+use Rattle.cp_program_model.specs.Programs as op
 use Rattle.cp_emit.specs.Emission.{Emits, coded_call, operation_from, place_of}
 use Rattle.cp_emit.specs.declared.emitter.CodedCall.{CodedCall}
 use Rattle.cp_emit.specs.declared.emitter.Emitter.{Emitter}

@@ -5,11 +5,11 @@ use Rattle.cp_model.specs.Abstract.{Name, System}
 use Rattle.cp_model.specs.Components as components
 use Rattle.cp_model.specs.Declarations.{Variable, declarations, is_component}
 use Rattle.cp_model.specs.Types.{ArrayOf, ComponentOf, GlobalScope, NoType, Queue, RecordOf, ResolvedType, Simple}
-use Rattle.cp_code.specs.CodedTerms.{coded_term, init_argument}
-use Rattle.cp_code.specs.Layout.{member, right}
-use Rattle.cp_code.specs.Scopes.{Scope, environment, part_start, right_start}
-use Rattle.cp_code.specs.Scopes as code
-use Rattle.cp_code.specs.Terms as plain
+use Rattle.cp_program_model.specs.CodedTerms.{coded_term, init_argument}
+use Rattle.cp_program_model.specs.Layout.{member, right}
+use Rattle.cp_program_model.specs.Scopes.{Scope, environment, part_start, right_start}
+use Rattle.cp_program_model.specs.Scopes as code
+use Rattle.cp_program_model.specs.Terms as plain
 use Rattle.cp_scope.specs.declared.scope.Scope as table
 use Rattle.cp_scope.specs.declared.systems.Component.{Component}
 use Rattle.cp_scope.specs.declared.systems.SystemTable.{SystemTable}

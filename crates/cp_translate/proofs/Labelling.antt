@@ -4,8 +4,8 @@ use Rattle.std.proofs.lemmas.List.{reverse-append}
 use Rattle.cp_model.specs.Abstract as a
 use Rattle.cp_model.specs.Abstract.{BaseType}
 use Rattle.cp_model.specs.Types.{GlobalScope, constant_value}
-use Rattle.cp_code.specs.CodedStatements.{arms_at}
-use Rattle.cp_code.specs.Programs as code
+use Rattle.cp_program_model.specs.CodedStatements.{arms_at}
+use Rattle.cp_program_model.specs.Programs as code
 use Rattle.cp_program.specs.Labels.{arm}
 use Rattle.cp_program.specs.declared.arm.Arm.{Arm}
 

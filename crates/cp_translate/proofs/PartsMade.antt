@@ -8,14 +8,14 @@ use Rattle.cp_model.specs.Places.{field_type}
 use Rattle.cp_model.specs.Types.{ArrayOf, ComponentOf, GlobalScope, NoType, Queue, RecordOf, ResolvedType, Simple}
 use Rattle.cp_typing.specs.StaticTypes.{place_type}
 use Rattle.cp_typing.specs.Words.{words}
-use Rattle.cp_code.specs.CodedTerms as coded
-use Rattle.cp_code.specs.CodedTerms.{coded_spot, coded_term, element_part}
-use Rattle.cp_code.specs.Layout as layout
-use Rattle.cp_code.specs.Layout.{part}
-use Rattle.cp_code.specs.Scopes as code
-use Rattle.cp_code.specs.Scopes.{environment, part_start}
-use Rattle.cp_code.specs.Terms as plain
-use Rattle.cp_code.specs.TermsFor.{move_spot}
+use Rattle.cp_program_model.specs.CodedTerms as coded
+use Rattle.cp_program_model.specs.CodedTerms.{coded_spot, coded_term, element_part}
+use Rattle.cp_program_model.specs.Layout as layout
+use Rattle.cp_program_model.specs.Layout.{part}
+use Rattle.cp_program_model.specs.Scopes as code
+use Rattle.cp_program_model.specs.Scopes.{environment, part_start}
+use Rattle.cp_program_model.specs.Terms as plain
+use Rattle.cp_program_model.specs.TermsFor.{move_spot}
 use Rattle.cp_emit.specs.Emission.{coded_call}
 use Rattle.cp_emit.specs.declared.call.MadeTerm.{MadeTerm}
 use Rattle.cp_emit.specs.declared.emitter.CodedCall.{CodedCall}

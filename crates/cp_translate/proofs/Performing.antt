@@ -3,10 +3,10 @@ use Rattle.std.proofs.Common.{◌≡◌, ℕ, true, false, codes, refl}
 use Rattle.std.specs.Str.{bytes_eq}
 use Rattle.cp_model.specs.Abstract.{Name}
 use Rattle.cp_model.specs.Types.{ResolvedType, base_of_type}
-use Rattle.cp_code.specs.CodedStatements.{high_of, is_char, low_of, runs_function, standard_procedure, with_calls}
-use Rattle.cp_code.specs.CodedTerms.{CodedSpot, CodedTerm}
-use Rattle.cp_code.specs.Programs as op
-use Rattle.cp_code.specs.Scopes.{Scope}
+use Rattle.cp_program_model.specs.CodedStatements.{high_of, is_char, low_of, runs_function, standard_procedure, with_calls}
+use Rattle.cp_program_model.specs.CodedTerms.{CodedSpot, CodedTerm}
+use Rattle.cp_program_model.specs.Programs as op
+use Rattle.cp_program_model.specs.Scopes.{Scope}
 
 module _ (scope : Scope) (x : Name) (t : ResolvedType) (e : CodedTerm) (s : CodedSpot) (at next : ℕ) where
   pub displays : bytes_eq x (codes "display") ≡ true

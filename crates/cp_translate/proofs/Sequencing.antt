@@ -2,10 +2,10 @@
 use Rattle.std.proofs.Common.{◌≡◌, ◌∷◌, ◌++◌, ◌∙◌, ◌+◌, ℕ, suc, List, [], ap, append_assoc, arith, length, length-append, refl, subst, sym}
 use Rattle.std.proofs.lemmas.List.{append-nil}
 use Rattle.cp_model.specs.Abstract as a
-use Rattle.cp_code.specs.CodedStatements.{Emitted, behind, calls_at, emitted, with_calls}
-use Rattle.cp_code.specs.CodedTerms.{CodedCall, CodedTerm}
-use Rattle.cp_code.specs.Programs as op
-use Rattle.cp_code.specs.Scopes.{Scope}
+use Rattle.cp_program_model.specs.CodedStatements.{Emitted, behind, calls_at, emitted, with_calls}
+use Rattle.cp_program_model.specs.CodedTerms.{CodedCall, CodedTerm}
+use Rattle.cp_program_model.specs.Programs as op
+use Rattle.cp_program_model.specs.Scopes.{Scope}
 use Rattle.cp_emit.specs.Emission.{Emits, Goes, changed_at, operations_of, place_of}
 use Rattle.cp_emit.specs.declared.emitter.Emitter.{Emitter}
 use Rattle.cp_emit.proofs.Changing.{changed_between}

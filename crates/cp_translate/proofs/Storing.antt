@@ -3,10 +3,10 @@ use Rattle.std.proofs.Common.{◌≡◌, ◌++◌, ℕ, false, refl, subst}
 use Rattle.cp_model.specs.Abstract as a
 use Rattle.cp_model.specs.Types.{ArrayOf, ComponentOf, GlobalScope, NoType, Queue, RecordOf, ResolvedType, Simple}
 use Rattle.cp_typing.specs.Words.{words}
-use Rattle.cp_code.specs.CodedStatements.{is_result, store, with_calls}
-use Rattle.cp_code.specs.CodedTerms.{CodedSpot, CodedTerm}
-use Rattle.cp_code.specs.Programs as op
-use Rattle.cp_code.specs.Scopes as code
+use Rattle.cp_program_model.specs.CodedStatements.{is_result, store, with_calls}
+use Rattle.cp_program_model.specs.CodedTerms.{CodedSpot, CodedTerm}
+use Rattle.cp_program_model.specs.Programs as op
+use Rattle.cp_program_model.specs.Scopes as code
 use Rattle.cp_emit.specs.declared.emitter.Emitter.{Emitter}
 use Rattle.cp_scope.specs.Expressions.{is_simple}
 use Rattle.cp_translate.specs.Statements.{Enters}

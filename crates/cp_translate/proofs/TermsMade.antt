@@ -10,10 +10,10 @@ use Rattle.cp_model.specs.Syntax as syntax
 use Rattle.cp_model.specs.View as tree
 use Rattle.cp_model.specs.declared.tree.Designator.{Designator}
 use Rattle.cp_model.specs.declared.tree.Selector.{Selector}
-use Rattle.cp_code.specs.CodedTerms as coded
-use Rattle.cp_code.specs.CodedTerms.{coded_spot, coded_term, name_or_item}
-use Rattle.cp_code.specs.Scopes as code
-use Rattle.cp_code.specs.Terms as plain
+use Rattle.cp_program_model.specs.CodedTerms as coded
+use Rattle.cp_program_model.specs.CodedTerms.{coded_spot, coded_term, name_or_item}
+use Rattle.cp_program_model.specs.Scopes as code
+use Rattle.cp_program_model.specs.Terms as plain
 use Rattle.cp_emit.specs.Emission.{coded_call}
 use Rattle.cp_emit.specs.declared.call.MadeTerm.{MadeTerm}
 use Rattle.cp_emit.specs.declared.emitter.CodedCall.{CodedCall}

@@ -5,10 +5,10 @@ use Rattle.cp_model.specs.Erase as erase
 use Rattle.cp_model.specs.Types.{GlobalScope}
 use Rattle.cp_model.specs.View as view
 use Rattle.cp_model.specs.declared.tree.System.{System}
-use Rattle.cp_code.specs.CodedTerms.{CodedArgument, target_named}
-use Rattle.cp_code.specs.Scopes as code
-use Rattle.cp_code.specs.Scopes.{environment}
-use Rattle.cp_code.specs.Terms as plain
+use Rattle.cp_program_model.specs.CodedTerms.{CodedArgument, target_named}
+use Rattle.cp_program_model.specs.Scopes as code
+use Rattle.cp_program_model.specs.Scopes.{environment}
+use Rattle.cp_program_model.specs.Terms as plain
 use Rattle.cp_scope.specs.declared.systems.SystemTable.{SystemTable}
 use Rattle.cp_scope.specs.declared.types.Types.{Types}
 use Rattle.cp_scope.specs.Systems.{SystemStands}

@@ -1,8 +1,8 @@
 -- When the code emits for a statement what the compiler's definition emits.
 use Rattle.std.specs.Prelude.{◌≡◌, ℕ, List, map}
 use Rattle.cp_model.specs.Abstract as a
-use Rattle.cp_code.specs.CodedStatements.{Emitted, EmittedArms, emitted, emitted_arms}
-use Rattle.cp_code.specs.Scopes as code
+use Rattle.cp_program_model.specs.CodedStatements.{Emitted, EmittedArms, emitted, emitted_arms}
+use Rattle.cp_program_model.specs.Scopes as code
 use Rattle.cp_emit.specs.Emission.{Emits, place_of}
 use Rattle.cp_emit.specs.declared.emitter.Emitter.{Emitter}
 use Rattle.cp_scope.specs.declared.scope.Scope.{Scope}

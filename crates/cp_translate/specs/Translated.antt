@@ -5,9 +5,9 @@ use Rattle.cp_model.specs.Abstract.{Name}
 use Rattle.cp_model.specs.Erase as erase
 use Rattle.cp_model.specs.Syntax as syntax
 use Rattle.cp_model.specs.Syntax.{chain_of}
-use Rattle.cp_code.specs.CodedTerms as coded
-use Rattle.cp_code.specs.CodedTerms.{coded_arguments, coded_spot, coded_term, coded_variable}
-use Rattle.cp_code.specs.Scopes as code
+use Rattle.cp_program_model.specs.CodedTerms as coded
+use Rattle.cp_program_model.specs.CodedTerms.{coded_arguments, coded_spot, coded_term, coded_variable}
+use Rattle.cp_program_model.specs.Scopes as code
 use Rattle.cp_program.specs.View as view
 use Rattle.cp_scope.specs.declared.scope.Scope.{Scope}
 use Rattle.cp_scope.specs.Places.{PlaceIs}

@@ -3,11 +3,11 @@
 ghost use Rattle.std.specs.Prelude.{◌≡◌, ◌+◌, false, List, IfOk};
 ghost use Rattle.cp_model.specs.Declarations.{Variable};
 ghost use Rattle.cp_model.specs.Types.{GlobalScope, ResolvedType};
-ghost use Rattle.cp_code.specs.CodedTerms as coded;
-ghost use Rattle.cp_code.specs.CodedTerms.{by_value};
-ghost use Rattle.cp_code.specs.Layout.{local_words};
-ghost use Rattle.cp_code.specs.Scopes as code;
-ghost use Rattle.cp_code.specs.Terms as plain;
+ghost use Rattle.cp_program_model.specs.CodedTerms as coded;
+ghost use Rattle.cp_program_model.specs.CodedTerms.{by_value};
+ghost use Rattle.cp_program_model.specs.Layout.{local_words};
+ghost use Rattle.cp_program_model.specs.Scopes as code;
+ghost use Rattle.cp_program_model.specs.Terms as plain;
 ghost use Rattle.cp_emit.specs.declared.emitter.CodedCall.{CodedCall};
 ghost use Rattle.cp_scope.specs.Expressions.{is_simple};
 ghost use Rattle.cp_scope.specs.Scopes.{IsScope};

@@ -1,7 +1,7 @@
 //! Translates expressions, designators and statements to threaded code.
 //!
 //! A `Translator` has the scope of a unit. Whatever the tree, the result of each function equals
-//! that of a function of `cp_code`'s definitions (`CodedTerms.antt`, `CodedStatements.antt`), in
+//! that of a function of `cp_program_model`'s definitions (`CodedTerms.antt`, `CodedStatements.antt`), in
 //! each scope that its tables stand for:
 //!
 //! - `expressions`: terms and spots, and the calls to make before them, in order

@@ -3,11 +3,11 @@
 ghost use Rattle.std.specs.Prelude.{◌≡◌, ℕ, Option, IfOk, option_map};
 ghost use Rattle.cp_model.specs.Declarations.{Variable};
 ghost use Rattle.cp_model.specs.Names.{lookup};
-ghost use Rattle.cp_code.specs.CodedTerms.{ordinal_or_zero, root_or_first, term_of_name};
-ghost use Rattle.cp_code.specs.Layout as layout;
-ghost use Rattle.cp_code.specs.Scopes as code;
-ghost use Rattle.cp_code.specs.Scopes.{root_named, root_of_local, root_or_member};
-ghost use Rattle.cp_code.specs.Terms as plain;
+ghost use Rattle.cp_program_model.specs.CodedTerms.{ordinal_or_zero, root_or_first, term_of_name};
+ghost use Rattle.cp_program_model.specs.Layout as layout;
+ghost use Rattle.cp_program_model.specs.Scopes as code;
+ghost use Rattle.cp_program_model.specs.Scopes.{root_named, root_of_local, root_or_member};
+ghost use Rattle.cp_program_model.specs.Terms as plain;
 ghost use Rattle.cp_scope.specs.Layouts.{PartIs};
 ghost use Rattle.cp_scope.specs.Locals.{LocalIs};
 ghost use Rattle.cp_scope.specs.Scopes.{IsScope};

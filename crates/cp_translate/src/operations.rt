@@ -3,11 +3,11 @@
 ghost use Rattle.std.specs.Prelude.{◌≡◌, ◌++◌, ◌∷◌, [], IfOk, OnOk, map, reverse};
 ghost use Rattle.cp_model.specs.Erase as erase;
 ghost use Rattle.cp_model.specs.View as tree;
-ghost use Rattle.cp_code.specs.CodedStatements as coded;
-ghost use Rattle.cp_code.specs.CodedStatements.{arms_at, with_calls};
-ghost use Rattle.cp_code.specs.CodedTerms.{coded_term};
-ghost use Rattle.cp_code.specs.Programs as op;
-ghost use Rattle.cp_code.specs.Scopes as code;
+ghost use Rattle.cp_program_model.specs.CodedStatements as coded;
+ghost use Rattle.cp_program_model.specs.CodedStatements.{arms_at, with_calls};
+ghost use Rattle.cp_program_model.specs.CodedTerms.{coded_term};
+ghost use Rattle.cp_program_model.specs.Programs as op;
+ghost use Rattle.cp_program_model.specs.Scopes as code;
 ghost use Rattle.cp_emit.specs.Emission.{place_of};
 ghost use Rattle.cp_scope.specs.Scopes.{IsScope};
 ghost use Rattle.cp_program.specs.Labels.{arm};

@@ -3,10 +3,10 @@
 ghost use Rattle.std.specs.Prelude.{List, ℕ, IfOk, map};
 ghost use Rattle.cp_model.specs.Abstract as a;
 ghost use Rattle.cp_model.specs.Erase as erase;
-ghost use Rattle.cp_code.specs.CodedTerms as coded;
-ghost use Rattle.cp_code.specs.CodedTerms.{coded_term, with_operator};
-ghost use Rattle.cp_code.specs.Scopes as code;
-ghost use Rattle.cp_code.specs.Terms as plain;
+ghost use Rattle.cp_program_model.specs.CodedTerms as coded;
+ghost use Rattle.cp_program_model.specs.CodedTerms.{coded_term, with_operator};
+ghost use Rattle.cp_program_model.specs.Scopes as code;
+ghost use Rattle.cp_program_model.specs.Terms as plain;
 ghost use Rattle.cp_emit.specs.Emission.{coded_call};
 ghost use Rattle.cp_emit.specs.declared.emitter.CodedCall.{CodedCall};
 ghost use Rattle.cp_translate.specs.Translated.{IsTerm};

@@ -3,7 +3,7 @@
 ghost use Rattle.std.specs.Prelude.{◌≡◌, IfOk};
 ghost use Rattle.cp_model.specs.Types.{ResolvedType};
 ghost use Rattle.cp_typing.specs.Words.{words};
-ghost use Rattle.cp_code.specs.Scopes as code;
+ghost use Rattle.cp_program_model.specs.Scopes as code;
 ghost use Rattle.cp_scope.specs.Scopes.{IsScope};
 ghost use Rattle.cp_scope.specs.Standing.{Stands};
 

@@ -1,6 +1,6 @@
 use Rattle.std.proofs.Common.{◌∙◌, ap, subst, sym}
-use Rattle.cp_code.specs.Compile.{compile}
-use Rattle.cp_code.specs.StandsFor.{StandsFor}
+use Rattle.cp_program_model.specs.Compile.{compile}
+use Rattle.cp_program_model.specs.StandsFor.{StandsFor}
 use Rattle.cp_check.proofs.checking.program.Goals as goal
 
 pub returns-in-Ok : goal.returns-in-Ok

@@ -1,6 +1,6 @@
 use Rattle.std.proofs.Common.{◌∙◌, ap}
 use Rattle.cp_model.specs.Declarations.{globals}
-use Rattle.cp_code.specs.Compile as code
+use Rattle.cp_program_model.specs.Compile as code
 use Rattle.cp_program.specs.View as view
 use Rattle.cp_compile.specs.CompiledPrograms.{text_of}
 use Rattle.cp_compile.proofs.ProgramsCompiled.{planner_is, same_program}

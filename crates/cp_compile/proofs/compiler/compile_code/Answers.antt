@@ -1,7 +1,7 @@
 use Rattle.std.proofs.Common.{◌≡◌, ◌∙◌, [], ap, length, refl}
 use Rattle.cp_model.specs.Declarations.{globals}
 use Rattle.cp_model.specs.Names.{lookup}
-use Rattle.cp_code.specs.Compile.{nothing_compiled}
+use Rattle.cp_program_model.specs.Compile.{nothing_compiled}
 use Rattle.cp_compile.specs.CompiledPrograms.{text_of, text_types}
 use Rattle.cp_compile.specs.CompiledTexts.{IsText, TypesAre}
 use Rattle.cp_compile.specs.declared.definitions.TextCompiler.{TextCompiler}

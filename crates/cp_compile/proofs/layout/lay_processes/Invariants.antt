@@ -1,7 +1,7 @@
 use Rattle.std.proofs.Common.{List, drop}
 use Rattle.cp_model.specs.Types.{GlobalScope}
-use Rattle.cp_code.specs.Compile as code
-use Rattle.cp_code.specs.Compile.{processes_at, waiting_words}
+use Rattle.cp_program_model.specs.Compile as code
+use Rattle.cp_program_model.specs.Compile.{processes_at, waiting_words}
 use Rattle.cp_program.specs.View as view
 use Rattle.cp_program.specs.declared.program.Plan.{Plan}
 use Rattle.cp_compile.specs.CompiledComponents.{AreOwners}

@@ -1,5 +1,5 @@
 use Rattle.std.proofs.Common.{◌≡◌, drop, map}
-use Rattle.cp_code.specs.CodedStatements as coded
+use Rattle.cp_program_model.specs.CodedStatements as coded
 use Rattle.cp_program.specs.Labels.{arm}
 use Rattle.cp_emit.proofs.table.highest.Given as goal
 

@@ -2,8 +2,8 @@ use Rattle.std.proofs.Common.{◌≡◌, ◌∷◌, ◌+◌, ◌-◌, ◌<◌, �
 use Rattle.std.proofs.Math.ListN.{set}
 use Rattle.std.specs.Prelude.{int_le, if◌then◌else◌}
 use Rattle.std.proofs.lemmas.List.{at_drop_all, at_drop_more}
-use Rattle.cp_code.specs.Layout.{distance}
-use Rattle.cp_code.specs.CodedStatements.{places_from}
+use Rattle.cp_program_model.specs.Layout.{distance}
+use Rattle.cp_program_model.specs.CodedStatements.{places_from}
 use Rattle.cp_program.specs.Labels.{arm}
 use Rattle.cp_program.specs.declared.arm.Arm.{Arm}
 use Rattle.cp_program.proofs.Wide.{narrow}

@@ -1,5 +1,5 @@
 use Rattle.std.proofs.Common.{◌∙◌, refl, subst, sym}
-use Rattle.cp_code.specs.StandsFor.{StandsFor}
+use Rattle.cp_program_model.specs.StandsFor.{StandsFor}
 use Rattle.cp_model.specs.View as view
 use Rattle.cp_program.specs.View as threaded
 use Rattle.cp_execute.specs.Cutting.{AreParts}

@@ -1,5 +1,5 @@
 use Rattle.std.proofs.Common.{◌≡◌, ◌++◌, map, drop, length}
-use Rattle.cp_code.specs.Starts.{carry_out}
+use Rattle.cp_program_model.specs.Starts.{carry_out}
 use Rattle.cp_program.specs.View as view
 use Rattle.cp_private.proofs.words.start.Given as goal
 

@@ -1,7 +1,7 @@
 use Rattle.std.proofs.Common.{drop, map}
 use Rattle.cp_model.specs.Syntax as syntax
 use Rattle.cp_model.specs.View as view
-use Rattle.cp_code.specs.Scopes as code
+use Rattle.cp_program_model.specs.Scopes as code
 use Rattle.cp_scope.specs.Expressions.{ValueIs}
 use Rattle.cp_scope.proofs.ValueTypes.{PartlyChained}
 use Rattle.cp_scope.proofs.expressions.chain_type.Given as goal

@@ -1,7 +1,7 @@
 use Rattle.std.proofs.Common.{◌∙◌, ap, sym}
 use Rattle.cp_model.specs.Erase as erase
 use Rattle.cp_model.specs.View as view
-use Rattle.cp_code.specs.Scopes.{type_name}
+use Rattle.cp_program_model.specs.Scopes.{type_name}
 use Rattle.cp_scope.proofs.TypeNames.{array_has_no_name}
 use Rattle.cp_scope.proofs.type_names.type_name.Goals as goal
 

@@ -3,7 +3,7 @@ use Rattle.cp_model.specs.Abstract.{Name}
 use Rattle.cp_model.specs.Erase as erase
 use Rattle.cp_model.specs.Names.{lookup}
 use Rattle.cp_model.specs.View as view
-use Rattle.cp_code.specs.Scopes.{declared_type}
+use Rattle.cp_program_model.specs.Scopes.{declared_type}
 use Rattle.cp_scope.specs.TypeNames.{name_or}
 use Rattle.cp_scope.proofs.type_names.variable_types.Given as goal
 

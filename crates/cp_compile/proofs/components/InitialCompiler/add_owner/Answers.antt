@@ -1,7 +1,7 @@
 use Rattle.std.proofs.Common.{rules, ◌≡◌, ◌∷◌, ◌++◌, ◌∙◌, [], List, Some, false, subst, sym, true}
 use Rattle.cp_model.specs.Components.{is_component_of}
 use Rattle.cp_model.specs.Erase as erase
-use Rattle.cp_code.specs.Compile.{of_sort, owners_of}
+use Rattle.cp_program_model.specs.Compile.{of_sort, owners_of}
 use Rattle.cp_scope.specs.Numbering.{system_of}
 use Rattle.cp_scope.specs.Standing.{row_at}
 use Rattle.cp_compile.specs.declared.components.Owner.{Owner}

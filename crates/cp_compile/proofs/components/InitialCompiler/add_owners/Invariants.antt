@@ -3,8 +3,8 @@ use Rattle.cp_model.specs.Abstract.{Group, Name}
 use Rattle.cp_model.specs.Declarations.{Variable}
 use Rattle.cp_model.specs.Erase as erase
 use Rattle.cp_model.specs.Types.{GlobalScope}
-use Rattle.cp_code.specs.Compile as code
-use Rattle.cp_code.specs.Compile.{of_sort, owners_of}
+use Rattle.cp_program_model.specs.Compile as code
+use Rattle.cp_program_model.specs.Compile.{of_sort, owners_of}
 use Rattle.cp_scope.specs.Variables.{declared_entry}
 use Rattle.cp_program.specs.declared.program.Plan.{Plan}
 use Rattle.cp_compile.specs.CompiledComponents.{AreOwners, IsInitial}

@@ -1,6 +1,6 @@
 use Rattle.std.proofs.Common.{rules, ◌≡◌, ◌+◌, ◌∙◌, Some, ap, length, slice_get, subst}
 use Rattle.cp_model.specs.Names.{lookup}
-use Rattle.cp_code.specs.Scopes.{declared_type, or_zero}
+use Rattle.cp_program_model.specs.Scopes.{declared_type, or_zero}
 use Rattle.cp_scope.specs.Standing.{system_at}
 use Rattle.cp_scope.proofs.Unrefused.{if_ok}
 use Rattle.cp_compile.specs.CompiledComponents.{IsOwner}

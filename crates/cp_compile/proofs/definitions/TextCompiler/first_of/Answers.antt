@@ -3,7 +3,7 @@ use Rattle.cp_model.specs.Abstract as a
 use Rattle.cp_model.specs.Abstract.{Definition}
 use Rattle.cp_model.specs.Erase as erase
 use Rattle.cp_model.specs.View as tree
-use Rattle.cp_code.specs.Compile.{with_definition}
+use Rattle.cp_program_model.specs.Compile.{with_definition}
 use Rattle.cp_scope.proofs.Unrefused.{if_ok}
 use Rattle.cp_compile.specs.CompiledTexts.{IsDefined, IsNamed}
 use Rattle.cp_compile.proofs.TextsCompiled.{system_defined}

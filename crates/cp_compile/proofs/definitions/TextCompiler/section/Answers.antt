@@ -1,7 +1,7 @@
 use Rattle.std.proofs.Common.{◌∙◌, ap, subst, sym}
 use Rattle.cp_model.specs.Erase as erase
 use Rattle.cp_model.specs.View as tree
-use Rattle.cp_code.specs.Compile.{with_definitions}
+use Rattle.cp_program_model.specs.Compile.{with_definitions}
 use Rattle.cp_compile.specs.CompiledTexts.{TypesAre}
 use Rattle.cp_compile.proofs.TextsCompiled.{constants_compiled}
 use Rattle.cp_compile.proofs.definitions.TextCompiler.section.Goals as goal

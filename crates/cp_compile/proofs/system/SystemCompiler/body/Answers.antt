@@ -1,5 +1,5 @@
 use Rattle.std.proofs.Common.{◌∙◌, None, ap, map, sym}
-use Rattle.cp_code.specs.StandsFor.{end_of}
+use Rattle.cp_program_model.specs.StandsFor.{end_of}
 use Rattle.cp_scope.proofs.Unrefused.{on_ok}
 use Rattle.cp_program.specs.View as view
 use Rattle.cp_compile.specs.Compiles.{body_of}

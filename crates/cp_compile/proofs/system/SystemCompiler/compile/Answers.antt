@@ -1,5 +1,5 @@
 use Rattle.std.proofs.Common.{subst, sym}
-use Rattle.cp_code.specs.Compile.{with_body, with_routines}
+use Rattle.cp_program_model.specs.Compile.{with_body, with_routines}
 use Rattle.cp_scope.specs.Systems.{routines_of}
 use Rattle.cp_scope.proofs.Unrefused.{on_ok}
 use Rattle.cp_compile.specs.Compiles.{IsCompiled}

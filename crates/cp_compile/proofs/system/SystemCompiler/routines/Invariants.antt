@@ -1,7 +1,7 @@
 use Rattle.std.proofs.Common.{◌≡◌, ℕ, List, drop}
 use Rattle.cp_model.specs.Abstract.{Name, System}
 use Rattle.cp_model.specs.Types.{GlobalScope}
-use Rattle.cp_code.specs.Compile.{Compiled}
+use Rattle.cp_program_model.specs.Compile.{Compiled}
 use Rattle.cp_scope.specs.Systems.{routines_of}
 use Rattle.cp_compile.specs.CompiledSystems.{IsSystem}
 use Rattle.cp_compile.specs.Compiles.{IsCompiled}

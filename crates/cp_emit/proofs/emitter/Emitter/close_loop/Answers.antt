@@ -1,6 +1,6 @@
 use Rattle.std.proofs.Common.{◌≡◌, length, drop, ap, sym, ◌∙◌, arith}
 use Rattle.std.proofs.lemmas.List.{length-map}
-use Rattle.cp_code.specs.CodeNeeds.{need_of_all}
+use Rattle.cp_program_model.specs.CodeNeeds.{need_of_all}
 use Rattle.cp_program.specs.View as view
 use Rattle.cp_emit.specs.Emission.{operations_of, units_of, with_body}
 use Rattle.cp_emit.proofs.Changing.{length-changed}

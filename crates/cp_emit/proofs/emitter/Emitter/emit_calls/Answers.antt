@@ -1,6 +1,6 @@
 use Rattle.std.proofs.Common.{rules, ◌≡◌, ◌+◌, [], ◌∷◌, ◌++◌, length, map, drop, ap, sym, ◌∙◌, append_assoc, length-append}
-use Rattle.cp_code.specs.CodedStatements.{calls_at}
-use Rattle.cp_code.specs.Programs as code
+use Rattle.cp_program_model.specs.CodedStatements.{calls_at}
+use Rattle.cp_program_model.specs.Programs as code
 use Rattle.cp_program.specs.View as view
 use Rattle.cp_emit.specs.Emission.{coded_call, operations_of, place_of}
 use Rattle.cp_emit.proofs.CallsEmitted.{back_of, front_of}

@@ -1,5 +1,5 @@
 use Rattle.std.proofs.Common.{◌≡◌, drop, length, map, take, vec_len}
-use Rattle.cp_code.specs.CodedStatements.{calls_at}
+use Rattle.cp_program_model.specs.CodedStatements.{calls_at}
 use Rattle.cp_emit.specs.Emission.{Emits, coded_call, place_of}
 use Rattle.cp_emit.proofs.emitter.Emitter.emit_calls.Given as goal
 

@@ -1,6 +1,6 @@
 use Rattle.std.proofs.Common.{◌≡◌, ◌≤◌, ◌∷◌, [], ◌++◌, length, map, drop, ap, sym, ◌∙◌, arith, length-append}
 use Rattle.std.proofs.lemmas.List.{drop-append-le, length-map, map-append}
-use Rattle.cp_code.specs.CodeNeeds.{greater_need, need_of, need_of_all}
+use Rattle.cp_program_model.specs.CodeNeeds.{greater_need, need_of, need_of_all}
 use Rattle.cp_program.specs.View as view
 use Rattle.cp_emit.specs.Emission.{operations_of, units_of}
 use Rattle.cp_emit.proofs.Needing.{need_more}

@@ -2,8 +2,8 @@ use Rattle.std.proofs.Common.{rules, ◌≡◌, ◌∙◌, ◌++◌, ◌-◌, su
 use Rattle.std.proofs.lemmas.List.{append-nil}
 use Rattle.cp_model.specs.Declarations.{declarations, members_from, reported_members}
 use Rattle.cp_model.specs.Types.{NoMembers}
-use Rattle.cp_code.specs.Layout.{head_words}
-use Rattle.cp_code.specs.Plans.{plan_of_members}
+use Rattle.cp_program_model.specs.Layout.{head_words}
+use Rattle.cp_program_model.specs.Plans.{plan_of_members}
 use Rattle.cp_scope.specs.declared.types.Field.{Field}
 use Rattle.cp_scope.specs.declared.variables.Declared.{Declared}
 use Rattle.cp_scope.specs.Standing.{AreMembers, entry}

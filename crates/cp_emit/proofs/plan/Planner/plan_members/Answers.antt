@@ -1,5 +1,5 @@
 use Rattle.std.proofs.Common.{[]}
-use Rattle.cp_code.specs.Plans.{plan_of_members}
+use Rattle.cp_program_model.specs.Plans.{plan_of_members}
 use Rattle.cp_emit.specs.Planning.{types_of}
 use Rattle.cp_emit.proofs.Planning.{begun}
 use Rattle.cp_emit.proofs.plan.Planner.plan_members.Goals as goal

@@ -1,5 +1,5 @@
 use Rattle.std.proofs.Common.{rules, ◌≡◌, Some}
-use Rattle.cp_code.specs.Plans.{plan}
+use Rattle.cp_program_model.specs.Plans.{plan}
 use Rattle.cp_scope.specs.Standing.{row_at}
 use Rattle.cp_scope.specs.declared.types.TypeRow.TheVariants as row
 use Rattle.cp_scope.proofs.Unrefused.{on_ok}

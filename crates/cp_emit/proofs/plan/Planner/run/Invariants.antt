@@ -1,5 +1,5 @@
 use Rattle.std.proofs.Common.{List}
-use Rattle.cp_code.specs.Programs as code
+use Rattle.cp_program_model.specs.Programs as code
 use Rattle.cp_model.specs.Types.{GlobalScope}
 use Rattle.cp_emit.specs.Drafts.{plan_of}
 use Rattle.cp_emit.specs.Planning.{AllDone, Knows, types_of}

@@ -3,7 +3,7 @@ use Rattle.cp_model.specs.declared.state.Fault.TheVariants as fault
 use Rattle.cp_steps.specs.PrivateStates.{PrivateState, guard}
 use Rattle.cp_steps.specs.Calling.{enter}
 use Rattle.cp_steps.specs.Passing.{when_passed}
-use Rattle.cp_code.specs.Starts.{carry_out}
+use Rattle.cp_program_model.specs.Starts.{carry_out}
 use Rattle.cp_program.specs.View as view
 use Rattle.cp_private.specs.Calls.{back, called_of, passing_of}
 use Rattle.cp_private.specs.States.{join, outcome, outside_of}

@@ -1,6 +1,6 @@
 use Rattle.std.proofs.Common.{rules, arith, ◌≡◌, ◌+◌, length, to_z, of_z, ap, ◌∙◌}
 use Rattle.std.specs.Int.{w32}
-use Rattle.cp_code.specs.Layout.{natural}
+use Rattle.cp_program_model.specs.Layout.{natural}
 use Rattle.cp_steps.specs.Passing as plain
 use Rattle.cp_program.specs.Reaches.{cap_place}
 use Rattle.cp_program.specs.View as view

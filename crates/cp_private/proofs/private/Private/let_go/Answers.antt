@@ -1,7 +1,7 @@
 use Rattle.std.proofs.Common.{rules, arith, ◌≡◌, ◌-◌, List, pos, Err, length, refl, ap, sym, to_z, of_z, ◌∙◌}
 use Rattle.std.specs.Prelude.{if◌then◌else◌}
 use Rattle.std.specs.Int.{w32}
-use Rattle.cp_code.specs.Starts.{word}
+use Rattle.cp_program_model.specs.Starts.{word}
 use Rattle.cp_steps.specs.PrivateStates.{Continues, Frame, private_outcome, set_word}
 use Rattle.cp_steps.specs.Steps.{is_held}
 use Rattle.cp_steps.specs.Calling.{leave, return_with, with_frame}

@@ -1,6 +1,6 @@
 use Rattle.std.proofs.Common.{◌≡◌, [], ◌∷◌, ◌++◌, map, ap, sym, ◌∙◌}
 use Rattle.std.proofs.lemmas.List.{map-append}
-use Rattle.cp_code.specs.Terms as plain
+use Rattle.cp_program_model.specs.Terms as plain
 use Rattle.cp_model.specs.Erase.{operator_of}
 use Rattle.cp_program.specs.View.{PlainApplication, application, chain_of, operand}
 use Rattle.cp_program.specs.declared.term.Term.{out-Term}

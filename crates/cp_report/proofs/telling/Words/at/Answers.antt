@@ -1,5 +1,5 @@
 use Rattle.std.proofs.Common.{rules, ◌≡◌, ap, sym, ◌∙◌, []}
-use Rattle.cp_code.specs.Starts.{word}
+use Rattle.cp_program_model.specs.Starts.{word}
 use Rattle.cp_report.specs.Tellings.{words_in}
 use Rattle.cp_report.proofs.telling.Words.at.Goals as goal
 

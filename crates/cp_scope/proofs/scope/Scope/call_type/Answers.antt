@@ -2,7 +2,7 @@ use Rattle.std.proofs.Common.{◌∙◌, ap, Option, subst, sym}
 use Rattle.cp_model.specs.Calls.{callee}
 use Rattle.cp_model.specs.Erase as erase
 use Rattle.cp_model.specs.View as view
-use Rattle.cp_code.specs.Scopes.{environment}
+use Rattle.cp_program_model.specs.Scopes.{environment}
 use Rattle.cp_model.specs.Expressions.{name_of}
 use Rattle.cp_typing.specs.StaticTypes.{expression_type, standard_type}
 use Rattle.cp_scope.specs.declared.scope.Callee.{Callee}

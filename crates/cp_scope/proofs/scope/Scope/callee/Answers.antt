@@ -1,5 +1,5 @@
 use Rattle.std.proofs.Common.{None, subst, sym}
-use Rattle.cp_code.specs.Scopes.{environment}
+use Rattle.cp_program_model.specs.Scopes.{environment}
 use Rattle.cp_scope.specs.Scopes.{CalleeIs}
 use Rattle.cp_scope.proofs.Called.{two_selectors_call_nothing}
 use Rattle.cp_scope.proofs.scope.Scope.callee.Goals as goal

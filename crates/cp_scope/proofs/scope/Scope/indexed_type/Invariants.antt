@@ -2,7 +2,7 @@ use Rattle.std.proofs.Common.{drop, map}
 use Rattle.cp_model.specs.Abstract as a
 use Rattle.cp_model.specs.Erase as erase
 use Rattle.cp_model.specs.View as view
-use Rattle.cp_code.specs.Scopes as code
+use Rattle.cp_program_model.specs.Scopes as code
 use Rattle.cp_scope.specs.Places.{PlaceIs}
 use Rattle.cp_scope.proofs.Parts.{PartlyIndexed}
 use Rattle.cp_scope.proofs.scope.Scope.indexed_type.Given as goal

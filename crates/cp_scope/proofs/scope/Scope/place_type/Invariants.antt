@@ -1,7 +1,7 @@
 use Rattle.std.proofs.Common.{drop}
 use Rattle.cp_model.specs.Erase as erase
 use Rattle.cp_model.specs.View as view
-use Rattle.cp_code.specs.Scopes as code
+use Rattle.cp_program_model.specs.Scopes as code
 use Rattle.cp_scope.specs.Scopes.{IsScope}
 use Rattle.cp_scope.proofs.Parts.{PartlySelected}
 use Rattle.cp_scope.proofs.scope.Scope.place_type.Given as goal

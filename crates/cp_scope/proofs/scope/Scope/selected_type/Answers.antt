@@ -1,5 +1,5 @@
 use Rattle.cp_typing.specs.StaticTypes.{place_type}
-use Rattle.cp_code.specs.Scopes.{environment}
+use Rattle.cp_program_model.specs.Scopes.{environment}
 use Rattle.cp_scope.proofs.Parts.{field_selected}
 use Rattle.cp_scope.proofs.Unrefused.{if_ok}
 use Rattle.cp_scope.proofs.scope.Scope.selected_type.Goals as goal

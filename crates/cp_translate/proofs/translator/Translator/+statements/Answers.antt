@@ -6,9 +6,9 @@ use Rattle.cp_model.specs.Syntax as syntax
 use Rattle.cp_model.specs.View as tree
 use Rattle.cp_model.specs.declared.tree.Arm.{Arm}
 use Rattle.cp_model.specs.declared.tree.Statement.{Statement}
-use Rattle.cp_code.specs.CodedStatements.{Emitted, EmittedArms, calls_at, emitted, emitted_arms, table_of, with_calls}
-use Rattle.cp_code.specs.CodedTerms.{coded_term}
-use Rattle.cp_code.specs.Programs as op
+use Rattle.cp_program_model.specs.CodedStatements.{Emitted, EmittedArms, calls_at, emitted, emitted_arms, table_of, with_calls}
+use Rattle.cp_program_model.specs.CodedTerms.{coded_term}
+use Rattle.cp_program_model.specs.Programs as op
 use Rattle.cp_emit.specs.Emission.{Emits, place_of, with_body, with_repeated}
 use Rattle.cp_scope.proofs.Unrefused.{if_ok}
 use Rattle.cp_program.specs.View as view

@@ -1,8 +1,8 @@
 use Rattle.std.proofs.Common.{drop, map, reverse}
 use Rattle.cp_model.specs.Erase as erase
 use Rattle.cp_model.specs.View as tree
-use Rattle.cp_code.specs.CodedStatements.{emitted, emitted_arms}
-use Rattle.cp_code.specs.Scopes as code
+use Rattle.cp_program_model.specs.CodedStatements.{emitted, emitted_arms}
+use Rattle.cp_program_model.specs.Scopes as code
 use Rattle.cp_emit.specs.Emission.{place_of}
 use Rattle.cp_scope.specs.Scopes.{IsScope}
 use Rattle.cp_translate.specs.Statements.{ArmsEnter, Enters}

@@ -10,15 +10,15 @@ use Rattle.cp_model.specs.Erase as erase
 use Rattle.cp_model.specs.Expressions.{name_of}
 use Rattle.cp_model.specs.Types.{base_of_type}
 use Rattle.cp_typing.specs.StaticTypes.{expression_type}
-use Rattle.cp_code.specs.Scopes.{environment}
-use Rattle.cp_code.specs.Sites.{first_parameter}
+use Rattle.cp_program_model.specs.Scopes.{environment}
+use Rattle.cp_program_model.specs.Sites.{first_parameter}
 use Rattle.cp_scope.specs.Standing.{simple_of}
 use Rattle.cp_model.specs.Syntax as syntax
 use Rattle.cp_model.specs.Syntax.{chain_of}
 use Rattle.cp_model.specs.View as tree
 use Rattle.cp_model.specs.declared.tree.Expression.{Expression}
-use Rattle.cp_code.specs.CodedTerms.{CodedArguments, argument_of, coded_arguments, coded_spot, coded_term, coded_variable, function_named, lone_term, name_or_item, no_arguments, parameters_of, term_of_name, with_argument}
-use Rattle.cp_code.specs.Terms.{Function, Number, Standard}
+use Rattle.cp_program_model.specs.CodedTerms.{CodedArguments, argument_of, coded_arguments, coded_spot, coded_term, coded_variable, function_named, lone_term, name_or_item, no_arguments, parameters_of, term_of_name, with_argument}
+use Rattle.cp_program_model.specs.Terms.{Function, Number, Standard}
 use Rattle.cp_emit.specs.Emission.{coded_call}
 use Rattle.cp_scope.proofs.Unrefused.{if_ok}
 use Rattle.cp_emit.specs.declared.call.MadeTerm.{MadeTerm}

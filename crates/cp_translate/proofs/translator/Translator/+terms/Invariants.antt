@@ -6,9 +6,9 @@ use Rattle.cp_model.specs.Erase as erase
 use Rattle.cp_model.specs.Syntax as syntax
 use Rattle.cp_model.specs.Syntax.{chain_of}
 use Rattle.cp_model.specs.View as tree
-use Rattle.cp_code.specs.CodedTerms as coded
-use Rattle.cp_code.specs.CodedTerms.{coded_arguments, coded_term}
-use Rattle.cp_code.specs.Scopes as code
+use Rattle.cp_program_model.specs.CodedTerms as coded
+use Rattle.cp_program_model.specs.CodedTerms.{coded_arguments, coded_term}
+use Rattle.cp_program_model.specs.Scopes as code
 use Rattle.cp_emit.specs.Emission.{coded_call}
 use Rattle.cp_scope.specs.Scopes.{IsScope}
 use Rattle.cp_scope.specs.Variables.{AreDeclared, declared_entry}

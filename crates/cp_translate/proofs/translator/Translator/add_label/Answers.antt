@@ -3,7 +3,7 @@ use Rattle.std.specs.Int.{w32}
 use Rattle.std.specs.Prelude.{FitsSigned}
 use Rattle.std.proofs.lemmas.Int.{to_z-of_z}
 use Rattle.cp_model.specs.Erase as erase
-use Rattle.cp_code.specs.Programs as code
+use Rattle.cp_program_model.specs.Programs as code
 use Rattle.cp_scope.specs.Standing.{value_of}
 use Rattle.cp_program.proofs.Wide.{narrow}
 use Rattle.cp_program.specs.declared.arm.Arm.{Arm}

@@ -1,12 +1,12 @@
 use Rattle.std.proofs.Common.{map}
 use Rattle.cp_model.specs.Erase as erase
 use Rattle.cp_model.specs.View as tree
-use Rattle.cp_code.specs.CodedTerms.{coded_term}
-use Rattle.cp_code.specs.Programs as op
+use Rattle.cp_program_model.specs.CodedTerms.{coded_term}
+use Rattle.cp_program_model.specs.Programs as op
 use Rattle.cp_program.specs.declared.operation.Operation.TheVariants as operation
 use Rattle.cp_translate.proofs.Answered.{both_ok}
 use Rattle.cp_translate.proofs.Emitting.{entered}
-use Rattle.cp_code.specs.CodedStatements.{table_of}
+use Rattle.cp_program_model.specs.CodedStatements.{table_of}
 use Rattle.cp_program.specs.Labels.{arm}
 use Rattle.cp_translate.proofs.translator.Translator.choose.Goals as goal
 

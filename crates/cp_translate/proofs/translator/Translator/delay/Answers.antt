@@ -1,7 +1,7 @@
 use Rattle.cp_model.specs.Erase as erase
 use Rattle.cp_model.specs.View as tree
-use Rattle.cp_code.specs.CodedTerms.{coded_variable}
-use Rattle.cp_code.specs.Programs as op
+use Rattle.cp_program_model.specs.CodedTerms.{coded_variable}
+use Rattle.cp_program_model.specs.Programs as op
 use Rattle.cp_program.specs.declared.operation.Operation.TheVariants as operation
 use Rattle.cp_translate.proofs.Answered.{both_ok}
 use Rattle.cp_translate.proofs.Emitting.{entered}

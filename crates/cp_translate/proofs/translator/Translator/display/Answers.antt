@@ -1,15 +1,15 @@
 use Rattle.std.proofs.Common.{◌≡◌, ◌∙◌, ap}
 use Rattle.cp_model.specs.Erase as erase
 use Rattle.cp_model.specs.View as tree
-use Rattle.cp_code.specs.CodedTerms.{coded_term}
-use Rattle.cp_code.specs.Programs as op
+use Rattle.cp_program_model.specs.CodedTerms.{coded_term}
+use Rattle.cp_program_model.specs.Programs as op
 use Rattle.cp_program.specs.declared.operation.Operation.TheVariants as operation
 use Rattle.cp_translate.proofs.Answered.{both_ok}
 use Rattle.cp_translate.proofs.Emitting.{entered}
 use Rattle.cp_model.specs.Types.{base_of_type}
 use Rattle.cp_typing.specs.StaticTypes.{expression_type}
-use Rattle.cp_code.specs.CodedStatements.{is_char}
-use Rattle.cp_code.specs.Scopes.{environment}
+use Rattle.cp_program_model.specs.CodedStatements.{is_char}
+use Rattle.cp_program_model.specs.Scopes.{environment}
 use Rattle.cp_translate.proofs.translator.Translator.display.Goals as goal
 
 pub returns : goal.returns

@@ -2,12 +2,12 @@ use Rattle.std.proofs.Common.{rules, ◌≡◌, ◌∙◌, ℕ, Option, Some, re
 use Rattle.std.specs.Int.{w32}
 use Rattle.std.specs.Prelude.{FitsSigned}
 use Rattle.std.proofs.lemmas.Int.{to_z-of_z}
-use Rattle.cp_code.specs.Terms as plain
+use Rattle.cp_program_model.specs.Terms as plain
 use Rattle.cp_program.specs.View as view
 use Rattle.cp_typing.specs.StaticTypes.{element_type, place_type}
 use Rattle.cp_typing.specs.Words.{words}
-use Rattle.cp_code.specs.CodedTerms.{coded_spot, coded_term}
-use Rattle.cp_code.specs.Scopes.{environment}
+use Rattle.cp_program_model.specs.CodedTerms.{coded_spot, coded_term}
+use Rattle.cp_program_model.specs.Scopes.{environment}
 use Rattle.cp_scope.specs.Layouts.{Counts}
 use Rattle.cp_scope.specs.Places.{TypeIs, elements_of}
 use Rattle.cp_scope.specs.Standing.{Stands, row_at}

@@ -1,6 +1,6 @@
 use Rattle.std.proofs.Common.{rules, ◌≡◌, ℕ, Option, Some, refl, subst}
 use Rattle.cp_typing.specs.StaticTypes.{place_type}
-use Rattle.cp_code.specs.Scopes.{environment}
+use Rattle.cp_program_model.specs.Scopes.{environment}
 use Rattle.cp_scope.specs.Places.{TypeIs}
 use Rattle.cp_scope.specs.Standing.{Stands}
 use Rattle.cp_translate.proofs.PartsMade.{field_made}

@@ -1,6 +1,6 @@
 use Rattle.std.proofs.Common.{◌∷◌, ◌++◌, ◌∙◌, [], ap, map}
-use Rattle.cp_code.specs.CodedTerms.{call_of}
-use Rattle.cp_code.specs.Scopes.{environment, target_of, unit_of}
+use Rattle.cp_program_model.specs.CodedTerms.{call_of}
+use Rattle.cp_program_model.specs.Scopes.{environment, target_of, unit_of}
 use Rattle.cp_emit.specs.Emission.{coded_call}
 use Rattle.cp_translate.proofs.Answered.{all_ok}
 use Rattle.cp_translate.proofs.ArgumentsMade.{call_made}

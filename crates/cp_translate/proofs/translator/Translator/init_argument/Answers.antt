@@ -2,10 +2,10 @@ use Rattle.std.proofs.Common.{rules, ◌≡◌, ◌∙◌, true, ap, map, subst,
 use Rattle.cp_model.specs.Declarations.{is_component}
 use Rattle.cp_model.specs.Erase as erase
 use Rattle.cp_model.specs.View as tree
-use Rattle.cp_code.specs.CodedTerms.{coded_term, lone_spot}
-use Rattle.cp_code.specs.Layout.{member, right}
-use Rattle.cp_code.specs.Scopes.{part_start, right_start}
-use Rattle.cp_code.specs.Terms as plain
+use Rattle.cp_program_model.specs.CodedTerms.{coded_term, lone_spot}
+use Rattle.cp_program_model.specs.Layout.{member, right}
+use Rattle.cp_program_model.specs.Scopes.{part_start, right_start}
+use Rattle.cp_program_model.specs.Terms as plain
 use Rattle.cp_emit.specs.Emission.{coded_call}
 use Rattle.cp_scope.proofs.Unrefused.{if_ok}
 use Rattle.cp_translate.specs.Initialisation.{right_argument}

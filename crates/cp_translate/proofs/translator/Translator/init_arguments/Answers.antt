@@ -4,7 +4,7 @@ use Rattle.cp_model.specs.Declarations.{declarations}
 use Rattle.cp_model.specs.Erase as erase
 use Rattle.cp_model.specs.View as tree
 use Rattle.cp_model.specs.declared.tree.Expression.{Expression}
-use Rattle.cp_code.specs.CodedTerms.{CodedArguments, init_argument, init_arguments, with_argument}
+use Rattle.cp_program_model.specs.CodedTerms.{CodedArguments, init_argument, init_arguments, with_argument}
 use Rattle.cp_emit.specs.Emission.{coded_call}
 use Rattle.cp_translate.proofs.ArgumentsMade.{Finishes, all_made, declared_at, got, none_made, one_made}
 use Rattle.cp_translate.proofs.Initialising.{parameters_stand}

@@ -3,8 +3,8 @@ use Rattle.cp_model.specs.Abstract as a
 use Rattle.cp_model.specs.Declarations.{declarations}
 use Rattle.cp_model.specs.Erase as erase
 use Rattle.cp_model.specs.View as tree
-use Rattle.cp_code.specs.CodedTerms.{init_arguments}
-use Rattle.cp_code.specs.Scopes as code
+use Rattle.cp_program_model.specs.CodedTerms.{init_arguments}
+use Rattle.cp_program_model.specs.Scopes as code
 use Rattle.cp_emit.specs.Emission.{coded_call}
 use Rattle.cp_scope.specs.Scopes.{IsScope}
 use Rattle.cp_translate.specs.Initialisation.{IsTable}

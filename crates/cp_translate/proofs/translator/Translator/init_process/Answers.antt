@@ -2,8 +2,8 @@ use Rattle.std.proofs.Common.{rules, ◌≡◌, ◌+◌, ◌∙◌, false, arith
 use Rattle.cp_model.specs.Abstract.{Process}
 use Rattle.cp_model.specs.Components.{count_before, process_number}
 use Rattle.cp_model.specs.Declarations.{declarations}
-use Rattle.cp_code.specs.Programs as op
-use Rattle.cp_code.specs.Scopes.{environment}
+use Rattle.cp_program_model.specs.Programs as op
+use Rattle.cp_program_model.specs.Scopes.{environment}
 use Rattle.cp_program.specs.View as view
 use Rattle.cp_translate.proofs.translator.Translator.init_process.Goals as goal
 

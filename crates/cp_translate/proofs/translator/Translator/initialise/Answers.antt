@@ -4,7 +4,7 @@ use Rattle.cp_model.specs.Abstract as a
 use Rattle.cp_model.specs.Erase as erase
 use Rattle.cp_model.specs.View as tree
 use Rattle.cp_model.specs.declared.tree.InitItem.{InitItem}
-use Rattle.cp_code.specs.CodedStatements.{Emitted, emitted}
+use Rattle.cp_program_model.specs.CodedStatements.{Emitted, emitted}
 use Rattle.cp_emit.specs.Emission.{place_of}
 use Rattle.cp_translate.specs.Statements.{Enters}
 use Rattle.cp_translate.proofs.Sequencing.{seq_entered}

@@ -2,7 +2,7 @@ use Rattle.std.proofs.Common.{◌≡◌, ◌∷◌, ◌+◌, ◌-◌, ◌<◌, �
 use Rattle.std.proofs.lemmas.List.{at_drop_all, at_drop_more}
 use Rattle.cp_model.specs.Erase as erase
 use Rattle.cp_model.specs.declared.tree.Constant.{Constant}
-use Rattle.cp_code.specs.CodedStatements.{arms_at}
+use Rattle.cp_program_model.specs.CodedStatements.{arms_at}
 use Rattle.cp_program.specs.Labels.{arm}
 use Rattle.cp_translate.proofs.Labelling.{label_before}
 use Rattle.cp_translate.proofs.translator.Translator.label.Goals as goal

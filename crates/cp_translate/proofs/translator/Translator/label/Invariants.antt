@@ -1,7 +1,7 @@
 use Rattle.std.proofs.Common.{◌≡◌, drop, map, reverse}
 use Rattle.cp_model.specs.Erase as erase
-use Rattle.cp_code.specs.CodedStatements.{arms_at}
-use Rattle.cp_code.specs.Scopes as code
+use Rattle.cp_program_model.specs.CodedStatements.{arms_at}
+use Rattle.cp_program_model.specs.Scopes as code
 use Rattle.cp_scope.specs.Scopes.{IsScope}
 use Rattle.cp_program.specs.Labels.{arm}
 use Rattle.cp_translate.proofs.translator.Translator.label.Given as goal

@@ -2,8 +2,8 @@ use Rattle.std.proofs.Common.{map, subst, sym}
 use Rattle.cp_model.specs.Calls.{callee}
 use Rattle.cp_model.specs.Erase as erase
 use Rattle.cp_model.specs.View as tree
-use Rattle.cp_code.specs.CodedStatements.{perform_by, standard_statement}
-use Rattle.cp_code.specs.Scopes.{environment}
+use Rattle.cp_program_model.specs.CodedStatements.{perform_by, standard_statement}
+use Rattle.cp_program_model.specs.Scopes.{environment}
 use Rattle.cp_emit.specs.Emission.{place_of}
 use Rattle.cp_scope.proofs.Unrefused.{if_ok}
 use Rattle.cp_translate.specs.Statements.{Enters}

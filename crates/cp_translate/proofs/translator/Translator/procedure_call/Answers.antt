@@ -1,10 +1,10 @@
 use Rattle.std.proofs.Common.{◌≡◌, ◌∙◌, [], ap, map, subst}
 use Rattle.cp_model.specs.Erase as erase
 use Rattle.cp_model.specs.View as tree
-use Rattle.cp_code.specs.CodedTerms.{call_of, coded_arguments, parameters_of}
-use Rattle.cp_code.specs.Programs as op
-use Rattle.cp_code.specs.Scopes.{environment, target_of, unit_of}
-use Rattle.cp_code.specs.Sites.{first_parameter}
+use Rattle.cp_program_model.specs.CodedTerms.{call_of, coded_arguments, parameters_of}
+use Rattle.cp_program_model.specs.Programs as op
+use Rattle.cp_program_model.specs.Scopes.{environment, target_of, unit_of}
+use Rattle.cp_program_model.specs.Sites.{first_parameter}
 use Rattle.cp_program.specs.declared.operation.Operation.TheVariants as operation
 use Rattle.cp_translate.specs.Translated.{AreArguments}
 use Rattle.cp_translate.proofs.Answered.{both_ok}

@@ -3,8 +3,8 @@ use Rattle.std.specs.Str.{bytes_eq}
 use Rattle.cp_model.specs.Erase as erase
 use Rattle.cp_model.specs.View as tree
 use Rattle.cp_typing.specs.StaticTypes.{expression_type}
-use Rattle.cp_code.specs.CodedTerms.{coded_term, coded_variable}
-use Rattle.cp_code.specs.Scopes.{environment}
+use Rattle.cp_program_model.specs.CodedTerms.{coded_term, coded_variable}
+use Rattle.cp_program_model.specs.Scopes.{environment}
 use Rattle.cp_emit.specs.Emission.{place_of}
 use Rattle.cp_scope.proofs.Unrefused.{if_ok}
 use Rattle.cp_translate.specs.Statements.{Enters}

@@ -1,8 +1,8 @@
 use Rattle.std.proofs.Common.{◌++◌, ◌∙◌, ap, map, subst}
 use Rattle.cp_model.specs.Erase as erase
 use Rattle.cp_model.specs.View as tree
-use Rattle.cp_code.specs.CodedTerms.{coded_term}
-use Rattle.cp_code.specs.Programs as op
+use Rattle.cp_program_model.specs.CodedTerms.{coded_term}
+use Rattle.cp_program_model.specs.Programs as op
 use Rattle.cp_program.specs.View as view
 use Rattle.cp_program.specs.declared.operation.Operation.TheVariants as operation
 use Rattle.cp_translate.proofs.Answered.{both_ok}
