@@ -8,9 +8,9 @@ use Rattle.cp_model.specs.Report.{report}
 use Rattle.cp_model.specs.Rounds as meaning
 use Rattle.cp_model.specs.Start.{start}
 use Rattle.cp_model.specs.States.{Setup, numbers_from, process_count}
-use Rattle.cp_steps.specs.Machines.{first_machine, phased_rounds}
-use Rattle.cp_steps.specs.Reports.{machine_report}
-use Rattle.cp_steps.specs.RoundLaws.{RunIsReported}
+use Rattle.cp_machine_model.specs.Machines.{first_machine, phased_rounds}
+use Rattle.cp_machine_model.specs.Reports.{machine_report}
+use Rattle.cp_machine_model.specs.RoundLaws.{RunIsReported}
 use Rattle.cp_rounds.specs.InStates.{HaveInputs, IsStarted}
 use Rattle.cp_rounds.specs.MachineOf.{bytes_or_none, input_of}
 use Rattle.cp_rounds.specs.Views.{machine_of, processes_of}

@@ -16,7 +16,7 @@ use cp_rounds::tick::Tick;
 use cp_model::tree::Tree;
 use cp_report::report::report;
 use cp_scope::Tables;
-use cp_steps::law::reports;
+use cp_machine_model::law::reports;
 use std::alloc::Global;
 use std::sync::Wait;
 use std::thread::Threads;

@@ -3,12 +3,12 @@ use Rattle.std.proofs.Common.{◌≡◌, ◌-◌, Option, None, Some, slice_get,
 use Rattle.cp_program_model.specs.Programs as code
 use Rattle.cp_program_model.specs.Programs.{Program}
 use Rattle.cp_program_model.specs.Starts.{block, paste}
-use Rattle.cp_steps.specs.KernelSteps.{Kernel}
-use Rattle.cp_steps.specs.Machines.{begin_from, begin_if}
+use Rattle.cp_machine_model.specs.KernelSteps.{Kernel}
+use Rattle.cp_machine_model.specs.Machines.{begin_from, begin_if}
 use Rattle.cp_private.specs.States as states
 use Rattle.cp_private.specs.declared.outside.Stage.{Stage}
 use Rattle.cp_private.specs.declared.outside.Stage.TheVariants as stage
-use Rattle.cp_steps.specs.PrivateStates.{PrivateState, Running}
+use Rattle.cp_machine_model.specs.PrivateStates.{PrivateState, Running}
 
 pub begun_number : (program : Program) (k : Kernel) (o : PrivateState) → (begin_from program k o).number ≡ o.number
 begun_number program k o = by (slice_get program.processes (o.number - 1))

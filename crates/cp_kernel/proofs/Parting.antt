@@ -3,9 +3,9 @@ use Rattle.std.proofs.Common.{◌≡◌, ◌++◌, ℕ, zero, suc, ℤ, List, le
 use Rattle.std.specs.Prelude.{map, option_map}
 use Rattle.std.proofs.Math.Seq.{drop-append_seam, take-append_seam}
 use Rattle.cp_program_model.specs.Programs.{Program}
-use Rattle.cp_steps.specs.KernelSteps as plain
-use Rattle.cp_steps.specs.PrivateStates.{Effect}
-use Rattle.cp_steps.specs.Steps.{step_with}
+use Rattle.cp_machine_model.specs.KernelSteps as plain
+use Rattle.cp_machine_model.specs.PrivateStates.{Effect}
+use Rattle.cp_machine_model.specs.Steps.{step_with}
 use Rattle.cp_private.specs.States as states
 use Rattle.cp_private.specs.declared.outside.Gate.{Gate}
 use Rattle.cp_private.specs.declared.outside.Stage.{Stage}

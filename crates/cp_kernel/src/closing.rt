@@ -3,7 +3,7 @@
 ghost use Rattle.std.specs.Prelude.{◌≡◌, ℕ, List, length, map};
 ghost use Rattle.cp_private.specs.declared.private.Private.{Private};
 ghost use Rattle.cp_private.specs.States.{private_of, stage as stage_view};
-ghost use Rattle.cp_steps.specs.Machines as plain;
+ghost use Rattle.cp_machine_model.specs.Machines as plain;
 ghost use Rattle.cp_program.specs.View as view;
 ghost use Rattle.cp_kernel.specs.KernelOf.{kernel_of};
 ghost use Rattle.cp_kernel.specs.Turns.{parts_of};

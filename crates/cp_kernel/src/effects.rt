@@ -7,7 +7,7 @@ ghost use Rattle.std.specs.Prelude.{◌≡◌, ◌+◌, ◌-◌, ◌∷◌, ◌+
 ghost use Rattle.cp_program_model.specs.Layout as layout;
 ghost use Rattle.cp_model.specs.States as model;
 ghost use Rattle.cp_private.specs.States.{effect as effect_view, holder as holder_view, stage as stage_view};
-ghost use Rattle.cp_steps.specs.KernelSteps as plain;
+ghost use Rattle.cp_machine_model.specs.KernelSteps as plain;
 ghost use Rattle.cp_kernel.specs.KernelOf.{HasRoomForAskers, IsAmong, IsBegun, kernel_of};
 
 use crate::kernel::Kernel;

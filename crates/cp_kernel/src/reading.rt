@@ -3,9 +3,9 @@
 ghost use Rattle.std.specs.Prelude.{◌≡◌};
 ghost use Rattle.cp_program_model.specs.Starts.{word};
 ghost use Rattle.cp_private.specs.States.{holder as holder_view, stage as stage_view};
-ghost use Rattle.cp_steps.specs.KernelSteps as plain;
+ghost use Rattle.cp_machine_model.specs.KernelSteps as plain;
 ghost use Rattle.cp_kernel.specs.KernelOf.{kernel_of, transcripts_of};
-ghost use Rattle.cp_steps.specs.Machines.{transcript_of};
+ghost use Rattle.cp_machine_model.specs.Machines.{transcript_of};
 
 use crate::kernel::Kernel;
 use cp_private::outside::{Holder, Stage};

@@ -3,7 +3,7 @@
 ghost use Rattle.std.specs.Prelude.{◌≡◌, ◌-◌, ◌<◌, ◌^◌, ◌∷◌, ℕ, List, [], IfOk, Some, map, pos, replicate, length, slice_get};
 ghost use Rattle.cp_program_model.specs.Programs as code;
 ghost use Rattle.cp_private.specs.States as states;
-ghost use Rattle.cp_steps.specs.Machines as plain;
+ghost use Rattle.cp_machine_model.specs.Machines as plain;
 ghost use Rattle.cp_program.specs.View as view;
 ghost use Rattle.cp_kernel.specs.KernelOf.{Bytes, kernel_of, transcripts_of, unset_gate};
 

@@ -5,8 +5,8 @@ ghost use Rattle.std.specs.Prelude.{◌≡◌, ◌≢◌, ◌≤◌, ◌+◌, �
 ghost use Rattle.cp_private.specs.Rooms.{HasRoomFor, KeepsRoom};
 ghost use Rattle.cp_private.specs.States.{private_of};
 ghost use Rattle.cp_private.specs.States.{effect, join};
-ghost use Rattle.cp_steps.specs.KernelSteps as plain;
-ghost use Rattle.cp_steps.specs.Steps.{step_with};
+ghost use Rattle.cp_machine_model.specs.KernelSteps as plain;
+ghost use Rattle.cp_machine_model.specs.Steps.{step_with};
 ghost use Rattle.cp_program.specs.View as view;
 ghost use Rattle.cp_kernel.specs.Due;
 ghost use Rattle.cp_kernel.specs.KernelOf.{HasRoomForAskers, IsAmong, IsBegun, turning};

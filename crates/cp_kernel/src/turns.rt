@@ -3,7 +3,7 @@
 ghost use Rattle.std.specs.Prelude.{◌≡◌, ◌≤◌, ◌+◌, ◌*◌, ℕ, List, [], length, vec_capacity, vec_len};
 ghost use Rattle.cp_private.specs.Rooms.{HasRoomFor};
 ghost use Rattle.cp_private.specs.States.{private_of};
-ghost use Rattle.cp_steps.specs.KernelSteps as plain;
+ghost use Rattle.cp_machine_model.specs.KernelSteps as plain;
 ghost use Rattle.cp_program.specs.View as view;
 ghost use Rattle.cp_kernel.specs.KernelOf.{HasRoomForAskers, HasRoomForBytes, IsAmong, kernel_of, turning};
 ghost use Rattle.cp_kernel.specs.Turns.{IsTurned, Moves};

@@ -5,9 +5,9 @@ use Rattle.cp_model.specs.Integers.{same_integer}
 use Rattle.cp_model.specs.declared.state.Fault.TheVariants as fault
 use Rattle.cp_program_model.specs.Programs.{Call, CodeUnit, Program}
 use Rattle.cp_program_model.specs.Starts.{word}
-use Rattle.cp_steps.specs.PrivateStates.{Acting, Enters, Opens, Outside, PrivateState, private_outcome, guard, set_word}
-use Rattle.cp_steps.specs.Calling.{Back, class_at, enter, gate_effect, has_room, settle, start_words, with_unit}
-use Rattle.cp_steps.specs.Passing.{Called, pass_all, when_passed}
+use Rattle.cp_machine_model.specs.PrivateStates.{Acting, Enters, Opens, Outside, PrivateState, private_outcome, guard, set_word}
+use Rattle.cp_machine_model.specs.Calling.{Back, class_at, enter, gate_effect, has_room, settle, start_words, with_unit}
+use Rattle.cp_machine_model.specs.Passing.{Called, pass_all, when_passed}
 
 module _ (program : Program) (w : Outside) (o : PrivateState) (call : Call) where
   abbrev pub call_done : Back → Called → CodeUnit → PrivateState → Acting

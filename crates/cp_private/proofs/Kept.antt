@@ -5,9 +5,9 @@ use Rattle.cp_model.specs.Places.{within}
 use Rattle.cp_model.specs.declared.state.Fault.{Fault}
 use Rattle.cp_model.specs.declared.state.Fault.TheVariants as fault
 use Rattle.cp_program_model.specs.Terms.{Argument, Copy, Reference, Right, Value}
-use Rattle.cp_steps.specs.Values.{place_of, value_of}
-use Rattle.cp_steps.specs.PrivateStates.{Outside, PrivateState, view_of}
-use Rattle.cp_steps.specs.Passing.{Passing, pass_all, pass_copy, pass_one, pass_result, pass_value, pass_word, reference_word, unless_fault}
+use Rattle.cp_machine_model.specs.Values.{place_of, value_of}
+use Rattle.cp_machine_model.specs.PrivateStates.{Outside, PrivateState, view_of}
+use Rattle.cp_machine_model.specs.Passing.{Passing, pass_all, pass_copy, pass_one, pass_result, pass_value, pass_word, reference_word, unless_fault}
 use Rattle.cp_private.specs.States.{join}
 use Rattle.cp_private.specs.declared.private.Private.{Private}
 use Rattle.cp_private.proofs.InUse.{length-frames}

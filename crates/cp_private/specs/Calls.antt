@@ -4,10 +4,10 @@ use Rattle.cp_model.specs.Integers.{same_integer}
 use Rattle.cp_model.specs.declared.state.Fault.{Fault}
 use Rattle.cp_model.specs.declared.state.Fault.TheVariants as fault
 use Rattle.cp_program_model.specs.Starts.{unset, word}
-use Rattle.cp_steps.specs.PrivateStates as states
-use Rattle.cp_steps.specs.PrivateStates.{PrivateState, set_temp}
-use Rattle.cp_steps.specs.Calling as calling
-use Rattle.cp_steps.specs.Passing as passing
+use Rattle.cp_machine_model.specs.PrivateStates as states
+use Rattle.cp_machine_model.specs.PrivateStates.{PrivateState, set_temp}
+use Rattle.cp_machine_model.specs.Calling as calling
+use Rattle.cp_machine_model.specs.Passing as passing
 use Rattle.cp_private.specs.declared.called.Called.{Called}
 use Rattle.cp_private.specs.declared.called.Back.{Back}
 use Rattle.cp_private.specs.declared.private.Private.{Private}

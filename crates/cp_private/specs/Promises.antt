@@ -6,8 +6,8 @@ use Rattle.cp_model.specs.Operators.{realtime}
 use Rattle.cp_model.specs.States.{Setup, State, running_clock}
 use Rattle.cp_model.specs.Turns as meaning
 use Rattle.cp_program_model.specs.StandsFor.{StandsFor}
-use Rattle.cp_steps.specs.Laws.{ground_of}
-use Rattle.cp_steps.specs.PartOf.{PartOf}
+use Rattle.cp_machine_model.specs.Laws.{ground_of}
+use Rattle.cp_machine_model.specs.PartOf.{PartOf}
 use Rattle.cp_program.specs.declared.program.Program.{Program}
 use Rattle.cp_program.specs.View as view
 use Rattle.cp_private.specs.States.{private_of}

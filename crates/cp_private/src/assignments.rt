@@ -4,8 +4,8 @@ ghost use Rattle.std.specs.Prelude.{◌≡◌, ◌<◌, ◌^◌, ℕ, pos, List,
 ghost use Rattle.cp_program_model.specs.Tables.{place_in};
 ghost use Rattle.cp_model.specs.Integers.{same_integer};
 ghost use Rattle.cp_model.specs.Places.{within};
-ghost use Rattle.cp_steps.specs.Steps as plain;
-ghost use Rattle.cp_steps.specs.PrivateStates.{go_to, private_outcome};
+ghost use Rattle.cp_machine_model.specs.Steps as plain;
+ghost use Rattle.cp_machine_model.specs.PrivateStates.{go_to, private_outcome};
 ghost use Rattle.cp_private.specs.States.{IsReady, IsStep, join, outcome};
 ghost use Rattle.cp_program.specs.Reaches.{cap_place};
 ghost use Rattle.cp_program.specs.View as view;

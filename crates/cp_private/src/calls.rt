@@ -4,8 +4,8 @@ ghost use Rattle.std.specs.Prelude.{◌≡◌, ◌+◌, ◌<◌, ◌≤◌, ◌^
 ghost use Rattle.cp_program_model.specs.Programs.{CodeUnit as PlainUnit};
 ghost use Rattle.cp_private.specs.Calls.{HasRoom, back};
 ghost use Rattle.cp_private.specs.States.{IsStep, join};
-ghost use Rattle.cp_steps.specs.Calling as plain;
-ghost use Rattle.cp_steps.specs.PrivateStates as states;
+ghost use Rattle.cp_machine_model.specs.Calling as plain;
+ghost use Rattle.cp_machine_model.specs.PrivateStates as states;
 ghost use Rattle.cp_program.specs.View as view;
 
 use crate::called::Back;

@@ -3,7 +3,7 @@
 ghost use Rattle.std.specs.Prelude.{◌≡◌, ◌<◌, ◌^◌, ℕ, ℤ, List, length, map};
 ghost use Rattle.cp_program_model.specs.Starts.{block, paste, carry_out};
 ghost use Rattle.cp_private.specs.States.{IsReady, join};
-ghost use Rattle.cp_steps.specs.PrivateStates as plain;
+ghost use Rattle.cp_machine_model.specs.PrivateStates as plain;
 ghost use Rattle.cp_program.specs.Reaches.{cap_place};
 ghost use Rattle.cp_program.specs.View as view;
 

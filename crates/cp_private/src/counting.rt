@@ -5,7 +5,7 @@ ghost use Rattle.std.specs.Int.{w32};
 ghost use Rattle.cp_model.specs.StatementSteps as statements;
 ghost use Rattle.cp_program_model.specs.Starts.{word};
 ghost use Rattle.cp_private.specs.States.{IsStep};
-ghost use Rattle.cp_steps.specs.Steps as plain;
+ghost use Rattle.cp_machine_model.specs.Steps as plain;
 ghost use Rattle.cp_program.specs.View as view;
 
 use crate::assignments::Bounds;

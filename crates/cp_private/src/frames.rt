@@ -5,8 +5,8 @@ ghost use Rattle.cp_program_model.specs.Starts as starts;
 ghost use Rattle.cp_model.specs.declared.state.Fault.TheVariants as fault;
 ghost use Rattle.cp_private.specs.States.{effect, frame as view_frame, frames_in, join};
 ghost use Rattle.cp_private.specs.Calls.{back, called_of, returning, value_to_return};
-ghost use Rattle.cp_steps.specs.Calling as plain;
-ghost use Rattle.cp_steps.specs.PrivateStates.{Enters, Leaves};
+ghost use Rattle.cp_machine_model.specs.Calling as plain;
+ghost use Rattle.cp_machine_model.specs.PrivateStates.{Enters, Leaves};
 ghost use Rattle.cp_program.specs.View as view;
 
 use crate::called::{Back, Called};

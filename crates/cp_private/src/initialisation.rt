@@ -2,8 +2,8 @@
 
 ghost use Rattle.std.specs.Prelude.{◌≡◌, ◌<◌, ◌^◌, ℕ, List, length, map};
 ghost use Rattle.cp_private.specs.States.{IsStep, join};
-ghost use Rattle.cp_steps.specs.Calling as plain;
-ghost use Rattle.cp_steps.specs.Passing.{component_called};
+ghost use Rattle.cp_machine_model.specs.Calling as plain;
+ghost use Rattle.cp_machine_model.specs.Passing.{component_called};
 ghost use Rattle.cp_program.specs.View as view;
 
 use crate::called::{Back, Called};

@@ -1,9 +1,9 @@
 //! The private state of a process of the whole language, and its steps.
 //!
-//! For any program and any private state, a step is the function on plain data that cp_steps
+//! For any program and any private state, a step is the function on plain data that cp_machine_model
 //! defines (`specs/States.antt` defines the plain data). It works on the process's own words and
 //! the shared words after them, so that private and kernel steps are one function. By the law of
-//! cp_steps, private steps and turns are those of the meaning (`specs/Promises.antt`).
+//! cp_machine_model, private steps and turns are those of the meaning (`specs/Promises.antt`).
 //!
 //! - `private`, `making`: the private state, and how it is made, copied and read.
 //! - `outside`, `effect`: what else a step reads, and what it leaves to the kernel.

@@ -5,8 +5,8 @@ ghost use Rattle.cp_program_model.specs.Programs as code;
 ghost use Rattle.cp_program_model.specs.Starts.{carry_out, word};
 ghost use Rattle.cp_private.specs.Rooms.{HasRoomFor};
 ghost use Rattle.cp_private.specs.States.{activity, private_of};
-ghost use Rattle.cp_steps.specs.KernelSteps.{Kernel};
-ghost use Rattle.cp_steps.specs.Machines as plain;
+ghost use Rattle.cp_machine_model.specs.KernelSteps.{Kernel};
+ghost use Rattle.cp_machine_model.specs.Machines as plain;
 ghost use Rattle.cp_program.specs.View as view;
 
 use crate::private::{Activity, Frame, Private};

@@ -3,8 +3,8 @@
 ghost use Rattle.std.specs.Prelude.{◌≡◌, ◌<◌, ◌^◌, ℕ, List, length};
 ghost use Rattle.cp_program_model.specs.Starts.{word};
 ghost use Rattle.cp_private.specs.States.{join, outside_of};
-ghost use Rattle.cp_steps.specs.PrivateStates as plain;
-ghost use Rattle.cp_steps.specs.Values.{place_of, value_of};
+ghost use Rattle.cp_machine_model.specs.PrivateStates as plain;
+ghost use Rattle.cp_machine_model.specs.Values.{place_of, value_of};
 ghost use Rattle.cp_program.specs.Reaches.{cap_place, capped_result, view_of};
 ghost use Rattle.cp_program.specs.View as view;
 

@@ -4,9 +4,9 @@ ghost use Rattle.std.specs.Prelude.{◌≡◌, ◌+◌, ◌*◌, ◌≤◌, ◌<
 ghost use Rattle.cp_private.specs.Rooms.{HasRoomFor, KeepsRoom};
 ghost use Rattle.cp_private.specs.States.{IsStep, join};
 ghost use Rattle.cp_model.specs.StandardCalls as standard;
-ghost use Rattle.cp_steps.specs.PrivateStates as states;
-ghost use Rattle.cp_steps.specs.PrivateStates.{go_to, private_outcome};
-ghost use Rattle.cp_steps.specs.Steps as plain;
+ghost use Rattle.cp_machine_model.specs.PrivateStates as states;
+ghost use Rattle.cp_machine_model.specs.PrivateStates.{go_to, private_outcome};
+ghost use Rattle.cp_machine_model.specs.Steps as plain;
 ghost use Rattle.cp_program.specs.Reaches.{cap_place};
 ghost use Rattle.cp_program.specs.View as view;
 

@@ -4,8 +4,8 @@ ghost use Rattle.std.specs.Prelude.{◌≡◌, ◌<◌, ◌^◌, false, true, �
 ghost use Rattle.cp_private.specs.Rooms.{HasRoomFor, KeepsRoom};
 ghost use Rattle.cp_private.specs.States.{IsAlone, IsReady, IsStep, activity, effect, join, outside_of, private_of};
 ghost use Rattle.cp_program_model.specs.Programs as code;
-ghost use Rattle.cp_steps.specs.PrivateStates.{is_running};
-ghost use Rattle.cp_steps.specs.Steps as plain;
+ghost use Rattle.cp_machine_model.specs.PrivateStates.{is_running};
+ghost use Rattle.cp_machine_model.specs.Steps as plain;
 ghost use Rattle.cp_program.specs.View as view;
 
 use crate::assignments::Bounds;

@@ -5,8 +5,8 @@ ghost use Rattle.cp_program_model.specs.Layout as layout;
 ghost use Rattle.cp_model.specs.Places.{within};
 ghost use Rattle.cp_private.specs.Calls.{called_of};
 ghost use Rattle.cp_private.specs.States.{holder_of, join, outside_of, stage_of};
-ghost use Rattle.cp_steps.specs.KernelSteps as kernel;
-ghost use Rattle.cp_steps.specs.Passing as plain;
+ghost use Rattle.cp_machine_model.specs.KernelSteps as kernel;
+ghost use Rattle.cp_machine_model.specs.Passing as plain;
 ghost use Rattle.cp_program.specs.View as view;
 
 use crate::called::Called;

@@ -4,14 +4,14 @@ ghost use Rattle.std.specs.Prelude.{◌≡◌, ◌≤◌, ◌+◌, ◌*◌, ◌<
 ghost use Rattle.cp_private.specs.Promises.{MakesStep, MakesTurn};
 ghost use Rattle.cp_private.specs.Rooms.{HasRoomFor, KeepsRoom};
 ghost use Rattle.cp_private.specs.States.{IsAlone, effect, join, outside_of, private_of};
-ghost use Rattle.cp_steps.specs.Steps as plain;
+ghost use Rattle.cp_machine_model.specs.Steps as plain;
 ghost use Rattle.cp_program.specs.View as view;
 
 use crate::effect::Effect;
 use crate::outside::Outside;
 use crate::private::Private;
 use crate::turn::Turn;
-use cp_steps::law;
+use cp_machine_model::law;
 use cp_program::program::Program;
 
 // Makes `count` steps, as long as the next one is private.

@@ -8,7 +8,7 @@ use Rattle.cp_program_model.specs.Functions.{unless}
 use Rattle.cp_program_model.specs.Layout.{distance}
 use Rattle.cp_program_model.specs.Terms as plain
 use Rattle.cp_program_model.specs.TermsFor.{move_spot}
-use Rattle.cp_steps.specs.Values.{View, apply, bind, place_of, value_of}
+use Rattle.cp_machine_model.specs.Values.{View, apply, bind, place_of, value_of}
 use Rattle.cp_program.specs.declared.term.Operand.{Operand}
 use Rattle.cp_program.specs.declared.term.Root.{Root}
 use Rattle.cp_program.specs.declared.term.Term.{Term, out-Term, roll-Term}

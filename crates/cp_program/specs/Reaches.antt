@@ -6,7 +6,7 @@ use Rattle.cp_model.specs.declared.state.Fault.TheVariants as fault
 use Rattle.cp_model.specs.Places.{within}
 use Rattle.cp_program_model.specs.Functions.{unless}
 use Rattle.cp_program_model.specs.Layout.{distance}
-use Rattle.cp_steps.specs.Values.{View, apply, bind, value_of}
+use Rattle.cp_machine_model.specs.Values.{View, apply, bind, value_of}
 use Rattle.cp_program.specs.declared.reach.Reach.{Reach}
 use Rattle.cp_program.specs.View.{PlainApplication, PlainIndex}
 

@@ -12,7 +12,7 @@ ghost use Rattle.cp_model.specs.Abstract as abstract;
 ghost use Rattle.cp_model.specs.Erase.{operator_of};
 ghost use Rattle.cp_model.specs.Places.{within};
 ghost use Rattle.cp_model.specs.declared.state.Fault.TheVariants as fault;
-ghost use Rattle.cp_steps.specs.Values as values;
+ghost use Rattle.cp_machine_model.specs.Values as values;
 ghost use Rattle.cp_program.specs.Reaches.{apply_operation, cap_place, capped_result, chain_value, elements_place, offset_of, view_of};
 ghost use Rattle.cp_program.specs.View as view;
 

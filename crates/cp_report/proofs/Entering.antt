@@ -14,7 +14,7 @@ use Rattle.cp_model.specs.View as view
 use Rattle.cp_model.specs.declared.tree.System.{System}
 use Rattle.cp_typing.specs.Words.{component_words, rights_in, words, words_of_members}
 use Rattle.cp_program_model.specs.Layout.{head_words}
-use Rattle.cp_steps.specs.Reports.{Visit, of_class_text, visit_members, visit_type}
+use Rattle.cp_machine_model.specs.Reports.{Visit, of_class_text, visit_members, visit_type}
 use Rattle.cp_scope.specs.Standing.{ScopeStands, entry, row_at, system_at}
 use Rattle.cp_scope.specs.declared.tables.Tables.{Tables}
 use Rattle.cp_scope.specs.declared.types.Field.{Field}

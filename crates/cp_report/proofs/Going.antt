@@ -11,7 +11,7 @@ use Rattle.cp_model.specs.Locations.{ByIndex, ByName, Path}
 use Rattle.cp_model.specs.Report.{Text, path_text}
 use Rattle.cp_model.specs.Types.{GlobalScope, Members, MoreMembers, NoMembers, ResolvedType}
 use Rattle.cp_typing.specs.Words.{words, words_of_members}
-use Rattle.cp_steps.specs.Reports.{Visit, visit_elements, visit_members, visit_type}
+use Rattle.cp_machine_model.specs.Reports.{Visit, visit_elements, visit_members, visit_type}
 use Rattle.cp_scope.specs.Standing.{AreMembers, Stands, row_at}
 use Rattle.cp_scope.specs.declared.tables.Tables.{Tables}
 use Rattle.cp_scope.specs.declared.types.TypeRow.{TypeRow}

@@ -10,8 +10,8 @@ use Rattle.cp_model.specs.Types.{GlobalScope, NoMembers}
 use Rattle.cp_model.specs.View as view
 use Rattle.cp_model.specs.declared.tree.Tree as tree
 use Rattle.cp_program_model.specs.Layout.{head_words}
-use Rattle.cp_steps.specs.Machines.{Machine}
-use Rattle.cp_steps.specs.Reports.{monitors_lines, processes_lines}
+use Rattle.cp_machine_model.specs.Machines.{Machine}
+use Rattle.cp_machine_model.specs.Reports.{monitors_lines, processes_lines}
 use Rattle.cp_scope.specs.Standing.{AreMembers}
 use Rattle.cp_scope.specs.Texts.{TablesStand}
 use Rattle.cp_scope.specs.Variables.{AreDeclared, declared_entry, variables_of}

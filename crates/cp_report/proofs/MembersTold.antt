@@ -7,7 +7,7 @@ use Rattle.cp_model.specs.Locations.{ByName}
 use Rattle.cp_model.specs.Report.{Text}
 use Rattle.cp_model.specs.Types.{GlobalScope, Members, MoreMembers, NoMembers}
 use Rattle.cp_typing.specs.Words.{words}
-use Rattle.cp_steps.specs.Reports.{Visit, visit_members, visit_type}
+use Rattle.cp_machine_model.specs.Reports.{Visit, visit_members, visit_type}
 use Rattle.cp_scope.specs.Standing.{AreMembers, ScopeStands}
 use Rattle.cp_scope.specs.declared.tables.Tables.{Tables}
 use Rattle.cp_scope.specs.declared.types.Types.{Types}

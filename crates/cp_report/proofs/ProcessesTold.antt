@@ -8,10 +8,10 @@ use Rattle.cp_model.specs.Declarations.{globals}
 use Rattle.cp_model.specs.Report.{Text}
 use Rattle.cp_model.specs.States.{Setup}
 use Rattle.cp_model.specs.Types.{Members}
-use Rattle.cp_steps.specs.KernelSteps.{stage_of}
-use Rattle.cp_steps.specs.Machines.{Machine, transcript_of}
-use Rattle.cp_steps.specs.PrivateStates.{PrivateState}
-use Rattle.cp_steps.specs.Reports.{head_line, lines_visit, part_lines, process_lines, stage_text, transcript_line, visit_members}
+use Rattle.cp_machine_model.specs.KernelSteps.{stage_of}
+use Rattle.cp_machine_model.specs.Machines.{Machine, transcript_of}
+use Rattle.cp_machine_model.specs.PrivateStates.{PrivateState}
+use Rattle.cp_machine_model.specs.Reports.{head_line, lines_visit, part_lines, process_lines, stage_text, transcript_line, visit_members}
 use Rattle.cp_report.specs.Lines.{front_lines, title}
 
 pub headed : (p : ℕ) (x : Name) (status out : Text) → ((out ++ title p x) ++ status) ++ 10 ∷ [] ≡ out ++ head_line p x status

@@ -6,8 +6,8 @@ use Rattle.cp_model.specs.Declarations.{Variable}
 use Rattle.cp_model.specs.Report.{Text}
 use Rattle.cp_model.specs.Types.{GlobalScope}
 use Rattle.cp_program_model.specs.Programs.{Program}
-use Rattle.cp_steps.specs.Passing.{monitor_start}
-use Rattle.cp_steps.specs.Reports.{queue_visit, queues_text, visit_component}
+use Rattle.cp_machine_model.specs.Passing.{monitor_start}
+use Rattle.cp_machine_model.specs.Reports.{queue_visit, queues_text, visit_component}
 use Rattle.cp_scope.specs.Standing.{ScopeStands}
 use Rattle.cp_scope.specs.declared.tables.Tables.{Tables}
 use Rattle.cp_scope.specs.declared.types.Types.{Types}

@@ -6,7 +6,7 @@ use Rattle.cp_model.specs.Abstract.{Name}
 use Rattle.cp_model.specs.Locations.{ByName}
 use Rattle.cp_model.specs.Report.{Text}
 use Rattle.cp_typing.specs.Words.{words}
-use Rattle.cp_steps.specs.Reports.{Visit, visit_type}
+use Rattle.cp_machine_model.specs.Reports.{Visit, visit_type}
 use Rattle.cp_model.specs.Types.{GlobalScope}
 use Rattle.cp_scope.specs.Standing.{ScopeStands}
 use Rattle.cp_scope.specs.declared.tables.Tables.{Tables}

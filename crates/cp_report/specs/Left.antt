@@ -4,7 +4,7 @@ use Rattle.cp_model.specs.Locations.{Path}
 use Rattle.cp_model.specs.Report.{Text}
 use Rattle.cp_model.specs.Types.{GlobalScope, Members, ResolvedType}
 use Rattle.cp_typing.specs.Words.{words, words_of_members}
-use Rattle.cp_steps.specs.Reports.{Visit, visit_elements, visit_members, visit_type}
+use Rattle.cp_machine_model.specs.Reports.{Visit, visit_elements, visit_members, visit_type}
 
 -- The members of a record or component that are left, or the elements of an array that are left, by
 -- their indices.

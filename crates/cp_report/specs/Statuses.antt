@@ -6,9 +6,9 @@ use Rattle.cp_model.specs.Report.{Text, components_of, name_at}
 use Rattle.cp_model.specs.States.{Setup}
 use Rattle.cp_model.specs.Types.{GlobalScope}
 use Rattle.cp_program_model.specs.Programs.{Program}
-use Rattle.cp_steps.specs.KernelSteps.{Stage}
-use Rattle.cp_steps.specs.PrivateStates.{Activity}
-use Rattle.cp_steps.specs.Reports.{queues_text, stage_text}
+use Rattle.cp_machine_model.specs.KernelSteps.{Stage}
+use Rattle.cp_machine_model.specs.PrivateStates.{Activity}
+use Rattle.cp_machine_model.specs.Reports.{queues_text, stage_text}
 use Rattle.cp_scope.specs.Standing.{ScopeStands}
 use Rattle.cp_scope.specs.declared.tables.Tables.{Tables}
 use Rattle.cp_scope.specs.declared.types.Types.{Types}

@@ -9,10 +9,10 @@ use Rattle.cp_model.specs.Types.{ResolvedType}
 use Rattle.cp_model.specs.View as view
 use Rattle.cp_model.specs.declared.tree.Tree as tree
 use Rattle.cp_program_model.specs.Layout.{head_words}
-use Rattle.cp_steps.specs.KernelSteps.{stage_of}
-use Rattle.cp_steps.specs.Machines as plain
-use Rattle.cp_steps.specs.PrivateStates.{Activity}
-use Rattle.cp_steps.specs.Reports.{head_of, machine_report, monitor_lines, monitors_lines, process_lines, processes_lines, stage_text}
+use Rattle.cp_machine_model.specs.KernelSteps.{stage_of}
+use Rattle.cp_machine_model.specs.Machines as plain
+use Rattle.cp_machine_model.specs.PrivateStates.{Activity}
+use Rattle.cp_machine_model.specs.Reports.{head_of, machine_report, monitor_lines, monitors_lines, process_lines, processes_lines, stage_text}
 use Rattle.cp_private.specs.States.{private_of}
 use Rattle.cp_private.specs.declared.private.Private.{Private}
 use Rattle.cp_rounds.specs.Views.{machine_of}

@@ -5,8 +5,8 @@ use Rattle.cp_model.specs.Locations.{Path}
 use Rattle.cp_model.specs.Report.{Text, line, occupant_text}
 use Rattle.cp_private.specs.States.{private_of}
 use Rattle.cp_kernel.specs.KernelOf.{kernel_of}
-use Rattle.cp_steps.specs.Means.{process_of_word}
-use Rattle.cp_steps.specs.Reports.{Visit, lines_visit, queue_visit}
+use Rattle.cp_machine_model.specs.Means.{process_of_word}
+use Rattle.cp_machine_model.specs.Reports.{Visit, lines_visit, queue_visit}
 use Rattle.cp_report.specs.declared.telling.Leaf.{Leaf}
 use Rattle.cp_report.specs.declared.telling.Leaf.TheVariants as leaf
 use Rattle.cp_report.specs.declared.telling.Telling.{Telling}

@@ -8,7 +8,7 @@ use Rattle.cp_model.specs.Report.{Text, path_text}
 use Rattle.cp_model.specs.Types.{GlobalScope, Members, ResolvedType}
 use Rattle.cp_typing.specs.Words.{words}
 use Rattle.cp_program_model.specs.Layout.{head_words}
-use Rattle.cp_steps.specs.Reports.{Visit, visit_component, visit_members, visit_type}
+use Rattle.cp_machine_model.specs.Reports.{Visit, visit_component, visit_members, visit_type}
 use Rattle.cp_scope.specs.Standing.{AreMembers, ScopeStands, Stands, entry, row_at}
 use Rattle.cp_scope.specs.declared.tables.Tables.{Tables}
 use Rattle.cp_scope.specs.declared.types.TypeRow.{TypeRow}

@@ -6,8 +6,8 @@ use Rattle.cp_model.specs.Report.{Text}
 use Rattle.cp_model.specs.States.{Setup}
 use Rattle.cp_model.specs.View as view
 use Rattle.cp_model.specs.declared.tree.Tree as tree
-use Rattle.cp_steps.specs.Machines as plain
-use Rattle.cp_steps.specs.Reports.{machine_report}
+use Rattle.cp_machine_model.specs.Machines as plain
+use Rattle.cp_machine_model.specs.Reports.{machine_report}
 use Rattle.cp_scope.specs.Texts.{TablesStand}
 use Rattle.cp_scope.specs.declared.tables.Tables.{Tables}
 

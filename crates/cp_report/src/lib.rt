@@ -1,4 +1,4 @@
-//! The report of a machine. Its bytes are those that cp_steps' `specs/Reports.antt` reads off the
+//! The report of a machine. Its bytes are those that cp_machine_model' `specs/Reports.antt` reads off the
 //! machine's words as plain data.
 //!
 //! - `text`: numbers and bytes as text.

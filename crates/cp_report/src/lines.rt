@@ -1,7 +1,7 @@
 //! Single lines, and the text at the start of other lines.
 
 ghost use Rattle.std.specs.Prelude.{◌≡◌, ◌++◌, OnOk};
-ghost use Rattle.cp_steps.specs.Reports.{transcript_line};
+ghost use Rattle.cp_machine_model.specs.Reports.{transcript_line};
 ghost use Rattle.cp_report.specs.Lines.{rounds_line, title};
 
 use crate::text::{push_all_escaped, push_natural};

@@ -4,8 +4,8 @@ ghost use Rattle.std.specs.Prelude.{◌≡◌, ◌++◌, ◌-◌, OnOk, map, opt
 ghost use Rattle.cp_model.specs.StateViews as state;
 ghost use Rattle.cp_private.specs.States as states;
 ghost use Rattle.cp_scope.specs.Standing.{entry};
-ghost use Rattle.cp_steps.specs.Passing as plain;
-ghost use Rattle.cp_steps.specs.Reports.{activity_text};
+ghost use Rattle.cp_machine_model.specs.Passing as plain;
+ghost use Rattle.cp_machine_model.specs.Reports.{activity_text};
 ghost use Rattle.cp_program.specs.View as view;
 ghost use Rattle.cp_report.specs.Statuses.{NamesMonitor, TellsQueue, TellsStage};
 

@@ -3,7 +3,7 @@
 ghost use Rattle.std.specs.Prelude.{◌≡◌, ◌<◌, ◌++◌, OnOk, false, flat_map};
 ghost use Rattle.cp_model.specs.Decimal.{decimal, natural};
 ghost use Rattle.cp_model.specs.Report.{escape, hex_digit, occupant_text};
-ghost use Rattle.cp_steps.specs.Means.{process_of_word};
+ghost use Rattle.cp_machine_model.specs.Means.{process_of_word};
 
 use itoa::Buffer;
 use std::alloc::AllocError;

@@ -6,11 +6,11 @@ use Rattle.cp_kernel.specs.KernelOf.{Bytes}
 use Rattle.cp_model.specs.Rounds as meaning
 use Rattle.cp_model.specs.Start.{start}
 use Rattle.cp_model.specs.States.{Setup, State, numbers_from, process_count}
-use Rattle.cp_steps.specs.InState.{IsIn}
-use Rattle.cp_steps.specs.Machines as plain
-use Rattle.cp_steps.specs.Machines.{first_machine, first_part, first_parts}
-use Rattle.cp_steps.specs.PrivateStates.{PrivateState}
-use Rattle.cp_steps.specs.RoundLaws.{RoundIsRound, RoundsAreRun, StartIsIn}
+use Rattle.cp_machine_model.specs.InState.{IsIn}
+use Rattle.cp_machine_model.specs.Machines as plain
+use Rattle.cp_machine_model.specs.Machines.{first_machine, first_part, first_parts}
+use Rattle.cp_machine_model.specs.PrivateStates.{PrivateState}
+use Rattle.cp_machine_model.specs.RoundLaws.{RoundIsRound, RoundsAreRun, StartIsIn}
 use Rattle.cp_rounds.specs.InStates.{IsStarted, MakesRounds}
 use Rattle.cp_rounds.specs.MachineOf.{input_of}
 use Rattle.cp_rounds.specs.Views.{machine_of, processes_of}

@@ -7,10 +7,10 @@ use Rattle.cp_kernel.specs.KernelOf.{Bytes, kernel_of, transcripts_of, turning}
 use Rattle.cp_kernel.specs.declared.kernel.Kernel.{Kernel}
 use Rattle.cp_private.specs.States.{private_of}
 use Rattle.cp_private.specs.declared.private.Private.{Private}
-use Rattle.cp_steps.specs.KernelSteps as steps
-use Rattle.cp_steps.specs.KernelSteps.{Turning, kernel_steps}
-use Rattle.cp_steps.specs.Machines.{Machine, after_kernel_turn, clock, end_round, kernel_turn, kernel_turns, phased_round, phased_rounds, transcript_of}
-use Rattle.cp_steps.specs.PrivateStates.{PrivateState}
+use Rattle.cp_machine_model.specs.KernelSteps as steps
+use Rattle.cp_machine_model.specs.KernelSteps.{Turning, kernel_steps}
+use Rattle.cp_machine_model.specs.Machines.{Machine, after_kernel_turn, clock, end_round, kernel_turn, kernel_turns, phased_round, phased_rounds, transcript_of}
+use Rattle.cp_machine_model.specs.PrivateStates.{PrivateState}
 use Rattle.cp_program.specs.View as view
 use Rattle.cp_kernel.specs.Turns.{IsTurned, parts_of}
 use Rattle.cp_rounds.specs.Ends.{RoundEnds}

@@ -8,9 +8,9 @@ use Rattle.cp_private.specs.States as states
 use Rattle.cp_private.specs.States.{private_of}
 use Rattle.cp_private.specs.declared.private.Private.{Private}
 use Rattle.cp_rounds.specs.Numbers.{AreNumbered}
-use Rattle.cp_steps.specs.KernelSteps as plain
-use Rattle.cp_steps.specs.Machines.{next_stage}
-use Rattle.cp_steps.specs.PrivateStates.{PrivateState}
+use Rattle.cp_machine_model.specs.KernelSteps as plain
+use Rattle.cp_machine_model.specs.Machines.{next_stage}
+use Rattle.cp_machine_model.specs.PrivateStates.{PrivateState}
 use Rattle.cp_rounds.specs.Runs.{AreSame, IsSame}
 use Rattle.cp_rounds.proofs.Lists.{got_at, got_below, got_set, got_snoc, none_some, some_is}
 use Rattle.cp_rounds.proofs.Rounds.{mapped_length, set_length}

@@ -3,10 +3,10 @@
 use Rattle.std.specs.Prelude.{◌≡◌, ◌≢◌, ◌≤◌, ◌<◌, refl, ℕ, zero, suc, ◌+◌, ◌-◌, ◌%◌, Bool, true, false, if◌then◌else◌, List, [], ◌∷◌, ◌++◌, length, map, nat_eq, Option, Some, None, slice_get, slice_set}
 use Rattle.std.proofs.Common.{sym, ◌∙◌, ap, subst, arith}
 use Rattle.cp_model.specs.States.{numbers_from}
-use Rattle.cp_steps.specs.KernelSteps.{kernel_steps}
-use Rattle.cp_steps.specs.Machines.{Machine, after_kernel_turn, clock, kernel_turn, kernel_turns, phased_round, phased_rounds, private_turn, private_turns, wake, wake_one}
-use Rattle.cp_steps.specs.PrivateStates.{PrivateState}
-use Rattle.cp_steps.specs.Steps.{private_steps}
+use Rattle.cp_machine_model.specs.KernelSteps.{kernel_steps}
+use Rattle.cp_machine_model.specs.Machines.{Machine, after_kernel_turn, clock, kernel_turn, kernel_turns, phased_round, phased_rounds, private_turn, private_turns, wake, wake_one}
+use Rattle.cp_machine_model.specs.PrivateStates.{PrivateState}
+use Rattle.cp_machine_model.specs.Steps.{private_steps}
 use Rattle.cp_rounds.specs.Turned.{moment_of, take_turn, with_turn_taken, woken}
 
 -- ---- Lists

@@ -4,7 +4,7 @@ use Rattle.cp_kernel.specs.KernelOf.{HasRoomForAskers, HasRoomForBytes}
 use Rattle.cp_kernel.specs.declared.kernel.Kernel.{Kernel}
 use Rattle.cp_private.specs.Rooms.{HasRoomFor}
 use Rattle.cp_private.specs.declared.private.Private.{Private}
-use Rattle.cp_steps.specs.Machines.{Machine}
+use Rattle.cp_machine_model.specs.Machines.{Machine}
 use Rattle.cp_program.specs.View as view
 use Rattle.cp_rounds.specs.Made.{AfterPrivateTurn, TurnsMade}
 use Rattle.cp_rounds.specs.Numbers.{AreNumbered}

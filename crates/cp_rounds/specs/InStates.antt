@@ -6,7 +6,7 @@ use Rattle.cp_kernel.specs.KernelOf.{Bytes}
 use Rattle.cp_model.specs.Rounds.{phased_round, run}
 use Rattle.cp_model.specs.Start.{start}
 use Rattle.cp_model.specs.States.{Setup, State}
-use Rattle.cp_steps.specs.InState.{IsIn}
+use Rattle.cp_machine_model.specs.InState.{IsIn}
 use Rattle.cp_rounds.specs.MachineOf.{input_of}
 use Rattle.cp_rounds.specs.Views.{machine_of}
 use Rattle.cp_rounds.specs.declared.machine.Machine.{Machine}

@@ -4,7 +4,7 @@ use Rattle.cp_kernel.specs.KernelOf.{Bytes, kernel_of, transcripts_of}
 use Rattle.cp_kernel.specs.Turns.{parts_of}
 use Rattle.cp_kernel.specs.declared.kernel.Kernel.{Kernel}
 use Rattle.cp_private.specs.declared.private.Private.{Private}
-use Rattle.cp_steps.specs.Machines as plain
+use Rattle.cp_machine_model.specs.Machines as plain
 use Rattle.cp_program.specs.View as view
 use Rattle.cp_rounds.specs.declared.setting.Setting.{Setting}
 

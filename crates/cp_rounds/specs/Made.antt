@@ -6,7 +6,7 @@ use Rattle.cp_model.specs.States.{numbers_from}
 use Rattle.cp_private.specs.Rooms.{HasRoomFor}
 use Rattle.cp_private.specs.States.{private_of}
 use Rattle.cp_private.specs.declared.private.Private.{Private}
-use Rattle.cp_steps.specs.Machines.{Machine, kernel_turns}
+use Rattle.cp_machine_model.specs.Machines.{Machine, kernel_turns}
 use Rattle.cp_program.specs.View as view
 use Rattle.cp_rounds.specs.MachineOf.{input_at}
 use Rattle.cp_rounds.specs.Turned as plain

@@ -7,7 +7,7 @@ use Rattle.cp_kernel.specs.declared.kernel.Kernel.{Kernel}
 use Rattle.cp_model.specs.States.{numbers_from}
 use Rattle.cp_private.specs.States.{private_of}
 use Rattle.cp_private.specs.declared.private.Private.{Private}
-use Rattle.cp_steps.specs.Machines.{phased_rounds}
+use Rattle.cp_machine_model.specs.Machines.{phased_rounds}
 use Rattle.cp_rounds.specs.Made.{TurnsMade}
 use Rattle.cp_rounds.specs.MachineOf.{machine_with}
 use Rattle.cp_rounds.specs.Numbers.{AreNumbered}

@@ -6,7 +6,7 @@ use Rattle.cp_kernel.specs.KernelOf.{kernel_of, transcripts_of}
 use Rattle.cp_kernel.specs.declared.kernel.Kernel.{Kernel}
 use Rattle.cp_private.specs.States.{private_of}
 use Rattle.cp_private.specs.declared.private.Private.{Private}
-use Rattle.cp_steps.specs.Machines.{first_machine, first_part}
+use Rattle.cp_machine_model.specs.Machines.{first_machine, first_part}
 
 -- Each private state is the first one of its process.
 abbrev pub AreFirst : Program → List Private → Type 0

@@ -1,9 +1,9 @@
 -- The private turns of one round, as one map over the parts of a machine.
 use Rattle.std.specs.Prelude.{ℕ, suc, ◌/◌, ◌%◌, Bool, if◌then◌else◌, map, nat_eq}
 use Rattle.cp_program_model.specs.Programs.{Program}
-use Rattle.cp_steps.specs.Machines.{Machine, wake_one}
-use Rattle.cp_steps.specs.PrivateStates.{PrivateState}
-use Rattle.cp_steps.specs.Steps.{private_steps}
+use Rattle.cp_machine_model.specs.Machines.{Machine, wake_one}
+use Rattle.cp_machine_model.specs.PrivateStates.{PrivateState}
+use Rattle.cp_machine_model.specs.Steps.{private_steps}
 use Rattle.cp_rounds.specs.declared.moment.Moment.{Moment}
 
 -- The time of the round after the first `rounds` rounds.

@@ -1,9 +1,9 @@
 //! The machine of the whole language: rounds and runs by threads, and what can be read of the
 //! machine between them.
 //!
-//! A round or a run makes of the machine what the definitions of cp_steps make of it as plain data,
+//! A round or a run makes of the machine what the definitions of cp_machine_model make of it as plain data,
 //! for every plan and any schedule of the threads (`specs/Views.antt` defines the plain data). By
-//! the laws of cp_steps, the machine is then in the next state of the meaning
+//! the laws of cp_machine_model, the machine is then in the next state of the meaning
 //! (`specs/InStates.antt`).
 //!
 //! - `machine`, `reading`: the public calls. `starting`: how a machine starts.

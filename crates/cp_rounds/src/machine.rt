@@ -3,7 +3,7 @@
 
 ghost use Rattle.std.specs.Prelude.{◌≡◌, ◌<◌, ◌≤◌, ◌+◌, ◌-◌, ◌^◌, length, IfErr, IfOk};
 ghost use Rattle.cp_model.specs.States.{numbers_from};
-ghost use Rattle.cp_steps.specs.Machines as plain;
+ghost use Rattle.cp_machine_model.specs.Machines as plain;
 ghost use Rattle.cp_program.specs.View as view;
 ghost use Rattle.cp_rounds.specs.InStates.{IsStarted, MakesRound, MakesRounds};
 ghost use Rattle.cp_rounds.specs.MachineOf.{input_of};
@@ -18,7 +18,7 @@ use crate::setting::Setting;
 use crate::starting::first_parts;
 use crate::tick::Tick;
 use crate::waves::make_turns;
-use cp_steps::law;
+use cp_machine_model::law;
 use cp_program::program::Program;
 use std::alloc::{AllocError, Global};
 use std::mem;

@@ -5,7 +5,7 @@
 //! of the round, which is written once, says which start that was.
 
 ghost use Rattle.std.specs.Prelude.{◌≡◌, ◌-◌, ℕ, List, [], IfSome, Some, false, true, slice_get};
-ghost use Rattle.cp_steps.specs.PrivateStates.{PrivateState};
+ghost use Rattle.cp_machine_model.specs.PrivateStates.{PrivateState};
 ghost use Rattle.cp_rounds.specs.Tasks.{ComesOf, HasRoomLeft, IsCourseOf, IsShort};
 ghost use Rattle.cp_rounds.specs.declared.moment.Moment as declared;
 

@@ -7,8 +7,8 @@ use Rattle.cp_model.specs.Start.{start}
 use Rattle.cp_model.specs.States.{Setup, monitor_count, processes}
 use Rattle.cp_model.specs.Spelling.{same_text}
 use Rattle.cp_program_model.specs.Compile.{compile}
-use Rattle.cp_steps.specs.Machines.{Machine, first_machine, phased_rounds}
-use Rattle.cp_steps.specs.Reports.{machine_report}
+use Rattle.cp_machine_model.specs.Machines.{Machine, first_machine, phased_rounds}
+use Rattle.cp_machine_model.specs.Reports.{machine_report}
 use Rattle.cp_rows.specs.Answers as meaning
 use Rattle.cp_rows.specs.Answers.{counts, setup_of, tree_of}
 use Rattle.cp_steps_rows.specs.MachineStates.{state_of}

@@ -15,11 +15,11 @@ use Rattle.cp_model.specs.StateViews.{fault_number}
 use Rattle.cp_model.specs.Stores.{Absent, Ordinal, QueueHolds, Value}
 use Rattle.cp_program_model.specs.Layout.{Part}
 use Rattle.cp_program_model.specs.Starts.{word}
-use Rattle.cp_steps.specs.PrivateStates.{Activity, Ended, Faulted, NotBegun, PrivateState, Running, Waiting}
-use Rattle.cp_steps.specs.KernelSteps.{Asking, Begun, Delayed, Fresh, Stage, Unstarted, gate_of, stage_of}
-use Rattle.cp_steps.specs.Machines.{Machine, transcript_of}
-use Rattle.cp_steps.specs.Means.{process_of_word}
-use Rattle.cp_steps.specs.Addresses.{Ground, OwnWords, lies}
+use Rattle.cp_machine_model.specs.PrivateStates.{Activity, Ended, Faulted, NotBegun, PrivateState, Running, Waiting}
+use Rattle.cp_machine_model.specs.KernelSteps.{Asking, Begun, Delayed, Fresh, Stage, Unstarted, gate_of, stage_of}
+use Rattle.cp_machine_model.specs.Machines.{Machine, transcript_of}
+use Rattle.cp_machine_model.specs.Means.{process_of_word}
+use Rattle.cp_machine_model.specs.Addresses.{Ground, OwnWords, lies}
 
 abbrev pub part_of : {A : Type 0} → Machine → ℕ → (PrivateState → A) → A → A
 part_of m p read other = elim (slice_get m.parts (p - 1)) [ None ↦ other | Some o ↦ read o ]

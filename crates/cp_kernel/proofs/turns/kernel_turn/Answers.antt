@@ -1,5 +1,5 @@
 use Rattle.std.proofs.Common.{ℕ, [], [], ap, subst, ◌∙◌}
-use Rattle.cp_steps.specs.KernelSteps as plain
+use Rattle.cp_machine_model.specs.KernelSteps as plain
 use Rattle.cp_program.specs.View as view
 use Rattle.cp_kernel.specs.KernelOf.{turning}
 use Rattle.cp_kernel.specs.Turns.{Moves}

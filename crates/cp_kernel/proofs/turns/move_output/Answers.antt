@@ -1,5 +1,5 @@
 use Rattle.std.proofs.Common.{rules, ◌≡◌, ◌-◌, [], slice_get, length, vec_len, ap, subst, sym, ◌∙◌, arith}
-use Rattle.cp_steps.specs.PrivateStates.{PrivateState}
+use Rattle.cp_machine_model.specs.PrivateStates.{PrivateState}
 use Rattle.cp_kernel.specs.Turns.{Moves}
 use Rattle.cp_kernel.proofs.turns.move_output.Goals as goal
 

@@ -1,7 +1,7 @@
 use Rattle.std.proofs.Common.{◌≡◌, suc, ◌+◌, ◌-◌, length, ap, subst, sym, ◌∙◌, arith}
 use Rattle.std.specs.Prelude.{Vec}
 use Rattle.std.specs.Global.{Global}
-use Rattle.cp_steps.specs.KernelSteps as plain
+use Rattle.cp_machine_model.specs.KernelSteps as plain
 use Rattle.cp_program.specs.View as view
 use Rattle.cp_kernel.specs.KernelOf.{Bytes, IsBegun, turning}
 use Rattle.cp_kernel.proofs.Stepping.{steps_more, steps_rest}

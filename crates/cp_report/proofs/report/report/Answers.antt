@@ -2,7 +2,7 @@ use Rattle.std.proofs.Common.{rules, ◌≡◌, ◌++◌, [], map, ap, subst, �
 use Rattle.cp_rounds.specs.Views.{machine_of}
 use Rattle.cp_model.specs.Abstract.{Monitor, Process}
 use Rattle.cp_model.specs.Report.{components_of}
-use Rattle.cp_steps.specs.Reports.{machine_report}
+use Rattle.cp_machine_model.specs.Reports.{machine_report}
 use Rattle.cp_scope.specs.Standing.{entry}
 use Rattle.cp_report.specs.Lists.{AreListed}
 use Rattle.cp_report.proofs.Initial.{listed}

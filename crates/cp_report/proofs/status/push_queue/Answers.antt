@@ -1,7 +1,7 @@
 use Rattle.std.proofs.Common.{rules, ◌≡◌, ◌+◌, ◌++◌, ◌<◌, [], suc, drop, length, map, sym, subst, ap, ◌∙◌, arith}
 use Rattle.std.specs.Prelude.{slice_index_or}
-use Rattle.cp_steps.specs.Passing as plain
-use Rattle.cp_steps.specs.Reports.{queue_visit, queues_text}
+use Rattle.cp_machine_model.specs.Passing as plain
+use Rattle.cp_machine_model.specs.Reports.{queue_visit, queues_text}
 use Rattle.cp_scope.specs.Standing.{entry}
 use Rattle.cp_scope.specs.declared.types.Field.{Field}
 use Rattle.cp_program.specs.View as view

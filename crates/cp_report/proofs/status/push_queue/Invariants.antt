@@ -2,7 +2,7 @@ use Rattle.std.proofs.Common.{◌++◌, List, drop, map, suc}
 use Rattle.cp_model.specs.Abstract.{Name}
 use Rattle.cp_model.specs.Declarations.{Variable}
 use Rattle.cp_model.specs.Types.{GlobalScope}
-use Rattle.cp_steps.specs.Reports.{queues_text}
+use Rattle.cp_machine_model.specs.Reports.{queues_text}
 use Rattle.cp_scope.specs.Standing.{ScopeStands, entry}
 use Rattle.cp_program.specs.View as view
 use Rattle.cp_report.specs.Lists.{AreListed}

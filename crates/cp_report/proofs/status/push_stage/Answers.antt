@@ -6,7 +6,7 @@ use Rattle.cp_model.specs.Abstract.{Monitor}
 use Rattle.cp_model.specs.Declarations.{globals}
 use Rattle.cp_model.specs.Report.{components_of, monitor_name}
 use Rattle.cp_private.specs.States as states
-use Rattle.cp_steps.specs.Reports.{queue_text, stage_text}
+use Rattle.cp_machine_model.specs.Reports.{queue_text, stage_text}
 use Rattle.cp_program.specs.View as view
 use Rattle.cp_report.proofs.status.push_stage.Goals as goal
 

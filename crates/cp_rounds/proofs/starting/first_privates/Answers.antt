@@ -1,7 +1,7 @@
 use Rattle.std.proofs.Common.{◌≡◌, ◌+◌, ◌-◌, ℕ, suc, List, Some, slice_get, length, sym, ap, ◌∙◌, subst, arith, ⊎_elim}
 use Rattle.cp_private.specs.States.{private_of}
 use Rattle.cp_private.specs.declared.private.Private.{Private}
-use Rattle.cp_steps.specs.Machines.{first_part}
+use Rattle.cp_machine_model.specs.Machines.{first_part}
 use Rattle.cp_program.specs.View as view
 use Rattle.cp_rounds.specs.Starts.{AreFirst}
 use Rattle.cp_rounds.proofs.Lists.{got_snoc}

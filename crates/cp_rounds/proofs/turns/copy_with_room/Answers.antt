@@ -1,5 +1,5 @@
 use Rattle.std.proofs.Common.{[], ap, ◌∙◌}
-use Rattle.cp_steps.specs.PrivateStates.{PrivateState}
+use Rattle.cp_machine_model.specs.PrivateStates.{PrivateState}
 use Rattle.cp_rounds.proofs.turns.copy_with_room.Goals as goal
 
 pub returns-clause-same : goal.returns-clause-same

@@ -1,8 +1,8 @@
 use Rattle.std.proofs.Common.{◌≡◌, ◌-◌, ℕ, Bool, List, sym, ap, ◌∙◌, subst}
 use Rattle.cp_private.specs.States.{private_of}
 use Rattle.cp_private.specs.declared.private.Private.{Private}
-use Rattle.cp_steps.specs.PrivateStates.{PrivateState}
-use Rattle.cp_steps.specs.Steps.{private_steps}
+use Rattle.cp_machine_model.specs.PrivateStates.{PrivateState}
+use Rattle.cp_machine_model.specs.Steps.{private_steps}
 use Rattle.cp_program.specs.View as view
 use Rattle.cp_rounds.specs.MachineOf.{input_at}
 use Rattle.cp_rounds.specs.Turned as plain

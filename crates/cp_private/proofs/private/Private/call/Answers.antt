@@ -1,8 +1,8 @@
 use Rattle.std.proofs.Common.{rules, arith, ◌≡◌, ◌+◌, map, true, false, Err, length, refl, ap, sym, ◌∙◌}
 use Rattle.cp_model.specs.declared.state.Fault.TheVariants as fault
-use Rattle.cp_steps.specs.PrivateStates.{PrivateState, guard}
-use Rattle.cp_steps.specs.Calling.{enter}
-use Rattle.cp_steps.specs.Passing.{when_passed}
+use Rattle.cp_machine_model.specs.PrivateStates.{PrivateState, guard}
+use Rattle.cp_machine_model.specs.Calling.{enter}
+use Rattle.cp_machine_model.specs.Passing.{when_passed}
 use Rattle.cp_program_model.specs.Starts.{carry_out}
 use Rattle.cp_program.specs.View as view
 use Rattle.cp_private.specs.Calls.{back, called_of, passing_of}

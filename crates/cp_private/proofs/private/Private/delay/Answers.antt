@@ -3,7 +3,7 @@ use Rattle.std.specs.Int.{w32}
 use Rattle.std.specs.Prelude.{int_le, pos}
 use Rattle.std.proofs.lemmas.Bool.{le-ltb, lt-ltb}
 use Rattle.std.proofs.lemmas.List.{length-append}
-use Rattle.cp_steps.specs.PrivateStates.{Delays, go_to}
+use Rattle.cp_machine_model.specs.PrivateStates.{Delays, go_to}
 use Rattle.cp_private.proofs.Results.{held_none, held_some, placed, unplaced}
 use Rattle.cp_private.proofs.private.Private.delay.Goals as goal
 

@@ -2,9 +2,9 @@ use Rattle.std.proofs.Common.{rules, arith, ◌≡◌, ◌+◌, pos, map, true, 
 use Rattle.std.proofs.lemmas.List.{length-map}
 use Rattle.cp_model.specs.Integers.{same_integer}
 use Rattle.cp_model.specs.declared.state.Fault.TheVariants as fault
-use Rattle.cp_steps.specs.PrivateStates.{PrivateState, private_outcome, guard, set_word}
-use Rattle.cp_steps.specs.Calling.{Back, class_at, enter, settle}
-use Rattle.cp_steps.specs.Passing.{when_passed}
+use Rattle.cp_machine_model.specs.PrivateStates.{PrivateState, private_outcome, guard, set_word}
+use Rattle.cp_machine_model.specs.Calling.{Back, class_at, enter, settle}
+use Rattle.cp_machine_model.specs.Passing.{when_passed}
 use Rattle.cp_program.specs.Reaches.{cap_place}
 use Rattle.cp_program.specs.View as view
 use Rattle.cp_private.specs.Calls.{passing_of}

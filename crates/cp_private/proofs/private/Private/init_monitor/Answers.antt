@@ -2,9 +2,9 @@ use Rattle.std.proofs.Common.{rules, arith, ◌≡◌, ◌+◌, map, true, false
 use Rattle.std.proofs.lemmas.List.{length-map}
 use Rattle.std.specs.Prelude.{not}
 use Rattle.cp_model.specs.declared.state.Fault.TheVariants as fault
-use Rattle.cp_steps.specs.PrivateStates.{Opens, PrivateState, guard}
-use Rattle.cp_steps.specs.Calling.{Back, enter, init_monitor, settle}
-use Rattle.cp_steps.specs.Passing.{when_passed}
+use Rattle.cp_machine_model.specs.PrivateStates.{Opens, PrivateState, guard}
+use Rattle.cp_machine_model.specs.Calling.{Back, enter, init_monitor, settle}
+use Rattle.cp_machine_model.specs.Passing.{when_passed}
 use Rattle.cp_program.specs.View as view
 use Rattle.cp_private.specs.Calls.{called_of, passing_of}
 use Rattle.cp_private.specs.States.{join, outcome, outside_of}

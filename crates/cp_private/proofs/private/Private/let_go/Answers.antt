@@ -2,9 +2,9 @@ use Rattle.std.proofs.Common.{rules, arith, ◌≡◌, ◌-◌, List, pos, Err, 
 use Rattle.std.specs.Prelude.{if◌then◌else◌}
 use Rattle.std.specs.Int.{w32}
 use Rattle.cp_program_model.specs.Starts.{word}
-use Rattle.cp_steps.specs.PrivateStates.{Continues, Frame, private_outcome, set_word}
-use Rattle.cp_steps.specs.Steps.{is_held}
-use Rattle.cp_steps.specs.Calling.{leave, return_with, with_frame}
+use Rattle.cp_machine_model.specs.PrivateStates.{Continues, Frame, private_outcome, set_word}
+use Rattle.cp_machine_model.specs.Steps.{is_held}
+use Rattle.cp_machine_model.specs.Calling.{leave, return_with, with_frame}
 use Rattle.cp_private.specs.Calls.{returning}
 use Rattle.cp_private.specs.States.{frame, frames_in, join}
 use Rattle.cp_private.proofs.Results.{held_none, held_some, placed, unplaced}

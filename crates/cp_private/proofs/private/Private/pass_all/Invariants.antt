@@ -1,5 +1,5 @@
 use Rattle.std.proofs.Common.{◌≡◌, ℕ, map, drop, length}
-use Rattle.cp_steps.specs.Passing.{pass_all}
+use Rattle.cp_machine_model.specs.Passing.{pass_all}
 use Rattle.cp_program.specs.View as view
 use Rattle.cp_private.specs.States.{join, outside_of}
 use Rattle.cp_private.proofs.private.Private.pass_all.Given as goal

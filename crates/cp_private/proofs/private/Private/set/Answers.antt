@@ -1,7 +1,7 @@
 use Rattle.std.proofs.Common.{rules, ◌≡◌, to_z, of_z, Err, length, refl, ap, sym, ◌∙◌}
 use Rattle.std.specs.Int.{w32}
-use Rattle.cp_steps.specs.Steps.{set_within}
-use Rattle.cp_steps.specs.Values.{place_of, value_of}
+use Rattle.cp_machine_model.specs.Steps.{set_within}
+use Rattle.cp_machine_model.specs.Values.{place_of, value_of}
 use Rattle.cp_program.specs.Reaches.{capped_result}
 use Rattle.cp_program.specs.View as view
 use Rattle.cp_private.specs.States.{join, outcome}

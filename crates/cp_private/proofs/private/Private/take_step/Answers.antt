@@ -1,8 +1,8 @@
 use Rattle.std.proofs.Common.{rules, ◌≡◌, [], true, Some, length, ap, sym, ◌∙◌}
 use Rattle.std.specs.Prelude.{option_map}
 use Rattle.std.proofs.lemmas.List.{nil_from_length}
-use Rattle.cp_steps.specs.PrivateStates.{Acting, is_running}
-use Rattle.cp_steps.specs.Steps.{act, alone, is_private, operation_of}
+use Rattle.cp_machine_model.specs.PrivateStates.{Acting, is_running}
+use Rattle.cp_machine_model.specs.Steps.{act, alone, is_private, operation_of}
 use Rattle.cp_program.specs.View as view
 use Rattle.cp_private.specs.States.{join, outside_of, private_of}
 use Rattle.cp_private.proofs.Unshared.{outside_alone, private_joined, stepped}

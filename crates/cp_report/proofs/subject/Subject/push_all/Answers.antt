@@ -5,7 +5,7 @@ use Rattle.cp_model.specs.Abstract.{Process}
 use Rattle.cp_model.specs.Declarations.{globals, reported_members}
 use Rattle.cp_model.specs.Report.{components_of}
 use Rattle.cp_program_model.specs.Layout.{head_words}
-use Rattle.cp_steps.specs.Reports.{process_lines}
+use Rattle.cp_machine_model.specs.Reports.{process_lines}
 use Rattle.cp_report.specs.Lines.{rounds_line}
 use Rattle.cp_report.specs.Subjects.{machine_in}
 use Rattle.cp_report.proofs.Initial.{report_told}

@@ -1,9 +1,9 @@
 use Rattle.std.proofs.Common.{rules, ◌≡◌, ◌++◌, ◌∷◌, [], ap, ◌∙◌}
 use Rattle.std.proofs.lemmas.Result.{on_ok_weaker}
 use Rattle.cp_private.specs.States.{private_of}
-use Rattle.cp_steps.specs.KernelSteps.{stage_of}
-use Rattle.cp_steps.specs.Machines.{transcript_of}
-use Rattle.cp_steps.specs.Reports.{stage_text, transcript_line}
+use Rattle.cp_machine_model.specs.KernelSteps.{stage_of}
+use Rattle.cp_machine_model.specs.Machines.{transcript_of}
+use Rattle.cp_machine_model.specs.Reports.{stage_text, transcript_line}
 use Rattle.cp_report.specs.Lines.{title}
 use Rattle.cp_report.specs.Subjects.{machine_in}
 use Rattle.cp_report.proofs.ProcessesTold.{front_told}

@@ -7,7 +7,7 @@ use Rattle.cp_program_model.specs.Layout.{head_words}
 use Rattle.cp_rounds.specs.MachineOf.{input_of}
 use Rattle.cp_private.specs.States.{private_of}
 use Rattle.cp_scope.specs.Variables.{variables_of}
-use Rattle.cp_steps.specs.Reports.{lines_visit, visit_members}
+use Rattle.cp_machine_model.specs.Reports.{lines_visit, visit_members}
 use Rattle.cp_report.specs.Subjects.{machine_in}
 use Rattle.cp_report.proofs.Initial.{declared_members, initial_head, initial_members}
 use Rattle.cp_report.proofs.ProcessesTold.{process_told}

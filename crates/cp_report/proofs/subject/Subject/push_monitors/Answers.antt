@@ -2,7 +2,7 @@ use Rattle.std.proofs.Common.{rules, ◌≡◌, ◌+◌, ◌++◌, ◌<◌, [], 
 use Rattle.std.specs.Prelude.{slice_index_or}
 use Rattle.cp_model.specs.Abstract.{Monitor}
 use Rattle.cp_model.specs.Report.{components_of}
-use Rattle.cp_steps.specs.Reports.{monitor_lines, monitors_lines}
+use Rattle.cp_machine_model.specs.Reports.{monitor_lines, monitors_lines}
 use Rattle.cp_scope.specs.Standing.{entry}
 use Rattle.cp_scope.specs.declared.types.Field.{Field}
 use Rattle.cp_report.specs.Subjects.{machine_in}

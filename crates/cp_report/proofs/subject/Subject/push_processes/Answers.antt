@@ -2,7 +2,7 @@ use Rattle.std.proofs.Common.{rules, ◌≡◌, ◌+◌, ◌++◌, ◌<◌, [], 
 use Rattle.std.specs.Prelude.{slice_index_or}
 use Rattle.cp_model.specs.Declarations.{globals}
 use Rattle.cp_model.specs.Report.{component_members}
-use Rattle.cp_steps.specs.Reports.{head_of, process_lines, processes_lines}
+use Rattle.cp_machine_model.specs.Reports.{head_of, process_lines, processes_lines}
 use Rattle.cp_scope.specs.Standing.{entry}
 use Rattle.cp_scope.specs.declared.types.Field.{Field}
 use Rattle.cp_report.specs.Subjects.{machine_in}

@@ -2,7 +2,7 @@ use Rattle.std.proofs.Common.{◌++◌, List, drop, map, suc}
 use Rattle.cp_model.specs.Abstract.{Name}
 use Rattle.cp_model.specs.Declarations.{Variable}
 use Rattle.cp_model.specs.States.{Setup}
-use Rattle.cp_steps.specs.Reports.{processes_lines}
+use Rattle.cp_machine_model.specs.Reports.{processes_lines}
 use Rattle.cp_scope.specs.Standing.{entry}
 use Rattle.cp_report.specs.Lists.{AreListed}
 use Rattle.cp_report.specs.Subjects.{IsOf, machine_in}

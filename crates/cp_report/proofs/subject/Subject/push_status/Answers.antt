@@ -1,8 +1,8 @@
 use Rattle.std.proofs.Common.{◌++◌, ap, ◌∙◌}
 use Rattle.std.proofs.lemmas.Result.{on_ok_weaker}
 use Rattle.cp_private.specs.States as states
-use Rattle.cp_steps.specs.KernelSteps.{stage_of}
-use Rattle.cp_steps.specs.Reports.{stage_text}
+use Rattle.cp_machine_model.specs.KernelSteps.{stage_of}
+use Rattle.cp_machine_model.specs.Reports.{stage_text}
 use Rattle.cp_report.specs.Subjects.{machine_in}
 use Rattle.cp_report.proofs.subject.Subject.push_status.Goals as goal
 

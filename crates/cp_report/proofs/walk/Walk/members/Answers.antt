@@ -1,5 +1,5 @@
 use Rattle.std.proofs.Common.{◌≡◌, ◌+◌, ◌<◌, ◌++◌, [], suc, drop, length, map, subst, arith}
-use Rattle.cp_steps.specs.Reports.{visit_members}
+use Rattle.cp_machine_model.specs.Reports.{visit_members}
 use Rattle.cp_scope.specs.Standing.{entry}
 use Rattle.cp_report.specs.Tellings.{visit_of}
 use Rattle.cp_report.proofs.MembersTold.{MembersToTell, drop_first, one_told}

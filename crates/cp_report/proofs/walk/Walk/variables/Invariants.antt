@@ -1,6 +1,6 @@
 use Rattle.std.proofs.Common.{◌++◌, [], drop, map}
 use Rattle.cp_model.specs.Types.{GlobalScope, Members}
-use Rattle.cp_steps.specs.Reports.{visit_members}
+use Rattle.cp_machine_model.specs.Reports.{visit_members}
 use Rattle.cp_scope.specs.Standing.{AreMembers, ScopeStands}
 use Rattle.cp_report.specs.Lists.{declared_member}
 use Rattle.cp_report.specs.Tellings.{visit_of}

@@ -4,7 +4,7 @@ use Rattle.cp_kernel.specs.KernelOf.{HasRoomForAskers, HasRoomForBytes}
 use Rattle.cp_private.specs.Rooms.{HasRoomFor}
 use Rattle.cp_private.specs.declared.private.Private.{Private}
 use Rattle.cp_private.specs.declared.turn.Turn.{Turn}
-use Rattle.cp_steps.specs.Machines.{Machine, clock}
+use Rattle.cp_machine_model.specs.Machines.{Machine, clock}
 use Rattle.cp_program.specs.View as view
 use Rattle.cp_kernel.specs.Turns.{IsTurned}
 use Rattle.cp_rounds.specs.Made.{TurnsMade}

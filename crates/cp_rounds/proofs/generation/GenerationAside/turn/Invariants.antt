@@ -1,6 +1,6 @@
 use Rattle.std.proofs.Common.{◌≡◌, ◌≤◌, ◌+◌, ◌-◌, ℕ, length}
 use Rattle.cp_kernel.specs.KernelOf.{HasRoomForAskers}
-use Rattle.cp_steps.specs.Machines.{Machine}
+use Rattle.cp_machine_model.specs.Machines.{Machine}
 use Rattle.cp_program.specs.View as view
 use Rattle.cp_rounds.specs.Generations.{IsReadyFrom}
 use Rattle.cp_rounds.specs.Made.{TurnsMade}

@@ -1,0 +1,151 @@
+-- Whole private steps of tests: `if`, and those of `while` and `repeat`.
+use Rattle.std.proofs.Common.{◌≡◌, ℕ, ℤ, pos, List, ◌∷◌, Bool, true, false, None, Result, Ok, Err, refl, ap, sym, subst, ◌∙◌, arith}
+use Rattle.std.specs.Prelude.{if◌then◌else◌}
+use Rattle.cp_model.specs.Abstract as a
+use Rattle.cp_model.specs.Abstract.{BaseType}
+use Rattle.cp_model.specs.Actions.{Acts, action}
+use Rattle.cp_model.specs.Calls.{first_call, in_context}
+use Rattle.cp_model.specs.Configurations.{own_step, with_continuation}
+use Rattle.cp_model.specs.Continuations.{Do, RepeatTest, Task, WhileTest, push}
+use Rattle.cp_model.specs.Environments.{Environment}
+use Rattle.cp_model.specs.Integers.{same_integer}
+use Rattle.cp_model.specs.Outcomes.{Fault, Gives, Outcome, and_then}
+use Rattle.cp_model.specs.Places.{TypedValue}
+use Rattle.cp_model.specs.StatementSteps.{is_true}
+use Rattle.cp_model.specs.States.{State, configuration}
+use Rattle.cp_model.specs.Turns.{after_step}
+use Rattle.cp_model.specs.declared.state.Fault as fault
+use Rattle.cp_program_model.specs.Programs as op
+use Rattle.cp_program_model.specs.Sites.{operation_at}
+use Rattle.cp_program_model.specs.TermsFor.{Agrees, nothing_known}
+use Rattle.cp_machine_model.specs.PrivateStates.{Outside, PrivateState, go_to, private_outcome, with_result}
+use Rattle.cp_machine_model.specs.Addresses.{Ground}
+use Rattle.cp_machine_model.specs.Left.{Left}
+use Rattle.cp_machine_model.specs.PartOf.{PartOf, RunsOn}
+use Rattle.cp_machine_model.proofs.Doing.{Ready, acts_itself, quietly, statement_steps, value_here}
+use Rattle.cp_machine_model.proofs.Evaluates.{ordinal_is}
+use Rattle.cp_machine_model.proofs.Finding.{in_context_none}
+use Rattle.cp_machine_model.proofs.RunningOn.{runs_moved, runs_pushed}
+use Rattle.cp_machine_model.proofs.Stepping.{Now, Stepped, both_step, clock_of, does, faulted, went}
+use Rattle.cp_machine_model.proofs.Effects.{quiet_agrees}
+use Rattle.cp_machine_model.proofs.QuietOperations.{operation_quiet, then_quiet}
+use Rattle.cp_machine_model.specs.Steps.{act}
+use Rattle.cp_model.specs.Expressions.{value}
+
+module _ (G : Ground) (s : State) (w : Outside) (before : List ℕ) (o : PrivateState) (i : Task) (k : List Task) (N : Now G s w before o i k) where
+  -- What the two outcomes of a test lead to.
+  pub tested : (b : BaseType) (yes' no' : ℕ) (j l : List Task) → RunsOn G s.store (go_to yes' o) j → RunsOn G s.store (go_to no' o) l
+      → (O : Outcome TypedValue) (r : Result ℤ fault.Fault) → Agrees b O r
+      → PartOf G (after_step s G.p (and_then O (λ v. own_step (with_continuation (configuration s G.p) (if is_true v then j else l))))) before
+      (with_result o r (λ n. private_outcome (go_to (if same_integer n (pos 1) then yes' else no') o))).0
+  tested b yes' no' j l A B (Gives v) (Ok n) h =
+      subst (λ z. PartOf G (after_step s G.p (own_step (with_continuation (configuration s G.p) (if same_integer z (pos 1) then j else l)))) before (go_to (if same_integer n (pos 1) then yes' else no') o))
+      (sym (ordinal_is v n h.1)) (by (same_integer n (pos 1)))
+    where
+      by : (x : Bool) → PartOf G (after_step s G.p (own_step (with_continuation (configuration s G.p) (if x then j else l)))) before (go_to (if x then yes' else no') o)
+      by true = went G s before o N.part s.store (go_to yes' o) j A record { number = refl; input = refl; consumed = refl; output = refl; activity = refl }
+      by false = went G s before o N.part s.store (go_to no' o) l B record { number = refl; input = refl; consumed = refl; output = refl; activity = refl }
+  tested b yes' no' j l A B (Fault n) (Err f) h = faulted G s w before o i k N n f h
+  tested b yes' no' j l A B (Gives v) (Err f) h = absurd h
+  tested b yes' no' j l A B (Fault n) (Ok m) h = absurd h
+
+pub if_steps : (G : Ground) (s : State) (w : Outside) (before : List ℕ) (o : PrivateState) (e : a.Expression) (t u : a.Statement) (env : Environment) (k : List Task)
+    → Ready G s w before o (a.If e t u) env k → Stepped G s w before o
+if_steps G s w before o e t u env k Y =
+    let N = Y.now in
+    let left = N.on.left in
+    let h = left.2.3 in
+    statement_steps G s w before o (a.If e t u) env k Y (op.Test h.1 h.3 h.4) refl refl (ap (operation_at G.program) Y.place ∙ h.5) refl
+    (tested G s w before o (Do (a.If e t u) env) k N h.2 h.3 h.4 (push t N.on.running.env k) (push u N.on.running.env k)
+    (runs_pushed G s.store o (Do (a.If e t u) env ∷ k) k t h.3 left.2.0 left.2.1 N.on refl refl refl h.7 left.2.4 left.2.2)
+    (runs_pushed G s.store o (Do (a.If e t u) env ∷ k) k u h.4 left.2.0 left.2.1 N.on refl refl refl h.8 left.2.4 left.2.2)
+    _ _ (value_here G s w before o (Do (a.If e t u) env) k N N.sees e h.1 h.2 o.place h.0 left.2.1 N.on.running.unit.temps h.6
+    (in_context_none (λ y. a.If y t u) (first_call N.on.running.env (a.Literal 0) e) Y.none)))
+    (quietly G s w before o (a.If e t u) env k Y (op.Test h.1 h.3 h.4) tt tt)
+
+pub while_steps : (G : Ground) (s : State) (w : Outside) (before : List ℕ) (o : PrivateState) (now e : a.Expression) (st : a.Statement) (env : Environment) (k : List Task)
+    → (N : Now G s w before o (WhileTest now e st env) k) → o.place ≡ N.on.left.1.3.last → first_call N.on.running.env (a.Literal 0) now ≡ None → Stepped G s w before o
+while_steps G s w before o now e st env k N at none =
+    let h = N.on.left.1 in
+    let W = h.3 in
+    let here = N.on.running.env in
+    let again : Left G o.temps o.limit nothing_known N.on.running o.frames W.start h.1 (WhileTest e e st here ∷ k) = (
+      refl,
+      (
+        h.0,
+        h.1,
+        omega arith,
+        record {
+          start = W.start;
+          last = W.last;
+          way = W.way;
+          term = W.term;
+          base = W.base;
+          test = W.test;
+          rest = W.whole;
+          whole = W.whole;
+          again = W.again;
+        },
+        h.4,
+      ),
+    ) in
+    both_step G s w before o (WhileTest now e st env) k N (Acts (WhileTest now e st here) k) (op.Test W.term W.way h.0)
+    (ap (λ y. action (WhileTest now e st y ∷ k)) N.on.left.0 ∙ acts_itself (WhileTest now e st here) k (ap (in_context (λ y. WhileTest y e st here)) none) refl)
+    refl (ap (operation_at G.program) at ∙ W.test) refl
+    (tested G s w before o (WhileTest now e st env) k N W.base W.way h.0 (push st here (WhileTest e e st here ∷ k)) k
+    (runs_pushed G s.store o (WhileTest now e st env ∷ k) (WhileTest e e st here ∷ k) st W.way W.start h.1 N.on refl refl refl W.again again h.2)
+    (runs_moved G s.store o (WhileTest now e st env ∷ k) k h.0 h.1 N.on refl refl refl h.4 h.2)
+    _ _ (value_here G s w before o (WhileTest now e st env) k N N.sees now W.term W.base o.place W.last h.1 N.on.running.unit.temps W.rest none))
+    (λ all. quiet_agrees G w.own (does G s (Acts (WhileTest now e st here) k)) (act G.program w o (op.Test W.term W.way h.0)).1
+    (then_quiet (value (clock_of G s) here s.store now) _ (λ v. tt)) (operation_quiet G.program w o (op.Test W.term W.way h.0) tt))
+
+pub repeat_steps : (G : Ground) (s : State) (w : Outside) (before : List ℕ) (o : PrivateState) (now : a.Expression) (st : a.Statement) (e : a.Expression) (env : Environment) (k : List Task)
+    → (N : Now G s w before o (RepeatTest now st e env) k) → o.place ≡ N.on.left.1.3.last → first_call N.on.running.env (a.Literal 0) now ≡ None → Stepped G s w before o
+repeat_steps G s w before o now st e env k N at none =
+    let h = N.on.left.1 in
+    let W = h.3 in
+    let here = N.on.running.env in
+    let again : Left G o.temps o.limit nothing_known N.on.running o.frames W.start h.1 (RepeatTest e st e here ∷ k) = (
+      refl,
+      (
+        h.0,
+        h.1,
+        omega arith,
+        record {
+          start = W.start;
+          last = W.last;
+          way = W.way;
+          term = W.term;
+          base = W.base;
+          test = W.test;
+          rest = W.whole;
+          whole = W.whole;
+          again = W.again;
+        },
+        h.4,
+      ),
+    ) in
+    both_step G s w before o (RepeatTest now st e env) k N (Acts (RepeatTest now st e here) k) (op.Test W.term h.0 W.way)
+    (ap (λ y. action (RepeatTest now st e y ∷ k)) N.on.left.0 ∙ acts_itself (RepeatTest now st e here) k (ap (in_context (λ y. RepeatTest y st e here)) none) refl)
+    refl (ap (operation_at G.program) at ∙ W.test) refl
+    (tested G s w before o (RepeatTest now st e env) k N W.base h.0 W.way k (push st here (RepeatTest e st e here ∷ k))
+    (runs_moved G s.store o (RepeatTest now st e env ∷ k) k h.0 h.1 N.on refl refl refl h.4 h.2)
+    (runs_pushed G s.store o (RepeatTest now st e env ∷ k) (RepeatTest e st e here ∷ k) st W.way W.start h.1 N.on refl refl refl W.again again h.2)
+    _ _ (value_here G s w before o (RepeatTest now st e env) k N N.sees now W.term W.base o.place W.last h.1 N.on.running.unit.temps W.rest none))
+    (λ all. quiet_agrees G w.own (does G s (Acts (RepeatTest now st e here) k)) (act G.program w o (op.Test W.term h.0 W.way)).1
+    (then_quiet (value (clock_of G s) here s.store now) _ (λ v. tt)) (operation_quiet G.program w o (op.Test W.term h.0 W.way) tt))
+
+pub cycle_steps : (G : Ground) (s : State) (w : Outside) (before : List ℕ) (o : PrivateState) (st : a.Statement) (env : Environment) (k : List Task)
+    → Ready G s w before o (a.Cycle st) env k → Stepped G s w before o
+cycle_steps G s w before o st env k Y =
+    let N = Y.now in
+    let left = N.on.left in
+    let h = left.2.3 in
+    let here = N.on.running.env in
+    let stays : Left G o.temps o.limit nothing_known N.on.running o.frames o.place left.2.1 (Do (a.Cycle st) here ∷ k)
+    = (refl, tt, (left.2.0, left.2.1, omega arith, h, left.2.4)) in
+    statement_steps G s w before o (a.Cycle st) env k Y (op.Cycle h.0) refl refl h.1 refl
+    (went G s before o N.part s.store (go_to h.0 o) (push st here (Do (a.Cycle st) here ∷ k))
+    (runs_pushed G s.store o (Do (a.Cycle st) env ∷ k) (Do (a.Cycle st) here ∷ k) st h.0 o.place left.2.1 N.on refl refl refl h.2 stays left.2.2)
+    record { number = refl; input = refl; consumed = refl; output = refl; activity = refl })
+    (quietly G s w before o (a.Cycle st) env k Y (op.Cycle h.0) tt tt)

@@ -1,0 +1,9 @@
+use Rattle.cp_machine_model.proofs.MachineStarts.{round_is_round, rounds_are_run, start_is_in}
+use Rattle.cp_machine_model.proofs.law.rounds.Goals as goal
+
+pub returns : goal.returns
+returns c = record {
+  start = start_is_in;
+  round = round_is_round;
+  run = rounds_are_run;
+}

@@ -1,0 +1,42 @@
+-- The laws of whole rounds, runs and reports.
+use Rattle.std.specs.Prelude.{◌≡◌, ℕ}
+use Rattle.cp_model.specs.Report.{report}
+use Rattle.cp_model.specs.Rounds as meaning
+use Rattle.cp_model.specs.Start.{start}
+use Rattle.cp_model.specs.States.{Setup, State, processes}
+use Rattle.cp_program_model.specs.Programs.{Program}
+use Rattle.cp_program_model.specs.StandsFor.{StandsFor}
+use Rattle.cp_machine_model.specs.InState.{IsIn, NoneFresh}
+use Rattle.cp_machine_model.specs.Machines.{Machine, first_machine, phased_round, phased_rounds}
+use Rattle.cp_machine_model.specs.Reports.{machine_report}
+
+-- The first machine is in the start of the meaning.
+abbrev pub StartIsIn : Type 0
+StartIsIn =
+    (program : Program) (setup : Setup) → StandsFor program setup
+    → IsIn (first_machine program setup.tick setup.inputs) setup (start setup)
+
+-- A round with turns of `n` steps leads the machine to the state that the meaning's phased round
+-- leads to.
+abbrev pub RoundIsRound : Type 0
+RoundIsRound =
+    (m : Machine) (setup : Setup) (s : State) (n : ℕ) → IsIn m setup s
+    → IsIn (phased_round n (processes setup) m) setup (meaning.phased_round setup n s)
+
+-- `rounds` rounds lead to the state that one processor reaches.
+abbrev pub RoundsAreRun : Type 0
+RoundsAreRun =
+    (m : Machine) (setup : Setup) (s : State) (n rounds : ℕ) → IsIn m setup s
+    → IsIn (phased_rounds n (processes setup) rounds m) setup (meaning.run setup n rounds s)
+
+-- The report read from the machine is that of its state.
+abbrev pub ReportIsReport : Type 0
+ReportIsReport =
+    (m : Machine) (setup : Setup) (s : State) → IsIn m setup s → NoneFresh s → machine_report setup m ≡ report setup s
+
+-- The report read from the machine `rounds` rounds after the start is that of one processor.
+abbrev pub RunIsReported : Type 0
+RunIsReported =
+    (program : Program) (setup : Setup) (n rounds : ℕ) → StandsFor program setup
+    → machine_report setup (phased_rounds n (processes setup) rounds (first_machine program setup.tick setup.inputs))
+    ≡ report setup (meaning.run setup n rounds (start setup))

@@ -1,9 +1,0 @@
-use Rattle.cp_steps.proofs.MachineStarts.{round_is_round, rounds_are_run, start_is_in}
-use Rattle.cp_steps.proofs.law.rounds.Goals as goal
-
-pub returns : goal.returns
-returns c = record {
-  start = start_is_in;
-  round = round_is_round;
-  run = rounds_are_run;
-}
