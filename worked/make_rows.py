@@ -1,5 +1,5 @@
 #!/usr/bin/env python3
-"""Writes the worked texts of this folder as statements of the crate cp_rows, and runs of some of them as statements of cp_steps_rows.
+"""Writes the worked texts of this folder as statements of the crate cp_rows, and runs of some of them as statements of cp_machine_rows.
 
 Each folder is a module of statements, each file a text with its answers:
 
@@ -13,7 +13,7 @@ Each folder is a module of statements, each file a text with its answers:
 
 Lines before the first == say what the text shows. `make_rows.py` writes crates/cp_rows/specs, proofs and src/rows.rt; for the texts
 that COMPILED names, the statement that their compiled programs behave as the meaning does, in specs/Runs.antt and proofs of
-crates/cp_steps_rows; and the cases as JSON, which the program cp_worked reads. `make_rows.py --list` prints these, and
+crates/cp_machine_rows; and the cases as JSON, which the program cp_worked reads. `make_rows.py --list` prints these, and
 `make_rows.py --unchanged` fails if the files differ from what it would write.
 """
 import json, pathlib, re, sys
@@ -170,7 +170,7 @@ def write_rows():
 
 
 def write_compiled():
-    """The runs of cp_steps_rows, and their proof."""
+    """The runs of cp_machine_rows, and their proof."""
     uses, runs = [], []
     for named in COMPILED:
         path = HERE / f'{named}.txt'
@@ -182,10 +182,10 @@ def write_compiled():
                 runs.append(applied(f'{command.capitalize()}IsMeant', head, texts[text]))
     lines = ['-- Worked texts whose compiled programs answer as the meaning does. Written by worked/make_rows.py.',
              'use Rattle.std.specs.Prelude.{true, false, [], codes}', *uses,
-             'use Rattle.cp_steps_rows.specs.Answers.{RunIsMeant, ConsumedIsMeant}', '',
+             'use Rattle.cp_machine_rows.specs.Answers.{RunIsMeant, ConsumedIsMeant}', '',
              'abbrev pub Runs : Type 0', 'Runs =', '    ' + '\n    × '.join(runs), '']
-    write(CRATES / 'cp_steps_rows' / 'specs' / 'Runs.antt', '\n'.join(lines))
-    write_proofs('cp_steps_rows', 'runs', 'Runs', {'Runs': '(' + ', '.join(['refl'] * len(runs)) + ')'})
+    write(CRATES / 'cp_machine_rows' / 'specs' / 'Runs.antt', '\n'.join(lines))
+    write_proofs('cp_machine_rows', 'runs', 'Runs', {'Runs': '(' + ', '.join(['refl'] * len(runs)) + ')'})
 
 
 def listed():

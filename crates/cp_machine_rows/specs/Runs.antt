@@ -4,7 +4,7 @@ use Rattle.cp_rows.specs.Examples.{buffer_1_text}
 use Rattle.cp_rows.specs.Meaning.{input_in_subrange_1_text}
 use Rattle.cp_rows.specs.Monitors.{a_chain_of_askers_1_text}
 use Rattle.cp_rows.specs.Processes.{routines_types_and_loops_1_text}
-use Rattle.cp_steps_rows.specs.Answers.{RunIsMeant, ConsumedIsMeant}
+use Rattle.cp_machine_rows.specs.Answers.{RunIsMeant, ConsumedIsMeant}
 
 abbrev pub Runs : Type 0
 Runs =

@@ -1,6 +1,6 @@
 -- The answers of runs, computed. Written by worked/make_rows.py.
 use Rattle.std.proofs.Common.{refl}
-use Rattle.cp_steps_rows.specs.Runs.{Runs}
+use Rattle.cp_machine_rows.specs.Runs.{Runs}
 use Rattle.cp_scan.specs.Pieces.{word, number, comment, coded_character, character, longer_mark, mark, piece, pieces}
 use Rattle.cp_grammar.specs.Declarations.{constant_definition_of, parameter_group_of, some_parameters_of, parameters_of, result_type_of, heading_from, heading_of, variable_group_of, some_variables_of, variables_of, body_of, routine_of, routines_of, system_from, system_type, enumeration_of, written_type, defined_by, defined_of, type_definition_of, section_by, section_of}
 use Rattle.cp_grammar.specs.Expressions.{operation_of, chain_from, term_of, signed_term, simple_of, expression_of, expressions_from, index_of, indices_from, field_of, indexed_of, selector_by, selector_of, designator_of, arguments_of, optional_arguments_of, call_or_part, named_of, parenthesized_of, not_of, factor_by, factor_of, inner_at}

@@ -11,7 +11,7 @@ use Rattle.cp_machine_model.specs.Machines.{Machine, first_machine, phased_round
 use Rattle.cp_machine_model.specs.Reports.{machine_report}
 use Rattle.cp_rows.specs.Answers as meaning
 use Rattle.cp_rows.specs.Answers.{counts, setup_of, tree_of}
-use Rattle.cp_steps_rows.specs.MachineStates.{state_of}
+use Rattle.cp_machine_rows.specs.MachineStates.{state_of}
 
 -- The machine after `rounds` rounds.
 abbrev pub machine_after : Setup → ℕ → ℕ → Machine
