@@ -5,12 +5,12 @@ ghost use Rattle.cp_model.specs.Rules.{Accepted};
 ghost use Rattle.cp_model.specs.View as view;
 ghost use Rattle.cp_check.specs.Checked.{Checks, IsProgramOf};
 
-use cp_program_model::law::accepted_tree_has_program;
 use cp_compile::compile;
 use cp_model::rules::Violation;
 use cp_model::tree::Tree;
-use cp_rules::text::{Refusal, judge};
 use cp_program::program::Program;
+use cp_program_model::law::accepted_tree_has_program;
+use cp_rules::text::{Refusal, judge};
 use std::alloc::{AllocError, Global};
 
 /// Why a text has no program.

@@ -19,8 +19,8 @@ use cp_emit::Emitter;
 use cp_emit::plan::Planner;
 use cp_model::tree::{Sort, Tree};
 use cp_names::NameTable;
-use cp_scope::{CompileError, Tables, small_number};
 use cp_program::program::{Monitor, Plan, Process, Program};
+use cp_scope::{CompileError, Tables, small_number};
 use std::alloc::Global;
 
 /// The code of a text: its operations and units, the first unit of each type by name, and the first

@@ -8,8 +8,8 @@ ghost use Rattle.cp_compile.specs.CompiledComponents.{AreOwners};
 ghost use Rattle.cp_compile.specs.LaidComponents.{MonitorsLie, ProcessesLie};
 
 use crate::components::Owner;
-use cp_scope::CompileError;
 use cp_program::program::{Monitor, Process};
+use cp_scope::CompileError;
 use std::alloc::Global;
 
 /// Monitors that lie one after another, and the number of words that they take.

@@ -18,8 +18,8 @@ use cp_emit::Emitter;
 use cp_emit::plan::Planner;
 use cp_model::tree::{Routine, Sort, Statement};
 use cp_names::NameTable;
-use cp_scope::{CompileError, RoutineTable, Scope, SystemTable, Tables};
 use cp_program::operation::Operation;
+use cp_scope::{CompileError, RoutineTable, Scope, SystemTable, Tables};
 
 /// What the units of a system type are compiled with: the tables of the text, the planner, the
 /// first unit of each type that was defined before, by name, the table of the system type, and its

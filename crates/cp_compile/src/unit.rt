@@ -9,9 +9,9 @@ ghost use Rattle.cp_compile.specs.Compiles.{IsCompiled, body_of};
 
 use cp_emit::Emitter;
 use cp_model::tree::Statement;
-use cp_scope::{CompileError, Scope};
 use cp_program::operation::Operation;
 use cp_program::program::Start;
+use cp_scope::{CompileError, Scope};
 use cp_translate::Translator;
 use std::alloc::Global;
 

@@ -7,8 +7,8 @@
 ghost use Rattle.std.specs.Prelude.{◌≡◌, ◌+◌, ◌≤◌, ◌↔◌, IfErr, IsOk, OnOk, length};
 ghost use Rattle.cp_scope.specs.declared.error.CompileError.TheVariants as error;
 
-use cp_scope::CompileError;
 use cp_program::program::Start;
+use cp_scope::CompileError;
 
 // The greatest number of fills and repeats in all plans of routines, or in all plans of components.
 // They take 128 MiB.

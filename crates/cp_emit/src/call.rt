@@ -6,9 +6,9 @@ ghost use Rattle.cp_emit.specs.Emission.{coded_call};
 ghost use Rattle.cp_program.specs.View as view;
 
 use crate::emitter::CodedCall;
-use cp_scope::CompileError;
 use cp_program::operation::Call;
 use cp_program::term::Term;
+use cp_scope::CompileError;
 use std::alloc::Global;
 
 /// A term for the value of a call, and the first temp after it.

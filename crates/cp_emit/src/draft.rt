@@ -6,8 +6,8 @@ ghost use Rattle.cp_program_model.specs.Programs as code;
 ghost use Rattle.cp_emit.specs.Drafts.{Joins, drop_repeat, plan_of, with_end};
 ghost use Rattle.cp_program.specs.View as view;
 
-use cp_scope::CompileError;
 use cp_program::program::Start;
+use cp_scope::CompileError;
 use std::alloc::Global;
 
 /// A piece of work that is left to plan.

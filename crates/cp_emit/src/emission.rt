@@ -7,8 +7,8 @@ ghost use Rattle.cp_program.specs.View as view;
 
 use crate::emitter::{CodedCall, Emitter};
 use crate::need::Need;
-use cp_scope::CompileError;
 use cp_program::operation::Operation;
+use cp_scope::CompileError;
 
 // Completes the operation that closes a loop, by making it lead to `body`, where the loop's body
 // begins.

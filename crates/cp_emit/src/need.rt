@@ -5,9 +5,9 @@ ghost use Rattle.cp_program_model.specs.CodeNeeds as needs;
 ghost use Rattle.cp_emit.specs.PlainNeeds.{plain_need};
 ghost use Rattle.cp_program.specs.View as view;
 
-use cp_scope::{CompileError, small_number};
 use cp_program::operation::{Argument, Call, Operation};
 use cp_program::program::CodeUnit;
+use cp_scope::{CompileError, small_number};
 
 /// The numbers of words, temps and frames that are needed.
 #[derive(Clone, Copy, Debug, PartialEq, Eq)]

@@ -19,8 +19,8 @@ use crate::allowance::Allowance;
 use crate::draft::Draft;
 use crate::members::{add_members, own_parameters};
 use crate::plan::Planner;
-use cp_scope::{CompileError, Declared, Field, SystemTable};
 use cp_program::program::{Plan, Start};
+use cp_scope::{CompileError, Declared, Field, SystemTable};
 
 /// The word of a result that isn't set yet.
 const UNSET: i32 = i32::MIN;

@@ -9,10 +9,10 @@ ghost use Rattle.cp_emit.specs.Arms.{bounds_of};
 ghost use Rattle.cp_program.specs.Labels.{arm};
 ghost use Rattle.cp_program.specs.View as view;
 
-use cp_scope::{CompileError, count_between};
 use cp_program::arm::Arm;
 use cp_program::arms::Arms;
 use cp_program::operation::Table;
+use cp_scope::{CompileError, count_between};
 use std::alloc::Global;
 
 // The lowest of `n` and the labels.

@@ -8,9 +8,9 @@ ghost use Rattle.cp_program.specs.View as view;
 use crate::allowance::Allowance;
 use crate::emitter::Emitter;
 use crate::need::Need;
-use cp_scope::CompileError;
 use cp_program::operation::Operation;
 use cp_program::program::{CodeUnit, Start};
+use cp_scope::CompileError;
 use std::alloc::Global;
 
 impl Emitter {

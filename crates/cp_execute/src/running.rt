@@ -9,14 +9,14 @@ ghost use Rattle.cp_execute.specs.declared.refusal.Refusal.TheVariants as refusa
 use crate::cutting::cut_input;
 use crate::refusal::Refusal;
 use cp_check::checking::program;
+use cp_machine_model::law::reports;
+use cp_model::tree::Tree;
+use cp_report::report::report;
 use cp_rounds::gate::TurnGate;
 use cp_rounds::machine::Machine;
 use cp_rounds::plan::Plan;
 use cp_rounds::tick::Tick;
-use cp_model::tree::Tree;
-use cp_report::report::report;
 use cp_scope::Tables;
-use cp_machine_model::law::reports;
 use std::alloc::Global;
 use std::sync::Wait;
 use std::thread::Threads;

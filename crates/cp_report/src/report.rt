@@ -10,8 +10,8 @@ use crate::lines::push_rounds;
 use crate::listing::components;
 use crate::subject::Subject;
 use crate::walk::Walk;
-use cp_rounds::machine::Machine;
 use cp_model::tree::Sort;
+use cp_rounds::machine::Machine;
 use cp_scope::{Field, Tables};
 use std::alloc::{AllocError, Global};
 

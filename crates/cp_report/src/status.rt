@@ -15,8 +15,8 @@ use crate::walk::Walk;
 use cp_model::state::Fault;
 use cp_private::outside::Stage;
 use cp_private::private::Activity;
-use cp_scope::{Field, Tables};
 use cp_program::program::Program;
+use cp_scope::{Field, Tables};
 use std::alloc::AllocError;
 
 /// Returns where the words of a monitor begin among the shared words.

@@ -2,9 +2,9 @@
 
 use crate::machines::{activity, has_written, machine_of};
 use crate::ways::ways;
-use cp_rounds::gate::Open;
 use cp_private::outside::Holder;
 use cp_private::private::Activity;
+use cp_rounds::gate::Open;
 use std::test::Fail;
 
 // A class `c` adds k times what it is given to 100. An object of class `d` has a right to it.

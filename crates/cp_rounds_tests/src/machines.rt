@@ -4,10 +4,10 @@ ghost use Rattle.std.specs.Prelude.{◌≡◌, IfOk, length};
 ghost use Rattle.cp_program.specs.View as view;
 
 use crate::texts::program;
-use cp_rounds::machine::Machine;
-use cp_rounds::tick::Tick;
 use cp_private::private::Activity;
 use cp_program::program::Program;
+use cp_rounds::machine::Machine;
+use cp_rounds::tick::Tick;
 use std::alloc::Global;
 use std::test::Fail;
 

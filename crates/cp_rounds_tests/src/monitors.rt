@@ -3,11 +3,11 @@
 
 use crate::machines::{activity, has_written, machine_of};
 use crate::ways::{Way, ways};
-use cp_rounds::gate::Open;
-use cp_rounds::machine::Machine;
 use cp_model::state::Fault;
 use cp_private::outside::{Holder, Stage};
 use cp_private::private::Activity;
+use cp_rounds::gate::Open;
+use cp_rounds::machine::Machine;
 use std::process::Abort;
 use std::test::Fail;
 

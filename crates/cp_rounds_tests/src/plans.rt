@@ -3,12 +3,12 @@
 
 use crate::machines::{activity, has_written, machine_of};
 use crate::ways::Way;
+use cp_private::outside::Holder;
+use cp_private::private::Activity;
 use cp_rounds::gate::Open;
 use cp_rounds::machine::Machine;
 use cp_rounds::plan::{OutOfRange, Plan};
 use cp_rounds::tick::{NoTick, Tick};
-use cp_private::outside::Holder;
-use cp_private::private::Activity;
 use std::alloc::{AllocError, Global};
 use std::sync::Wait;
 use std::test::Fail;

@@ -2,10 +2,10 @@
 
 use crate::machines::{activity, has_written, machine_of, machine_with};
 use crate::ways::ways;
-use cp_rounds::gate::Open;
 use cp_model::state::Fault;
 use cp_private::outside::Stage;
 use cp_private::private::Activity;
+use cp_rounds::gate::Open;
 use std::test::Fail;
 
 const SQUARES: &str = "var x: integer; begin x := 2; cycle display(x); x := x * x end end.";

@@ -2,9 +2,9 @@
 
 use crate::machines::{activity, has_written, machine_of};
 use crate::ways::{Way, ways};
-use cp_rounds::gate::Open;
 use cp_private::outside::{Holder, Stage};
 use cp_private::private::Activity;
+use cp_rounds::gate::Open;
 use std::test::Fail;
 
 pub(crate) const SEVENS: &str =

@@ -1,9 +1,9 @@
 //! The program of a text.
 
 use cp_check::checking::check;
+use cp_program::program::Program;
 use cp_scan::scan;
 use cp_syntax::parse;
-use cp_program::program::Program;
 use std::alloc::Global;
 use std::test::Fail;
 

@@ -17,8 +17,8 @@ ghost use Rattle.cp_translate.specs.Translated.{IsArgument, IsSpot, IsTerm};
 use crate::made::{MadeArgument, MadeSpot};
 use crate::translator::Translator;
 use cp_emit::call::MadeTerm;
-use cp_scope::{CompileError, Declared, Simple};
 use cp_program::operation::Argument;
+use cp_scope::{CompileError, Declared, Simple};
 
 /// Passes a reference to a variable.
 pub fn reference(at: u32, made: MadeSpot) -> MadeArgument

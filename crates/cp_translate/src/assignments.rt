@@ -22,8 +22,8 @@ use crate::made::MadeSpot;
 use crate::translator::Translator;
 use cp_emit::{CodedCall, Emitter};
 use cp_model::tree::{Designator, Expression};
-use cp_scope::{CompileError, Simple, refuse_no_index};
 use cp_program::operation::Operation;
+use cp_scope::{CompileError, Simple, refuse_no_index};
 
 impl<'s, 't> Translator<'s, 't> {
     // Whether a name is that of the running function, and not that of one of its parameters or

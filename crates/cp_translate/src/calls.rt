@@ -24,8 +24,8 @@ use crate::translator::Translator;
 use cp_emit::CodedCall;
 use cp_emit::call::{MadeTerm, make_call};
 use cp_model::tree::Sort;
-use cp_scope::{Callee, CompileError, Component, RoutineTable, small_number};
 use cp_program::operation::{Argument, Call, Target};
+use cp_scope::{Callee, CompileError, Component, RoutineTable, small_number};
 
 /// The number of words before the parameters of a routine. A function has one, for its result.
 pub fn words_before(routine: &RoutineTable) -> u32

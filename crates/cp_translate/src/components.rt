@@ -22,8 +22,8 @@ ghost use Rattle.cp_translate.specs.Initialisation.{IsTable};
 use crate::standard::lone_name;
 use crate::translator::Translator;
 use cp_model::tree::{Designator, Expression};
-use cp_scope::{CompileError, Component, SystemTable, small_number};
 use cp_program::operation::Target;
+use cp_scope::{CompileError, Component, SystemTable, small_number};
 
 /// The word at which a member lies in a component of a system type.
 pub fn member_at(table: &SystemTable, name: &[u8]) -> Result<u32, CompileError>

@@ -27,8 +27,8 @@ use crate::made::{MadeArgument, MadeArguments, no_arguments};
 use crate::translator::Translator;
 use cp_emit::{CodedCall, Emitter};
 use cp_model::tree::{Expression, InitItem, Sort};
-use cp_scope::{CompileError, Component, Declared, SystemTable, small_number};
 use cp_program::operation::{Argument, Call, Operation};
+use cp_scope::{CompileError, Component, Declared, SystemTable, small_number};
 
 impl<'s, 't> Translator<'s, 't> {
     // Passes a right to a component.

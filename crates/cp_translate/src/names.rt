@@ -16,8 +16,8 @@ ghost use Rattle.cp_program.specs.View as view;
 ghost use Rattle.cp_typing.specs.StaticTypes.{is_clock};
 
 use crate::translator::Translator;
-use cp_scope::{CompileError, Local, Part};
 use cp_program::term::{Root, Term};
+use cp_scope::{CompileError, Local, Part};
 
 // Whether a name is that of the clock.
 fn is_clock(name: &[u8]) -> bool

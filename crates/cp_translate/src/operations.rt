@@ -18,9 +18,9 @@ use crate::translator::Translator;
 use cp_emit::Emitter;
 use cp_emit::table::table_of;
 use cp_model::tree::{Constant, Direction, Expression};
-use cp_scope::CompileError;
 use cp_program::arm::Arm;
 use cp_program::operation::{Counting, Operation};
+use cp_scope::CompileError;
 
 // Whether a `for` counts down.
 fn is_down(direction: Direction) -> bool

@@ -14,8 +14,8 @@ ghost use Rattle.cp_translate.specs.Translated.{IsTerm};
 use crate::translator::Translator;
 use cp_emit::call::MadeTerm;
 use cp_model::tree::{Operator, Sign};
-use cp_scope::CompileError;
 use cp_program::term::Term;
+use cp_scope::CompileError;
 
 impl<'s, 't> Translator<'s, 't> {
     /// A number, which needs no calls.

@@ -14,8 +14,8 @@ ghost use Rattle.cp_translate.specs.Translated.{IsPlace, IsSpot, IsTerm, PartOf}
 use crate::made::MadeSpot;
 use crate::translator::Translator;
 use cp_emit::call::MadeTerm;
-use cp_scope::CompileError;
 use cp_program::term::{Spot, Term};
+use cp_scope::CompileError;
 
 impl<'s, 't> Translator<'s, 't> {
     /// The spot of the variable with this name, and the type of its place.

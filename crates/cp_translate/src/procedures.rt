@@ -23,8 +23,8 @@ use crate::standard::lone_name;
 use crate::translator::Translator;
 use cp_emit::Emitter;
 use cp_model::tree::{Designator, Expression};
-use cp_scope::{Base, Callee, CompileError};
 use cp_program::operation::Operation;
+use cp_scope::{Base, Callee, CompileError};
 
 // Whether values of a base type are displayed as bytes.
 fn is_char(base: Base) -> bool

@@ -23,8 +23,8 @@ use crate::made::MadeSpot;
 use crate::translator::Translator;
 use cp_emit::call::MadeTerm;
 use cp_model::tree::{Designator, Expression};
-use cp_scope::{Base, CompileError, base_type, first_ordinal, last_ordinal};
 use cp_program::term::{Function, Term};
+use cp_scope::{Base, CompileError, base_type, first_ordinal, last_ordinal};
 
 /// The name that a designator consists of. A designator of a part is refused.
 pub fn lone_name(d: &Designator) -> Result<&[u8], CompileError>

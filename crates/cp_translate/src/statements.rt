@@ -13,9 +13,9 @@ ghost use Rattle.cp_translate.specs.Statements.{ArmsOf, StatementOf};
 use crate::translator::Translator;
 use cp_emit::Emitter;
 use cp_model::tree::{Arm, Direction, Expression, Identifier, Statement};
-use cp_scope::CompileError;
 use cp_program::arm::Arm as CodedArm;
 use cp_program::operation::Operation;
+use cp_scope::CompileError;
 
 impl<'s, 't> Translator<'s, 't> {
     /// Emits the operations of a statement, which lead to the place `next`, and returns the place
