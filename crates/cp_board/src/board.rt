@@ -154,7 +154,7 @@ impl Board {
 
     /// Whether a stop has been called: true only after a stop, and always true for a seat that has
     /// seen one. Only tests show that a seat sees a stop that another seat called.
-    pub fn is_stopped(&self, seat: &mut Seat) -> bool
+    pub fn stopped(&self, seat: &mut Seat) -> bool
         requires { IsSeatOf self.now seat.old }
         ensures table { seat.new.table ≡ seat.old.table }
         ensures view { seat.new.view ≡ record seat.old.view { seen_stop = result } }

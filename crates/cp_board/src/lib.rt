@@ -4,7 +4,7 @@
 //! A board has one ticket word for each of its stripes, and a stop word. `Board::new` returns the
 //! board and its first seat. `Board::split` makes two seats of one and `Board::join` makes one of
 //! two, so that each thread gets a seat of its own. A seat draws with `Board::claim`, calls the
-//! stop with `Board::stop` and checks for it with `Board::is_stopped`. Whoever has joined all seats
+//! stop with `Board::stop` and checks for it with `Board::stopped`. Whoever has joined all seats
 //! closes the board with `Board::close`, and then knows everything that was drawn.
 //!
 //! | What | Where it is defined |

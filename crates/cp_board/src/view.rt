@@ -30,6 +30,6 @@ pub struct View {
     pub used_up: LinkedList<bool>,
     /// Whether the seat has called `Board::stop`.
     pub called_stop: bool,
-    /// Whether the seat has called `Board::stop`, or `Board::is_stopped` has returned true.
+    /// Whether the seat has called `Board::stop`, or `Board::stopped` has returned true.
     pub seen_stop: bool,
 }

@@ -179,9 +179,9 @@ fn a_stop_is_seen_on_the_same_thread(rt: HostRuntime) -> Result<(), Fail> {
     let Ok((mut first, mut second)) = board.split(seat) else {
         panic!(rt; "a new seat can be split")
     };
-    let before = board.is_stopped(&mut second);
+    let before = board.stopped(&mut second);
     board.stop(&mut first);
-    let after = board.is_stopped(&mut second);
+    let after = board.stopped(&mut second);
     let seat = board.join(first, second);
     let count = board.close(seat);
     assert!(rt; !before && after);
@@ -205,7 +205,7 @@ fn ask_with(board: &Board, mut seat: Seat) -> (Seat, bool)
     ensures of { IsSeatOf board.now result.0 }
     ensures allowance { result.0.view.allowance ≡ seat.view.allowance }
 {
-    let stopped = board.is_stopped(&mut seat);
+    let stopped = board.stopped(&mut seat);
     (seat, stopped)
 }
 

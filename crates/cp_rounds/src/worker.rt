@@ -77,7 +77,7 @@ where
         × IsWork (J.gives job.now) wave seat.view.draws result.0.view.draws rs.items) }
 {
     let mut done = Vec::new(alloc);
-    'draw: while !board.is_stopped(&mut seat) {
+    'draw: while !board.stopped(&mut seat) {
         let Some(k) = board.claim(&mut seat) else {
             return (seat, Ok(done));
         };

@@ -5,7 +5,7 @@ use Rattle.cp_board.specs.declared.view.Shape.{Shape}
 use Rattle.cp_board.specs.Rule.{KeepsRule}
 use Rattle.cp_board.specs.Steps.{ReadsStop}
 use Rattle.cp_board.proofs.StopSteps.{reads}
-use Rattle.cp_board.proofs.board.Board.is_stopped.Goals as goal
+use Rattle.cp_board.proofs.board.Board.stopped.Goals as goal
 
 pub load-found-requires : goal.load-found-requires
 load-found-requires c =
