@@ -1,7 +1,7 @@
 #!/usr/bin/env python3
 """Measures the compiler: milliseconds to compile texts of 256 KiB to 1 MiB, and the memory of the whole program at 1 MiB.
 
-Build the program first (`rt run < stdin` in crates/bench_compile leaves out/bench_compile), then call this script. A process scans and parses a
+Build the program first (`rt run < stdin` in crates/bench leaves out/bench), then call this script. A process scans and parses a
 text and compiles it once, and another compiles it so many times more. The difference of their processor times over these turns
 is what is printed, of the trial with the least.
 """
@@ -12,7 +12,7 @@ import string
 import subprocess
 
 ROOT = pathlib.Path(__file__).resolve().parent.parent
-PROGRAM = ROOT / 'crates' / 'bench_compile' / 'out' / 'bench_compile'
+PROGRAM = ROOT / 'crates' / 'bench' / 'out' / 'bench'
 KIB = 1024
 SIZES = [256 * KIB, 512 * KIB, 1024 * KIB]
 TURNS = 4
@@ -63,7 +63,7 @@ TEXTS = {
 def spent(text, turns):
     """The processor time of this many compilations, including the scanner's and the parser's."""
     before = resource.getrusage(resource.RUSAGE_CHILDREN)
-    subprocess.run([PROGRAM, str(turns)], input=text.encode(), capture_output=True, check=True)
+    subprocess.run([PROGRAM, 'compile', str(turns)], input=text.encode(), capture_output=True, check=True)
     after = resource.getrusage(resource.RUSAGE_CHILDREN)
     return after.ru_utime - before.ru_utime
 
@@ -76,7 +76,7 @@ def milliseconds(text):
 def megabytes(text):
     """The most memory that the program takes for a text."""
     words = ['/usr/bin/env', 'python3', '-c',
-             'import resource,subprocess,sys;subprocess.run([sys.argv[1]],input=sys.stdin.buffer.read(),capture_output=True);'
+             'import resource,subprocess,sys;subprocess.run([sys.argv[1],"compile"],input=sys.stdin.buffer.read(),capture_output=True);'
              'print(resource.getrusage(resource.RUSAGE_CHILDREN).ru_maxrss)', str(PROGRAM)]
     return int(subprocess.run(words, input=text.encode(), capture_output=True, check=True).stdout) / 1024
 

@@ -1,7 +1,7 @@
 #!/usr/bin/env python3
 """Measures the scanner: nanoseconds a byte on texts of words, numbers, comments, marks and more, from 64 KiB to 1 MiB.
 
-Build the program first (`rt run` in crates/bench_scan leaves out/bench_scan), then call this script. A process scans a text
+Build the program first (`rt run < stdin` in crates/bench leaves out/bench), then call this script. A process scans a text
 once, and another scans it so many times more that 16 MiB are scanned. The difference of their times over these bytes is
 what is printed, of the trial with the least: the processor time of the program itself, and in the last column, for 1 MiB,
 that of the system on its behalf (it hands out the memory of the tokens, page by page).
@@ -12,7 +12,7 @@ import subprocess
 import sys
 
 ROOT = pathlib.Path(__file__).resolve().parent.parent
-PROGRAM = ROOT / 'crates' / 'bench_scan' / 'out' / 'bench_scan'
+PROGRAM = ROOT / 'crates' / 'bench' / 'out' / 'bench'
 KIB = 1024
 SIZES = [64 * KIB, 128 * KIB, 256 * KIB, 512 * KIB, 1024 * KIB]
 BYTES_A_TRIAL = 16 * 1024 * KIB
@@ -43,7 +43,7 @@ def texts(size):
 def times(text, turns):
     """The processor times of a process that scans the text this many times: its own, and the system's."""
     before = resource.getrusage(resource.RUSAGE_CHILDREN)
-    answer = subprocess.run([PROGRAM, str(turns)], input=text, capture_output=True, check=True).stdout
+    answer = subprocess.run([PROGRAM, 'scan', str(turns)], input=text, capture_output=True, check=True).stdout
     after = resource.getrusage(resource.RUSAGE_CHILDREN)
     if not answer.endswith(b' tokens\n'):
         sys.exit(f'refused: {answer!r}')

@@ -1,0 +1,37 @@
+//! Compiles a text over and over.
+
+use cp_compile::compile;
+use cp_model::tree::Tree;
+use cp_scan::scan;
+use cp_syntax::parse;
+use std::io;
+
+// Prints the sizes of the program of a tree.
+fn report(rt: &HostRuntime, tree: &Tree) -> io::Result<()> {
+    match compile(rt.alloc(), tree) {
+        Ok(program) => println!(rt;
+            "{} monitors, {} processes, {} shared words",
+            program.monitors(),
+            program.processes(),
+            program.shared_words()
+        ),
+        Err(error) => println!(rt; "{error:?}"),
+    }
+}
+
+/// Scans and parses a text, compiles it so many times, at least once, and prints the sizes of its
+/// program.
+pub fn compile_often(rt: &HostRuntime, text: &[u8], times: u32) -> io::Result<()> {
+    let tokens = match scan(rt.alloc(), text) {
+        Ok(tokens) => tokens,
+        Err(error) => return println!(rt; "{error:?}"),
+    };
+    let tree = match parse(rt.alloc(), &tokens, text.len()) {
+        Ok(tree) => tree,
+        Err(error) => return println!(rt; "{error:?}"),
+    };
+    for _ in 1..times {
+        let _ = compile(rt.alloc(), &tree);
+    }
+    report(rt, &tree)
+}
