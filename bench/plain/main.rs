@@ -1,4 +1,4 @@
-//! A plain interpreter of threaded code, in the shape of the one in cpm but without its proofs: bench/steps.py compares the two.
+//! A plain interpreter of operations, in the shape of the one in cpm but without its proofs: bench/steps.py compares the two.
 //!
 //! `plain TEXT TURNS` makes so many turns of 10,000 steps of the process of `texts/TEXT.cp` and prints its variables, one a line.
 //! The programs are written by hand, as cpm compiles the texts. What none of them needs is left out: monitors, queues, rights,

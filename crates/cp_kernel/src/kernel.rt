@@ -1,4 +1,4 @@
-//! The kernel.
+//! What the kernel keeps: shared words, gates, stages of processes and transcripts.
 
 ghost use Rattle.std.specs.Prelude.{◌≡◌, ◌<◌, ◌^◌, length};
 

@@ -1,4 +1,4 @@
-//! The kernel of the whole language: gates, stages of processes, shared words and transcripts.
+//! The kernel: gates, stages of processes, shared words and transcripts.
 //!
 //! For any program and any state, the kernel's calls are the functions on plain data that cp_machine_model
 //! defines (`specs/KernelOf.antt` defines the plain data). No effect of a step takes memory.

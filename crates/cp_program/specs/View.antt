@@ -1,4 +1,4 @@
--- Threaded code as the plain data of the definitions. Chains of operands become terms that group to
+-- Programs as the plain data of the definitions. Chains of operands become terms that group to
 -- the left, and indices become elements of elements. Each component has its plan, which components
 -- share in the code.
 use Rattle.std.specs.Prelude.{ℕ, ℤ, List, [], ◌∷◌, Option, Some, None, map, slice_get}

@@ -1,5 +1,5 @@
-//! The form of a compiled program: threaded code, flat enough that a step needs neither allocation
-//! nor hashing.
+//! The form of a compiled program: operations that name those that follow them, flat enough that a
+//! step needs neither allocation nor hashing.
 //!
 //! - `term`: expressions, which are chains of operands, and spots, which are places of variables.
 //! - `operation`: operations, each of which is one step and holds the places to which it leads.

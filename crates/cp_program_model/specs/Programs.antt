@@ -1,4 +1,4 @@
--- Programs as plain data: threaded code, with one operation for each step of the meaning.
+-- Programs as plain data, with one operation for each step of the meaning.
 --
 -- The place of an operation is its index in the program's list. An operation names the place to
 -- which it leads, so lists of statements, `begin` and `end` need no operations of their own.

@@ -1,11 +1,11 @@
-//! The form of a program of the whole language, when a program stands for a text, and the compiler
-//! as a function on plain data.
+//! The form of a program, when a program stands for a text, and the compiler as a function, all on
+//! plain data.
 //!
 //! `specs/` has these parts, from the bottom up:
 //!
-//! - **The form.** `Terms` and `Programs` define threaded code, with one operation for each step of
-//!   the meaning, the units of code with what they need, and the words of components. `Layout` says
-//!   where each variable lies, `Starts` how words start, and `Tables` where a `case` leads.
+//! - **The form.** `Terms` and `Programs` define the operations, one for each step of the meaning,
+//!   the units of code with what they need, and the words of components. `Layout` says where each
+//!   variable lies, `Starts` how words start, and `Tables` where a `case` leads.
 //! - **The relation.** `StandsFor` says when a program stands for a text. Its parts are `Sites`
 //!   (names, targets, calls), `TermsFor`, `StatementsFor` and `Starts`. It refers only to the
 //!   environments of the meaning, and to every place where a component may lie, so all components

@@ -1,5 +1,4 @@
-//! The machine of the whole language: rounds and runs by threads, and what can be read of the
-//! machine between them.
+//! The machine: rounds and runs by threads, and what can be read of the machine between them.
 //!
 //! A round or a run makes of the machine what the definitions of cp_machine_model make of it as plain data,
 //! for every plan and any schedule of the threads (`specs/Views.antt` defines the plain data). By

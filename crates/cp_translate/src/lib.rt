@@ -1,4 +1,4 @@
-//! Translates expressions, designators and statements to threaded code.
+//! Translates expressions, designators and statements to operations.
 //!
 //! A `Translator` has the scope of a unit. Whatever the tree, the result of each function equals
 //! that of a function of `cp_program_model`'s definitions (`CodedTerms.antt`, `CodedStatements.antt`), in

@@ -1,7 +1,7 @@
 use Rattle.std.proofs.Common.{◌∙◌, refl, subst, sym}
 use Rattle.cp_program_model.specs.StandsFor.{StandsFor}
 use Rattle.cp_model.specs.View as view
-use Rattle.cp_program.specs.View as threaded
+use Rattle.cp_program.specs.View as program_view
 use Rattle.cp_execute.specs.Cutting.{AreParts}
 use Rattle.cp_execute.specs.Executed.{setup_of}
 use Rattle.cp_execute.proofs.Faults.{from_ok}
@@ -13,7 +13,7 @@ returns-clause-report g c =
     let run = c.args.run.now in
     let input = c.args.input.now in
     let setup = setup_of (view.tree c.args.tree.now) input run.tick.rounds in
-    let program = threaded.program c.in_ok-program.program in
+    let program = program_view.program c.in_ok-program.program in
     let stands : StandsFor program setup = c.in_ok-program.ensures setup refl in
     let inputs = c.in_ok-inputs.inputs.items in
     let parts = subst (λ n. AreParts input n inputs) c.processes.ensures c.in_ok-inputs.ensures.parts in
