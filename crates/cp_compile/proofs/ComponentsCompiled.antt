@@ -29,7 +29,7 @@ use Rattle.cp_scope.specs.Components.{own_members}
 use Rattle.cp_scope.specs.Layouts.{rights_of}
 use Rattle.cp_scope.specs.Scopes.{IsWritten}
 use Rattle.cp_scope.specs.Variables.{AreDeclared, Entry, declared_entry, parameters_of}
-use Rattle.cp_program.specs.declared.program.Plan.{Plan}
+use Rattle.cp_program.specs.declared.program.StartPlan.{StartPlan}
 use Rattle.cp_compile.specs.declared.components.Owner.{Owner}
 use Rattle.cp_compile.specs.declared.components.InitialCompiler.{InitialCompiler}
 use Rattle.cp_compile.specs.CompiledComponents.{AreOwners, IsInitial, IsOwner, OwnerIs, PutsOwner}
@@ -78,7 +78,7 @@ sort_behind s v vs = go (is_component_of s v.1.type)
     go true = refl
     go false = refl
 
-pub one_owner : (plans : List Plan) (g : GlobalScope) (os : List Owner) (xs : List code.Owner) (o : Owner) (x : code.Owner) → AreOwners plans g os xs
+pub one_owner : (plans : List StartPlan) (g : GlobalScope) (os : List Owner) (xs : List code.Owner) (o : Owner) (x : code.Owner) → AreOwners plans g os xs
     → OwnerIs plans g o x → AreOwners plans g (os ++ o ∷ []) (xs ++ x ∷ [])
 one_owner plans g [] [] o x are is = (is, tt)
 one_owner plans g (p ∷ os) (y ∷ xs) o x are is = (are.0, one_owner plans g os xs o x are.1 is)
@@ -86,7 +86,7 @@ one_owner plans g [] (y ∷ xs) o x are is = absurd are
 one_owner plans g (p ∷ os) [] o x are is = absurd are
 
 -- The components so far and those among the remaining variables are all components.
-pub record PartlyOwned (plans : List Plan) (g : GlobalScope) (types : Types) (firsts : List (Name × ℕ)) (groups : List Group) (s : Sort) (left : List Entry)
+pub record PartlyOwned (plans : List StartPlan) (g : GlobalScope) (types : Types) (firsts : List (Name × ℕ)) (groups : List Group) (s : Sort) (left : List Entry)
     (all : List code.Owner) (owners : List Owner) : Type 0 where
   pub others : List (Name × Variable)
   pub stand : AreDeclared types left others
@@ -111,7 +111,7 @@ waiting_counted g types s ps vs rs ds n is declared count =
     rw is.parameters (omega (arith, count, same))
 
 -- A variable that is a component, with the unit of its body.
-pub component_put : (of : InitialCompiler) (plans : List Plan) (g : GlobalScope) (firsts : List (Name × ℕ)) (groups : List Group) (vs : List (Name × Variable))
+pub component_put : (of : InitialCompiler) (plans : List StartPlan) (g : GlobalScope) (firsts : List (Name × ℕ)) (groups : List Group) (vs : List (Name × Variable))
     (v : Name × Variable) → IsInitial of plans g firsts groups vs → (k : ℕ) (text : Bor tree_system.System) (table : SystemTable) (n : ℕ) (o : Owner) (body : ℕ)
     → system_at of.tables.now.types k ≡ Some text → slice_get of.tables.now.systems.items k ≡ Some table
     → body ≡ or_zero (lookup (declared_type v.0 groups) firsts) + length text.now.routines.items → Stands of.tables.now.types n v.1.type
@@ -141,14 +141,14 @@ component_put of plans g firsts groups vs v i k text table n o body text_is tabl
 
 -- ---- One variable
 
-pub no_owner : (plans : List Plan) (g : GlobalScope) (firsts : List (Name × ℕ)) (groups : List Group) (s : Sort) (v : Name × Variable) (os : List Owner)
+pub no_owner : (plans : List StartPlan) (g : GlobalScope) (firsts : List (Name × ℕ)) (groups : List Group) (s : Sort) (v : Name × Variable) (os : List Owner)
     (before : List code.Owner) → is_component_of s v.1.type ≡ false → AreOwners plans g os before
     → AreOwners plans g os (before ++ owners_of firsts groups (of_sort s (v ∷ [])))
 no_owner plans g firsts groups s v os before other are =
     subst (λ vs. AreOwners plans g os (before ++ owners_of firsts groups vs)) (sym (ap (λ b. if b then v ∷ [] else []) other))
     (subst (AreOwners plans g os) (sym (append-nil before)) are)
 
-pub one_put : (plans : List Plan) (g : GlobalScope) (firsts : List (Name × ℕ)) (groups : List Group) (s : Sort) (v : Name × Variable) (os : List Owner)
+pub one_put : (plans : List StartPlan) (g : GlobalScope) (firsts : List (Name × ℕ)) (groups : List Group) (s : Sort) (v : Name × Variable) (os : List Owner)
     (before : List code.Owner) (o : Owner) → is_component_of s v.1.type ≡ true → AreOwners plans g os before → PutsOwner plans g firsts groups v o
     → AreOwners plans g (os ++ o ∷ []) (before ++ owners_of firsts groups (of_sort s (v ∷ [])))
 one_put plans g firsts groups s v os before o own are put =
@@ -156,7 +156,7 @@ one_put plans g firsts groups s v os before o own are put =
     (subst (λ xs. AreOwners plans g (os ++ o ∷ []) (before ++ xs)) (sym (put.1 [])) (one_owner plans g os before o put.0 are put.2))
 
 -- One variable more.
-pub one_owned : (plans : List Plan) (g : GlobalScope) (types : Types) (firsts : List (Name × ℕ)) (groups : List Group) (s : Sort) (d : Entry) (left : List Entry)
+pub one_owned : (plans : List StartPlan) (g : GlobalScope) (types : Types) (firsts : List (Name × ℕ)) (groups : List Group) (s : Sort) (d : Entry) (left : List Entry)
     (all : List code.Owner) (os ps : List Owner) → PartlyOwned plans g types firsts groups s (d ∷ left) all os
     → ((v : Variable) (xs : List code.Owner) → Stands types d.1.1 v.type → AreOwners plans g os xs
     → AreOwners plans g ps (xs ++ owners_of firsts groups (of_sort s ((d.0, v) ∷ []))))
@@ -177,7 +177,7 @@ one_owned plans g types firsts groups s d left all os ps some one = go some.othe
           ∙ rest;
     }
 
-pub all_owned : (plans : List Plan) (g : GlobalScope) (types : Types) (firsts : List (Name × ℕ)) (groups : List Group) (s : Sort) (left : List Entry)
+pub all_owned : (plans : List StartPlan) (g : GlobalScope) (types : Types) (firsts : List (Name × ℕ)) (groups : List Group) (s : Sort) (left : List Entry)
     (all : List code.Owner) (os : List Owner) → left ≡ [] → PartlyOwned plans g types firsts groups s left all os → AreOwners plans g os all
 all_owned plans g types firsts groups s left all os none some =
     go some.others (subst (λ ds. AreDeclared types ds some.others) none some.stand) some.rest

@@ -10,13 +10,13 @@ use Rattle.cp_program_model.specs.Plans.{plan_of_component}
 use Rattle.cp_program_model.specs.Programs as program
 use Rattle.cp_program.specs.View as view
 use Rattle.cp_program.specs.declared.program.Monitor.{Monitor}
-use Rattle.cp_program.specs.declared.program.Plan.{Plan}
+use Rattle.cp_program.specs.declared.program.StartPlan.{StartPlan}
 use Rattle.cp_program.specs.declared.program.Process.{Process}
 use Rattle.cp_compile.specs.declared.components.Owner.{Owner}
 use Rattle.cp_compile.specs.CompiledComponents.{AreOwners, OwnerIs}
 
 -- The components laid out so far, and the remaining ones, which begin at the word `at`.
-pub record PartlyLaid {A B : Type 0} (plans : List Plan) (g : GlobalScope) (shown : A → B) (from : ℕ → List code.Owner → List B) (f : System → ℕ)
+pub record PartlyLaid {A B : Type 0} (plans : List StartPlan) (g : GlobalScope) (shown : A → B) (from : ℕ → List code.Owner → List B) (f : System → ℕ)
     (left : List Owner) (laid : List A) (at start : ℕ) (xs : List code.Owner) : Type 0 where
   pub others : List code.Owner
   pub are : AreOwners plans g left others
@@ -28,7 +28,7 @@ pub record IsFirst {A B : Type 0} (shown : A → B) (from : ℕ → List code.Ow
   pub laid : (others : List code.Owner) → from at (x ∷ others) ≡ shown z ∷ from next others
   pub next_is : next ≡ at + f x.system
 
-pub one_laid : {A B : Type 0} (plans : List Plan) (g : GlobalScope) (shown : A → B) (from : ℕ → List code.Owner → List B) (f : System → ℕ)
+pub one_laid : {A B : Type 0} (plans : List StartPlan) (g : GlobalScope) (shown : A → B) (from : ℕ → List code.Owner → List B) (f : System → ℕ)
     (o : Owner) (left : List Owner) (laid : List A) (z : A) (at next start : ℕ) (xs : List code.Owner)
     → PartlyLaid plans g shown from f (o ∷ left) laid at start xs → ((x : code.Owner) → OwnerIs plans g o x → IsFirst shown from f z at next x)
     → PartlyLaid plans g shown from f left (laid ++ z ∷ []) next start xs
@@ -54,7 +54,7 @@ pub record AllLaid {A B : Type 0} (shown : A → B) (from : ℕ → List code.Ow
   pub all : map shown laid ≡ from start xs
   pub end_is : at ≡ start + sum_words f xs
 
-pub all_laid : {A B : Type 0} (plans : List Plan) (g : GlobalScope) (shown : A → B) (from : ℕ → List code.Owner → List B) (f : System → ℕ)
+pub all_laid : {A B : Type 0} (plans : List StartPlan) (g : GlobalScope) (shown : A → B) (from : ℕ → List code.Owner → List B) (f : System → ℕ)
     (left : List Owner) (laid : List A) (at start : ℕ) (xs : List code.Owner) → ((n : ℕ) → from n [] ≡ []) → left ≡ []
     → PartlyLaid plans g shown from f left laid at start xs → AllLaid shown from f laid at start xs
 all_laid plans g shown from f left laid at start xs nothing none some =
@@ -70,7 +70,7 @@ all_laid plans g shown from f left laid at start xs nothing none some =
 
 -- ---- One component
 
-pub monitor_first : (plans : List Plan) (g : GlobalScope) (o : Owner) (x : code.Owner) (at next : ℕ) → OwnerIs plans g o x → next ≡ at + o.words
+pub monitor_first : (plans : List StartPlan) (g : GlobalScope) (o : Owner) (x : code.Owner) (at next : ℕ) → OwnerIs plans g o x → next ≡ at + o.words
     → IsFirst (view.monitor plans) (monitors_at g) (component_words g) (record { start = at; body = o.body; words = o.words; plan = o.plan }) at next x
 monitor_first plans g o x at next is after =
     let z : Monitor = record { start = at; body = o.body; words = o.words; plan = o.plan } in
@@ -85,13 +85,13 @@ monitor_first plans g o x at next is after =
       next_is = here;
     }
 
-pub process_first : (plans : List Plan) (g : GlobalScope) (o : Owner) (x : code.Owner) (at next : ℕ) → OwnerIs plans g o x → next ≡ at + o.waiting
+pub process_first : (plans : List StartPlan) (g : GlobalScope) (o : Owner) (x : code.Owner) (at next : ℕ) → OwnerIs plans g o x → next ≡ at + o.waiting
     → IsFirst (view.process plans) (processes_at g) (waiting_words g)
     (record { body = o.body; words = o.words; parameters = at; waiting = o.waiting; plan = o.plan }) at next x
 process_first plans g o x at next is after =
     let z : Process = record { body = o.body; words = o.words; parameters = at; waiting = o.waiting; plan = o.plan } in
     let here : next ≡ at + waiting_words g x.system = after ∙ ap (λ n. at + n) is.waiting in
-    let p : List program.Start = view.plan_at plans o.plan in
+    let p : List program.StartPiece = view.plan_at plans o.plan in
     let same : view.process plans z
     ≡ record { body = x.body; words = component_words g x.system; parameters = at; waiting = waiting_words g x.system; starts = plan_of_component g x.system } =
     ap (λ n. record { body = n; words = o.words; parameters = at; waiting = o.waiting; starts = p }) is.body

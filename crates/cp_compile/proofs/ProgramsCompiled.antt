@@ -21,7 +21,7 @@ use Rattle.cp_scope.specs.Layouts.{AreLaid}
 use Rattle.cp_scope.specs.Standing.{ScopeStands}
 use Rattle.cp_scope.specs.Texts.{AreSystems, TablesStand}
 use Rattle.cp_scope.specs.Variables.{AreDeclared, Entry}
-use Rattle.cp_program.specs.declared.program.Plan.{Plan}
+use Rattle.cp_program.specs.declared.program.StartPlan.{StartPlan}
 use Rattle.cp_program.specs.View as view
 use Rattle.cp_program.specs.View.{plan_at, plan_or_none}
 use Rattle.cp_compile.specs.declared.compiler.Code.{Code}
@@ -78,7 +78,7 @@ pub planner_types : (tables : Tables) (planner : Planner) (g : GlobalScope) → 
     → AreDeclared tables.types ds vs → AreDeclared (types_of planner) ds vs
 planner_types tables planner g is ds vs h = subst (λ (t : Tables). AreDeclared t.types ds vs) (sym is.over) h
 
-pub plans_are : (tables : Tables) (planner : Planner) (g : GlobalScope) (t : text.Tree) (all : List Plan) (p : Plan) → TablesStand g tables t
+pub plans_are : (tables : Tables) (planner : Planner) (g : GlobalScope) (t : text.Tree) (all : List StartPlan) (p : StartPlan) → TablesStand g tables t
     → IsPlanner tables planner g → length planner.tables.now.systems.items ≤ length all
     → (AreSystems g (types_of planner) planner.tables.now.systems.items → ArePlans g (types_of planner) all) → PlansAre g tables (all ++ p ∷ [])
 plans_are tables planner g t all p stands is complete plans k y table there here =
@@ -88,7 +88,7 @@ plans_are tables planner g t all p stands is complete plans k y table there here
     let q = get_there tables.systems.items all k table fits here in
     ap plan_or_none (get_before all (p ∷ []) k q.0 q.1) ∙ known k y q.0 there q.1
 
-pub initial_plan : (all : List Plan) (p : Plan) (n : ℕ) → n ≡ length all → plan_at (all ++ p ∷ []) n ≡ map view.start p.starts.items
+pub initial_plan : (all : List StartPlan) (p : StartPlan) (n : ℕ) → n ≡ length all → plan_at (all ++ p ∷ []) n ≡ map view.start p.starts.items
 initial_plan all p n is = ap (plan_at (all ++ p ∷ [])) is ∙ ap plan_or_none (get_last all p)
 
 -- ---- Programs

@@ -11,7 +11,7 @@ use Rattle.cp_model.specs.declared.tree.Identifier.{Identifier}
 use Rattle.cp_model.specs.declared.tree.Routine as tree_routine
 use Rattle.cp_program_model.specs.Compile.{Compiled, with_body, with_routine, with_routines, with_unit}
 use Rattle.cp_program_model.specs.Plans.{plan_of_routine}
-use Rattle.cp_program_model.specs.Programs.{Operation, Return, Start}
+use Rattle.cp_program_model.specs.Programs.{Operation, Return, StartPiece}
 use Rattle.cp_program_model.specs.Scopes as code
 use Rattle.cp_program_model.specs.StandsFor.{end_of}
 use Rattle.cp_program_model.specs.StatementsFor.{is_function}
@@ -65,14 +65,14 @@ function_written None = refl
 function_written (Some x) = refl
 
 -- A routine is compiled with its plan and its last operation.
-pub routine_compiled : (of : SystemCompiler) (g : GlobalScope) (s : System) (firsts : List (Name × ℕ)) (r : Routine) (starts : List Start) (last : Operation)
+pub routine_compiled : (of : SystemCompiler) (g : GlobalScope) (s : System) (firsts : List (Name × ℕ)) (r : Routine) (starts : List StartPiece) (last : Operation)
     (c : Compiled) (new : Emitter) → starts ≡ plan_of_routine g r → last ≡ Return (is_function r.result)
     → IsCompiled new (with_unit (unit_scope of g s firsts (Some r)) starts last r.body c) → IsCompiled new (with_routine g s firsts of.first r c)
 routine_compiled of g s firsts r starts last c new planned ends is =
     subst (λ o. IsCompiled new (with_unit (unit_scope of g s firsts (Some r)) (plan_of_routine g r) o r.body c)) ends
     (subst (λ xs. IsCompiled new (with_unit (unit_scope of g s firsts (Some r)) xs last r.body c)) planned is)
 
-pub body_compiled : (of : SystemCompiler) (g : GlobalScope) (s : System) (firsts : List (Name × ℕ)) (starts : List Start) (last : Operation) (body : Statement)
+pub body_compiled : (of : SystemCompiler) (g : GlobalScope) (s : System) (firsts : List (Name × ℕ)) (starts : List StartPiece) (last : Operation) (body : Statement)
     (c : Compiled) (new : Emitter) → starts ≡ [] → last ≡ end_of s.sort → s.body ≡ body
     → IsCompiled new (with_unit (unit_scope of g s firsts None) starts last body c) → IsCompiled new (with_body g s firsts of.first c)
 body_compiled of g s firsts starts last body c new none ends body_is is =

@@ -25,19 +25,19 @@ use Rattle.cp_scope.specs.Texts.{AreSystems}
 use Rattle.cp_scope.specs.TypeNames.{AreTypeNames}
 use Rattle.cp_scope.specs.Variables.{AreDeclared, declared_entry}
 use Rattle.cp_program.specs.View.{plan_at}
-use Rattle.cp_program.specs.declared.program.Plan.{Plan}
+use Rattle.cp_program.specs.declared.program.StartPlan.{StartPlan}
 use Rattle.cp_compile.specs.declared.components.InitialCompiler.{InitialCompiler}
 use Rattle.cp_compile.specs.declared.components.Owner.{Owner}
 
 -- ---- Owners
 
-pub record OwnerIs (plans : List Plan) (g : GlobalScope) (o : Owner) (x : code.Owner) : Type 0 where
+pub record OwnerIs (plans : List StartPlan) (g : GlobalScope) (o : Owner) (x : code.Owner) : Type 0 where
   pub body : o.body ≡ x.body
   pub words : o.words ≡ component_words g x.system
   pub waiting : o.waiting ≡ waiting_words g x.system
   pub plan : plan_at plans o.plan ≡ plan_of_component g x.system
 
-abbrev pub AreOwners : List Plan → GlobalScope → List Owner → List code.Owner → Type 0
+abbrev pub AreOwners : List StartPlan → GlobalScope → List Owner → List code.Owner → Type 0
 AreOwners plans g [] [] = Unit {0}
 AreOwners plans g (o ∷ os) (x ∷ xs) = OwnerIs plans g o x × AreOwners plans g os xs
 AreOwners plans g _ _ = ⊥
@@ -46,26 +46,26 @@ AreOwners plans g _ _ = ⊥
 -- `plan` is that of the system type.
 abbrev pub IsOwner : SystemTable → ℕ → ℕ → Owner → Type 0
 IsOwner table body plan o =
-    (plans : List Plan) (g : GlobalScope) (types : Types) (s : System)
+    (plans : List StartPlan) (g : GlobalScope) (types : Types) (s : System)
     (ps : List Parameters) (vs : List Fields) (rs : List tree_routine.Routine)
     → SystemStands g types table ps vs rs → IsWritten s ps vs rs → plan_at plans plan ≡ plan_of_component g s
     → OwnerIs plans g o (record { system = s; body = body })
 
 -- The component that the variable `v` is, in the definition, is `o`.
-abbrev pub PutsOwner : List Plan → GlobalScope → List (Name × ℕ) → List Group → Name × Variable → Owner → Type 0
+abbrev pub PutsOwner : List StartPlan → GlobalScope → List (Name × ℕ) → List Group → Name × Variable → Owner → Type 0
 PutsOwner plans g firsts groups v o =
     (x : code.Owner) × ((rest : List code.Owner) → owner_before firsts groups v rest ≡ x ∷ rest) × OwnerIs plans g o x
 
 -- ---- The initial process
 
-abbrev pub PlansAre : GlobalScope → Tables → List Plan → Type 0
+abbrev pub PlansAre : GlobalScope → Tables → List StartPlan → Type 0
 PlansAre g tables plans =
     (k : ℕ) (y : Bor tree_system.System) (t : SystemTable)
     → system_at tables.types k ≡ Some y → slice_get tables.systems.items k ≡ Some t
     → plan_at plans k ≡ plan_of_component g (erase.system (tree.system y.now))
 
 -- The tables stand for the text, and its initial process declares the variables `vs`.
-pub record IsInitial (of : InitialCompiler) (plans : List Plan) (g : GlobalScope) (firsts : List (Name × ℕ))
+pub record IsInitial (of : InitialCompiler) (plans : List StartPlan) (g : GlobalScope) (firsts : List (Name × ℕ))
     (groups : List Group) (vs : List (Name × Variable))
     : Type 0 where
   pub systems : AreSystems g of.tables.now.types of.tables.now.systems.items

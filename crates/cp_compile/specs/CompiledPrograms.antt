@@ -17,7 +17,7 @@ use Rattle.cp_emit.specs.Planning.{Knows}
 use Rattle.cp_scope.specs.declared.tables.Tables.{Tables}
 use Rattle.cp_program.specs.View as view
 use Rattle.cp_program.specs.View.{plan_at}
-use Rattle.cp_program.specs.declared.program.Plan.{Plan}
+use Rattle.cp_program.specs.declared.program.StartPlan.{StartPlan}
 use Rattle.cp_compile.specs.declared.compiler.Code.{Code}
 use Rattle.cp_compile.specs.declared.compiler.Components.{Components}
 use Rattle.cp_compile.specs.declared.compiler.Plans.{Plans}
@@ -61,7 +61,7 @@ process_owners t =
     (of_sort a.Process (declarations (globals t) t.initial.variables))
 
 -- The components of a text.
-pub record ComponentsLie (plans : List Plan) (c : Components) (t : Tree) : Type 0 where
+pub record ComponentsLie (plans : List StartPlan) (c : Components) (t : Tree) : Type 0 where
   pub monitors : map (view.monitor plans) c.monitors.items ≡ monitors_at (globals t) 0 (monitor_owners t)
   pub processes : map (view.process plans) c.processes.items
       ≡ processes_at (globals t) (sum_words (component_words (globals t)) (monitor_owners t)) (process_owners t)

@@ -5,15 +5,15 @@ use Rattle.cp_program_model.specs.Compile as code
 use Rattle.cp_program_model.specs.Compile.{monitors_at, processes_at, sum_words, waiting_words}
 use Rattle.cp_program_model.specs.Layout.{component_words}
 use Rattle.cp_program.specs.View as view
-use Rattle.cp_program.specs.declared.program.Plan.{Plan}
+use Rattle.cp_program.specs.declared.program.StartPlan.{StartPlan}
 use Rattle.cp_compile.specs.declared.layout.MonitorLayout.{MonitorLayout}
 use Rattle.cp_compile.specs.declared.layout.ProcessLayout.{ProcessLayout}
 
-pub record MonitorsLie (plans : List Plan) (g : GlobalScope) (m : MonitorLayout) (xs : List code.Owner) : Type 0 where
+pub record MonitorsLie (plans : List StartPlan) (g : GlobalScope) (m : MonitorLayout) (xs : List code.Owner) : Type 0 where
   pub monitors : map (view.monitor plans) m.monitors.items ≡ monitors_at g 0 xs
   pub words : m.words ≡ sum_words (component_words g) xs
 
-pub record ProcessesLie (plans : List Plan) (g : GlobalScope) (start : ℕ) (p : ProcessLayout) (xs : List code.Owner)
+pub record ProcessesLie (plans : List StartPlan) (g : GlobalScope) (start : ℕ) (p : ProcessLayout) (xs : List code.Owner)
     : Type 0 where
   pub processes : map (view.process plans) p.processes.items ≡ processes_at g start xs
   pub end : p.end ≡ start + sum_words (waiting_words g) xs

@@ -19,7 +19,7 @@ use cp_emit::Emitter;
 use cp_emit::plan::Planner;
 use cp_model::tree::{Sort, Tree};
 use cp_names::NameTable;
-use cp_program::program::{Monitor, Plan, Process, Program};
+use cp_program::program::{Monitor, Process, Program, StartPlan};
 use cp_scope::{CompileError, Tables, small_number};
 use std::alloc::Global;
 
@@ -36,7 +36,7 @@ struct Code<'t> {
 /// process.
 #[derive(Drop)]
 struct Plans {
-    all: Vec<Plan>,
+    all: Vec<StartPlan>,
     initial: u32,
 }
 
@@ -94,7 +94,7 @@ fn make_plans<'t>(tables: &Tables<'t>, planner: &Planner<'_, 't>) -> Result<Plan
     let mut all = planner.components()?;
     let initial = small_number(all.len())?;
     let starts = planner.component(&tables.initial.parameters, &tables.initial.variables)?;
-    all.push(Plan { starts })?;
+    all.push(StartPlan { starts })?;
     Ok(Plans { all, initial })
 }
 

@@ -9,7 +9,7 @@ ghost use Rattle.cp_program_model.specs.Compile as code;
 ghost use Rattle.cp_program_model.specs.Compile.{of_sort, owners_of};
 ghost use Rattle.cp_scope.specs.Numbering.{system_of};
 ghost use Rattle.cp_scope.specs.Standing.{Stands, row_at};
-ghost use Rattle.cp_program.specs.declared.program.Plan.{Plan};
+ghost use Rattle.cp_program.specs.declared.program.StartPlan.{StartPlan};
 ghost use Rattle.cp_compile.specs.CompiledComponents.{AreOwners, IsInitial, IsOwner, PutsOwner};
 
 use cp_model::tree::Sort;
@@ -52,7 +52,7 @@ impl Owner {
 impl<'s, 't> InitialCompiler<'s, 't> {
     // The component that a variable is, where `number` is that of its system type.
     fn component(&self, d: &Declared<'t>, number: usize) -> Result<Owner, CompileError>
-        ensures { IfOk result (λ o. (plans : List Plan) (g : GlobalScope)
+        ensures { IfOk result (λ o. (plans : List StartPlan) (g : GlobalScope)
             (firsts : List (Name × ℕ)) (groups : List Group) (vs : List (Name × Variable))
             (v : Variable) → IsInitial self.now plans g firsts groups vs
             → Stands self.now.tables.now.types d.now.of v.type
@@ -79,7 +79,7 @@ impl<'s, 't> InitialCompiler<'s, 't> {
         d: &Declared<'t>,
         owners: &mut Vec<Owner>,
     ) -> Result<(), CompileError>
-        ensures { OnOk result ((plans : List Plan) (g : GlobalScope)
+        ensures { OnOk result ((plans : List StartPlan) (g : GlobalScope)
             (firsts : List (Name × ℕ)) (groups : List Group) (vs : List (Name × Variable))
             (v : Variable) (before : List code.Owner) → IsInitial self.now plans g firsts groups vs
             → Stands self.now.tables.now.types d.now.of v.type
@@ -98,7 +98,7 @@ impl<'s, 't> InitialCompiler<'s, 't> {
 
     /// Adds the components of a sort that the initial process declares.
     pub fn add_owners(&self, sort: Sort, owners: &mut Vec<Owner>) -> Result<(), CompileError>
-        ensures { OnOk result ((plans : List Plan) (g : GlobalScope)
+        ensures { OnOk result ((plans : List StartPlan) (g : GlobalScope)
             (firsts : List (Name × ℕ)) (groups : List Group) (vs : List (Name × Variable))
             (before : List code.Owner) → IsInitial self.now plans g firsts groups vs
             → AreOwners plans g owners.old.items before → AreOwners plans g owners.new.items

@@ -3,7 +3,7 @@
 ghost use Rattle.std.specs.Prelude.{List, IfOk};
 ghost use Rattle.cp_model.specs.Types.{GlobalScope};
 ghost use Rattle.cp_program_model.specs.Compile as code;
-ghost use Rattle.cp_program.specs.declared.program.Plan.{Plan};
+ghost use Rattle.cp_program.specs.declared.program.StartPlan.{StartPlan};
 ghost use Rattle.cp_compile.specs.CompiledComponents.{AreOwners};
 ghost use Rattle.cp_compile.specs.LaidComponents.{MonitorsLie, ProcessesLie};
 
@@ -28,7 +28,7 @@ pub struct ProcessLayout {
 
 /// Lays out monitors, from the first shared word on.
 pub fn lay_monitors(alloc: Global, owners: &[Owner]) -> Result<MonitorLayout, CompileError>
-    ensures { IfOk result (λ m. (plans : List Plan) (g : GlobalScope) (xs : List code.Owner)
+    ensures { IfOk result (λ m. (plans : List StartPlan) (g : GlobalScope) (xs : List code.Owner)
         → AreOwners plans g owners.now xs → MonitorsLie plans g m xs) }
 {
     let mut monitors = Vec::with_capacity(alloc, owners.len())?;
@@ -54,7 +54,7 @@ pub fn lay_processes(
     owners: &[Owner],
     start: u32,
 ) -> Result<ProcessLayout, CompileError>
-    ensures { IfOk result (λ p. (plans : List Plan) (g : GlobalScope) (xs : List code.Owner)
+    ensures { IfOk result (λ p. (plans : List StartPlan) (g : GlobalScope) (xs : List code.Owner)
         → AreOwners plans g owners.now xs → ProcessesLie plans g start p xs) }
 {
     let mut processes = Vec::with_capacity(alloc, owners.len())?;

@@ -10,7 +10,7 @@ ghost use Rattle.cp_compile.specs.Compiles.{IsCompiled, body_of};
 use cp_emit::Emitter;
 use cp_model::tree::Statement;
 use cp_program::operation::Operation;
-use cp_program::program::Start;
+use cp_program::program::StartPiece;
 use cp_scope::{CompileError, Scope};
 use cp_translate::Translator;
 use std::alloc::Global;
@@ -20,7 +20,7 @@ use std::alloc::Global;
 pub fn compile_unit(
     alloc: Global,
     scope: &Scope,
-    starts: Vec<Start>,
+    starts: Vec<StartPiece>,
     last: Operation,
     body: &[Statement],
     emitter: &mut Emitter,

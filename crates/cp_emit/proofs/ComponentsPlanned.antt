@@ -11,17 +11,17 @@ use Rattle.cp_scope.specs.declared.types.Types.{Types}
 use Rattle.cp_scope.specs.Texts.{AreSystems}
 use Rattle.cp_scope.specs.Variables.{AreDeclared, declared_entry}
 use Rattle.cp_scope.proofs.Laying.{last_or_before}
-use Rattle.cp_program.specs.declared.program.Plan.{Plan}
+use Rattle.cp_program.specs.declared.program.StartPlan.{StartPlan}
 use Rattle.cp_program.specs.View as view
 use Rattle.cp_emit.specs.ComponentPlans.{ArePlans}
 
-pub no_plans : (g : GlobalScope) (types : Types) (plans : List Plan) → plans ≡ [] → ArePlans g types plans
-no_plans g types plans none k y p at there = absurd (nothing k (subst (λ (ps : List Plan). slice_get ps k ≡ Some p) none there))
+pub no_plans : (g : GlobalScope) (types : Types) (plans : List StartPlan) → plans ≡ [] → ArePlans g types plans
+no_plans g types plans none k y p at there = absurd (nothing k (subst (λ (ps : List StartPlan). slice_get ps k ≡ Some p) none there))
   where
-    nothing : (i : ℕ) → slice_get {X = Plan} [] i ≡ Some p → ⊥
+    nothing : (i : ℕ) → slice_get {X = StartPlan} [] i ≡ Some p → ⊥
     nothing i h = absurd (cc)
 
-pub one_plan : (g : GlobalScope) (types : Types) (tables : List SystemTable) (table : SystemTable) (plans : List Plan) (plan : Plan)
+pub one_plan : (g : GlobalScope) (types : Types) (tables : List SystemTable) (table : SystemTable) (plans : List StartPlan) (plan : StartPlan)
     → slice_get tables (length plans) ≡ Some table
     → ((s : a.System) → AreDeclared types (map declared_entry table.parameters.items) (declarations g s.parameters)
     → AreDeclared types (map declared_entry table.variables.items) (declarations g s.variables)
@@ -32,6 +32,6 @@ one_plan g types tables table plans plan at is systems all k y p here there =
     (λ before. all k y p here before)
     (λ last.
     let stands = systems k y table here (ap (slice_get tables) last.0 ∙ at) in
-    subst (λ (q : Plan). map view.start q.starts.items ≡ plan_of_component g (erase.system (tree_view.system y.now))) last.1
+    subst (λ (q : StartPlan). map view.start q.starts.items ≡ plan_of_component g (erase.system (tree_view.system y.now))) last.1
     (is (erase.system (tree_view.system y.now)) stands.parameters stands.variables))
     (last_or_before plans plan k p there)

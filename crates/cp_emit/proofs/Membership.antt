@@ -7,7 +7,7 @@ use Rattle.cp_model.specs.Types.{ArrayOf, ComponentOf, GlobalScope, Members, NoM
 use Rattle.cp_typing.specs.Words.{words}
 use Rattle.cp_program_model.specs.Plans.{fill_before, plan, plan_of_members, plan_of_result, plan_of_routine, plan_of_variables}
 use Rattle.cp_program_model.specs.Layout.{local_words, locals_words}
-use Rattle.cp_program_model.specs.Programs.{Start}
+use Rattle.cp_program_model.specs.Programs.{StartPiece}
 use Rattle.cp_program_model.specs.Starts.{unset}
 use Rattle.cp_typing.specs.Needs.{result_words}
 use Rattle.cp_scope.specs.declared.types.Types.{Types}
@@ -90,7 +90,7 @@ pub variables_planned : (g : GlobalScope) (vs : List (Name × Variable)) (at : �
 variables_planned g [] at = refl
 variables_planned g (v ∷ vs) at = ap (plan false g v.1.type at) (variables_planned g vs (at + words g v.1.type))
 
-marked_result : (o : Option Name) (b : Bool) (rest marked : List Start) → b ≡ is_some o → marked ≡ (if b then fill_before 0 1 unset rest else rest)
+marked_result : (o : Option Name) (b : Bool) (rest marked : List StartPiece) → b ≡ is_some o → marked ≡ (if b then fill_before 0 1 unset rest else rest)
     → marked ≡ plan_of_result o rest
 marked_result None b rest marked is all = all ∙ ap (λ c. if c then fill_before 0 1 unset rest else rest) is
 marked_result (Some x) b rest marked is all = all ∙ ap (λ c. if c then fill_before 0 1 unset rest else rest) is
@@ -99,7 +99,7 @@ result_counted : (o : Option Name) (b : Bool) → b ≡ is_some o → (if b then
 result_counted None b is = ap (λ c. if c then 1 else 0) is
 result_counted (Some x) b is = ap (λ c. if c then 1 else 0) is
 
-pub routine_planned : (g : GlobalScope) (r : Routine) (b : Bool) (head first : ℕ) (rest marked : List Start) → b ≡ is_some r.result
+pub routine_planned : (g : GlobalScope) (r : Routine) (b : Bool) (head first : ℕ) (rest marked : List StartPiece) → b ≡ is_some r.result
     → head ≡ (if b then 1 else 0) → first ≡ head + locals_words g (declarations g r.parameters)
     → rest ≡ plan_of_members false g (members_from (declarations g r.variables) NoMembers) first []
     → marked ≡ (if b then fill_before 0 1 unset rest else rest) → marked ≡ plan_of_routine g r

@@ -5,7 +5,7 @@ use Rattle.cp_model.specs.Abstract.{Name}
 use Rattle.cp_model.specs.Integers.{count_between}
 use Rattle.cp_model.specs.Types.{ArrayOf, ComponentOf, GlobalScope, Members, MoreMembers, NoMembers, NoType, Queue, RecordOf, ResolvedType, Simple}
 use Rattle.cp_typing.specs.Words.{words}
-use Rattle.cp_program_model.specs.Programs.{Repeat, Start}
+use Rattle.cp_program_model.specs.Programs.{Repeat, StartPiece}
 use Rattle.cp_program_model.specs.Plans.{fill_unless, plan, plan_of_array, plan_of_members, repeat_before, start_of}
 use Rattle.cp_scope.specs.declared.types.Types.{Types}
 use Rattle.cp_scope.specs.declared.types.TypeRow.{TypeRow}
@@ -40,24 +40,24 @@ as_array types n low high e P at is (ComponentOf y ms) s = absurd (let same = sa
 as_array types n low high e P at is NoType s = absurd (let same = same_row types n _ _ at s in cc)
 
 module _ (zeros : Bool) (g : GlobalScope) (types : Types) where
-  pub pushed : (ws : List Work) (w : Work) (now between after : List Start) → AllDone zeros g types ws between after → Done zeros g types w now between
+  pub pushed : (ws : List Work) (w : Work) (now between after : List StartPiece) → AllDone zeros g types ws between after → Done zeros g types w now between
       → AllDone zeros g types (ws ++ w ∷ []) now after
   pushed [] w now between after all done = (now, refl, subst (Done zeros g types w now) (sym all) done)
   pushed (v ∷ ws) w now between after all done = (all.0, pushed ws w now between all.0 all.1 done, all.2)
 
-  pub popped : (ws : List Work) (w : Work) (now after : List Start) → AllDone zeros g types (ws ++ w ∷ []) now after
-      → (between : List Start) × Done zeros g types w now between × AllDone zeros g types ws between after
+  pub popped : (ws : List Work) (w : Work) (now after : List StartPiece) → AllDone zeros g types (ws ++ w ∷ []) now after
+      → (between : List StartPiece) × Done zeros g types w now between × AllDone zeros g types ws between after
   popped [] w now after all = (after, subst (λ xs. Done zeros g types w xs after) all.1 all.2, refl)
   popped (v ∷ ws) w now after all =
       let rest = popped ws w now all.0 all.1 in
       (rest.0, rest.1, (all.0, rest.2, all.2))
 
   -- At the beginning nothing is planned, and nothing else is left.
-  pub begun : (d : Draft) (f : List Start → List Start) → d.starts.items ≡ [] → d.left.items ≡ [] → AllDone zeros g types d.left.items (f (plan_of d)) (f [])
+  pub begun : (d : Draft) (f : List StartPiece → List StartPiece) → d.starts.items ≡ [] → d.left.items ≡ [] → AllDone zeros g types d.left.items (f (plan_of d)) (f [])
   begun d f starts left = rw left (sym (ap (λ xs. f (starts_of xs)) starts))
 
   -- The starts of `f` are planned, and what is left is the same.
-  pub leaves_planned : (old new : Draft) (f : List Start → List Start) → new.left ≡ old.left → plan_of new ≡ f (plan_of old)
+  pub leaves_planned : (old new : Draft) (f : List StartPiece → List StartPiece) → new.left ≡ old.left → plan_of new ≡ f (plan_of old)
       → Leaves zeros g types old new f
   leaves_planned old new f left is after all = rw (left, is) all
 
@@ -67,7 +67,7 @@ module _ (zeros : Bool) (g : GlobalScope) (types : Types) where
   pub record PartlyLeft (old new : Draft) (ms : Members) (at next : ℕ) (fields : List (Name × ℕ)) : Type 0 where
     pub others : Members
     pub stand : AreMembers types fields others
-    pub all : (after : List Start) → AllDone zeros g types old.left.items (plan_of_members zeros g ms at (plan_of old)) after
+    pub all : (after : List StartPiece) → AllDone zeros g types old.left.items (plan_of_members zeros g ms at (plan_of old)) after
         → AllDone zeros g types new.left.items (plan_of_members zeros g others next (plan_of new)) after
 
   pub none_left : (old : Draft) (ms : Members) (at : ℕ) (fields : List (Name × ℕ)) → AreMembers types fields ms → PartlyLeft old old ms at at fields
@@ -80,7 +80,7 @@ module _ (zeros : Bool) (g : GlobalScope) (types : Types) where
   one_left old before new ms at now next f fields left starts lies some = go some.others some.stand some.all
     where
       go : (others : Members) → AreMembers types (f ∷ fields) others
-          → ((after : List Start) → AllDone zeros g types old.left.items (plan_of_members zeros g ms at (plan_of old)) after
+          → ((after : List StartPiece) → AllDone zeros g types old.left.items (plan_of_members zeros g ms at (plan_of old)) after
           → AllDone zeros g types before.left.items (plan_of_members zeros g others now (plan_of before)) after)
           → PartlyLeft old new ms at next fields
       go NoMembers stand all = absurd stand
@@ -98,7 +98,7 @@ module _ (zeros : Bool) (g : GlobalScope) (types : Types) where
   all_left old new ms at next fields none some = go some.others (subst (λ fs. AreMembers types fs some.others) none some.stand) some.all
     where
       go : (others : Members) → AreMembers types [] others
-          → ((after : List Start) → AllDone zeros g types old.left.items (plan_of_members zeros g ms at (plan_of old)) after
+          → ((after : List StartPiece) → AllDone zeros g types old.left.items (plan_of_members zeros g ms at (plan_of old)) after
           → AllDone zeros g types new.left.items (plan_of_members zeros g others next (plan_of new)) after)
           → Leaves zeros g types old new (plan_of_members zeros g ms at)
       go NoMembers stand all = all

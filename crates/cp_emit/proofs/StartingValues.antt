@@ -7,7 +7,7 @@ use Rattle.cp_model.specs.Types.{ArrayOf, ComponentOf, NoType, Queue, RecordOf, 
 use Rattle.cp_typing.specs.Words.{words}
 use Rattle.cp_program_model.specs.Layout.{head_words}
 use Rattle.cp_program_model.specs.Plans.{fill_unless, plan, plan_of_array, plan_of_class, plan_of_members, repeat_before, start_of}
-use Rattle.cp_program_model.specs.Programs.{Start}
+use Rattle.cp_program_model.specs.Programs.{StartPiece}
 use Rattle.cp_scope.specs.declared.types.TypeRow.{TypeRow}
 use Rattle.cp_scope.specs.declared.types.TypeRow.TheVariants as row
 use Rattle.cp_scope.specs.declared.types.Types.{Types}
@@ -46,7 +46,7 @@ array_zero low high t (Some n) is zero g at rest =
     filled_by_zero n (ArrayOf low high t) (array_filled low high t n is)
     (nothing_filled at (words g t) n (sym (elements_filled n t is true g at []) ∙ zero g at [])) g at rest
 
-class_zero : (s : Sort) (xs rest : List Start) → xs ≡ rest → plan_of_class s xs rest ≡ rest
+class_zero : (s : Sort) (xs rest : List StartPiece) → xs ≡ rest → plan_of_class s xs rest ≡ rest
 class_zero Class xs rest is = is
 class_zero Monitor xs rest is = refl
 class_zero Process xs rest is = refl

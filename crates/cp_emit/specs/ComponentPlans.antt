@@ -8,11 +8,11 @@ use Rattle.cp_model.specs.declared.tree.System.{System}
 use Rattle.cp_program_model.specs.Plans.{plan_of_component}
 use Rattle.cp_scope.specs.declared.types.Types.{Types}
 use Rattle.cp_scope.specs.Standing.{system_at}
-use Rattle.cp_program.specs.declared.program.Plan.{Plan}
+use Rattle.cp_program.specs.declared.program.StartPlan.{StartPlan}
 use Rattle.cp_program.specs.View as view
 
 -- The plan of each number is that of the components of the system type of that number.
-abbrev pub ArePlans : GlobalScope → Types → List Plan → Type 0
+abbrev pub ArePlans : GlobalScope → Types → List StartPlan → Type 0
 ArePlans g types plans =
-    (k : ℕ) (y : Bor System) (p : Plan) → system_at types k ≡ Some y → slice_get plans k ≡ Some p
+    (k : ℕ) (y : Bor System) (p : StartPlan) → system_at types k ≡ Some y → slice_get plans k ≡ Some p
     → map view.start p.starts.items ≡ plan_of_component g (erase.system (tree_view.system y.now))

@@ -6,7 +6,7 @@ use Rattle.cp_program_model.specs.CodeNeeds.{need_of_all}
 use Rattle.cp_program_model.specs.CodedStatements.{Emitted, calls_at, with_calls}
 use Rattle.cp_program_model.specs.Compile.{code_unit}
 use Rattle.cp_program.specs.declared.operation.Operation.{Operation}
-use Rattle.cp_program.specs.declared.program.Start.{Start}
+use Rattle.cp_program.specs.declared.program.StartPiece.{StartPiece}
 use Rattle.cp_program.specs.View as view
 use Rattle.cp_emit.specs.declared.emitter.CodedCall.{CodedCall}
 use Rattle.cp_emit.specs.declared.emitter.Emitter.{Emitter}
@@ -44,7 +44,7 @@ abbrev pub operation_from : Emitter → List CodedCall → Operation → Emitted
 operation_from e cs o = with_calls (map coded_call cs) (view.operation o) (place_of e)
 
 -- The unit in progress, once it ends.
-abbrev pub unit_ended : Emitter → ℕ → List Start → op.CodeUnit
+abbrev pub unit_ended : Emitter → ℕ → List StartPiece → op.CodeUnit
 unit_ended e entry starts =
     code_unit entry (map view.start starts)
     (need_of_all (units_of e) e.words (drop e.first (operations_of e)))

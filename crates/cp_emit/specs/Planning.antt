@@ -2,7 +2,7 @@
 use Rattle.std.specs.Prelude.{◌≡◌, Bool, List, [], ◌∷◌}
 use Rattle.cp_model.specs.Types.{GlobalScope, ResolvedType}
 use Rattle.cp_program_model.specs.Plans.{plan}
-use Rattle.cp_program_model.specs.Programs.{Start}
+use Rattle.cp_program_model.specs.Programs.{StartPiece}
 use Rattle.cp_scope.specs.declared.types.Types.{Types}
 use Rattle.cp_scope.specs.Layouts.{AreLaid}
 use Rattle.cp_scope.specs.Standing.{ScopeStands, Stands}
@@ -23,20 +23,20 @@ pub record Knows (p : Planner) (g : GlobalScope) : Type 0 where
   pub values : AreStartValues (types_of p) p.values.items
 
 -- Doing this work turns the plan `now` into the plan `after`.
-abbrev pub Done : Bool → GlobalScope → Types → Work → List Start → List Start → Type 0
+abbrev pub Done : Bool → GlobalScope → Types → Work → List StartPiece → List StartPiece → Type 0
 Done zeros g types (work.Variable of at) now after =
     (t : ResolvedType) × Stands types of t × (after ≡ plan zeros g t at now)
 Done zeros g types (work.EndOfArray n) now after = after ≡ drop_repeat n now
 
 -- Doing all this work, the last piece first, turns the plan `now` into the plan `after`.
-abbrev pub AllDone : Bool → GlobalScope → Types → List Work → List Start → List Start → Type 0
+abbrev pub AllDone : Bool → GlobalScope → Types → List Work → List StartPiece → List StartPiece → Type 0
 AllDone zeros g types [] now after = after ≡ now
 AllDone zeros g types (w ∷ ws) now after =
-    (between : List Start) × AllDone zeros g types ws now between
+    (between : List StartPiece) × AllDone zeros g types ws now between
     × Done zeros g types w between after
 
 -- The new draft leads to the same plan as the old one would if `f` were applied to the plan so far.
-abbrev pub Leaves : Bool → GlobalScope → Types → Draft → Draft → (List Start → List Start) → Type 0
+abbrev pub Leaves : Bool → GlobalScope → Types → Draft → Draft → (List StartPiece → List StartPiece) → Type 0
 Leaves zeros g types old new f =
-    (after : List Start) → AllDone zeros g types old.left.items (f (plan_of old)) after
+    (after : List StartPiece) → AllDone zeros g types old.left.items (f (plan_of old)) after
     → AllDone zeros g types new.left.items (plan_of new) after

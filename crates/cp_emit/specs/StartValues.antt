@@ -4,7 +4,7 @@ use Rattle.cp_model.specs.Abstract.{Name}
 use Rattle.cp_model.specs.Types.{GlobalScope, Members, Queue, ResolvedType, Simple}
 use Rattle.cp_typing.specs.Words.{words, words_of_members}
 use Rattle.cp_program_model.specs.Plans.{fill_unless, plan, plan_of_members, start_of}
-use Rattle.cp_program_model.specs.Programs.{Start}
+use Rattle.cp_program_model.specs.Programs.{StartPiece}
 use Rattle.cp_scope.specs.declared.types.TypeRow.{TypeRow}
 use Rattle.cp_scope.specs.declared.types.Types.{Types}
 use Rattle.cp_scope.specs.Standing.{AreMembers, Stands, row_at}
@@ -15,12 +15,12 @@ use Rattle.cp_emit.specs.declared.start_values.StartValue.{StartValue}
 -- All words of a variable of this type are planned with one fill with this value.
 abbrev pub IsFilledBy : ℤ → ResolvedType → Type 0
 IsFilledBy n t =
-    (zeros : Bool) (g : GlobalScope) (at : ℕ) (rest : List Start)
+    (zeros : Bool) (g : GlobalScope) (at : ℕ) (rest : List StartPiece)
     → plan zeros g t at rest ≡ fill_unless zeros at (words g t) n rest
 
 -- Nothing is planned for this type if the words are 0 before.
 abbrev pub StaysZero : ResolvedType → Type 0
-StaysZero t = (g : GlobalScope) (at : ℕ) (rest : List Start) → plan true g t at rest ≡ rest
+StaysZero t = (g : GlobalScope) (at : ℕ) (rest : List StartPiece) → plan true g t at rest ≡ rest
 
 -- The type is planned part by part: it is neither simple nor a queue nor an array of simple
 -- elements.
@@ -71,12 +71,12 @@ StaysZeroAt values n =
 -- All words of these members are planned with one fill with this value.
 abbrev pub AreFilledBy : ℤ → Members → Type 0
 AreFilledBy n ms =
-    (zeros : Bool) (g : GlobalScope) (at : ℕ) (rest : List Start)
+    (zeros : Bool) (g : GlobalScope) (at : ℕ) (rest : List StartPiece)
     → plan_of_members zeros g ms at rest ≡ fill_unless zeros at (words_of_members g ms) n rest
 
 abbrev pub StayZero : Members → Type 0
 StayZero ms =
-    (g : GlobalScope) (at : ℕ) (rest : List Start) → plan_of_members true g ms at rest ≡ rest
+    (g : GlobalScope) (at : ℕ) (rest : List StartPiece) → plan_of_members true g ms at rest ≡ rest
 
 -- One fill with this value plans all words of members with these names and types, if there is a
 -- value.

@@ -7,7 +7,7 @@
 ghost use Rattle.std.specs.Prelude.{◌≡◌, ◌+◌, ◌≤◌, ◌↔◌, IfErr, IsOk, OnOk, length};
 ghost use Rattle.cp_scope.specs.declared.error.CompileError.TheVariants as error;
 
-use cp_program::program::Start;
+use cp_program::program::StartPiece;
 use cp_scope::CompileError;
 
 // The greatest number of fills and repeats in all plans of routines, or in all plans of components.
@@ -33,7 +33,7 @@ impl Allowance {
     /// # Errors
     ///
     /// `CompileError::Memory` if the plan is longer than what is left.
-    pub fn take(&mut self, plan: &[Start]) -> Result<(), CompileError>
+    pub fn take(&mut self, plan: &[StartPiece]) -> Result<(), CompileError>
         ensures memory { IfErr result (λ e. e ≡ error.Memory) }
         ensures enough { IsOk result ↔ (length plan.now ≤ self.old.left) }
         ensures left { OnOk result (self.new.left + length plan.now ≡ self.old.left) }

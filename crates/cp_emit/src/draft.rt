@@ -6,7 +6,7 @@ ghost use Rattle.cp_program_model.specs.Programs as code;
 ghost use Rattle.cp_emit.specs.Drafts.{Joins, drop_repeat, plan_of, with_end};
 ghost use Rattle.cp_program.specs.View as view;
 
-use cp_program::program::Start;
+use cp_program::program::StartPiece;
 use cp_scope::CompileError;
 use std::alloc::Global;
 
@@ -25,23 +25,28 @@ pub enum Work {
 /// left to plan before them. The work to do next is the last in `left`.
 #[derive(Debug, Drop)]
 pub struct Draft {
-    pub(crate) starts: Vec<Start>,
+    pub(crate) starts: Vec<StartPiece>,
     pub(crate) left: Vec<Work>,
 }
 
 // The fill that combines a fill and `next`, if `next` is a fill with the same value that begins
 // where the first one ends.
-fn join(at: u32, count: u32, value: i32, next: Start) -> Result<Option<Start>, CompileError>
+fn join(
+    at: u32,
+    count: u32,
+    value: i32,
+    next: StartPiece,
+) -> Result<Option<StartPiece>, CompileError>
     ensures { IfOk result (λ both. Joins at count value next both) }
 {
     match next {
-        Start::Fill {
+        StartPiece::Fill {
             at: after,
             count: more,
             value: same,
         } if at.checked_add(count) == Some(after) && same == value => {
             let count = count.checked_add(more).ok_or(CompileError::Unaccepted)?;
-            Ok(Some(Start::Fill { at, count, value }))
+            Ok(Some(StartPiece::Fill { at, count, value }))
         }
         _ => Ok(None),
     }
@@ -65,7 +70,7 @@ impl Draft {
             ≡ fill_before at count value (plan_of self.old)) }
         ensures left { self.new.left ≡ self.old.left }
     {
-        let first = Start::Fill { at, count, value };
+        let first = StartPiece::Fill { at, count, value };
         let Some(next) = self.starts.pop() else {
             self.starts.push(first)?;
             return Ok(());
@@ -106,7 +111,7 @@ impl Draft {
             ≡ code.Repeat at size count ∷ plan_of self.old) }
         ensures left { self.new.left ≡ self.old.left }
     {
-        self.starts.push(Start::Repeat { at, size, count })?;
+        self.starts.push(StartPiece::Repeat { at, size, count })?;
         Ok(())
     }
 
@@ -135,7 +140,7 @@ impl Draft {
     }
 
     /// Returns the plan, with its first start first.
-    pub fn into_starts(self) -> Vec<Start>
+    pub fn into_starts(self) -> Vec<StartPiece>
         ensures { map view.start result.items ≡ plan_of self }
     {
         let Draft {

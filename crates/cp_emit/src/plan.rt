@@ -240,7 +240,7 @@ impl<'a, 't> Planner<'a, 't> {
 
     // Does one piece of work, `next`, which was the last in `left`.
     fn step(&self, zeros: bool, next: Work, draft: &mut Draft) -> Result<(), CompileError>
-        ensures { OnOk result ((g : GlobalScope) (between after : List code.Start)
+        ensures { OnOk result ((g : GlobalScope) (between after : List code.StartPiece)
             → Knows self.now g
             → Done zeros g (types_of self.now) next (plan_of draft.old) between
             → AllDone zeros g (types_of self.now) draft.old.left.items between after
@@ -257,7 +257,7 @@ impl<'a, 't> Planner<'a, 't> {
 
     // Does all the work that is left.
     pub(crate) fn run(&self, zeros: bool, draft: &mut Draft) -> Result<(), CompileError>
-        ensures { OnOk result ((g : GlobalScope) (after : List code.Start) → Knows self.now g
+        ensures { OnOk result ((g : GlobalScope) (after : List code.StartPiece) → Knows self.now g
             → AllDone zeros g (types_of self.now) draft.old.left.items (plan_of draft.old) after
             → plan_of draft.new ≡ after) }
     {

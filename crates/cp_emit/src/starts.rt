@@ -19,7 +19,7 @@ use crate::allowance::Allowance;
 use crate::draft::Draft;
 use crate::members::{add_members, own_parameters};
 use crate::plan::Planner;
-use cp_program::program::{Plan, Start};
+use cp_program::program::{StartPiece, StartPlan};
 use cp_scope::{CompileError, Declared, Field, SystemTable};
 
 /// The word of a result that isn't set yet.
@@ -83,7 +83,7 @@ impl<'a, 't> Planner<'a, 't> {
         is_function: bool,
         parameters: &[Declared<'t>],
         variables: &[Declared<'t>],
-    ) -> Result<Vec<Start>, CompileError>
+    ) -> Result<Vec<StartPiece>, CompileError>
         ensures { IfOk result (λ starts. (g : GlobalScope) (r : Routine) → Knows self.now g
             → AreDeclared (types_of self.now) (map declared_entry parameters.now)
             (declarations g r.parameters)
@@ -105,7 +105,7 @@ impl<'a, 't> Planner<'a, 't> {
         &self,
         parameters: &[Declared<'t>],
         variables: &[Declared<'t>],
-    ) -> Result<Vec<Start>, CompileError>
+    ) -> Result<Vec<StartPiece>, CompileError>
         ensures { IfOk result (λ starts. (g : GlobalScope) (s : System) → Knows self.now g
             → AreDeclared (types_of self.now) (map declared_entry parameters.now)
             (declarations g s.parameters)
@@ -131,7 +131,7 @@ impl<'a, 't> Planner<'a, 't> {
     }
 
     /// The plans of the components of all system types, by number.
-    pub fn components(&self) -> Result<Vec<Plan>, CompileError>
+    pub fn components(&self) -> Result<Vec<StartPlan>, CompileError>
         ensures plans { IfOk result (λ plans. (g : GlobalScope) → Knows self.now g
             → AreSystems g (types_of self.now) self.now.tables.now.systems.items
             → ArePlans g (types_of self.now) plans.items) }
@@ -143,7 +143,7 @@ impl<'a, 't> Planner<'a, 't> {
         while let Some(table) = self.table(plans.len()) {
             let starts = self.component(&table.parameters, &table.variables)?;
             allowance.take(&starts)?;
-            plans.push(Plan { starts })?;
+            plans.push(StartPlan { starts })?;
         }
         Ok(plans)
     }

@@ -9,7 +9,7 @@ use crate::allowance::Allowance;
 use crate::emitter::Emitter;
 use crate::need::Need;
 use cp_program::operation::Operation;
-use cp_program::program::{CodeUnit, Start};
+use cp_program::program::{CodeUnit, StartPiece};
 use cp_scope::CompileError;
 use std::alloc::Global;
 
@@ -43,7 +43,7 @@ impl Emitter {
 
     /// Ends the unit in progress. It is entered at the operation `entry`, and `starts` is the plan
     /// of its activations.
-    pub fn end(&mut self, entry: u32, starts: Vec<Start>) -> Result<(), CompileError>
+    pub fn end(&mut self, entry: u32, starts: Vec<StartPiece>) -> Result<(), CompileError>
         ensures memory { IfErr result (λ e. e ≡ error.Memory) }
         ensures operations { OnOk result (operations_of self.new ≡ operations_of self.old) }
         ensures unit { OnOk result

@@ -28,12 +28,12 @@ use Rattle.cp_program.specs.declared.operation.Table.TheVariants as table_case
 use Rattle.cp_program.specs.declared.operation.Counting.{Counting}
 use Rattle.cp_program.specs.declared.operation.Operation.{Operation}
 use Rattle.cp_program.specs.declared.operation.Operation.TheVariants as operation_case
-use Rattle.cp_program.specs.declared.program.Start.{Start}
-use Rattle.cp_program.specs.declared.program.Start.TheVariants as start_case
+use Rattle.cp_program.specs.declared.program.StartPiece.{StartPiece}
+use Rattle.cp_program.specs.declared.program.StartPiece.TheVariants as start_case
 use Rattle.cp_program.specs.declared.program.CodeUnit.{CodeUnit}
 use Rattle.cp_program.specs.declared.program.Monitor.{Monitor}
 use Rattle.cp_program.specs.declared.program.Process.{Process}
-use Rattle.cp_program.specs.declared.program.Plan.{Plan}
+use Rattle.cp_program.specs.declared.program.StartPlan.{StartPlan}
 use Rattle.cp_program.specs.declared.program.Program.{Program}
 
 -- ---- Terms
@@ -178,7 +178,7 @@ operation (operation_case.Wait next) = code.Wait next
 
 -- ---- Programs
 
-abbrev pub start : Start → code.Start
+abbrev pub start : StartPiece → code.StartPiece
 start (start_case.Fill at count value) = code.Fill at count value
 start (start_case.Repeat at size count) = code.Repeat at size count
 
@@ -192,17 +192,17 @@ code_unit u = record {
 }
 
 -- The starts of a plan, of which there are none without a plan.
-abbrev pub plan_or_none : Option Plan → List code.Start
+abbrev pub plan_or_none : Option StartPlan → List code.StartPiece
 plan_or_none None = []
 plan_or_none (Some p) = map start p.starts.items
 
-abbrev pub plan_at : List Plan → ℕ → List code.Start
+abbrev pub plan_at : List StartPlan → ℕ → List code.StartPiece
 plan_at plans n = plan_or_none (slice_get plans n)
 
-abbrev pub monitor : List Plan → Monitor → code.Monitor
+abbrev pub monitor : List StartPlan → Monitor → code.Monitor
 monitor plans m = record { start = m.start; body = m.body; words = m.words; starts = plan_at plans m.plan }
 
-abbrev pub process : List Plan → Process → code.Process
+abbrev pub process : List StartPlan → Process → code.Process
 process plans p = record {
   body = p.body;
   words = p.words;
@@ -211,7 +211,7 @@ process plans p = record {
   starts = plan_at plans p.plan;
 }
 
-abbrev pub plans_of : Program → List Plan
+abbrev pub plans_of : Program → List StartPlan
 plans_of p = p.plans.items
 
 abbrev pub program : Program → code.Program

@@ -9,7 +9,7 @@ use crate::operation::Operation;
 /// How words start: `count` words with one value, or `count` blocks of `size` words like the first
 /// one.
 #[derive(Clone, Copy, Debug, PartialEq, Eq)]
-pub enum Start {
+pub enum StartPiece {
     Fill { at: u32, count: u32, value: i32 },
     Repeat { at: u32, size: u32, count: u32 },
 }
@@ -20,7 +20,7 @@ pub enum Start {
 #[derive(Debug, Drop)]
 pub struct CodeUnit {
     pub start: u32,
-    pub starts: Vec<Start>,
+    pub starts: Vec<StartPiece>,
     pub words: u32,
     pub temps: u32,
     pub frames: u32,
@@ -50,8 +50,8 @@ pub struct Process {
 
 /// The start values of the words of the components of one system type.
 #[derive(Debug, Drop)]
-pub struct Plan {
-    pub starts: Vec<Start>,
+pub struct StartPlan {
+    pub starts: Vec<StartPiece>,
 }
 
 /// A program. Monitors have the numbers from 1 on, and so do processes, of which the first is the
@@ -62,7 +62,7 @@ pub struct Program {
     units: Vec<CodeUnit>,
     monitors: Vec<Monitor>,
     processes: Vec<Process>,
-    plans: Vec<Plan>,
+    plans: Vec<StartPlan>,
     shared: u32,
 }
 
@@ -73,7 +73,7 @@ impl Program {
         units: Vec<CodeUnit>,
         monitors: Vec<Monitor>,
         processes: Vec<Process>,
-        plans: Vec<Plan>,
+        plans: Vec<StartPlan>,
         shared: u32,
     ) -> Program
         ensures operations { (view.program result).operations ≡ map view.operation
@@ -129,7 +129,7 @@ impl Program {
     }
 
     /// The starts of the plan with this number. They are empty if there is no such plan.
-    pub fn starts(&self, plan: u32) -> &[Start]
+    pub fn starts(&self, plan: u32) -> &[StartPiece]
         ensures { map view.start result.now ≡ view.plan_at (plans_of self.now) plan }
     {
         match self.plans.get(plan as usize) {

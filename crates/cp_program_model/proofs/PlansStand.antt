@@ -8,7 +8,7 @@ use Rattle.cp_model.specs.Abstract.{Class, Monitor, Process, Sort, System}
 use Rattle.cp_model.specs.Types.{ArrayOf, ComponentOf, GlobalScope, Members, MoreMembers, NoMembers, NoType, Queue, RecordOf, ResolvedType, Simple}
 use Rattle.cp_model.specs.Integers.{count_between, same_integer}
 use Rattle.cp_typing.specs.Words.{component_words, rights_in, words, words_of_members}
-use Rattle.cp_program_model.specs.Programs.{Fill, Repeat, Start}
+use Rattle.cp_program_model.specs.Programs.{Fill, Repeat, StartPiece}
 use Rattle.cp_model.specs.Places.{within}
 pub use Rattle.cp_program_model.specs.Known.{Plannable, PlannableMembers}
 use Rattle.cp_program_model.specs.Layout.{head_words}
@@ -17,7 +17,7 @@ use Rattle.cp_program_model.specs.Plans.{fill_before, fill_unless, plan, plan_of
 use Rattle.cp_program_model.proofs.Pasting.{block_of_paste, copies, copies_length, fill_is_paste, paste_append, paste_inside, paste_length, paste_outside, paste_same, repeated_is_paste}
 use Rattle.cp_program_model.proofs.TablesStand.{equal_integers}
 
--- ---- Start values
+-- ---- StartPiece values
 
 abbrev pub image_of_class : Sort → List ℤ → List ℤ
 image_of_class Class xs = xs
@@ -109,7 +109,7 @@ fill_more at k m n ws =
     ∙ ap (λ z. paste (at + z) (replicate m n) (paste at (replicate k n) ws)) (length-replicate k n)
     ∙ ap (paste (at + k) (replicate m n)) (sym (fill_is_paste at k n ws)) ∙ sym (fill_is_paste (at + k) m n (fill at k n ws))
 
-pub fill_before_is : (at count : ℕ) (n : ℤ) (rest : List Start) (base : ℕ) (ws : List ℤ)
+pub fill_before_is : (at count : ℕ) (n : ℤ) (rest : List StartPiece) (base : ℕ) (ws : List ℤ)
     → carry_out base (fill_before at count n rest) ws ≡ carry_out base rest (fill (base + at) count n ws)
 fill_before_is at count n [] base ws = refl
 fill_before_is at count n (Repeat behind size more ∷ rest) base ws = refl
@@ -126,7 +126,7 @@ fill_before_is at count n (Fill behind more m ∷ rest) base ws = go (nat_eq beh
         ∙ ap (λ z. fill z more n (fill (base + at) count n ws)) place
         ∙ ap (λ z. fill (base + behind) more z (fill (base + at) count n ws)) (sym (equal_integers m n both.1)))
 
-fill_unless_is : (zeros : Bool) (at count : ℕ) (n : ℤ) (rest : List Start) (base : ℕ) (ws : List ℤ) → Blank zeros ws (base + at) count
+fill_unless_is : (zeros : Bool) (at count : ℕ) (n : ℤ) (rest : List StartPiece) (base : ℕ) (ws : List ℤ) → Blank zeros ws (base + at) count
     → carry_out base (fill_unless zeros at count n rest) ws ≡ carry_out base rest (paste (base + at) (replicate count n) ws)
 fill_unless_is false at count n rest base ws blank =
     fill_before_is at count n rest base ws ∙ ap (carry_out base rest) (fill_is_paste (base + at) count n ws)
@@ -141,7 +141,7 @@ fill_unless_is true at count (pos zero) rest base ws blank =
 
 -- ---- Arrays
 
-started_append : (base : ℕ) (xs ys : List Start) (ws : List ℤ) → carry_out base (xs ++ ys) ws ≡ carry_out base ys (carry_out base xs ws)
+started_append : (base : ℕ) (xs ys : List StartPiece) (ws : List ℤ) → carry_out base (xs ++ ys) ws ≡ carry_out base ys (carry_out base xs ws)
 started_append base [] ys ws = refl
 started_append base (x ∷ xs) ys ws = started_append base xs ys (carry_out_start base x ws)
 
@@ -167,7 +167,7 @@ all_zero_copies zero xs h i less = absurd (omega (arith, less))
 all_zero_copies (suc k) xs h i less = all_zero_append xs (copies k xs) h (all_zero_copies k xs h) i less
 
 -- a planned block, and the blocks after it
-repeat_is : (at size c : ℕ) (xs : List Start) (values : List ℤ) (rest : List Start) (base : ℕ) (ws : List ℤ) → length values ≡ size
+repeat_is : (at size c : ℕ) (xs : List StartPiece) (values : List ℤ) (rest : List StartPiece) (base : ℕ) (ws : List ℤ) → length values ≡ size
     → carry_out base xs ws ≡ paste (base + at) values ws → base + at + suc c * size ≤ length ws
     → carry_out base (xs ++ (Repeat at size (suc c) ∷ rest)) ws ≡ carry_out base rest (paste (base + at) (copies (suc c) values) ws)
 repeat_is at size c xs values rest base ws is planned room =
@@ -184,7 +184,7 @@ repeat_is at size c xs values rest base ws is planned room =
     one_less : (n : ℕ) → suc n - 1 ≡ n
     one_less n = omega arith
 
-repeat_before_is : (zeros : Bool) (at size c : ℕ) (xs : List Start) (values : List ℤ) (rest : List Start) (base : ℕ) (ws : List ℤ) → length values ≡ size
+repeat_before_is : (zeros : Bool) (at size c : ℕ) (xs : List StartPiece) (values : List ℤ) (rest : List StartPiece) (base : ℕ) (ws : List ℤ) → length values ≡ size
     → carry_out base xs ws ≡ paste (base + at) values ws → base + at + suc c * size ≤ length ws → Blank zeros ws (base + at) (suc c * size)
     → carry_out base (repeat_before zeros at size (suc c) xs rest) ws ≡ carry_out base rest (paste (base + at) (copies (suc c) values) ws)
 repeat_before_is false at size c xs values rest base ws is planned room blank = repeat_is at size c xs values rest base ws is planned room
@@ -215,11 +215,11 @@ blank_behind zeros xs ws at m blank is k less =
     paste_outside at (at + length xs + k) xs ws (inr (omega arith)) ∙ blank is k less
 
 abbrev pub Planned : Bool → GlobalScope → ResolvedType → Type 0
-Planned zeros g t = (at : ℕ) (rest : List Start) (base : ℕ) (ws : List ℤ) → base + at + words g t ≤ length ws → Blank zeros ws (base + at) (words g t)
+Planned zeros g t = (at : ℕ) (rest : List StartPiece) (base : ℕ) (ws : List ℤ) → base + at + words g t ≤ length ws → Blank zeros ws (base + at) (words g t)
     → carry_out base (plan zeros g t at rest) ws ≡ carry_out base rest (paste (base + at) (image g t) ws)
 
 abbrev pub PlannedMembers : Bool → GlobalScope → Members → Type 0
-PlannedMembers zeros g ms = (at : ℕ) (rest : List Start) (base : ℕ) (ws : List ℤ) → base + at + words_of_members g ms ≤ length ws
+PlannedMembers zeros g ms = (at : ℕ) (rest : List StartPiece) (base : ℕ) (ws : List ℤ) → base + at + words_of_members g ms ≤ length ws
     → Blank zeros ws (base + at) (words_of_members g ms)
     → carry_out base (plan_of_members zeros g ms at rest) ws ≡ carry_out base rest (paste (base + at) (images g ms) ws)
 
@@ -249,7 +249,7 @@ array_planned zeros g low high t rises inner at rest base ws room blank =
         one_blank c is on k less = subst (λ n. Blank zeros ws (base + at) (n * size)) is blank on k (omega (arith, less))
 
 members_planned : (zeros : Bool) (g : GlobalScope) (t : ResolvedType) (ms : Members) → Planned zeros g t → PlannedMembers zeros g ms
-    → (at : ℕ) (rest : List Start) (base : ℕ) (ws : List ℤ) → base + at + (words g t + words_of_members g ms) ≤ length ws → Blank zeros ws (base + at) (words g t + words_of_members g ms)
+    → (at : ℕ) (rest : List StartPiece) (base : ℕ) (ws : List ℤ) → base + at + (words g t + words_of_members g ms) ≤ length ws → Blank zeros ws (base + at) (words g t + words_of_members g ms)
     → carry_out base (plan zeros g t at (plan_of_members zeros g ms (at + words g t) rest)) ws ≡ carry_out base rest (paste (base + at) (image g t ++ images g ms) ws)
 members_planned zeros g t ms first others at rest base ws room blank =
     let size : length (image g t) ≡ words g t = image_length g t in
@@ -269,7 +269,7 @@ members_planned zeros g t ms first others at rest base ws room blank =
         (blank_part zeros ws (base + at) (words g t + words_of_members g ms) (length (image g t)) (words_of_members g ms) blank (omega (arith, image_length g t))))
 
 class_planned : (g : GlobalScope) (s : System) (inner : Members) → PlannedMembers true g inner
-    → (at : ℕ) (rest : List Start) (base : ℕ) (ws : List ℤ) → base + at + (head_words g s + words_of_members g inner) ≤ length ws
+    → (at : ℕ) (rest : List StartPiece) (base : ℕ) (ws : List ℤ) → base + at + (head_words g s + words_of_members g inner) ≤ length ws
     → Blank true ws (base + at) (head_words g s + words_of_members g inner)
     → carry_out base (plan_of_members true g inner (at + head_words g s) rest) ws
     ≡ carry_out base rest (paste (base + at) (replicate (head_words g s) (pos 0) ++ images g inner) ws)
@@ -309,7 +309,7 @@ component_planned zeros g s inner is members =
     total : 1 + rights_in g s + words_of_members g inner ≡ head_words g s + words_of_members g inner
     total = one_more (rights_in g s) (words_of_members g inner)
 
-    go : (sort : Sort) (at : ℕ) (rest : List Start) (base : ℕ) (ws : List ℤ) → base + at + component_words sort (1 + rights_in g s + words_of_members g inner) ≤ length ws
+    go : (sort : Sort) (at : ℕ) (rest : List StartPiece) (base : ℕ) (ws : List ℤ) → base + at + component_words sort (1 + rights_in g s + words_of_members g inner) ≤ length ws
         → Blank true ws (base + at) (component_words sort (1 + rights_in g s + words_of_members g inner))
         → carry_out base (plan_of_class sort (plan_of_members true g inner (at + head_words g s) rest) rest) ws
         ≡ carry_out base rest (paste (base + at) (image_of_class sort (replicate (head_words g s) (pos 0) ++ images g inner)) ws)

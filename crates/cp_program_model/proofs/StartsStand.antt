@@ -14,7 +14,7 @@ use Rattle.cp_typing.specs.Needs.{result_words}
 use Rattle.cp_typing.specs.Words as of_sort
 use Rattle.cp_typing.specs.Words.{rights_in, words, words_of_members}
 use Rattle.cp_typing.proofs.Names.{bytes_eq-refl, lookup_first}
-use Rattle.cp_program_model.specs.Programs.{Fill, Repeat, Start}
+use Rattle.cp_program_model.specs.Programs.{Fill, Repeat, StartPiece}
 use Rattle.cp_program_model.specs.Layout.{activation_words, component_words, head_words, local, local_at, local_words, locals_words, member_part, part}
 use Rattle.cp_program_model.specs.Plans.{plan_of_component, plan_of_result, plan_of_routine, plan_of_variables}
 use Rattle.cp_program_model.specs.Starts.{AreZero, Starts, StartsComponent, block, fill, paste, repeat_block, carry_out, unset, word}
@@ -30,7 +30,7 @@ repeated_length at size zero ws = refl
 repeated_length at size (suc k) ws =
     repeated_length (at + size) size k (paste (at + size) (block ws at size) ws) ∙ paste_length (at + size) (block ws at size) ws
 
-started_length : (base : ℕ) (xs : List Start) (ws : List ℤ) → length (carry_out base xs ws) ≡ length ws
+started_length : (base : ℕ) (xs : List StartPiece) (ws : List ℤ) → length (carry_out base xs ws) ≡ length ws
 started_length base [] ws = refl
 started_length base (Fill at count n ∷ xs) ws =
     started_length base xs (fill (base + at) count n ws) ∙ ap length (fill_is_paste (base + at) count n ws) ∙ paste_length (base + at) (replicate count n) ws
@@ -251,7 +251,7 @@ module _ (g : GlobalScope) (s : System) (r : Routine) (distinct : Distinct (loca
   with_result None base ws = ws
   with_result (Some t) base ws = slice_set ws (base + 0) unset
 
-  result_planned : (o : Option Name) (rest : List Start) (base : ℕ) (ws : List ℤ) → carry_out base (plan_of_result o rest) ws ≡ carry_out base rest (with_result o base ws)
+  result_planned : (o : Option Name) (rest : List StartPiece) (base : ℕ) (ws : List ℤ) → carry_out base (plan_of_result o rest) ws ≡ carry_out base rest (with_result o base ws)
   result_planned None rest base ws = refl
   result_planned (Some t) rest base ws = fill_before_is 0 1 unset rest base ws
 

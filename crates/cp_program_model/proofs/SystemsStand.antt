@@ -11,7 +11,7 @@ use Rattle.cp_typing.specs.Declared.{Each, RoutineVariable}
 use Rattle.cp_typing.specs.Needs.{some_environment}
 use Rattle.cp_typing.specs.SoundTypes.{SoundMembers, SoundType}
 use Rattle.cp_typing.specs.WellTyped.{TypedRoutine}
-use Rattle.cp_program_model.specs.Programs.{CodeUnit, Operation, Program, Return, Start}
+use Rattle.cp_program_model.specs.Programs.{CodeUnit, Operation, Program, Return, StartPiece}
 use Rattle.cp_program_model.specs.Layout.{activation_words}
 use Rattle.cp_program_model.specs.Sites.{BodyOf, RoutineOf, UnitText}
 use Rattle.cp_program_model.specs.StatementsFor.{is_function}
@@ -147,7 +147,7 @@ module _ (g : GlobalScope) (program : Program) (texts : List UnitText) where
       let u = get_some c.units n less in
       record { text = text; unit = u.0; there = begins_get c.units program.units within.units n u.0 u.1; earlier = u.1 }
 
-  pub within_first : (scope : Scope) (starts : List Start) (last : Operation) (s : Statement) (c : Compiled) → Within (with_unit scope starts last s c) → Within c
+  pub within_first : (scope : Scope) (starts : List StartPiece) (last : Operation) (s : Statement) (c : Compiled) → Within (with_unit scope starts last s c) → Within c
   within_first scope starts last s c h = record {
     operations = begins_first c.operations (unit_code scope last s (length c.operations)).operations program.operations h.operations;
     units = begins_first c.units (code_unit (unit_code scope last s (length c.operations)).entry starts (need_of_all c.units scope.words (unit_code scope last s (length c.operations)).operations) ∷ []) program.units h.units;

@@ -9,7 +9,7 @@ use Rattle.cp_model.specs.Types.{ComponentOf, GlobalScope}
 use Rattle.cp_model.specs.Declarations.{Variable, declarations, globals}
 use Rattle.cp_model.specs.Components.{is_component_of}
 use Rattle.cp_program_model.specs.Programs as code
-use Rattle.cp_program_model.specs.Programs.{CodeUnit, Operation, Program, Return, Start}
+use Rattle.cp_program_model.specs.Programs.{CodeUnit, Operation, Program, Return, StartPiece}
 use Rattle.cp_program_model.specs.Layout.{activation_words, component_words}
 use Rattle.cp_program_model.specs.Sites.{BodyOf, RoutineOf, UnitText}
 use Rattle.cp_program_model.specs.StatementsFor.{is_function}
@@ -33,11 +33,11 @@ unit_code scope last s at =
     let body = emitted scope s 0 (suc at) at in
     record { operations = last ∷ body.operations; entry = body.entry }
 
-abbrev pub code_unit : ℕ → List Start → Need → CodeUnit
+abbrev pub code_unit : ℕ → List StartPiece → Need → CodeUnit
 code_unit start starts need =
     record { start = start; starts = starts; words = need.words; temps = need.temps; frames = need.frames }
 
-abbrev pub with_unit : Scope → List Start → Operation → Statement → Compiled → Compiled
+abbrev pub with_unit : Scope → List StartPiece → Operation → Statement → Compiled → Compiled
 with_unit scope starts last s c =
     let e = unit_code scope last s (length c.operations) in
     record {

@@ -66,16 +66,16 @@ pub data Operation : Type 0 where
 
 -- How words start: `count` words with one value, or `count` blocks of `size` words that all equal
 -- the first one, which is there already.
-pub data Start : Type 0 where
-  Fill : (at count : ℕ) (value : ℤ) → Start
-  Repeat : (at size count : ℕ) → Start
+pub data StartPiece : Type 0 where
+  Fill : (at count : ℕ) (value : ℤ) → StartPiece
+  Repeat : (at size count : ℕ) → StartPiece
 
 -- The code of a routine, or of the body of a system type: the place of its first operation, how the
 -- words of an activation start, and how many words, temps and frames it needs with everything that
 -- it calls.
 pub record CodeUnit : Type 0 where
   pub start : ℕ
-  pub starts : List Start
+  pub starts : List StartPiece
   pub words : ℕ
   pub temps : ℕ
   pub frames : ℕ
@@ -88,7 +88,7 @@ pub record Monitor : Type 0 where
   pub start : ℕ
   pub body : ℕ
   pub words : ℕ
-  pub starts : List Start
+  pub starts : List StartPiece
 
 -- A process has words of its own. What is passed to it waits among the shared words, from
 -- `parameters` on, until the process begins.
@@ -97,7 +97,7 @@ pub record Process : Type 0 where
   pub words : ℕ
   pub parameters : ℕ
   pub waiting : ℕ
-  pub starts : List Start
+  pub starts : List StartPiece
 
 -- Monitors and processes are numbered from 1, and the initial process is the first.
 pub record Program : Type 0 where

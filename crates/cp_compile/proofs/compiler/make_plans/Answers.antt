@@ -1,7 +1,7 @@
 use Rattle.std.proofs.Common.{rules, ◌≡◌, ◌++◌, ◌∷◌, ◌∙◌, List, [], ap, length, map, subst, sym}
 use Rattle.cp_model.specs.Declarations.{declarations}
 use Rattle.cp_scope.specs.Variables.{declared_entry}
-use Rattle.cp_program.specs.declared.program.Plan.{Plan}
+use Rattle.cp_program.specs.declared.program.StartPlan.{StartPlan}
 use Rattle.cp_program.specs.View.{plan_at}
 use Rattle.cp_compile.specs.CompiledComponents.{PlansAre}
 use Rattle.cp_compile.specs.CompiledPrograms.{text_of}
@@ -13,7 +13,7 @@ returns c = λ g t stands planner.
     let tables = c.args.tables.now in
     let s = (text_of t).initial in
     let all = c.in_ok-all.all.items in
-    let p : Plan = record { starts = c.in_ok-starts.starts } in
+    let p : StartPlan = record { starts = c.in_ok-starts.starts } in
     let count : c.in_ok-initial.initial ≡ length all = search rules in
     let declared = planner_types tables c.args.planner.now g planner in
     let starts = rw (c.deref.ensures.value, c.deref-2.ensures.value) at c.in_ok-starts.ensures in
@@ -24,5 +24,5 @@ returns c = λ g t stands planner.
     record {
       systems = subst (PlansAre g tables) (sym pushed)
           (plans_are tables c.args.planner.now g t all p stands planner c.in_ok-all.ensures.complete (λ systems. c.in_ok-all.ensures.plans g planner.knows systems));
-      initial_is = ap (λ (ps : List Plan). plan_at ps c.in_ok-initial.initial) pushed ∙ initial_plan all p c.in_ok-initial.initial count ∙ own;
+      initial_is = ap (λ (ps : List StartPlan). plan_at ps c.in_ok-initial.initial) pushed ∙ initial_plan all p c.in_ok-initial.initial count ∙ own;
     }

@@ -4,7 +4,7 @@ use Rattle.cp_program_model.specs.Compile as code
 use Rattle.cp_program_model.specs.Compile.{monitors_at}
 use Rattle.cp_program_model.specs.Layout.{component_words}
 use Rattle.cp_program.specs.View as view
-use Rattle.cp_program.specs.declared.program.Plan.{Plan}
+use Rattle.cp_program.specs.declared.program.StartPlan.{StartPlan}
 use Rattle.cp_compile.specs.CompiledComponents.{AreOwners}
 use Rattle.cp_compile.proofs.LaidOut.{PartlyLaid}
 use Rattle.cp_compile.proofs.layout.lay_monitors.Given as goal
@@ -12,5 +12,5 @@ use Rattle.cp_compile.proofs.layout.lay_monitors.Given as goal
 -- The monitors before this one are laid out.
 abbrev pub invariant-loop-owner : goal.invariant-loop-owner
 invariant-loop-owner l =
-    (plans : List Plan) (g : GlobalScope) (xs : List code.Owner) → AreOwners plans g l.owners xs
+    (plans : List StartPlan) (g : GlobalScope) (xs : List code.Owner) → AreOwners plans g l.owners xs
     → PartlyLaid plans g (view.monitor plans) (monitors_at g) (component_words g) (drop l.owner-index l.owners) l.monitors.items l.at 0 xs

@@ -3,7 +3,7 @@ use Rattle.cp_model.specs.Types.{GlobalScope}
 use Rattle.cp_program_model.specs.Compile as code
 use Rattle.cp_program_model.specs.Compile.{processes_at, waiting_words}
 use Rattle.cp_program.specs.View as view
-use Rattle.cp_program.specs.declared.program.Plan.{Plan}
+use Rattle.cp_program.specs.declared.program.StartPlan.{StartPlan}
 use Rattle.cp_compile.specs.CompiledComponents.{AreOwners}
 use Rattle.cp_compile.proofs.LaidOut.{PartlyLaid}
 use Rattle.cp_compile.proofs.layout.lay_processes.Given as goal
@@ -11,5 +11,5 @@ use Rattle.cp_compile.proofs.layout.lay_processes.Given as goal
 -- The processes before this one are laid out.
 abbrev pub invariant-loop-owner : goal.invariant-loop-owner
 invariant-loop-owner l =
-    (plans : List Plan) (g : GlobalScope) (xs : List code.Owner) → AreOwners plans g l.owners xs
+    (plans : List StartPlan) (g : GlobalScope) (xs : List code.Owner) → AreOwners plans g l.owners xs
     → PartlyLaid plans g (view.process plans) (processes_at g) (waiting_words g) (drop l.owner-index l.owners) l.processes.items l.at l.start xs

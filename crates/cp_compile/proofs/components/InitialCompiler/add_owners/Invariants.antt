@@ -6,7 +6,7 @@ use Rattle.cp_model.specs.Types.{GlobalScope}
 use Rattle.cp_program_model.specs.Compile as code
 use Rattle.cp_program_model.specs.Compile.{of_sort, owners_of}
 use Rattle.cp_scope.specs.Variables.{declared_entry}
-use Rattle.cp_program.specs.declared.program.Plan.{Plan}
+use Rattle.cp_program.specs.declared.program.StartPlan.{StartPlan}
 use Rattle.cp_compile.specs.CompiledComponents.{AreOwners, IsInitial}
 use Rattle.cp_compile.proofs.ComponentsCompiled.{PartlyOwned}
 use Rattle.cp_compile.proofs.components.InitialCompiler.add_owners.Given as goal
@@ -14,7 +14,7 @@ use Rattle.cp_compile.proofs.components.InitialCompiler.add_owners.Given as goal
 -- The owners so far and those of the remaining variables are all owners.
 abbrev pub invariant-loop-d : goal.invariant-loop-d
 invariant-loop-d l =
-    (plans : List Plan) (g : GlobalScope) (firsts : List (Name × ℕ)) (groups : List Group) (vs : List (Name × Variable)) (before : List code.Owner)
+    (plans : List StartPlan) (g : GlobalScope) (firsts : List (Name × ℕ)) (groups : List Group) (vs : List (Name × Variable)) (before : List code.Owner)
     → IsInitial l.self plans g firsts groups vs → AreOwners plans g l.fn.owners.items before
     → PartlyOwned plans g l.self.tables.now.types firsts groups (erase.sort_of l.sort)
     (map declared_entry (drop l.d-index l.d-items)) (before ++ owners_of firsts groups (of_sort (erase.sort_of l.sort) vs)) l.owners.items

@@ -1,7 +1,7 @@
 use Rattle.std.proofs.Common.{rules, ◌≡◌, ◌∙◌, ◌∷◌, ◌++◌, [], ap, sym, refl, subst, None, Some, w32}
 use Rattle.std.proofs.lemmas.Int.{to_z-of_z}
 use Rattle.cp_program_model.specs.Plans.{fill_before}
-use Rattle.cp_program.specs.declared.program.Start.TheVariants as start
+use Rattle.cp_program.specs.declared.program.StartPiece.TheVariants as start
 use Rattle.cp_emit.specs.Drafts.{Joins, plan_of}
 use Rattle.cp_emit.proofs.Drafting.{one_filled, one_joined}
 use Rattle.cp_program.proofs.Wide.{narrow}

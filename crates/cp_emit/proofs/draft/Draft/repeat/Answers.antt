@@ -1,4 +1,4 @@
-use Rattle.cp_program.specs.declared.program.Start.TheVariants as start
+use Rattle.cp_program.specs.declared.program.StartPiece.TheVariants as start
 use Rattle.cp_emit.proofs.Drafting.{one_more}
 use Rattle.cp_emit.proofs.draft.Draft.repeat.Goals as goal
 

@@ -1,7 +1,7 @@
 use Rattle.std.proofs.Common.{rules, ◌≡◌, Some, length, slice_get, subst, sym}
 use Rattle.cp_emit.specs.ComponentPlans.{ArePlans}
 use Rattle.cp_emit.specs.Planning.{types_of}
-use Rattle.cp_program.specs.declared.program.Plan.{Plan}
+use Rattle.cp_program.specs.declared.program.StartPlan.{StartPlan}
 use Rattle.cp_emit.proofs.ComponentsPlanned.{no_plans, one_plan}
 use Rattle.cp_emit.proofs.plan.Planner.components.Goals as goal
 
@@ -14,7 +14,7 @@ loop-table-preserved c = λ g knows systems.
     let tables = c.args.self.now.tables.now.systems.items in
     let plans = c.loop-table.plans.items in
     let table = c.in-Some.table.now in
-    let plan : Plan = record { starts = c.in_ok-starts.starts } in
+    let plan : StartPlan = record { starts = c.in_ok-starts.starts } in
     let at : slice_get tables (length plans) ≡ Some table = search rules in
     let made = rw (c.deref.ensures.value, c.deref-in-Some.ensures.value) at c.in_ok-starts.ensures in
     subst (ArePlans g types) (sym c.in_ok-push.ensures.items)
