@@ -145,7 +145,7 @@ fn run_words<'a>(alloc: Global) -> Result<clap::Command<'a>, AllocError> {
         .arg(option(
             alloc,
             "chunk",
-            "processes that a worker draws at once, 1 to 255 (default 1)",
+            "processes that a worker takes at once, 1 to 255 (default 1)",
         ))?
         .arg(option(alloc, "wave", "processes in a wave, 1 to 255 (default 255)"))?
         .arg(option(
