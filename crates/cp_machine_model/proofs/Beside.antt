@@ -139,7 +139,7 @@ runs_beside G store after o new k R r from count B same =
       next_value = R.next_value;
       count = same ∙ R.count;
       activations_mean =
-          activations_kept G store after o.words new o.temps o.limit o.base (held_below R.live o.temps R.running.temp) R.running o.frames o.place R.running.unit.temps k R.left
+          activations_kept G store after o.words new o.temps o.limit o.base (held_below R.live o.temps R.running.temp) R.running o.frames o.counter R.running.unit.temps k R.left
           (λ rest f c owner there. activation_kept G store after o.words new rest c (length rest) f owner
           (activation_beside G xs top stack r from count store after o.words new B (length rest) (record { base = c; routine = f.routine }) there)) R.activations_mean;
       data_means = data_kept G store after o.words new xs keeps R.data_means;

@@ -51,7 +51,7 @@ module _ (G : Ground) (F : StandsFor G.program G.setup) (texts : F.texts ≡ G.t
 
   -- The same, with the private state at the start written out.
   abbrev begun : PrivateState
-  begun = record o { activity = machine.Running; words = words; place = P.unit.start; base = P.row.words; temp = 0; component = 0; gate = 0; frames = [] }
+  begun = record o { activity = machine.Running; words = words; counter = P.unit.start; base = P.row.words; temp = 0; component = 0; gate = 0; frames = [] }
 
   unit_fits : (P.row.words + P.unit.words ≤ G.own) × (P.unit.temps ≤ length o.temps) × (P.unit.frames ≤ o.limit)
   unit_fits = (
@@ -98,8 +98,8 @@ module _ (G : Ground) (F : StandsFor G.program G.setup) (texts : F.texts ≡ G.t
   pub runs_from_start : RunsOn G store (record o { activity = machine.Running; words = words }) (process_body G P.system)
   runs_from_start = subst (λ (x : PrivateState). RunsOn G store x body) same runs_begun
     where
-      place_is : P.unit.start ≡ o.place
-      place_is = ap (λ (u : CodeUnit). u.start) (sym same_unit) ∙ sym A.place
+      counter_is : P.unit.start ≡ o.counter
+      counter_is = ap (λ (u : CodeUnit). u.start) (sym same_unit) ∙ sym A.counter
 
       base_is : P.row.words ≡ o.base
       base_is = ap (λ (r : code.Process). r.words) (sym same_row) ∙ sym A.base
@@ -108,7 +108,7 @@ module _ (G : Ground) (F : StandsFor G.program G.setup) (texts : F.texts ≡ G.t
       same = λ i. record o {
         activity = machine.Running;
         words = words;
-        place = place_is i;
+        counter = counter_is i;
         base = base_is i;
         temp = sym A.temp i;
         component = sym A.component i;

@@ -79,7 +79,7 @@ runs_copied G store o k R to from n b t sound free own_to own_from to_is from_is
   count = copied_length o.words o.words n b (words (scope G) t) ∙ R.count;
   activations_mean =
       activations_kept G store (put_all (leaf_writes to (read_below store from) (leaves t)) store) o.words (paste n (block o.words b (words (scope G) t)) o.words) o.temps o.limit o.base
-      (held_below R.live o.temps R.running.temp) R.running o.frames o.place R.running.unit.temps k R.left
+      (held_below R.live o.temps R.running.temp) R.running o.frames o.counter R.running.unit.temps k R.left
       (λ rest f c owner there. activation_kept G store (put_all (leaf_writes to (read_below store from) (leaves t)) store) o.words (paste n (block o.words b (words (scope G) t)) o.words) rest c (length rest) f owner
       (activation_changed G (activations o.base o.frames k) _ (runs_stacked G store o k R) store o.words (paste n (block o.words b (words (scope G) t)) o.words) to n t (read_below store from) sound free own_to to_is inside outside
       (length rest) (record { base = c; routine = f.routine }) there)) R.activations_mean;
@@ -104,8 +104,8 @@ runs_copied G store o k R to from n b t sound free own_to own_from to_is from_is
 -- An assignment of an array or a record.
 pub copy_steps : (G : Ground) (s : State) (w : Outside) (before : List ℕ) (o : PrivateState) (d e : a.Designator) (env : Environment) (k : List Task)
     → (Y : Ready G s w before o (a.Assign d (a.Use e)) env k) (to from : Spot) (size n : ℕ)
-    → operation_at G.program o.place ≡ Some (op.CopyWords to from size n)
-    → AssignsBy (site G Y.now.on.running) (known G s w before o (Do (a.Assign d (a.Use e)) env) k Y.now) d (a.Use e) (op.CopyWords to from size n) o.place Y.now.on.left.2.3.0 Y.now.on.left.2.0 Y.now.on.left.2.1
+    → operation_at G.program o.counter ≡ Some (op.CopyWords to from size n)
+    → AssignsBy (site G Y.now.on.running) (known G s w before o (Do (a.Assign d (a.Use e)) env) k Y.now) d (a.Use e) (op.CopyWords to from size n) o.counter Y.now.on.left.2.3.0 Y.now.on.left.2.0 Y.now.on.left.2.1
     → Stepped G s w before o
 copy_steps G s w before o d e env k Y to from size n there h =
     let N = Y.now in
@@ -119,7 +119,7 @@ copy_steps G s w before o d e env k Y to from size n there h =
     (with_result o (place_of (view G s w before o first k N) to) (λ at. with_result o (place_of (view G s w before o first k N) from) (λ b. copy_words o at b size n))).0)
     (sym (value_reads (site G N.on.running) (clock_of G s) s.store (view G s w before o first k N) _ _ (runs_here G s.store w o (first ∷ k) (clock_of G s) N.around.clock N.on N.sees) e from h.0 h.1 N.on.left.2.3.0 h.2 N.on.running.unit.temps h.9 h.11))
     (by _ _ _ _
-    (place_here G s w before o first k N N.sees d to h.0 o.place h.1 N.on.left.2.1 h.2 h.10 (in_context_none (λ y. a.Assign y (a.Use e)) (call_in_designator here (a.Literal 0) d) none.0))
+    (place_here G s w before o first k N N.sees d to h.0 o.counter h.1 N.on.left.2.1 h.2 h.10 (in_context_none (λ y. a.Assign y (a.Use e)) (call_in_designator here (a.Literal 0) d) none.0))
     (place_here G s w before o first k N N.sees e from h.0 h.1 N.on.left.2.3.0 h.2 N.on.running.unit.temps h.11 (in_context_none a.Use (call_in_designator here (a.Literal 0) e) found.0))))
     (quietly G s w before o (a.Assign d (a.Use e)) env k Y (op.CopyWords to from size n) tt tt)
   where

@@ -138,9 +138,9 @@ for_steps G s w before o x down e f st env k Y =
     let here = N.on.running.env in
     let h = N.on.left.2.3 in
     let none = or_else_none (in_context (λ y. a.For x down y f st) (first_call here (a.Literal 0) e)) (in_context (λ y. a.For x down e y st) (first_call here (a.Literal 0) f)) Y.none in
-    statement_steps G s w before o (a.For x down e f st) env k Y (op.For h.1 h.2 h.3) refl refl (ap (operation_at G.program) Y.place ∙ h.8) refl
+    statement_steps G s w before o (a.For x down e f st) env k Y (op.For h.1 h.2 h.3) refl refl (ap (operation_at G.program) Y.counter ∙ h.8) refl
     (by _ _ _ _
-    (value_here G s w before o (Do (a.For x down e f st) env) k N N.sees e h.2 h.4 o.place h.5 N.on.left.2.1 h.6 h.13 (in_context_none (λ y. a.For x down y f st) (first_call here (a.Literal 0) e) none.0))
+    (value_here G s w before o (Do (a.For x down e f st) env) k N N.sees e h.2 h.4 o.counter h.5 N.on.left.2.1 h.6 h.13 (in_context_none (λ y. a.For x down y f st) (first_call here (a.Literal 0) e) none.0))
     (value_here G s w before o (Do (a.For x down e f st) env) k N N.sees f h.3 h.4 h.5 h.0 h.6 N.on.running.unit.temps h.14 (in_context_none (λ y. a.For x down e y st) (first_call here (a.Literal 0) f) none.1)))
     (quietly G s w before o (a.For x down e f st) env k Y (op.For h.1 h.2 h.3) tt tt)
   where
@@ -203,7 +203,7 @@ for_next_steps G s w before o x down n last st env k N =
     (either_quiet (same_integer n last) _ _ tt (for_quiet (context G.setup s G.p) (configuration s G.p) N.on.running.env k x down (next_counter down n) last st))
     (operation_quiet G.program w o (op.ForNext F.counting) tt))
   where
-    F : ForLeft (site G N.on.running) o.temps N.on.running.temp x down n last st o.place N.on.left.1.0 N.on.left.1.1
+    F : ForLeft (site G N.on.running) o.temps N.on.running.temp x down n last st o.counter N.on.left.1.0 N.on.left.1.1
     F = N.on.left.1.3
 
     defined : Bool → StepResult
@@ -223,5 +223,5 @@ for_next_steps G s w before o x down n last st env k N =
         (runs_moved G s.store o (ForNext x down n last st env ∷ k) k N.on.left.1.0 N.on.left.1.1 N.on refl refl refl N.on.left.1.4 (omega (arith, N.on.left.1.2))))
         record { number = refl; input = refl; consumed = refl; output = refl; activity = refl }
     by false =
-        counts_to G s w before o (ForNext x down n last st env) k N N.sees x down st F.counting N.on.left.1.0 N.on.left.1.1 o.place (next_counter down n) last refl (λ store words. refl) refl
+        counts_to G s w before o (ForNext x down n last st env) k N N.sees x down st F.counting N.on.left.1.0 N.on.left.1.1 o.counter (next_counter down n) last refl (λ store words. refl) refl
         F.counts F.test F.again N.on.left.1.4

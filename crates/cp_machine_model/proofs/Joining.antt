@@ -199,11 +199,11 @@ module _ (G : Ground) (sight : G.sight ≡ OwnWords) (lie : MonitorsLie G.progra
     component = R.component;
     gate = R.gate;
     live = R.live;
-    left = left_there G AllWords lie o.temps o.limit (held_below R.live o.temps R.running.temp) R.running o.frames o.place R.running.unit.temps k R.left;
+    left = left_there G AllWords lie o.temps o.limit (held_below R.live o.temps R.running.temp) R.running o.frames o.counter R.running.unit.temps k R.left;
     next_value = R.next_value;
     count = omega (arith, length-append o.words us, own_count, room);
     activations_mean = mean_there G AllWords lie store (o.words ++ us) o.base o.frames k
-        (activations_kept G store store o.words (o.words ++ us) o.temps o.limit o.base (held_below R.live o.temps R.running.temp) R.running o.frames o.place R.running.unit.temps k R.left
+        (activations_kept G store store o.words (o.words ++ us) o.temps o.limit o.base (held_below R.live o.temps R.running.temp) R.running o.frames o.counter R.running.unit.temps k R.left
         (λ rest f c owner there. activation_kept G store store o.words (o.words ++ us) rest c (length rest) f owner (kept (length rest) (record { base = c; routine = f.routine }) there)) R.activations_mean);
     data_means = data_joined;
     given = rights_there G AllWords lie store (components o) R.given;

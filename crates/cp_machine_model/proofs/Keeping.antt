@@ -149,7 +149,7 @@ module _ (G : Ground) (store after : Store) (old new : List ℤ) where
             ∙ found_behind (length below) top rest (record { base = a; routine = g.routine }) e)) m.1,
       )
   activations_kept temps limit b K R (f ∷ fs) place low (EndBody gate ∷ k) h keeps m =
-      let c = h.3 in activations_kept temps limit f.base nothing_known c.0 fs f.place c.1 k c.4 keeps m
+      let c = h.3 in activations_kept temps limit f.base nothing_known c.0 fs f.counter c.1 k c.4 keeps m
   activations_kept temps limit b K R fs place low (EndProcess ∷ k) h keeps m =
       subst (λ z. ActivationsMean G after new b fs z) (sym h.1) tt
   activations_kept temps limit b K R [] place low (EndCall env gate ∷ k) h keeps m = absurd h

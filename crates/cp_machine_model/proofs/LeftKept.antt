@@ -132,7 +132,7 @@ module _ (G : Ground) (ts us : List ℤ) (limit : ℕ) (same_length : length ts 
           c.1,
           runs_kept G (length ts) (length us) limit c.0 fs same_length c.2,
           c.3,
-          left_kept nothing_known nothing_known c.0 fs f.place c.1 k (λ n m z. z) (λ i q. same i (omega (arith, q, c.3.temps_apart))) c.4,
+          left_kept nothing_known nothing_known c.0 fs f.counter c.1 k (λ n m z. z) (λ i q. same i (omega (arith, q, c.3.temps_apart))) c.4,
         ),
       )
   left_kept K L R fs place low (EndProcess ∷ k) more same h = h

@@ -102,7 +102,7 @@ module _ (G : Ground) (q own : ℕ) (store after : Store) (same : (l : Location)
     next_value = R.next_value;
     count = R.count;
     activations_mean =
-        activations_kept H store after o.words o.words o.temps o.limit o.base (held_below R.live o.temps R.running.temp) R.running o.frames o.place R.running.unit.temps k R.left
+        activations_kept H store after o.words o.words o.temps o.limit o.base (held_below R.live o.temps R.running.temp) R.running o.frames o.counter R.running.unit.temps k R.left
         (λ rest f c owner there. activation_kept H store after o.words o.words rest c (length rest) f owner
         (λ x at v is by_reference. (same (local_named H (length rest) x) (eq-eqb q q refl), refl), λ t is none. (same (local_named H (length rest) f.routine.name) (eq-eqb q q refl), refl)))
         R.activations_mean;

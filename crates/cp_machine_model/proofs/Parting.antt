@@ -172,11 +172,11 @@ module _ (G : Ground) (sight : G.sight ≡ OwnWords) (lie : MonitorsLie G.progra
     component = R.component;
     gate = R.gate;
     live = R.live;
-    left = left_there all G.sight G.monitors_lie o.temps o.limit (held_below R.live o.temps R.running.temp) R.running o.frames o.place R.running.unit.temps k R.left;
+    left = left_there all G.sight G.monitors_lie o.temps o.limit (held_below R.live o.temps R.running.temp) R.running o.frames o.counter R.running.unit.temps k R.left;
     next_value = R.next_value;
     count = own_count G sight lie store I o.words ys place ran R.count R.data_means;
     activations_mean = mean_there all G.sight G.monitors_lie store (take G.own o.words) o.base o.frames k
-        (activations_kept all store store o.words (take G.own o.words) o.temps o.limit o.base (held_below R.live o.temps R.running.temp) R.running o.frames o.place R.running.unit.temps k R.left
+        (activations_kept all store store o.words (take G.own o.words) o.temps o.limit o.base (held_below R.live o.temps R.running.temp) R.running o.frames o.counter R.running.unit.temps k R.left
         (λ rest f c owner there. activation_kept all store store o.words (take G.own o.words) rest c (length rest) f owner (kept (length rest) (record { base = c; routine = f.routine }) there)) R.activations_mean);
     data_means = data_own G sight lie store I o.words ys place ran R.count R.data_means;
     given = rights_there all G.sight G.monitors_lie store (components o) R.given;

@@ -53,7 +53,7 @@ module _ (G : Ground) (sight : G.sight ≡ OwnWords) (store after : Store) (same
     next_value = R.next_value;
     count = R.count;
     activations_mean =
-        activations_kept G store after o.words o.words o.temps o.limit o.base (held_below R.live o.temps R.running.temp) R.running o.frames o.place R.running.unit.temps k R.left
+        activations_kept G store after o.words o.words o.temps o.limit o.base (held_below R.live o.temps R.running.temp) R.running o.frames o.counter R.running.unit.temps k R.left
         (λ rest f c owner there. activation_kept G store after o.words o.words rest c (length rest) f owner (activation_same o.words (length rest) (record { base = c; routine = f.routine })))
         R.activations_mean;
     data_means = data_beside G (in_sight G) store after in_own (activations o.base o.frames k) o.words R.data_means;

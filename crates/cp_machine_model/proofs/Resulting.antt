@@ -50,7 +50,7 @@ runs_resulted G store o k R f t v runs is none differs = record {
   left = R.left;
   next_value = R.next_value;
   count = length-set o.words o.base v ∙ R.count;
-  activations_mean = activations_kept G store after o.words new o.temps o.limit o.base (held_below R.live o.temps R.running.temp) R.running o.frames o.place R.running.unit.temps k R.left
+  activations_mean = activations_kept G store after o.words new o.temps o.limit o.base (held_below R.live o.temps R.running.temp) R.running o.frames o.counter R.running.unit.temps k R.left
       (λ rest g c owner there m. by rest g c owner there m (nat_eq (length rest) (length T.rest)) refl) R.activations_mean;
   data_means = data_kept G store after o.words new xs keeps R.data_means;
   given = all_kept G store after (keeps_given G store after o.words new xs keeps) (components o) R.given;
@@ -66,7 +66,7 @@ runs_resulted G store o k R f t v runs is none differs = record {
     stack = runs_stacked G store o k R
 
     T : Top G o.temps o.limit o.base store o.words o.frames k f
-    T = top_is G o.temps o.limit store o.words o.base (held_below R.live o.temps R.running.temp) R.running o.frames o.place R.running.unit.temps k f R.left R.activations_mean runs
+    T = top_is G o.temps o.limit store o.words o.base (held_below R.live o.temps R.running.temp) R.running o.frames o.counter R.running.unit.temps k f R.left R.activations_mean runs
 
     z0 : Activation
     z0 = record { base = o.base; routine = f.routine }

@@ -37,7 +37,7 @@ pub runs_here : (G : Ground) (store : Store) (w : Outside) (o : PrivateState) (k
 runs_here G store w o k clock clock_is R sees =
     subst (λ b. Here R.running.env clock store (view_of w o) (held_below R.live o.temps R.running.temp) (lies_in_sight (in_sight G) G (activations b o.frames k))) (sym R.base)
     (subst (λ z. Here R.running.env clock store z (held_below R.live o.temps R.running.temp) (lies_in_sight (in_sight G) G (activations R.running.base o.frames k))) view_is
-    (here G store o.words o.temps o.limit R.live (held_below R.live o.temps R.running.temp) R.running o.frames o.place R.running.unit.temps k (in_sight G) clock R.left
+    (here G store o.words o.temps o.limit R.live (held_below R.live o.temps R.running.temp) R.running o.frames o.counter R.running.unit.temps k (in_sight G) clock R.left
     (subst (λ b. ActivationsMean G store o.words b o.frames k) R.base R.activations_mean)
     R.runs.component
     (subst (λ b. DataMeans G (activations b o.frames k) (in_sight G) store o.words) R.base R.data_means)
@@ -54,7 +54,7 @@ pub runs_stacked : (G : Ground) (store : Store) (o : PrivateState) (k : List Tas
     → Stacked G (o.base + (site G R.running).words) (activations o.base o.frames k)
 runs_stacked G store o k R = record {
   stack = subst (λ b. Stack G (b + (site G R.running).words) (activations b o.frames k)) (sym R.base)
-      (stacked G o.temps o.limit (held_below R.live o.temps R.running.temp) R.running o.frames o.place R.running.unit.temps k R.runs.globals R.runs.frame R.left);
+      (stacked G o.temps o.limit (held_below R.live o.temps R.running.temp) R.running o.frames o.counter R.running.unit.temps k R.runs.globals R.runs.frame R.left);
   fits = omega (arith, R.base, R.runs.words_fit, R.runs.activation_fits);
 }
 
@@ -123,7 +123,7 @@ runs_stored G store o k R l n u w v cell means own is fresh =
       next_value = R.next_value;
       count = length-set o.words n v ∙ R.count;
       activations_mean =
-          activations_kept G store (put l w store) o.words (slice_set o.words n v) o.temps o.limit o.base (held_below R.live o.temps R.running.temp) R.running o.frames o.place R.running.unit.temps k R.left
+          activations_kept G store (put l w store) o.words (slice_set o.words n v) o.temps o.limit o.base (held_below R.live o.temps R.running.temp) R.running o.frames o.counter R.running.unit.temps k R.left
           (λ rest f c owner there. activation_kept G store (put l w store) o.words (slice_set o.words n v) rest c (length rest) f owner
           (activation_written G xs top stack store o.words l n u w v cell means own is (length rest) (record { base = c; routine = f.routine }) there)) R.activations_mean;
       data_means = data_written G xs top stack store o.words l n u w v cell means own is (omega (arith, below, R.count)) fresh R.data_means;
@@ -156,7 +156,7 @@ runs_over G store after o new k R live same count =
       next_value = R.next_value;
       count = count ∙ R.count;
       activations_mean =
-          activations_kept G store after o.words new o.temps o.limit o.base (held_below R.live o.temps R.running.temp) R.running o.frames o.place R.running.unit.temps k R.left
+          activations_kept G store after o.words new o.temps o.limit o.base (held_below R.live o.temps R.running.temp) R.running o.frames o.counter R.running.unit.temps k R.left
           (λ rest f c owner there. activation_kept G store after o.words new rest c (length rest) f owner
           (activation_below G xs top stack store after o.words new live same (length rest) (record { base = c; routine = f.routine }) there)) R.activations_mean;
       data_means = data_kept G store after o.words new xs (data_below G xs top stack store after o.words new live same) R.data_means;

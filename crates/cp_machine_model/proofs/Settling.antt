@@ -276,7 +276,7 @@ runs_settled G store after o new k R at c s L distinct one offsets S count = rec
   next_value = R.next_value;
   count = count ∙ R.count;
   activations_mean =
-      activations_kept G store after o.words new o.temps o.limit o.base (held_below R.live o.temps R.running.temp) R.running o.frames o.place R.running.unit.temps k R.left
+      activations_kept G store after o.words new o.temps o.limit o.base (held_below R.live o.temps R.running.temp) R.running o.frames o.counter R.running.unit.temps k R.left
       (λ rest f b owner there. activation_kept G store after o.words new rest b (length rest) f owner
       (activation_settled G (activations o.base o.frames k) _ (runs_stacked G store o k R) store after o.words new at c s L distinct one offsets S (length rest) (record { base = b; routine = f.routine }) there)) R.activations_mean;
   data_means = data_settled G (activations o.base o.frames k) _ (runs_stacked G store o k R) store after o.words new at c s L distinct one offsets S R.data_means;

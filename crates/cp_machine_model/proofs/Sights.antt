@@ -107,7 +107,7 @@ module _ (G : Ground) (v : Sight) (lie : WhereMonitorsLie v G.program G.setup) w
       )
   left_there temps limit K R (f ∷ fs) place low (EndBody gate ∷ k) h =
       let c = h.3 in
-      (h.0, h.1, h.2, (c.0, c.1, runs_there (length temps) limit c.0 fs c.2, keeps_there f c.0 R c.1 c.3, left_there temps limit nothing_known c.0 fs f.place c.1 k c.4))
+      (h.0, h.1, h.2, (c.0, c.1, runs_there (length temps) limit c.0 fs c.2, keeps_there f c.0 R c.1 c.3, left_there temps limit nothing_known c.0 fs f.counter c.1 k c.4))
   left_there temps limit K R fs place low (EndProcess ∷ k) h = h
   left_there temps limit K R [] place low (EndCall env gate ∷ k) h = absurd h
   left_there temps limit K R [] place low (EndBody gate ∷ k) h = absurd h

@@ -55,16 +55,16 @@ if_steps G s w before o e t u env k Y =
     let N = Y.now in
     let left = N.on.left in
     let h = left.2.3 in
-    statement_steps G s w before o (a.If e t u) env k Y (op.Test h.1 h.3 h.4) refl refl (ap (operation_at G.program) Y.place ∙ h.5) refl
+    statement_steps G s w before o (a.If e t u) env k Y (op.Test h.1 h.3 h.4) refl refl (ap (operation_at G.program) Y.counter ∙ h.5) refl
     (tested G s w before o (Do (a.If e t u) env) k N h.2 h.3 h.4 (push t N.on.running.env k) (push u N.on.running.env k)
     (runs_pushed G s.store o (Do (a.If e t u) env ∷ k) k t h.3 left.2.0 left.2.1 N.on refl refl refl h.7 left.2.4 left.2.2)
     (runs_pushed G s.store o (Do (a.If e t u) env ∷ k) k u h.4 left.2.0 left.2.1 N.on refl refl refl h.8 left.2.4 left.2.2)
-    _ _ (value_here G s w before o (Do (a.If e t u) env) k N N.sees e h.1 h.2 o.place h.0 left.2.1 N.on.running.unit.temps h.6
+    _ _ (value_here G s w before o (Do (a.If e t u) env) k N N.sees e h.1 h.2 o.counter h.0 left.2.1 N.on.running.unit.temps h.6
     (in_context_none (λ y. a.If y t u) (first_call N.on.running.env (a.Literal 0) e) Y.none)))
     (quietly G s w before o (a.If e t u) env k Y (op.Test h.1 h.3 h.4) tt tt)
 
 pub while_steps : (G : Ground) (s : State) (w : Outside) (before : List ℕ) (o : PrivateState) (now e : a.Expression) (st : a.Statement) (env : Environment) (k : List Task)
-    → (N : Now G s w before o (WhileTest now e st env) k) → o.place ≡ N.on.left.1.3.last → first_call N.on.running.env (a.Literal 0) now ≡ None → Stepped G s w before o
+    → (N : Now G s w before o (WhileTest now e st env) k) → o.counter ≡ N.on.left.1.3.last → first_call N.on.running.env (a.Literal 0) now ≡ None → Stepped G s w before o
 while_steps G s w before o now e st env k N at none =
     let h = N.on.left.1 in
     let W = h.3 in
@@ -95,12 +95,12 @@ while_steps G s w before o now e st env k N at none =
     (tested G s w before o (WhileTest now e st env) k N W.base W.way h.0 (push st here (WhileTest e e st here ∷ k)) k
     (runs_pushed G s.store o (WhileTest now e st env ∷ k) (WhileTest e e st here ∷ k) st W.way W.start h.1 N.on refl refl refl W.again again h.2)
     (runs_moved G s.store o (WhileTest now e st env ∷ k) k h.0 h.1 N.on refl refl refl h.4 h.2)
-    _ _ (value_here G s w before o (WhileTest now e st env) k N N.sees now W.term W.base o.place W.last h.1 N.on.running.unit.temps W.rest none))
+    _ _ (value_here G s w before o (WhileTest now e st env) k N N.sees now W.term W.base o.counter W.last h.1 N.on.running.unit.temps W.rest none))
     (λ all. quiet_agrees G w.own (does G s (Acts (WhileTest now e st here) k)) (act G.program w o (op.Test W.term W.way h.0)).1
     (then_quiet (value (clock_of G s) here s.store now) _ (λ v. tt)) (operation_quiet G.program w o (op.Test W.term W.way h.0) tt))
 
 pub repeat_steps : (G : Ground) (s : State) (w : Outside) (before : List ℕ) (o : PrivateState) (now : a.Expression) (st : a.Statement) (e : a.Expression) (env : Environment) (k : List Task)
-    → (N : Now G s w before o (RepeatTest now st e env) k) → o.place ≡ N.on.left.1.3.last → first_call N.on.running.env (a.Literal 0) now ≡ None → Stepped G s w before o
+    → (N : Now G s w before o (RepeatTest now st e env) k) → o.counter ≡ N.on.left.1.3.last → first_call N.on.running.env (a.Literal 0) now ≡ None → Stepped G s w before o
 repeat_steps G s w before o now st e env k N at none =
     let h = N.on.left.1 in
     let W = h.3 in
@@ -131,7 +131,7 @@ repeat_steps G s w before o now st e env k N at none =
     (tested G s w before o (RepeatTest now st e env) k N W.base h.0 W.way k (push st here (RepeatTest e st e here ∷ k))
     (runs_moved G s.store o (RepeatTest now st e env ∷ k) k h.0 h.1 N.on refl refl refl h.4 h.2)
     (runs_pushed G s.store o (RepeatTest now st e env ∷ k) (RepeatTest e st e here ∷ k) st W.way W.start h.1 N.on refl refl refl W.again again h.2)
-    _ _ (value_here G s w before o (RepeatTest now st e env) k N N.sees now W.term W.base o.place W.last h.1 N.on.running.unit.temps W.rest none))
+    _ _ (value_here G s w before o (RepeatTest now st e env) k N N.sees now W.term W.base o.counter W.last h.1 N.on.running.unit.temps W.rest none))
     (λ all. quiet_agrees G w.own (does G s (Acts (RepeatTest now st e here) k)) (act G.program w o (op.Test W.term h.0 W.way)).1
     (then_quiet (value (clock_of G s) here s.store now) _ (λ v. tt)) (operation_quiet G.program w o (op.Test W.term h.0 W.way) tt))
 
@@ -142,10 +142,10 @@ cycle_steps G s w before o st env k Y =
     let left = N.on.left in
     let h = left.2.3 in
     let here = N.on.running.env in
-    let stays : Left G o.temps o.limit nothing_known N.on.running o.frames o.place left.2.1 (Do (a.Cycle st) here ∷ k)
+    let stays : Left G o.temps o.limit nothing_known N.on.running o.frames o.counter left.2.1 (Do (a.Cycle st) here ∷ k)
     = (refl, tt, (left.2.0, left.2.1, omega arith, h, left.2.4)) in
     statement_steps G s w before o (a.Cycle st) env k Y (op.Cycle h.0) refl refl h.1 refl
     (went G s before o N.part s.store (go_to h.0 o) (push st here (Do (a.Cycle st) here ∷ k))
-    (runs_pushed G s.store o (Do (a.Cycle st) env ∷ k) (Do (a.Cycle st) here ∷ k) st h.0 o.place left.2.1 N.on refl refl refl h.2 stays left.2.2)
+    (runs_pushed G s.store o (Do (a.Cycle st) env ∷ k) (Do (a.Cycle st) here ∷ k) st h.0 o.counter left.2.1 N.on refl refl refl h.2 stays left.2.2)
     record { number = refl; input = refl; consumed = refl; output = refl; activity = refl })
     (quietly G s w before o (a.Cycle st) env k Y (op.Cycle h.0) tt tt)

@@ -1,4 +1,4 @@
--- When a place in the program, together with frames, is what a process has left to do.
+-- When the number of an operation, together with frames, is what a process has left to do.
 --
 -- The first task of the process or of a waiting caller can contain the values of calls that have
 -- been made, and temps hold these values. A call keeps only the temps below its own first temp. So
@@ -146,16 +146,16 @@ pub record Keeps (G : Ground) (f : machine.Frame) (C R : Running) (kept : ℕ) :
 -- The caller waits for a value, which its call puts into a temp after those in use, or it continues
 -- after the call, with no temps in use.
 abbrev pub CallerAt : Ground → ℕ → ℕ → ℕ → Option Name → machine.Frame → ℕ → Type 0
-CallerAt G n kept live None f place = (place ≡ f.place) × (live ≡ 0)
+CallerAt G n kept live None f place = (place ≡ f.counter) × (live ≡ 0)
 CallerAt G n kept live (Some t) f place =
     (call : Call) × (into : ℕ) × (call.routine ≡ n) × (call.temps ≡ kept) × (live ≤ into)
-    × (operation_at G.program place ≡ Some (op.Function call into f.place)) × (f.into ≡ into)
+    × (operation_at G.program place ≡ Some (op.Function call into f.counter)) × (f.into ≡ into)
 
 abbrev pub result_of : Option Frame → Option Name
 result_of None = None
 result_of (Some f) = f.routine.result
 
--- The running routine has the activation of this depth, and it returns at `place`.
+-- The running routine has the activation of this depth, and it returns at the operation `place`.
 pub record ReturnsAt (G : Ground) (R : Running) (place depth_is : ℕ) : Type 0 where
   pub frame : Frame
   pub runs : R.env.frame ≡ Some frame
@@ -164,8 +164,8 @@ pub record ReturnsAt (G : Ground) (R : Running) (place depth_is : ℕ) : Type 0 
 
 -- ---- All tasks
 
--- What is left to do at `place` in the running unit, whose temps in use lie below `low`. `K` is
--- what they are known to hold for the first task.
+-- What is left to do from the operation `place` on, in the running unit, whose temps in use lie
+-- below `low`. `K` is what they are known to hold for the first task.
 abbrev pub Left : Ground → List ℤ → ℕ → Knowns → Running → List machine.Frame → ℕ → ℕ → List Task → Type 0
 Left G temps limit K R fs place low [] = ⊥
 Left G temps limit K R fs place low (Do s e ∷ k) =
@@ -188,7 +188,7 @@ Left G temps limit K R (f ∷ fs) place low (EndCall env gate ∷ k) =
 Left G temps limit K R (f ∷ fs) place low (EndBody gate ∷ k) =
     (R.env.frame ≡ None) × (operation_at G.program place ≡ Some op.EndBody) × GatesKept G f gate k
     × ((C : Running) × (kept : ℕ) × Runs G (length temps) limit C fs × Keeps G f C R kept
-    × Left G temps limit nothing_known C fs f.place kept k)
+    × Left G temps limit nothing_known C fs f.counter kept k)
 Left G temps limit K R fs place low (EndProcess ∷ k) =
     (R.env.frame ≡ None) × (k ≡ []) × (fs ≡ []) × (operation_at G.program place ≡ Some op.End)
     × ((s : System) × (system_of_process G.setup G.p ≡ Some s) × (component_words (scope G) s ≤ R.base))

@@ -70,7 +70,7 @@ pub record DataMeans (G : Ground) (xs : List Activation) (mine : Owner → Bool)
 
 -- ---- The private state
 
--- A function call at the place puts its value into a temp after the `live` temps in use.
+-- A function call at the operation `place` puts its value into a temp after the `live` temps in use.
 abbrev pub CallsBehind : Ground → ℕ → ℕ → Type 0
 CallsBehind G live place =
     (call : Call) (into next : ℕ) → operation_at G.program place ≡ Some (Function call into next) → live ≤ into
@@ -89,8 +89,8 @@ pub record RunsOn (G : Ground) (store : Store) (o : PrivateState) (k : List Task
   pub component : o.component ≡ running.component
   pub gate : o.gate ≡ innermost_gate (marked_monitors k)
   pub live : ℕ
-  pub left : Left G o.temps o.limit (held_below live o.temps running.temp) running o.frames o.place running.unit.temps k
-  pub next_value : CallsBehind G live o.place
+  pub left : Left G o.temps o.limit (held_below live o.temps running.temp) running o.frames o.counter running.unit.temps k
+  pub next_value : CallsBehind G live o.counter
   pub count : length o.words ≡ whole G
   pub activations_mean : ActivationsMean G store o.words o.base o.frames k
   pub data_means : DataMeans G (activations o.base o.frames k) (in_sight G) store o.words
