@@ -1,5 +1,5 @@
 -- Called routines, in the code and in the definitions.
-use Rattle.std.specs.Prelude.{◌≡◌, ℕ, List, [], ◌∷◌, map, Option, None, Some, if◌then◌else◌}
+use Rattle.std.specs.Prelude.{◌≡◌, ℕ, List, [], ◌∷◌, map, Option, None, Some}
 use Rattle.cp_model.specs.declared.rules.Violation.{Violation}
 use Rattle.cp_model.specs.RulesJudged.{Judged, Sound, least, violations_of, meaning_of}
 use Rattle.cp_model.specs.RulesEnvironment as r
@@ -47,11 +47,3 @@ wants_if env e (Some c) = wants_of env c.wants
 abbrev pub result_if : r.Environment → Option Callee → Option ℕ → Option ℕ
 result_if env (Some c) (Some t) = Some (n.given_type env t c.gives)
 result_if env c t = None
-
--- The routine that is called after a `.`. One without `entry` can't be called, and only the number
--- of its arguments is judged.
-abbrev pub entry_function : r.Environment → Rule → Identifier → ℕ → RoutineRow → Judged n.Callee
-entry_function env rule x count row = if row.entry then n.function_called env rule x count row else n.inner_callee env x count row
-
-abbrev pub entry_procedure : r.Environment → Identifier → ℕ → RoutineRow → Judged n.Callee
-entry_procedure env x count row = if row.entry then n.procedure_called env x count row else n.inner_callee env x count row

@@ -5,7 +5,7 @@ ghost use Rattle.cp_model.specs.RulesEnvironment as r;
 ghost use Rattle.cp_model.specs.RulesNames as n;
 ghost use Rattle.cp_model.specs.RulesJudged.{meaning_of, Sound};
 ghost use Rattle.cp_model.specs.View.{designator};
-ghost use Rattle.cp_judge.specs.Callees.{wants_of, wants_if, entry_function, entry_procedure, TellsCallee, TellsWherever};
+ghost use Rattle.cp_judge.specs.Callees.{wants_of, wants_if, TellsCallee, TellsWherever};
 ghost use Rattle.cp_judge.specs.Tells.{Tells, TellsOf};
 
 use crate::environment::Environment;
@@ -117,60 +117,14 @@ fn judge_procedure_call(
     tell_violation(told, Rule::C2, x.at)
 }
 
-// A routine without `entry` after a `.` can't be called. C2: the number of arguments is wrong. C5:
-// otherwise.
-fn judge_missing_entry(
-    told: &mut Option<Violation>,
-    x: &Identifier,
-    count: usize,
-    row: RoutineRow,
-) -> Option<Callee>
-    ensures { TellsWherever told.old told.new result (λ env. n.inner_callee env x.now count row) }
+// C5: a routine without `entry` stands after a component's `.`.
+pub fn has_entry(told: &mut Option<Violation>, x: &Identifier, row: RoutineRow) -> bool
+    ensures { TellsOf told.old told.new result (n.c5_without_entry x.now row) }
 {
-    let rule = if row.count == count {
-        Rule::C5
-    } else {
-        Rule::C2
-    };
-    tell_violation(told, rule, x.at)
+    unless_holds(told, row.entry, Rule::C5, x.at)
 }
 
-// Judges a call of a routine after a `.` as a function. It must have `entry`.
-fn entry_function(
-    told: &mut Option<Violation>,
-    rule: Rule,
-    x: &Identifier,
-    count: usize,
-    row: RoutineRow,
-) -> Option<Callee>
-    ensures { TellsWherever told.old told.new result
-        (λ env. entry_function env rule x.now count row) }
-{
-    if row.entry {
-        judge_function_call(told, rule, x, count, row)
-    } else {
-        judge_missing_entry(told, x, count, row)
-    }
-}
-
-// Judges a call of a routine after a `.` as a procedure. It must have `entry`.
-fn entry_procedure(
-    told: &mut Option<Violation>,
-    x: &Identifier,
-    count: usize,
-    row: RoutineRow,
-) -> Option<Callee>
-    ensures { TellsWherever told.old told.new result
-        (λ env. entry_procedure env x.now count row) }
-{
-    if row.entry {
-        judge_procedure_call(told, x, count, row)
-    } else {
-        judge_missing_entry(told, x, count, row)
-    }
-}
-
-/// C5: an entry routine is called by its name alone.
+// C5: an entry routine is called by its name alone.
 fn by_name(told: &mut Option<Violation>, x: &Identifier, row: RoutineRow) -> bool
     ensures { TellsOf told.old told.new result (n.c5_by_name x.now row) }
 {
@@ -200,7 +154,8 @@ pub fn function(
         }
         Entity::Entry(number) => {
             let row = env.routine(number);
-            entry_function(told, rule, x, count, row)
+            let has_entry = has_entry(told, x, row);
+            answer_if(has_entry, judge_function_call(told, rule, x, count, row))
         }
         Entity::UnfinishedRoutine(row) => {
             let finished = outside_definition(told, x, entity);
@@ -241,7 +196,8 @@ pub fn procedure(
         }
         Entity::Entry(number) => {
             let row = env.routine(number);
-            entry_procedure(told, x, count, row)
+            let has_entry = has_entry(told, x, row);
+            answer_if(has_entry, judge_procedure_call(told, x, count, row))
         }
         Entity::UnfinishedRoutine(row) => {
             let finished = outside_definition(told, x, entity);

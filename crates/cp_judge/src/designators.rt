@@ -6,6 +6,7 @@ ghost use Rattle.cp_model.specs.RulesNames as n;
 ghost use Rattle.cp_model.specs.View.{designator, index, indices_of, selector, selectors_of};
 ghost use Rattle.cp_judge.specs.Tells.{TellsOf};
 
+use crate::callees::has_entry;
 use crate::environment::Environment;
 use crate::members::member_of_type;
 use crate::names::{find_entity, queue_in_place, sort_rule};
@@ -68,7 +69,7 @@ fn find_member(env: &Environment, x: &Identifier, y: &Identifier) -> Option<Memb
 }
 
 // C5: a routine after a component's `.` lacks `entry`.
-fn has_entry(
+fn member_has_entry(
     env: &Environment,
     told: &mut Option<Violation>,
     x: &Identifier,
@@ -79,9 +80,7 @@ fn has_entry(
         (n.member_selected env.now y.now.name (r.c1_named env.now x.now))) }
 {
     match find_member(env, x, y) {
-        Some(Member::Routine(number)) => {
-            unless_holds(told, env.routine(number).entry, Rule::C5, y.at)
-        }
+        Some(Member::Routine(number)) => has_entry(told, y, env.routine(number)),
         _ => true,
     }
 }
@@ -97,7 +96,7 @@ fn selected_has_entry(
         (n.c5_selected env.now x.now (selectors_of (map selector selectors.now))) }
 {
     match selectors {
-        [Selector::Field { name, .. }, ..] => has_entry(env, told, x, name),
+        [Selector::Field { name, .. }, ..] => member_has_entry(env, told, x, name),
         _ => true,
     }
 }

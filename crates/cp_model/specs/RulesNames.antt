@@ -126,8 +126,11 @@ member_in x None = None
 member_in x (Some ms) = lookup x ms
 
 -- C5: a routine without `entry` after a component's `.`
+abbrev pub c5_without_entry : Identifier → RoutineRow → Violations
+c5_without_entry x r = unless r.entry C5 x.at
+
 abbrev pub c5_member : Environment → Identifier → Option Member → Violations
-c5_member env y (Some (member.Routine r)) = unless (routine_of env r).entry C5 y.at
+c5_member env y (Some (member.Routine r)) = c5_without_entry y (routine_of env r)
 c5_member env y m = []
 
 abbrev pub member_selected : Environment → Text → Judged Entity → Option Member
@@ -187,11 +190,6 @@ is_procedure _ = false
 abbrev pub procedure_called : Environment → Identifier → ℕ → RoutineRow → Judged Callee
 procedure_called env x n r =
     guard (is_procedure r.returns && nat_eq r.count n) C2 x.at (record { wants = wants_of env r; gives = gives.Nothing })
-
--- a routine without `entry` after a `.` is not called. C2: a wrong number of arguments; otherwise
--- C5, wherever it stands. Whether it is a function isn't judged
-abbrev pub inner_callee : Environment → Identifier → ℕ → RoutineRow → Judged Callee
-inner_callee env x n r = breaks (if nat_eq r.count n then C5 else C2) x.at
 
 -- C5: an entry routine called by its bare name
 abbrev pub c5_by_name : Identifier → RoutineRow → Violations
@@ -254,8 +252,7 @@ abbrev pub function_of : Environment → Mode → s.Designator → ℕ → Entit
 function_of env m d n (entity.Routine r) =
     also (c5_by_name (last_name d) (routine_of env r)) (function_called env (sort_rule m d) (last_name d) n (routine_of env r))
 function_of env m d n (entity.Entry r) =
-    if (routine_of env r).entry then function_called env (sort_rule m d) (last_name d) n (routine_of env r)
-    else inner_callee env (last_name d) n (routine_of env r)
+    also (c5_without_entry (last_name d) (routine_of env r)) (function_called env (sort_rule m d) (last_name d) n (routine_of env r))
 function_of env m d n (entity.UnfinishedRoutine r) =
     also (violation C4 (last_name d).at ∷ []) (function_called env (sort_rule m d) (last_name d) n r)
 function_of env m d n (entity.Standard f) =
@@ -265,9 +262,7 @@ function_of env m d n e = also (c4_unfinished (last_name d) e) (breaks (sort_rul
 -- a procedure that is called with n arguments
 abbrev pub procedure_of : Environment → s.Designator → ℕ → Entity → Judged Callee
 procedure_of env d n (entity.Routine r) = also (c5_by_name (last_name d) (routine_of env r)) (procedure_called env (last_name d) n (routine_of env r))
-procedure_of env d n (entity.Entry r) =
-    if (routine_of env r).entry then procedure_called env (last_name d) n (routine_of env r)
-    else inner_callee env (last_name d) n (routine_of env r)
+procedure_of env d n (entity.Entry r) = also (c5_without_entry (last_name d) (routine_of env r)) (procedure_called env (last_name d) n (routine_of env r))
 procedure_of env d n (entity.UnfinishedRoutine r) = also (violation C4 (last_name d).at ∷ []) (procedure_called env (last_name d) n r)
 procedure_of env d n (entity.Standard f) =
     also (c9_standard env (last_name d) (entity.Standard f)) (standard_called C2 (last_name d) (standard_fits f n) (standard_procedure f))

@@ -1,5 +1,5 @@
 -- What is called, and with which arguments, by the rules and by the meaning.
-use Rattle.std.proofs.Common.{if◌then◌else◌, ◌≡◌, ◌⊎◌, inl, inr, ℕ, Bool, true, false, ◌&&◌, not, List, [], ◌∷◌, Option, Some, None, nat_eq, eqb-true, length, refl, ap, sym, subst, ◌∙◌}
+use Rattle.std.proofs.Common.{◌≡◌, ◌⊎◌, inl, inr, ℕ, Bool, true, false, ◌&&◌, not, List, [], ◌∷◌, Option, Some, None, nat_eq, eqb-true, length, refl, ap, sym, subst, ◌∙◌}
 use Rattle.std.proofs.lemmas.Bool.{true≢false, and_parts}
 use Rattle.cp_model.specs.Syntax as s
 use Rattle.cp_model.specs.Abstract as a
@@ -19,9 +19,9 @@ use Rattle.cp_model.specs.declared.rules.Gives.{Gives}
 use Rattle.cp_model.specs.declared.rules.Gives.TheVariants as gives
 use Rattle.cp_model.specs.declared.rules.Mode.{Mode}
 use Rattle.cp_model.specs.declared.rules.Mode.TheVariants as mode
-use Rattle.cp_model.specs.RulesJudged.{Judged, Sound, unless, also, both, guard}
+use Rattle.cp_model.specs.RulesJudged.{Judged, Sound, Violations, unless, also, both, guard}
 use Rattle.cp_model.specs.RulesEnvironment.{Environment, Text, agree, base_of, c9_standard, integer, is_allowed, is_base, is_simple, queue, routine_of}
-use Rattle.cp_model.specs.RulesNames.{c10_variable, c5_by_name, callee as wanted_callee, routine_callee, count_of, first_token, function_called, function_gives, function_of, given_type, is_changeable, is_procedure, last_name, procedure_called, procedure_of, sort_rule, standard_called, standard_function, standard_procedure, wants_of, inner_callee, standard_wants, standard_fits}
+use Rattle.cp_model.specs.RulesNames.{c10_variable, c5_by_name, callee as wanted_callee, routine_callee, count_of, first_token, function_called, function_gives, function_of, given_type, is_changeable, is_procedure, last_name, procedure_called, procedure_of, sort_rule, standard_called, standard_function, standard_procedure, wants_of, c5_without_entry, standard_wants, standard_fits}
 use Rattle.cp_model.specs.RulesNames as rules
 use Rattle.cp_model.specs.RulesExpressions.{argument, arguments, c10_by_reference, first_type, fits_type, judge, mode_of, more_arguments}
 use Rattle.cp_model.specs.Types.{GlobalScope}
@@ -226,13 +226,8 @@ module _ (G : GlobalScope → Type 0) (env : Environment) (rs : Types) (p : Plac
       }
 
   -- a routine after a `.` is an entry
-  entry_called : (x : Identifier) (n r : ℕ) (c : rules.Callee) (j : Judged rules.Callee) → (if (routine_of env r).entry then j else inner_callee env x n (routine_of env r)) ≡ Sound c
-      → ((routine_of env r).entry ≡ true) × (j ≡ Sound c)
-  entry_called x n r c j h = go (routine_of env r).entry refl h
-    where
-      go : (b : Bool) → (routine_of env r).entry ≡ b → (if b then j else inner_callee env x n (routine_of env r)) ≡ Sound c → ((routine_of env r).entry ≡ true) × (j ≡ Sound c)
-      go true is h = (is, h)
-      go false is h = absurd (cc)
+  has_entry : (x : Identifier) (r : ℕ) → c5_without_entry x (routine_of env r) ≡ [] → (routine_of env r).entry ≡ true
+  has_entry x r h = holds (routine_of env r).entry C5 x.at h
 
   pub function_as : (m : Mode) (d : s.Designator) (z : a.Designator) (n : ℕ) (e : Entity) (c : rules.Callee) → DesignatorAs G env rs p z e
       → function_of env m d n e ≡ Sound c → FunctionCalled z n c
@@ -242,9 +237,9 @@ module _ (G : GlobalScope → Type 0) (env : Environment) (rs : Types) (p : Plac
       (own_may z k.0 r (last_name d) own (also_none (c5_by_name (last_name d) (routine_of env r)) _ c h)) own.meets
       (also_sound (c5_by_name (last_name d) (routine_of env r)) _ c h))
   function_as m d z n (entity.Entry r) c k h =
-      let one : ((routine_of env r).entry ≡ true) × (function_called env (sort_rule m d) (last_name d) n (routine_of env r) ≡ Sound c) =
-      entry_called (last_name d) n r c (function_called env (sort_rule m d) (last_name d) n (routine_of env r)) h in
-      inl (user_called z (last_name d) (sort_rule m d) n r c (record { routine = k.routine; of = Some k.component }) k.named (k.may one.0) k.meets one.1)
+      let unless_entry : Violations = c5_without_entry (last_name d) (routine_of env r) in
+      let is_entry : (routine_of env r).entry ≡ true = has_entry (last_name d) r (also_none unless_entry _ c h) in
+      inl (user_called z (last_name d) (sort_rule m d) n r c (record { routine = k.routine; of = Some k.component }) k.named (k.may is_entry) k.meets (also_sound unless_entry _ c h))
   function_as m d z n (entity.Standard f) c k h =
       inr (standard_is standard_function z (sort_rule m d) (last_name d) k.0 n f (standard_function f) c refl (function_wants f) k.1 k.2.0 k.2.1 h)
   function_as m d z n (entity.UnfinishedRoutine r) c k h = absurd (cc)
@@ -264,9 +259,9 @@ module _ (G : GlobalScope → Type 0) (env : Environment) (rs : Types) (p : Plac
       (own_may z k.0 r (last_name d) own (also_none (c5_by_name (last_name d) (routine_of env r)) _ c h)) own.meets
       (also_sound (c5_by_name (last_name d) (routine_of env r)) _ c h))
   procedure_as d z n (entity.Entry r) c k h =
-      let one : ((routine_of env r).entry ≡ true) × (procedure_called env (last_name d) n (routine_of env r) ≡ Sound c) =
-      entry_called (last_name d) n r c (procedure_called env (last_name d) n (routine_of env r)) h in
-      inl (procedure_user z (last_name d) n r c (record { routine = k.routine; of = Some k.component }) k.named (k.may one.0) k.meets one.1)
+      let unless_entry : Violations = c5_without_entry (last_name d) (routine_of env r) in
+      let is_entry : (routine_of env r).entry ≡ true = has_entry (last_name d) r (also_none unless_entry _ c h) in
+      inl (procedure_user z (last_name d) n r c (record { routine = k.routine; of = Some k.component }) k.named (k.may is_entry) k.meets (also_sound unless_entry _ c h))
   procedure_as d z n (entity.Standard f) c k h =
       inr (standard_is standard_procedure z C2 (last_name d) k.0 n f (standard_procedure f) c refl (procedure_wants f) k.1 k.2.0 k.2.1 h)
   procedure_as d z n (entity.UnfinishedRoutine r) c k h = absurd (cc)

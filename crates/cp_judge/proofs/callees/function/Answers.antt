@@ -13,7 +13,3 @@ returns-in-Standard c =
     rw (c.in-Standard.is, c.answer_if-in-Standard.ensures) (also_callee env c.args.told.now c.in_place-in_place.new.told c.judge_standard_function_call.new.told
     c.in_place-in_place.result (r.c9_standard env (n.last_name d) (entity.Standard s)) c.judge_standard_function_call.result (n.standard_called (n.sort_rule c.args.mode d) (n.last_name d) (n.standard_fits s c.args.count) (n.standard_function s))
     (rw c.last_name-x.ensures at c.in_place-in_place.ensures) ((rw (c.last_name-x.ensures, c.sort_rule-rule.ensures) at c.judge_standard_function_call.ensures) env))
-
-pub returns-in-Entry : goal.returns-in-Entry
-returns-in-Entry c =
-    rw c.in-Entry.is ((rw (c.last_name-x.ensures, c.sort_rule-rule.ensures, c.routine-row-in-Entry.ensures) at c.entry_function.ensures) c.args.env.now)
