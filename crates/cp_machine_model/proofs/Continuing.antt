@@ -30,7 +30,7 @@ pub record Innermost (G : Ground) (temps : List ℤ) (limit : ℕ) (R : Running)
   pub counter : ℕ
   pub low : ℕ
   pub fits : low ≤ high
-  pub left : Left G temps limit nothing_known R fs place low (EndCall env gate ∷ rest)
+  pub left : Left G temps limit nothing_known R fs counter low (EndCall env gate ∷ rest)
 
 module _ (G : Ground) (temps : List ℤ) (limit : ℕ) (R : Running) (F : Frame) (runs : R.env.frame ≡ Some F) where
   pub innermost : (K : Knowns) (fs : List machine.Frame) (place low high : ℕ) (k : List Task) → low ≤ high → Left G temps limit K R fs place low k → Innermost G temps limit R fs high k
