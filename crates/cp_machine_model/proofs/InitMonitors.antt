@@ -43,7 +43,7 @@ use Rattle.cp_machine_model.specs.PartOf.{ActivationsMean, DataMeans, PartOf, Ru
 use Rattle.cp_machine_model.proofs.Apart.{IsCell}
 use Rattle.cp_machine_model.proofs.CallSteps.{UnitsStand}
 use Rattle.cp_machine_model.proofs.Doing.{Ready, executed, known}
-use Rattle.cp_machine_model.proofs.Pushing.{activations_push, marks_push, mean_push, push_left}
+use Rattle.cp_machine_model.proofs.Pushing.{marks_push, push_left}
 use Rattle.cp_machine_model.proofs.Copying.{copied_length}
 use Rattle.cp_machine_model.proofs.Declared.{distinct_first}
 use Rattle.cp_machine_model.proofs.Declares.{Declares}
@@ -55,7 +55,7 @@ use Rattle.cp_machine_model.proofs.InitSettled.{component_below, init_count, ini
 use Rattle.cp_machine_model.proofs.Placing.{Placed, monitor_placed}
 use Rattle.cp_machine_model.proofs.ProcessRights.{NoClassRights}
 use Rattle.cp_machine_model.proofs.Rooms.{room_for}
-use Rattle.cp_machine_model.proofs.RunningOn.{left_afresh, runs_here, runs_over, runs_stacked}
+use Rattle.cp_machine_model.proofs.RunningOn.{left_afresh, runs_here, runs_over, runs_stacked, words_of_body}
 use Rattle.cp_machine_model.proofs.Settling.{Settled, runs_settled}
 use Rattle.cp_machine_model.proofs.Stacks.{Stacked, own_in_whole}
 use Rattle.cp_machine_model.proofs.Stepping.{AroundAll, beyond, clock_of, faulted, stopped, went}
@@ -80,40 +80,37 @@ body_entered : (G : Ground) (store : Store) (o : PrivateState) (i : Task) (k : L
     → Left G o.temps o.limit nothing_known R.running o.frames back.counter kept k → kept ≤ R.running.unit.temps
     → RunsOn G store (enter o c C.unit call back) (push s.body (body_of_monitor G s m) (EndBody (Some m) ∷ k))
 body_entered G store o i k R call back s m c kept C stands sort is from gate has same means marks left fits = record {
-  running = N;
-  runs = new_runs;
-  base = omega (arith, R.base);
-  temp = omega (arith, R.temp);
-  component = refl;
-  gate = ap (λ g. innermost g o.gate) gate ∙ (entered m (monitor_numbered G m (s, is)) ∙ ap innermost_gate (sym (marks_push s.body env (EndBody (Some m) ∷ k))));
-  live = 0;
-  left = left_afresh G o.temps o.limit 0 N (f ∷ o.frames) C.unit.start 0 (push s.body env (EndBody (Some m) ∷ k)) (omega arith)
-      (push_left G o.temps o.limit N (f ∷ o.frames) s.body C.unit.start (stands.2 at).0 0 (EndBody (Some m) ∷ k) (stands.2 at).2 (
-        refl,
-        (stands.2 at).1 ∙ ap (λ z. Some (end_of z)) sort,
-        (gate, held, (s, is)),
-        (
-          R.running,
-          kept,
-          R.runs,
-          record {
-            base = R.base;
-            temp = R.temp;
-            component = R.component;
-            words_apart = omega (arith, C.words);
-            temps_apart = omega (arith, C.temps);
-            kept_fit = fits;
-          },
-          left,
-        ),
-      ));
-  next_value = λ d n q e. omega arith;
-  count = R.count;
-  activations_mean = subst (λ (T : Type 0). T) (sym (mean_push G store o.words (o.base + call.words) (f ∷ o.frames) s.body env (EndBody (Some m) ∷ k)))
-      (subst (λ (T : Type 0). T) means R.activations_mean);
-  data_means = subst (λ ys. DataMeans G ys (in_sight G) store o.words) (sym (activations_push (o.base + call.words) (f ∷ o.frames) s.body env (EndBody (Some m) ∷ k)))
-      (subst (λ ys. DataMeans G ys (in_sight G) store o.words) same R.data_means);
-  given = (has, R.given);
+  at = record {
+    running = N;
+    runs = new_runs;
+    base = omega (arith, R.base);
+    temp = omega (arith, R.temp);
+    component = refl;
+    gate = ap (λ g. innermost g o.gate) gate ∙ (entered m (monitor_numbered G m (s, is)) ∙ ap innermost_gate (sym (marks_push s.body env (EndBody (Some m) ∷ k))));
+    live = 0;
+    left = left_afresh G o.temps o.limit 0 N (f ∷ o.frames) C.unit.start 0 (push s.body env (EndBody (Some m) ∷ k)) (omega arith)
+        (push_left G o.temps o.limit N (f ∷ o.frames) s.body C.unit.start (stands.2 at).0 0 (EndBody (Some m) ∷ k) (stands.2 at).2 (
+          refl,
+          (stands.2 at).1 ∙ ap (λ z. Some (end_of z)) sort,
+          (gate, held, (s, is)),
+          (
+            R.running,
+            kept,
+            R.runs,
+            record {
+              base = R.base;
+              temp = R.temp;
+              component = R.component;
+              words_apart = omega (arith, C.words);
+              temps_apart = omega (arith, C.temps);
+              kept_fit = fits;
+            },
+            left,
+          ),
+        ));
+    next_value = λ d n q e. omega arith;
+  };
+  words_mean = words_of_body G store o.words (o.base + call.words) c.component f o.frames s.body env (Some m) i k same means has R.words_mean;
 }
   where
     at : Location

@@ -48,7 +48,7 @@ use Rattle.cp_machine_model.proofs.Doing.{Ready, known, statement_steps}
 use Rattle.cp_machine_model.proofs.Given.{KeepsGiven, class_has_rights, system_same}
 use Rattle.cp_machine_model.proofs.Heres.{lies_any}
 use Rattle.cp_machine_model.proofs.Holding.{written_keeps}
-use Rattle.cp_machine_model.proofs.Pushing.{activations_push, marks_push, mean_push, push_left}
+use Rattle.cp_machine_model.proofs.Pushing.{marks_push, push_left}
 use Rattle.cp_machine_model.proofs.Copying.{copied_length}
 use Rattle.cp_machine_model.proofs.Declared.{distinct_first}
 use Rattle.cp_machine_model.proofs.Declares.{Declares}
@@ -60,7 +60,7 @@ use Rattle.cp_machine_model.proofs.InitSettled.{component_below, init_count, ini
 use Rattle.cp_machine_model.proofs.Placing.{Placed, class_placed}
 use Rattle.cp_machine_model.proofs.ProcessRights.{NoClassRights}
 use Rattle.cp_machine_model.proofs.Rooms.{room_for}
-use Rattle.cp_machine_model.proofs.RunningOn.{left_afresh, runs_here, runs_over, runs_stacked, runs_stored}
+use Rattle.cp_machine_model.proofs.RunningOn.{left_afresh, runs_here, runs_over, runs_stacked, runs_stored, words_of_body}
 use Rattle.cp_machine_model.proofs.Settling.{Settled, has_settled, runs_settled}
 use Rattle.cp_machine_model.proofs.Stacks.{Stacked, own_in_whole}
 use Rattle.cp_machine_model.proofs.Stepping.{Stepped, beyond, clock_of, faulted, stopped, went}
@@ -82,40 +82,38 @@ body_entered : (G : Ground) (store : Store) (o : PrivateState) (i : Task) (k : L
     → Left G o.temps o.limit nothing_known R.running o.frames back.counter kept k → kept ≤ R.running.unit.temps
     → RunsOn G (put at (Initialised true) store) (enter (set_word o n (pos 1)) (class_at n) C.unit call back) (push s.body (body_of_class G s at) (EndBody None ∷ k))
 body_entered G store o i k R call back s at n kept C stands sort own there has same means marks left fits = record {
-  running = N;
-  runs = new_runs;
-  base = omega (arith, R.base);
-  temp = omega (arith, R.temp);
-  component = refl;
-  gate = held ∙ ap innermost_gate (sym (marks_push s.body env (EndBody None ∷ k)));
-  live = 0;
-  left = left_afresh G o.temps o.limit 0 N (f ∷ o.frames) C.unit.start 0 (push s.body env (EndBody None ∷ k)) (omega arith)
-      (push_left G o.temps o.limit N (f ∷ o.frames) s.body C.unit.start (stands.2 at).0 0 (EndBody None ∷ k) (stands.2 at).2 (
-        refl,
-        (stands.2 at).1 ∙ ap (λ z. Some (end_of z)) sort,
-        (refl, held, tt),
-        (
-          R.running,
-          kept,
-          R.runs,
-          record {
-            base = R.base;
-            temp = R.temp;
-            component = R.component;
-            words_apart = omega (arith, C.words);
-            temps_apart = omega (arith, C.temps);
-            kept_fit = fits;
-          },
-          left,
-        ),
-      ));
-  next_value = λ d m q e. omega arith;
-  count = S.count;
-  activations_mean = subst (λ (T : Type 0). T) (sym (mean_push G (put at (Initialised true) store) (set_word o n (pos 1)).words (o.base + call.words) (f ∷ o.frames) s.body env (EndBody None ∷ k)))
-      (subst (λ (T : Type 0). T) means S.activations_mean);
-  data_means = subst (λ ys. DataMeans G ys (in_sight G) (put at (Initialised true) store) (set_word o n (pos 1)).words) (sym (activations_push (o.base + call.words) (f ∷ o.frames) s.body env (EndBody None ∷ k)))
-      (subst (λ ys. DataMeans G ys (in_sight G) (put at (Initialised true) store) (set_word o n (pos 1)).words) same S.data_means);
-  given = (class_has_rights G ys top stack at s n own sort there (put at (Initialised true) store) (written at s n sort there has), S.given);
+  at = record {
+    running = N;
+    runs = new_runs;
+    base = omega (arith, R.base);
+    temp = omega (arith, R.temp);
+    component = refl;
+    gate = held ∙ ap innermost_gate (sym (marks_push s.body env (EndBody None ∷ k)));
+    live = 0;
+    left = left_afresh G o.temps o.limit 0 N (f ∷ o.frames) C.unit.start 0 (push s.body env (EndBody None ∷ k)) (omega arith)
+        (push_left G o.temps o.limit N (f ∷ o.frames) s.body C.unit.start (stands.2 at).0 0 (EndBody None ∷ k) (stands.2 at).2 (
+          refl,
+          (stands.2 at).1 ∙ ap (λ z. Some (end_of z)) sort,
+          (refl, held, tt),
+          (
+            R.running,
+            kept,
+            R.runs,
+            record {
+              base = R.base;
+              temp = R.temp;
+              component = R.component;
+              words_apart = omega (arith, C.words);
+              temps_apart = omega (arith, C.temps);
+              kept_fit = fits;
+            },
+            left,
+          ),
+        ));
+    next_value = λ d m q e. omega arith;
+  };
+  words_mean = words_of_body G (put at (Initialised true) store) (set_word o n (pos 1)).words (o.base + call.words) n f o.frames s.body env None i k same means
+      (class_has_rights G ys top stack at s n own sort there (put at (Initialised true) store) (written at s n sort there has)) S.words_mean;
 }
   where
     N : Running

@@ -117,6 +117,9 @@ module _ (G : Ground) (store after : Store) (old new : List ℤ) where
       → activation_at (length rest) xs ≡ Some (record { base = c; routine = f.routine })
       → ActivationMeans G rest store old c f → ActivationMeans G rest after new c f
 
+  pub each_kept : (xs : List Activation) → ((d : ℕ) (z : Activation) → activation_at d xs ≡ Some z → KeepsActivation d z) → EachKept xs
+  each_kept xs keeps rest f c owner there = activation_kept rest c (length rest) f owner (keeps (length rest) (record { base = c; routine = f.routine }) there)
+
   -- The same for all activations.
   pub activations_kept : (temps : List ℤ) (limit b : ℕ) (K : Knowns) (R : Running) (fs : List machine.Frame) (place low : ℕ) (k : List Task)
       → Left G temps limit K R fs place low k → EachKept (activations b fs k)

@@ -1,7 +1,7 @@
 -- Whole private steps at the end of a routine: the caller continues, with a function's value in the
 -- place of the call.
 use Rattle.std.proofs.Common.{◌≡◌, ℕ, ◌+◌, ◌≤◌, ℤ, List, [], ◌∷◌, length, Bool, true, false, Option, Some, None, refl, ap, sym, subst, ◌∙◌, arith}
-use Rattle.std.specs.Prelude.{if◌then◌else◌, map, slice_get, slice_set}
+use Rattle.std.specs.Prelude.{if◌then◌else◌, slice_get, slice_set}
 use Rattle.std.proofs.lemmas.List.{length-set}
 use Rattle.cp_model.specs.Abstract as a
 use Rattle.cp_model.specs.Abstract.{Name, System}
@@ -29,13 +29,13 @@ use Rattle.cp_machine_model.specs.PrivateStates.{NoEffect, Outside, PrivateState
 use Rattle.cp_machine_model.specs.Calling.{gate_effect, leave, return_with}
 use Rattle.cp_machine_model.specs.Addresses.{Activation, Ground, activation_of, activations, in_sight, scope}
 use Rattle.cp_machine_model.specs.Left.{CallerAt, FrameFor, Left, Runs, held_below, innermost_gate, kept_below, result_of, site}
-use Rattle.cp_machine_model.specs.PartOf.{ActivationMeans, ActivationsMean, CallsBehind, DataMeans, IfFrame, PartOf, ResultMeans, RunsOn}
+use Rattle.cp_machine_model.specs.PartOf.{ActivationMeans, ActivationsMean, CallsBehind, DataMeans, IfFrame, PartOf, ResultMeans, RunsOn, components}
 use Rattle.cp_machine_model.proofs.Answered.{LeftAnswered, task_answered}
 use Rattle.cp_machine_model.proofs.Doing.{acts_itself}
 use Rattle.cp_machine_model.proofs.Finding.{some_is_not_none}
 use Rattle.cp_machine_model.proofs.Heres.{depth_is, lies_behind}
 use Rattle.cp_machine_model.proofs.Holding.{SameLive, activation_below, data_below}
-use Rattle.cp_machine_model.proofs.Keeping.{activation_kept, activations_kept, data_kept, keeps_given}
+use Rattle.cp_machine_model.proofs.Keeping.{activations_kept, data_kept, each_kept, keeps_given}
 use Rattle.cp_machine_model.proofs.Layouts.{same_some}
 use Rattle.cp_machine_model.proofs.LeftKept.{left_kept, left_raised}
 use Rattle.cp_machine_model.proofs.Stacks.{Stack, Stacked, stacked}
@@ -136,25 +136,29 @@ module _ (G : Ground) (s : State) (w : Outside) (before : List ℕ) (o : Private
       } in
       let live_same : SameLive G xs s.store after
       = forgotten G xs N.on.left.1.frame.owner s.store (N.on.left.1.owner ∙ ap (OfActivation G.p) (sym (depth_is G o.temps o.limit f.base inner caller fs c.1 c.2 k c.7))) in
+      let keeps = data_below G xs top stack s.store after o.words o.words live_same (λ i q. refl) in
       record {
-        running = caller;
-        runs = subst (λ z. Runs G z o.limit caller fs) (sym len) c.4;
-        base = c.5.base;
-        temp = c.5.temp;
-        component = c.5.component;
-        gate = marks (λ ys gs. f.held ≡ innermost_gate gs) N.on.left.2.1;
-        live = live;
-        left = left;
-        next_value = behind;
-        count = N.on.count;
-        activations_mean = means after o.words
-            (activations_kept G s.store after o.words o.words o.temps o.limit f.base inner caller fs c.1 c.2 k c.7
-            (λ rest g b owner there. activation_kept G s.store after o.words o.words rest b (length rest) g owner
-            (activation_below G xs top stack s.store after o.words o.words live_same (λ i q. refl) (length rest) (record { base = b; routine = g.routine }) there)) N.on.activations_mean.1);
-        data_means = marks (λ ys gs. DataMeans G ys (in_sight G) after o.words)
-            (data_kept G s.store after o.words o.words xs (data_below G xs top stack s.store after o.words o.words live_same (λ i q. refl))
-            (data_behind G (record { base = o.base; routine = N.on.left.1.frame.routine }) xs s.store o.words (subst (λ e. DataMeans G (activation_of o.base e xs) (in_sight G) s.store o.words) here N.on.data_means)));
-        given = all_kept G s.store after (keeps_given G s.store after o.words o.words xs (data_below G xs top stack s.store after o.words o.words live_same (λ i q. refl))) (f.component ∷ map (λ g. g.component) fs) N.on.given.1;
+        at = record {
+          running = caller;
+          runs = subst (λ z. Runs G z o.limit caller fs) (sym len) c.4;
+          base = c.5.base;
+          temp = c.5.temp;
+          component = c.5.component;
+          gate = marks (λ ys gs. f.held ≡ innermost_gate gs) N.on.left.2.1;
+          live = live;
+          left = left;
+          next_value = behind;
+        };
+        words_mean = record {
+          count = N.on.count;
+          activations_mean = means after o.words
+              (activations_kept G s.store after o.words o.words o.temps o.limit f.base inner caller fs c.1 c.2 k c.7
+              (each_kept G s.store after o.words o.words xs (activation_below G xs top stack s.store after o.words o.words live_same (λ i q. refl))) N.on.activations_mean.1);
+          data_means = marks (λ ys gs. DataMeans G ys (in_sight G) after o.words)
+              (data_kept G s.store after o.words o.words xs keeps
+              (data_behind G (record { base = o.base; routine = N.on.left.1.frame.routine }) xs s.store o.words (subst (λ e. DataMeans G (activation_of o.base e xs) (in_sight G) s.store o.words) here N.on.data_means)));
+          given = all_kept G s.store after (keeps_given G s.store after o.words o.words xs keeps) (components f.component fs) N.on.given.1;
+        };
       }
 
   abbrev pub gone : Outcome Configuration → State

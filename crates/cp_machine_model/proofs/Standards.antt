@@ -54,21 +54,7 @@ use Rattle.cp_program_model.specs.Starts.{word}
 -- The process runs on, whatever it displayed, took from the input or waited for.
 abbrev runs_beside : (G : Ground) (store : Store) (o : PrivateState) (k : List Task) (x : Activity) (output : List ℕ) (consumed : ℕ)
     → RunsOn G store o k → RunsOn G store (record o { activity = x; output = output; consumed = consumed }) k
-runs_beside G store o k x output consumed R = record {
-  running = R.running;
-  runs = R.runs;
-  base = R.base;
-  temp = R.temp;
-  component = R.component;
-  gate = R.gate;
-  live = R.live;
-  left = R.left;
-  next_value = R.next_value;
-  count = R.count;
-  activations_mean = R.activations_mean;
-  data_means = R.data_means;
-  given = R.given;
-}
+runs_beside G store o k x output consumed R = record { at = R.at; words_mean = R.words_mean }
 
 -- The private state is right after the step, if the process runs on in the state that is reached.
 pub arrived : (G : Ground) (before : List ℕ) (u : State) (after : PrivateState) → after.number ≡ G.p → after.input ≡ G.setup.inputs G.p → after.consumed ≡ u.consumed G.p
