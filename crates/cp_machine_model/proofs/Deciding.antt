@@ -5,7 +5,7 @@ use Rattle.std.proofs.lemmas.Bool.{eq-eqb}
 use Rattle.cp_model.specs.Abstract as a
 use Rattle.cp_model.specs.Abstract.{Name}
 use Rattle.cp_model.specs.Actions.{Acts, action}
-use Rattle.cp_model.specs.Calls.{call_in_statement, first_call, in_context}
+use Rattle.cp_model.specs.Calls.{call_in_statement, in_context}
 use Rattle.cp_model.specs.Components.{Component, same_sort}
 use Rattle.cp_model.specs.Configurations as stage
 use Rattle.cp_model.specs.Continuations.{Do, EndBody, EndCall, EndProcess, ForNext, RepeatTest, Task, WhileTest, marked_monitors}
@@ -27,7 +27,7 @@ use Rattle.cp_machine_model.specs.PrivateStates as machine
 use Rattle.cp_machine_model.specs.PrivateStates.{Outside, PrivateState}
 use Rattle.cp_machine_model.specs.Steps.{act, is_kernel_operation}
 use Rattle.cp_machine_model.specs.Addresses.{Ground, activations, in_sight, scope}
-use Rattle.cp_machine_model.specs.Left.{Left, Running, Runs, held_below, innermost_gate, kept_below, site}
+use Rattle.cp_machine_model.specs.Left.{Left, Loop, Repeat, Running, Runs, While, held_below, innermost_gate, kept_below, site}
 use Rattle.cp_machine_model.specs.PartOf.{PartOf, RunsOn}
 use Rattle.cp_machine_model.proofs.AssignCalls.{StatementAdvances}
 use Rattle.cp_machine_model.proofs.Assigning.{set_steps}
@@ -47,6 +47,7 @@ use Rattle.cp_machine_model.proofs.Heres.{Sees}
 use Rattle.cp_machine_model.proofs.InitMonitors.{monitor_inits}
 use Rattle.cp_machine_model.proofs.InitSteps.{init_steps}
 use Rattle.cp_machine_model.proofs.LeftKept.{held_within, left_kept}
+use Rattle.cp_machine_model.proofs.Loops.{AtTest, left_at_test, loop_task, made_at_test, sees_at_test, test_left}
 use Rattle.cp_machine_model.proofs.NextCalls.{AllMade, Calling}
 use Rattle.cp_machine_model.proofs.ProcessRights.{no_class_rights}
 use Rattle.cp_machine_model.proofs.ProcessSteps.{process_effect, process_inits}
@@ -55,7 +56,7 @@ use Rattle.cp_machine_model.proofs.Returning.{return_steps, text_is}
 use Rattle.cp_machine_model.proofs.Standards.{By, accept_steps, delay_steps, display_steps, one, wait_steps}
 use Rattle.cp_machine_model.proofs.StatementCalls.{own_place, statement_next}
 use Rattle.cp_machine_model.proofs.Stepping.{Around, AroundAll, IfPlaced, Now, Stepped, kernel_step}
-use Rattle.cp_machine_model.proofs.Testing.{cycle_steps, if_steps, repeat_steps, while_steps}
+use Rattle.cp_machine_model.proofs.Testing.{cycle_steps, if_steps, loop_steps}
 use Rattle.cp_program_model.specs.Terms.{Spot}
 use Rattle.cp_machine_model.proofs.Effects.{EffectAgrees}
 use Rattle.cp_machine_model.proofs.InitProcesses.{InitOfProcess}
@@ -219,33 +220,25 @@ module _ (G : Ground) (s : State) (w : Outside) (before : List ℕ) (o : Private
           left_kept G o.temps o.temps o.limit refl (known G s w before o (Do st env) k N) (kept_below C.ready.low N.on.live o.temps N.on.running.temp) N.on.running o.frames o.counter C.ready.low (Do st env ∷ k)
           (held_within o.temps N.on.running.temp C.ready.low N.on.live) (λ n q. refl) (h.0, h.1, (h.2.0, h.2.1, C.keeps, h.2.3, h.2.4))) (declares_here N.on.running N.on.runs)
 
-  while_does : (now e : a.Expression) (st : a.Statement) (env : Environment) (k : List Task) → Now G s w before o (WhileTest now e st env) k → Stepped G s w before o
-  while_does now e st env k N =
-      by (term_next (site G N.on.running) (known G s w before o (WhileTest now e st env) k N) now N.on.left.1.3.term N.on.left.1.3.base o.counter N.on.left.1.3.last N.on.left.1.1 N.on.running.unit.temps N.on.left.1.3.rest)
+  loop_does : (loop : Loop) (now e : a.Expression) (st : a.Statement) (env : Environment) (k : List Task) → Now G s w before o (loop_task loop now e st env) k → Stepped G s w before o
+  loop_does loop now e st env k N =
+      by (term_next (site G N.on.running) (known G s w before o task k N) now h.1.3.term h.1.3.base o.counter h.1.3.last h.1.1 N.on.running.unit.temps h.1.3.rest)
     where
-      by : TermAdvances (site G N.on.running) (known G s w before o (WhileTest now e st env) k N) now N.on.left.1.3.term N.on.left.1.3.base o.counter N.on.left.1.3.last N.on.left.1.1 N.on.running.unit.temps
-          → Stepped G s w before o
-      by (AllMade p q r) = while_steps G s w before o now e st env k N p (q (a.Literal 0))
-      by (Calling C) =
-          function_steps G s w before o (WhileTest now e st env) k N N.sees I.store units C.user C.temp C.after C.base C.ready (WhileTest (C.fill (a.Literal 0)) e st env)
-          (ap (λ z. in_context (λ y. WhileTest y e st env) (first_call z (a.Literal 0) now)) N.on.left.0 ∙ ap (in_context (λ y. WhileTest y e st env)) (C.found (a.Literal 0)))
-          (let h = N.on.left in
-          left_kept G o.temps o.temps o.limit refl (known G s w before o (WhileTest now e st env) k N) (kept_below C.ready.low N.on.live o.temps N.on.running.temp) N.on.running o.frames o.counter C.ready.low (WhileTest now e st env ∷ k)
-          (held_within o.temps N.on.running.temp C.ready.low N.on.live) (λ n q. refl) (h.0, (h.1.0, h.1.1, C.keeps, h.1.3, h.1.4))) (declares_here N.on.running N.on.runs)
+      task : Task
+      task = loop_task loop now e st env
 
-  repeat_does : (now : a.Expression) (st : a.Statement) (e : a.Expression) (env : Environment) (k : List Task) → Now G s w before o (RepeatTest now st e env) k → Stepped G s w before o
-  repeat_does now st e env k N =
-      by (term_next (site G N.on.running) (known G s w before o (RepeatTest now st e env) k N) now N.on.left.1.3.term N.on.left.1.3.base o.counter N.on.left.1.3.last N.on.left.1.1 N.on.running.unit.temps N.on.left.1.3.rest)
-    where
-      by : TermAdvances (site G N.on.running) (known G s w before o (RepeatTest now st e env) k N) now N.on.left.1.3.term N.on.left.1.3.base o.counter N.on.left.1.3.last N.on.left.1.1 N.on.running.unit.temps
-          → Stepped G s w before o
-      by (AllMade p q r) = repeat_steps G s w before o now st e env k N p (q (a.Literal 0))
+      h : AtTest loop G o.temps o.limit (known G s w before o task k N) N.on.running o.frames o.counter N.on.running.unit.temps now e st env k
+      h = test_left G o.temps o.limit (known G s w before o task k N) N.on.running o.frames o.counter N.on.running.unit.temps now e st env k loop N.on.left
+
+      by : TermAdvances (site G N.on.running) (known G s w before o task k N) now h.1.3.term h.1.3.base o.counter h.1.3.last h.1.1 N.on.running.unit.temps → Stepped G s w before o
+      by (AllMade p q r) = loop_steps G s w before o loop now e st env k N h p (q (a.Literal 0))
       by (Calling C) =
-          function_steps G s w before o (RepeatTest now st e env) k N N.sees I.store units C.user C.temp C.after C.base C.ready (RepeatTest (C.fill (a.Literal 0)) st e env)
-          (ap (λ z. in_context (λ y. RepeatTest y st e env) (first_call z (a.Literal 0) now)) N.on.left.0 ∙ ap (in_context (λ y. RepeatTest y st e env)) (C.found (a.Literal 0)))
-          (let h = N.on.left in
-          left_kept G o.temps o.temps o.limit refl (known G s w before o (RepeatTest now st e env) k N) (kept_below C.ready.low N.on.live o.temps N.on.running.temp) N.on.running o.frames o.counter C.ready.low (RepeatTest now st e env ∷ k)
-          (held_within o.temps N.on.running.temp C.ready.low N.on.live) (λ n q. refl) (h.0, (h.1.0, h.1.1, C.keeps, h.1.3, h.1.4))) (declares_here N.on.running N.on.runs)
+          function_steps G s w before o task k N (sees_at_test now e st env loop _ N.sees) I.store units C.user C.temp C.after C.base C.ready (loop_task loop (C.fill (a.Literal 0)) e st env)
+          (made_at_test now e st env loop (a.Literal 0) N.on.running.env h.0 C.user (C.fill (a.Literal 0)) (C.found (a.Literal 0)))
+          (left_kept G o.temps o.temps o.limit refl (known G s w before o task k N) (kept_below C.ready.low N.on.live o.temps N.on.running.temp) N.on.running o.frames o.counter C.ready.low (task ∷ k)
+          (held_within o.temps N.on.running.temp C.ready.low N.on.live) (λ n q. refl)
+          (left_at_test G o.temps o.limit (known G s w before o task k N) N.on.running o.frames o.counter C.ready.low now e st env k loop (h.0, (h.1.0, h.1.1, C.keeps, h.1.3, h.1.4))))
+          (declares_here N.on.running N.on.runs)
 
   -- ---- tasks
 
@@ -274,8 +267,8 @@ module _ (G : Ground) (s : State) (w : Outside) (before : List ℕ) (o : Private
     where
       by : (i : Task) (R : RunsOn G s.store o (i ∷ k)) → s.continuation G.p ≡ i ∷ k → TaskIn (in_reach G.p (marked_monitors (i ∷ k))) i → Stepped G s w before o
       by (Do st env) R left there = do_steps st env k (now_of (Do st env) k R left ready (sees_in R.running env (Do st env ∷ k) R.left.0 left there))
-      by (WhileTest now e st env) R left there = while_does now e st env k (now_of (WhileTest now e st env) k R left ready (sees_in R.running env (WhileTest now e st env ∷ k) R.left.0 left there))
-      by (RepeatTest now st e env) R left there = repeat_does now st e env k (now_of (RepeatTest now st e env) k R left ready (sees_in R.running env (RepeatTest now st e env ∷ k) R.left.0 left there))
+      by (WhileTest now e st env) R left there = loop_does While now e st env k (now_of (WhileTest now e st env) k R left ready (sees_in R.running env (WhileTest now e st env ∷ k) R.left.0 left there))
+      by (RepeatTest now st e env) R left there = loop_does Repeat now e st env k (now_of (RepeatTest now st e env) k R left ready (sees_in R.running env (RepeatTest now st e env ∷ k) R.left.0 left there))
       by (ForNext x down n last st env) R left there =
           for_next_steps G s w before o x down n last st env k (now_of (ForNext x down n last st env) k R left ready (sees_in R.running env (ForNext x down n last st env ∷ k) R.left.0 left there))
       by (EndCall env gate) R left there =

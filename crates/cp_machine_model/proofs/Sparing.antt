@@ -13,7 +13,7 @@ use Rattle.cp_program_model.specs.Tables.{place_in}
 use Rattle.cp_model.specs.Abstract as a
 use Rattle.cp_model.specs.Abstract.{Name}
 use Rattle.cp_model.specs.Actions.{Acts, action}
-use Rattle.cp_model.specs.Calls.{Callee, UserCall, call_in_statement, call_in_task, first_call, in_context}
+use Rattle.cp_model.specs.Calls.{Callee, UserCall, call_in_statement, call_in_task, in_context}
 use Rattle.cp_model.specs.Components.{Component, same_sort}
 use Rattle.cp_model.specs.Configurations as stage
 use Rattle.cp_model.specs.Continuations.{Do, EndBody, EndCall, EndProcess, ForNext, RepeatTest, Task, WhileTest, marked_monitors}
@@ -37,7 +37,7 @@ use Rattle.cp_machine_model.specs.Values.{value_of}
 use Rattle.cp_machine_model.specs.Calling.{Back, call_step, gate_effect, leave, return_with, with_frame}
 use Rattle.cp_machine_model.specs.Steps.{act, count_to, go_to_arm}
 use Rattle.cp_machine_model.specs.Addresses.{Ground, in_sight, scope}
-use Rattle.cp_machine_model.specs.Left.{Left, Running, held_below, site}
+use Rattle.cp_machine_model.specs.Left.{Left, Loop, Repeat, Running, While, at_true, held_below, site}
 use Rattle.cp_machine_model.proofs.Heres.{Sees}
 use Rattle.cp_machine_model.specs.PartOf.{PartOf, RunsOn}
 use Rattle.cp_machine_model.proofs.AssignCalls.{StatementAdvances}
@@ -45,6 +45,7 @@ use Rattle.cp_machine_model.proofs.Deciding.{Reaches, declares_here, end_environ
 use Rattle.cp_machine_model.proofs.Doing.{Ready, acts_itself, known}
 use Rattle.cp_machine_model.proofs.InitProcesses.{InitOfProcess, here}
 use Rattle.cp_machine_model.proofs.FirstCalls.{TermAdvances, term_next}
+use Rattle.cp_machine_model.proofs.Loops.{AtTest, loop_task, made_at_test, test_left}
 use Rattle.cp_machine_model.proofs.NextCalls.{AllMade, CallReady, Calling}
 use Rattle.cp_machine_model.proofs.Invoking.{locals_two}
 use Rattle.cp_machine_model.proofs.PassedWords.{arguments_below}
@@ -201,31 +202,28 @@ module _ (G : Ground) (s : State) (w : Outside) (before : List ℕ) (o : Private
 
   -- ---- tasks
 
-  while_spared : (now e : a.Expression) (st : a.Statement) (env : Environment) (k : List Task) → Now G s w before o (WhileTest now e st env) k → Sparing G s w before o
-  while_spared now e st env k N =
-      by (term_next (site G N.on.running) (known G s w before o (WhileTest now e st env) k N) now N.on.left.1.3.term N.on.left.1.3.base o.counter N.on.left.1.3.last N.on.left.1.1 N.on.running.unit.temps N.on.left.1.3.rest)
-    where
-      by : TermAdvances (site G N.on.running) (known G s w before o (WhileTest now e st env) k N) now N.on.left.1.3.term N.on.left.1.3.base o.counter N.on.left.1.3.last N.on.left.1.1 N.on.running.unit.temps
-          → Sparing G s w before o
-      by (AllMade p q r) =
-          let W = N.on.left.1.3 in
-          done (WhileTest now e st env) k N (op.Test W.term W.way N.on.left.1.0) (ap (operation_at G.program) p ∙ W.test) refl (result_spares G o (value_of (view_of w o) W.term) _ (λ v is i spared. refl))
-      by (Calling C) =
-          function_spared (WhileTest now e st env) k N C.user C.temp C.after C.base C.ready (WhileTest (C.fill (a.Literal 0)) e st env)
-          (ap (λ z. in_context (λ y. WhileTest y e st env) (first_call z (a.Literal 0) now)) N.on.left.0 ∙ ap (in_context (λ y. WhileTest y e st env)) (C.found (a.Literal 0)))
+  loop_starts_none : (loop : Loop) (now e : a.Expression) (st : a.Statement) (env : Environment) (k : List Task) → starts (Acts (loop_task loop now e st env) k) ≡ false
+  loop_starts_none While now e st env k = refl
+  loop_starts_none Repeat now e st env k = refl
 
-  repeat_spared : (now : a.Expression) (st : a.Statement) (e : a.Expression) (env : Environment) (k : List Task) → Now G s w before o (RepeatTest now st e env) k → Sparing G s w before o
-  repeat_spared now st e env k N =
-      by (term_next (site G N.on.running) (known G s w before o (RepeatTest now st e env) k N) now N.on.left.1.3.term N.on.left.1.3.base o.counter N.on.left.1.3.last N.on.left.1.1 N.on.running.unit.temps N.on.left.1.3.rest)
+  loop_spared : (loop : Loop) (now e : a.Expression) (st : a.Statement) (env : Environment) (k : List Task) → Now G s w before o (loop_task loop now e st env) k → Sparing G s w before o
+  loop_spared loop now e st env k N =
+      by (term_next (site G N.on.running) (known G s w before o task k N) now h.1.3.term h.1.3.base o.counter h.1.3.last h.1.1 N.on.running.unit.temps h.1.3.rest)
     where
-      by : TermAdvances (site G N.on.running) (known G s w before o (RepeatTest now st e env) k N) now N.on.left.1.3.term N.on.left.1.3.base o.counter N.on.left.1.3.last N.on.left.1.1 N.on.running.unit.temps
-          → Sparing G s w before o
+      task : Task
+      task = loop_task loop now e st env
+
+      h : AtTest loop G o.temps o.limit (known G s w before o task k N) N.on.running o.frames o.counter N.on.running.unit.temps now e st env k
+      h = test_left G o.temps o.limit (known G s w before o task k N) N.on.running o.frames o.counter N.on.running.unit.temps now e st env k loop N.on.left
+
+      by : TermAdvances (site G N.on.running) (known G s w before o task k N) now h.1.3.term h.1.3.base o.counter h.1.3.last h.1.1 N.on.running.unit.temps → Sparing G s w before o
       by (AllMade p q r) =
-          let W = N.on.left.1.3 in
-          done (RepeatTest now st e env) k N (op.Test W.term N.on.left.1.0 W.way) (ap (operation_at G.program) p ∙ W.test) refl (result_spares G o (value_of (view_of w o) W.term) _ (λ v is i spared. refl))
+          let W = h.1.3 in
+          done task k N (op.Test W.term (at_true loop W.way h.1.0) (at_true loop h.1.0 W.way)) (ap (operation_at G.program) p ∙ W.test) (loop_starts_none loop now e st env k)
+          (result_spares G o (value_of (view_of w o) W.term) _ (λ v is i spared. refl))
       by (Calling C) =
-          function_spared (RepeatTest now st e env) k N C.user C.temp C.after C.base C.ready (RepeatTest (C.fill (a.Literal 0)) st e env)
-          (ap (λ z. in_context (λ y. RepeatTest y st e env) (first_call z (a.Literal 0) now)) N.on.left.0 ∙ ap (in_context (λ y. RepeatTest y st e env)) (C.found (a.Literal 0)))
+          function_spared task k N C.user C.temp C.after C.base C.ready (loop_task loop (C.fill (a.Literal 0)) e st env)
+          (made_at_test now e st env loop (a.Literal 0) N.on.running.env h.0 C.user (C.fill (a.Literal 0)) (C.found (a.Literal 0)))
 
   for_next_spared : (x : Name) (down : Bool) (n last : ℤ) (st : a.Statement) (env : Environment) (k : List Task) → Now G s w before o (ForNext x down n last st env) k → Sparing G s w before o
   for_next_spared x down counter last st env k N =
@@ -288,8 +286,8 @@ module _ (G : Ground) (s : State) (w : Outside) (before : List ℕ) (o : Private
 
       by : (i : Task) (R : RunsOn G s.store o (i ∷ k)) → s.continuation G.p ≡ i ∷ k → TaskIn (in_reach G.p (marked_monitors (i ∷ k))) i → Sparing G s w before o
       by (Do st env) R left there = do_spared st env k (now (Do st env) R left (sees (Do st env) R env R.left.0 left there))
-      by (WhileTest t e st env) R left there = while_spared t e st env k (now (WhileTest t e st env) R left (sees (WhileTest t e st env) R env R.left.0 left there))
-      by (RepeatTest t st e env) R left there = repeat_spared t st e env k (now (RepeatTest t st e env) R left (sees (RepeatTest t st e env) R env R.left.0 left there))
+      by (WhileTest t e st env) R left there = loop_spared While t e st env k (now (WhileTest t e st env) R left (sees (WhileTest t e st env) R env R.left.0 left there))
+      by (RepeatTest t st e env) R left there = loop_spared Repeat t e st env k (now (RepeatTest t st e env) R left (sees (RepeatTest t st e env) R env R.left.0 left there))
       by (ForNext x down n last st env) R left there = for_next_spared x down n last st env k (now (ForNext x down n last st env) R left (sees (ForNext x down n last st env) R env R.left.0 left there))
       by (EndCall env gate) R left there =
           let K = held_below R.live o.temps R.running.temp in

@@ -81,26 +81,24 @@ IsTask (a.While e s) = ⊥
 IsTask (a.Repeat s e) = ⊥
 IsTask _ = Unit {0}
 
--- The rest of the test of a `while`, for which some calls may have been made, and the whole loop.
-pub record WhileLeft (s : Site) (K : Knowns) (now e : a.Expression) (body : a.Statement) (place next low : ℕ) : Type 0 where
-  pub start : ℕ
-  pub last : ℕ
-  pub way : ℕ
-  pub term : Term
-  pub base : BaseType
-  pub test : stands_at s last (op.Test term way next)
-  pub rest : TermFor s K now term base place last low s.unit.temps
-  pub whole : TermFor s nothing_known e term base start last low s.unit.temps
-  pub again : CodeFor s nothing_known body way start low
+-- The loops with a test. A `while` goes on where the test is true, and a `repeat` where it is false.
+pub data Loop : Type 0 where
+  While Repeat : Loop
 
--- The same for a `repeat`, whose body comes before its test.
-pub record RepeatLeft (s : Site) (K : Knowns) (now e : a.Expression) (body : a.Statement) (place next low : ℕ) : Type 0 where
+-- What comes at a true test, where `on` goes on with the loop and `off` ends it. At a false test it
+-- is the other one.
+abbrev pub at_true : {A : Type 0} → Loop → (on off : A) → A
+at_true While on off = on
+at_true Repeat on off = off
+
+-- The rest of the test of a loop, for which some calls may have been made, and the whole loop.
+pub record LoopLeft (loop : Loop) (s : Site) (K : Knowns) (now e : a.Expression) (body : a.Statement) (place next low : ℕ) : Type 0 where
   pub start : ℕ
   pub last : ℕ
   pub way : ℕ
   pub term : Term
   pub base : BaseType
-  pub test : stands_at s last (op.Test term next way)
+  pub test : stands_at s last (op.Test term (at_true loop way next) (at_true loop next way))
   pub rest : TermFor s K now term base place last low s.unit.temps
   pub whole : TermFor s nothing_known e term base start last low s.unit.temps
   pub again : CodeFor s nothing_known body way start low
@@ -173,10 +171,10 @@ Left G temps limit K R fs place low (Do s e ∷ k) =
     × CodeFor (site G R) K s place next from × Left G temps limit nothing_known R fs next from k)
 Left G temps limit K R fs place low (WhileTest now e s env ∷ k) =
     (env ≡ R.env) × ((next : ℕ) × (from : ℕ) × (from ≤ low)
-    × WhileLeft (site G R) K now e s place next from × Left G temps limit nothing_known R fs next from k)
+    × LoopLeft While (site G R) K now e s place next from × Left G temps limit nothing_known R fs next from k)
 Left G temps limit K R fs place low (RepeatTest now s e env ∷ k) =
     (env ≡ R.env) × ((next : ℕ) × (from : ℕ) × (from ≤ low)
-    × RepeatLeft (site G R) K now e s place next from × Left G temps limit nothing_known R fs next from k)
+    × LoopLeft Repeat (site G R) K now e s place next from × Left G temps limit nothing_known R fs next from k)
 Left G temps limit K R fs place low (ForNext x down n last s env ∷ k) =
     (env ≡ R.env) × ((next : ℕ) × (from : ℕ) × (from + 2 ≤ low)
     × ForLeft (site G R) temps R.temp x down n last s place next from × Left G temps limit nothing_known R fs next from k)
